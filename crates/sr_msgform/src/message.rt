@@ -1,0 +1,28 @@
+use sr_base::{Name, Offset, Seq};
+
+/// One message file, without its magic, version and digest.
+#[derive(Drop)]
+pub struct Message {
+    /// The sender's database.
+    pub from: Name,
+    /// The receiver's database.
+    pub to: Name,
+    /// The sender's count of asks that it has noted, at the put.
+    pub resend_count: u64,
+    /// The window holds what the sender's log gives past this offset,
+    pub prev: Offset,
+    /// and up to this one.
+    pub upto: Offset,
+    /// The length in bytes of the whole window's body.
+    pub total: u32,
+    /// The place in the body at which the fragment begins.
+    pub start: u32,
+    /// Bytes of the body.
+    pub fragment: Seq<u8>,
+    /// The offset of the receiver's log up to which the sender has taken it.
+    pub confirm: Offset,
+    /// The count of the sender's ask for a resend, 0 for none.
+    pub ask_count: u64,
+    /// The offset of the receiver's log past which the sender asks, 0 for none.
+    pub ask_offset: Offset,
+}
