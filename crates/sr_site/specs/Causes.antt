@@ -1,0 +1,27 @@
+use Rattle.std.specs.Prelude.{◌≡◌, ℕ, ◌+◌, ◌-◌, ◌^◌, ◌≤◌, min}
+use Rattle.sr_site.specs.Seen.{Seen}
+
+-- a count of faults rose, or stands at a counter's last value
+abbrev pub Rose : ℕ → ℕ → Type 0
+Rose before now = min (before + 1) (2 ^ 64 - 1) ≤ now
+
+-- what every call leaves: whether the site tells, and counts that never fall
+pub record Stays (old new : Seen) : Type 0 where
+  pub told : new.told ≡ old.told
+  pub disk : old.disk_faults ≤ new.disk_faults
+  pub mail : old.mail_faults ≤ new.mail_faults
+
+-- what a call of the disk leaves: besides, the mail as it was
+pub record DiskStays (old new : Seen) : Type 0 where
+  pub told : new.told ≡ old.told
+  pub mail : new.mail ≡ old.mail
+  pub mail_faults : new.mail_faults ≡ old.mail_faults
+  pub later : old.disk_faults ≤ new.disk_faults
+
+-- what a call of the mail leaves: besides, the disk as it was
+pub record MailStays (old new : Seen) : Type 0 where
+  pub told : new.told ≡ old.told
+  pub files : new.files ≡ old.files
+  pub calls : new.calls ≡ old.calls
+  pub disk_faults : new.disk_faults ≡ old.disk_faults
+  pub later : old.mail_faults ≤ new.mail_faults

@@ -1,0 +1,58 @@
+ghost use Rattle.std.specs.Prelude.{◌≡◌, ◌≤◌, ◌∷◌, length, take, IsTrue, IfOk, OnOk, OnErr};
+ghost use Rattle.sr_site.specs.Calls.{wrote, cut_to, synced};
+ghost use Rattle.sr_site.specs.Files.{bytes_of, with_bytes, overwritten, OthersStay};
+ghost use Rattle.sr_site.specs.Causes.{DiskStays, Rose};
+ghost use Rattle.sr_site.specs.Reads.{HasRead};
+
+use crate::file::File;
+use crate::held::{Failed, Held};
+
+/// Five files, each a run of bytes; a file that is not there has none.
+///
+/// Each call answers `Failed` only where the count of disk faults rose in it. After `Failed` a write, cut or sync may have happened in part;
+/// the other files stand as they were. What a write or cut left is durable once a later `sync` of that file has succeeded.
+pub trait Disk: Held {
+    /// The file's length in bytes.
+    fn length(&mut self, file: File) -> Result<u64, Failed>
+        ensures length { IsTrue (Self.seen self.old).told → IfOk result (λ n. n ≡ length (bytes_of (Self.seen self.old).files file)) }
+        ensures files { IsTrue (Self.seen self.old).told → (Self.seen self.new).files ≡ (Self.seen self.old).files }
+        ensures calls { IsTrue (Self.seen self.old).told → (Self.seen self.new).calls ≡ (Self.seen self.old).calls }
+        ensures stays { DiskStays (Self.seen self.old) (Self.seen self.new) }
+        ensures cause { OnErr result (Rose (Self.seen self.old).disk_faults (Self.seen self.new).disk_faults) };
+
+    /// Fills the front of `buffer` with the file's bytes from the place `at` on, and answers how many: the smaller of the buffer's length and the
+    /// file's rest.
+    fn read_at(&mut self, file: File, at: u64, buffer: &mut [u8]) -> Result<usize, Failed>
+        ensures within { IfOk result (λ n. n ≤ length buffer.old) }
+        ensures read { IsTrue (Self.seen self.old).told → IfOk result (λ n. HasRead (bytes_of (Self.seen self.old).files file) at (length buffer.old) n buffer.new) }
+        ensures files { IsTrue (Self.seen self.old).told → (Self.seen self.new).files ≡ (Self.seen self.old).files }
+        ensures calls { IsTrue (Self.seen self.old).told → (Self.seen self.new).calls ≡ (Self.seen self.old).calls }
+        ensures stays { DiskStays (Self.seen self.old) (Self.seen self.new) }
+        ensures cause { OnErr result (Rose (Self.seen self.old).disk_faults (Self.seen self.new).disk_faults) };
+
+    /// Puts `bytes` at the place `at`, over what is there and past the end.
+    fn write_at(&mut self, file: File, at: u64, bytes: &[u8]) -> Result<(), Failed>
+        requires { IsTrue (Self.seen self.old).told → at ≤ length (bytes_of (Self.seen self.old).files file) }
+        ensures written { IsTrue (Self.seen self.old).told → OnOk result ((Self.seen self.new).files ≡ with_bytes (Self.seen self.old).files file (overwritten (bytes_of (Self.seen self.old).files file) at bytes.now)) }
+        ensures others { IsTrue (Self.seen self.old).told → OthersStay file (Self.seen self.old).files (Self.seen self.new).files }
+        ensures calls { IsTrue (Self.seen self.old).told → (Self.seen self.new).calls ≡ wrote file at bytes.now ∷ (Self.seen self.old).calls }
+        ensures stays { DiskStays (Self.seen self.old) (Self.seen self.new) }
+        ensures cause { OnErr result (Rose (Self.seen self.old).disk_faults (Self.seen self.new).disk_faults) };
+
+    /// Cuts the file to its first `to` bytes.
+    fn cut(&mut self, file: File, to: u64) -> Result<(), Failed>
+        requires { IsTrue (Self.seen self.old).told → to ≤ length (bytes_of (Self.seen self.old).files file) }
+        ensures cut { IsTrue (Self.seen self.old).told → OnOk result ((Self.seen self.new).files ≡ with_bytes (Self.seen self.old).files file (take to (bytes_of (Self.seen self.old).files file))) }
+        ensures others { IsTrue (Self.seen self.old).told → OthersStay file (Self.seen self.old).files (Self.seen self.new).files }
+        ensures calls { IsTrue (Self.seen self.old).told → (Self.seen self.new).calls ≡ cut_to file to ∷ (Self.seen self.old).calls }
+        ensures stays { DiskStays (Self.seen self.old) (Self.seen self.new) }
+        ensures cause { OnErr result (Rose (Self.seen self.old).disk_faults (Self.seen self.new).disk_faults) };
+
+    /// Makes the file's bytes durable: after it a crash leaves what a read gives.
+    fn sync(&mut self, file: File) -> Result<(), Failed>
+        ensures files { IsTrue (Self.seen self.old).told → OnOk result ((Self.seen self.new).files ≡ (Self.seen self.old).files) }
+        ensures others { IsTrue (Self.seen self.old).told → OthersStay file (Self.seen self.old).files (Self.seen self.new).files }
+        ensures calls { IsTrue (Self.seen self.old).told → (Self.seen self.new).calls ≡ synced file ∷ (Self.seen self.old).calls }
+        ensures stays { DiskStays (Self.seen self.old) (Self.seen self.new) }
+        ensures cause { OnErr result (Rose (Self.seen self.old).disk_faults (Self.seen self.new).disk_faults) };
+}

@@ -1,0 +1,13 @@
+ghost use Rattle.sr_site.specs.Seen.{Seen};
+
+/// A call of a device did not do what it was asked for. The device's count of faults rose in it.
+#[derive(Clone, Copy)]
+pub struct Failed;
+
+/// What a site means to contracts: it has no calls.
+///
+/// `seen` is data alone: whether the site tells what it holds, the bytes of its files, the events of its mail, and the two counts of
+/// faults. The counts are always right; the files and the events are claimed only where `told` is true.
+pub trait Held {
+    ghost seen: { Self → Seen };
+}
