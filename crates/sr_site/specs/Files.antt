@@ -1,4 +1,4 @@
-use Rattle.std.specs.Prelude.{◌≡◌, ℕ, ◌+◌, List, ◌++◌, length, take, drop}
+use Rattle.std.specs.Prelude.{◌≡◌, ◌≤◌, ℕ, ◌+◌, List, ◌++◌, length, take, drop}
 use Rattle.sr_site.specs.declared.file.File.{File}
 use Rattle.sr_site.specs.declared.file.File.TheVariants.{Root, Log0, Log1, Snap0, Snap1}
 
@@ -33,3 +33,9 @@ overwritten old place bytes = take place old ++ bytes ++ drop (place + length by
 -- at most this one file differs
 abbrev pub OthersStay : File → Files → Files → Type 0
 OthersStay file old new = new ≡ with_bytes old file (bytes_of new file)
+
+-- a write that failed may have happened in part: the bytes before its range stand, and those behind it
+pub record IsTorn (place count : ℕ) (old new : List ℕ) : Type 0 where
+  pub before : take place new ≡ take place old
+  pub behind : drop (place + count) new ≡ drop (place + count) old
+  pub longer : length old ≤ length new

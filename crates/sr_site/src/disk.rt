@@ -1,6 +1,6 @@
 ghost use Rattle.std.specs.Prelude.{◌≡◌, ◌≤◌, ◌∷◌, length, take, IsTrue, IfOk, OnOk, OnErr};
 ghost use Rattle.sr_site.specs.Calls.{wrote, cut_to, synced};
-ghost use Rattle.sr_site.specs.Files.{bytes_of, with_bytes, overwritten, OthersStay};
+ghost use Rattle.sr_site.specs.Files.{bytes_of, with_bytes, overwritten, IsTorn, OthersStay};
 ghost use Rattle.sr_site.specs.Causes.{DiskStays, Rose};
 ghost use Rattle.sr_site.specs.Reads.{HasRead};
 
@@ -9,8 +9,8 @@ use crate::held::{Failed, Held};
 
 /// Five files, each a run of bytes; a file that is not there has none.
 ///
-/// Each call answers `Failed` only where the count of disk faults rose in it. After `Failed` a write, cut or sync may have happened in part;
-/// the other files stand as they were. What a write or cut left is durable once a later `sync` of that file has succeeded.
+/// Each call answers `Failed` only where the count of disk faults rose in it. After `Failed` a write or cut may have happened in part;
+/// the other files stand as they were, and so do the bytes before the place and behind the range that was to be written. What a write or cut left is durable once a later `sync` of that file has succeeded.
 pub trait Disk: Held {
     /// The file's length in bytes.
     fn length(&mut self, file: File) -> Result<u64, Failed>
@@ -34,6 +34,7 @@ pub trait Disk: Held {
     fn write_at(&mut self, file: File, at: u64, bytes: &[u8]) -> Result<(), Failed>
         requires { IsTrue (Self.seen self.old).told → at ≤ length (bytes_of (Self.seen self.old).files file) }
         ensures written { IsTrue (Self.seen self.old).told → OnOk result ((Self.seen self.new).files ≡ with_bytes (Self.seen self.old).files file (overwritten (bytes_of (Self.seen self.old).files file) at bytes.now)) }
+        ensures torn { IsTrue (Self.seen self.old).told → OnErr result (IsTorn at (length bytes.now) (bytes_of (Self.seen self.old).files file) (bytes_of (Self.seen self.new).files file)) }
         ensures others { IsTrue (Self.seen self.old).told → OthersStay file (Self.seen self.old).files (Self.seen self.new).files }
         ensures calls { IsTrue (Self.seen self.old).told → (Self.seen self.new).calls ≡ wrote file at bytes.now ∷ (Self.seen self.old).calls }
         ensures stays { DiskStays (Self.seen self.old) (Self.seen self.new) }
@@ -50,8 +51,7 @@ pub trait Disk: Held {
 
     /// Makes the file's bytes durable: after it a crash leaves what a read gives.
     fn sync(&mut self, file: File) -> Result<(), Failed>
-        ensures files { IsTrue (Self.seen self.old).told → OnOk result ((Self.seen self.new).files ≡ (Self.seen self.old).files) }
-        ensures others { IsTrue (Self.seen self.old).told → OthersStay file (Self.seen self.old).files (Self.seen self.new).files }
+        ensures files { IsTrue (Self.seen self.old).told → (Self.seen self.new).files ≡ (Self.seen self.old).files }
         ensures calls { IsTrue (Self.seen self.old).told → (Self.seen self.new).calls ≡ synced file ∷ (Self.seen self.old).calls }
         ensures stays { DiskStays (Self.seen self.old) (Self.seen self.new) }
         ensures cause { OnErr result (Rose (Self.seen self.old).disk_faults (Self.seen self.new).disk_faults) };
