@@ -4,8 +4,13 @@
 //! `write_` calls append exactly it, and `read_` calls answer the one value whose spelling stands at the front.
 #![tactic(auto)]
 
+mod broken;
 mod copied;
 mod day;
+mod field;
+mod field_lists;
+mod field_numbers;
+mod field_parts;
 mod name;
 mod offset;
 mod row;
@@ -13,8 +18,10 @@ mod seq;
 mod text;
 mod value;
 
+pub use broken::{Bad, Broken};
 pub use copied::{Copied, NoMemory};
 pub use day::Day;
+pub use field::Field;
 pub use name::Name;
 pub use offset::Offset;
 pub use row::{Key, Row};

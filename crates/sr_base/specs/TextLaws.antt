@@ -1,0 +1,57 @@
+-- Bytes, texts and names: what is read is spelled so, and what is spelled is read again.
+use Rattle.std.proofs.Common.{◌≡◌, ℕ, ◌+◌, ◌^◌, ◌<◌, ◌≤◌, Bool, true, false, cond, ltb, List, [], ◌∷◌, ◌++◌, length, take, drop, Result, Ok, Err, refl, sym, ap, subst, ◌∙◌, append_assoc, arith}
+use Rattle.std.specs.Prelude.{IsTrue}
+use Rattle.std.specs.Int.{w32, to_be_bytes}
+use Rattle.std.specs.Str.{IsUtf8, is_utf8}
+use Rattle.std.proofs.lemmas.Bool.{ltb-false, le-ltb}
+use Rattle.std.proofs.lemmas.List.{take_at, drop_at, take-append-drop, length-append, length-take}
+use Rattle.std.proofs.lemmas.Str.{IsUtf8-from_is_utf8, is_utf8-from_IsUtf8}
+use Rattle.sr_base.specs.Fields.{number_at, bytes_at, bytes_spelling, text_at, IsText, name_at, name_spelling, is_name_size, IsName}
+use Rattle.sr_base.specs.Names.{is_lower_name}
+use Rattle.sr_base.specs.NumberLaws.{IsBytes-drop, bind_ok, guard_ok, passed_ok, ok_is, Takes-then, wide32, number_takes, number_again}
+use Rattle.sr_base.specs.Reading.{Read, ◌>>=◌, IsBytes, Takes}
+
+-- a test that did not refuse, before another step
+pub unless_ok : {A : Type 0} (b : Bool) (left : ℕ) (read : Result A ℕ) (y : A) → cond b (Err left) read ≡ Ok y → (b ≡ false) × (read ≡ Ok y)
+unless_ok true left read y e = absurd cc
+unless_ok false left read y e = (refl, e)
+
+-- behind its length, the part of the bytes that it counts
+sized_takes : (bytes : List ℕ) (size : ℕ) (behind : List ℕ) → Takes bytes (to_be_bytes w32 size) behind × (size < 2 ^ 32) → ltb (length behind) size ≡ false → Takes bytes (bytes_spelling (take size behind)) (drop size behind) × (length (take size behind) < 2 ^ 32)
+sized_takes bytes size behind t enough =
+    let long : size ≤ length behind = ltb-false _ _ enough in
+    let len : length (take size behind) ≡ size = omega (arith, length-take size behind) in
+    let second : Takes behind (take size behind) (drop size behind) = record { parts = sym (take-append-drop size behind); rest_fits = IsBytes-drop size behind t.0.rest_fits } in
+    let both = Takes-then bytes (to_be_bytes w32 size) behind (take size behind) (drop size behind) t.0 second in
+    (subst (λ (k : ℕ). Takes bytes (to_be_bytes w32 k ++ take size behind) (drop size behind)) (sym len) both, omega (arith, t.1))
+
+pub bytes_takes : (bytes part rest : List ℕ) → IsBytes bytes → bytes_at bytes ≡ Ok (part, rest) → Takes bytes (bytes_spelling part) rest × (length part < 2 ^ 32)
+unfolding bytes_at
+bytes_takes bytes part rest fits e =
+    let b = bind_ok (number_at w32 bytes) (λ size. cond (ltb (length size.1) size.0) (Err (length bytes)) (Ok (take size.0 size.1, drop size.0 size.1))) (part, rest) e in
+    let t = number_takes w32 (2 ^ 32) wide32 bytes b.0.0 b.0.1 fits b.1 in
+    let g = guard_ok (ltb (length b.0.1) b.0.0) (length bytes) (take b.0.0 b.0.1, drop b.0.0 b.0.1) (part, rest) b.2 in
+    subst (λ (p : List ℕ × List ℕ). Takes bytes (bytes_spelling p.0) p.1 × (length p.0 < 2 ^ 32)) g.1 (sized_takes bytes b.0.0 b.0.1 t g.0)
+
+pub bytes_again : (part rest : List ℕ) → length part < 2 ^ 32 → bytes_at (bytes_spelling part ++ rest) ≡ Ok (part, rest)
+unfolding bytes_at
+bytes_again part rest lt =
+    let long : ltb (length (part ++ rest)) (length part) ≡ false = le-ltb _ _ (omega (arith, length-append part rest)) in
+    rw (number_again w32 (2 ^ 32) wide32 (length part) (part ++ rest) lt, long, take_at part rest (length part) refl, drop_at part rest (length part) refl) refl
+
+pub text_takes : (bytes text rest : List ℕ) → IsBytes bytes → text_at bytes ≡ Ok (text, rest) → Takes bytes (bytes_spelling text) rest × IsText text
+unfolding text_at
+text_takes bytes text rest fits e =
+    let b = bind_ok (number_at w32 bytes) (λ size. cond (ltb (length size.1) size.0) (Err (length bytes)) (cond (is_utf8 (take size.0 size.1)) (Ok (take size.0 size.1, drop size.0 size.1)) (Err (length size.1)))) (text, rest) e in
+    let t = number_takes w32 (2 ^ 32) wide32 bytes b.0.0 b.0.1 fits b.1 in
+    let u = unless_ok (ltb (length b.0.1) b.0.0) (length bytes) (cond (is_utf8 (take b.0.0 b.0.1)) (Ok (take b.0.0 b.0.1, drop b.0.0 b.0.1)) (Err (length b.0.1))) (text, rest) b.2 in
+    let g = passed_ok (is_utf8 (take b.0.0 b.0.1)) (length b.0.1) (take b.0.0 b.0.1, drop b.0.0 b.0.1) (text, rest) u.1 in
+    let s = sized_takes bytes b.0.0 b.0.1 t u.0 in
+    subst (λ (p : List ℕ × List ℕ). Takes bytes (bytes_spelling p.0) p.1 × IsText p.0) g.1 (s.0, record { short = s.1; utf8 = IsUtf8-from_is_utf8 _ g.0 })
+
+pub text_again : (text rest : List ℕ) → IsText text → text_at (bytes_spelling text ++ rest) ≡ Ok (text, rest)
+unfolding text_at
+text_again text rest fits =
+    let long : ltb (length (text ++ rest)) (length text) ≡ false = le-ltb _ _ (omega (arith, length-append text rest)) in
+    let utf8 : is_utf8 text ≡ true = is_utf8-from_IsUtf8 text fits.utf8 in
+    rw (number_again w32 (2 ^ 32) wide32 (length text) (text ++ rest) fits.short, long, take_at text rest (length text) refl, drop_at text rest (length text) refl, utf8) refl

@@ -1,0 +1,93 @@
+//! Numbers as fields, all big-endian.
+
+ghost use Rattle.std.specs.Prelude.{ℕ, ◌^◌, ◌<◌, [], ◌∷◌, ⊤};
+ghost use Rattle.std.specs.Int.{w32, w64, to_be_bytes};
+ghost use Rattle.sr_base.specs.Fields.{byte_at, number_at};
+ghost use Rattle.sr_base.specs.NumberLaws.{wide32, wide64, byte_takes, byte_again, number_takes, number_again};
+
+use crate::broken::Broken;
+use crate::copied::NoMemory;
+use crate::field::Field;
+use std::alloc::Global;
+
+impl Field for u8 {
+    ghost can_write = { λ _. ⊤ };
+
+    ghost fits = { λ n. n < 2 ^ 8 };
+
+    ghost spelling = { λ n. n ∷ [] };
+
+    ghost reading = { byte_at };
+
+    ghost takes = { byte_takes };
+
+    ghost again = { byte_again };
+
+    fn read(_alloc: Global, bytes: &[u8]) -> Result<(u8, &[u8]), Broken> {
+        match bytes {
+            [] => Err(Broken::Left(0)),
+            [byte, rest @ ..] => Ok((*byte, rest)),
+        }
+    }
+
+    fn write(&self, out: &mut Vec<u8>) -> Result<(), NoMemory> {
+        out.push(*self)?;
+        Ok(())
+    }
+}
+
+impl Field for u32 {
+    ghost can_write = { λ _. ⊤ };
+
+    ghost fits = { λ n. n < 2 ^ 32 };
+
+    ghost spelling = { to_be_bytes w32 };
+
+    ghost reading = { number_at w32 };
+
+    ghost takes = { number_takes w32 (2 ^ 32) wide32 };
+
+    ghost again = { number_again w32 (2 ^ 32) wide32 };
+
+    fn read(_alloc: Global, bytes: &[u8]) -> Result<(u32, &[u8]), Broken> {
+        if bytes.len() < 4 {
+            return Err(Broken::Left(bytes.len()));
+        }
+        let (front, rest) = bytes.split_at(4);
+        let number = u32::from_be_bytes([front[0], front[1], front[2], front[3]]);
+        Ok((number, rest))
+    }
+
+    fn write(&self, out: &mut Vec<u8>) -> Result<(), NoMemory> {
+        out.extend_from_slice(&self.to_be_bytes())
+    }
+}
+
+impl Field for u64 {
+    ghost can_write = { λ _. ⊤ };
+
+    ghost fits = { λ n. n < 2 ^ 64 };
+
+    ghost spelling = { to_be_bytes w64 };
+
+    ghost reading = { number_at w64 };
+
+    ghost takes = { number_takes w64 (2 ^ 64) wide64 };
+
+    ghost again = { number_again w64 (2 ^ 64) wide64 };
+
+    fn read(_alloc: Global, bytes: &[u8]) -> Result<(u64, &[u8]), Broken> {
+        if bytes.len() < 8 {
+            return Err(Broken::Left(bytes.len()));
+        }
+        let (front, rest) = bytes.split_at(8);
+        let number = u64::from_be_bytes([
+            front[0], front[1], front[2], front[3], front[4], front[5], front[6], front[7],
+        ]);
+        Ok((number, rest))
+    }
+
+    fn write(&self, out: &mut Vec<u8>) -> Result<(), NoMemory> {
+        out.extend_from_slice(&self.to_be_bytes())
+    }
+}

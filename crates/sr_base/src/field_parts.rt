@@ -1,0 +1,121 @@
+//! Options, pairs and triples as fields.
+
+ghost use Rattle.std.specs.Prelude.{IfSome};
+ghost use Rattle.sr_base.specs.Fields.{option_spelling, option_at, pair_spelling, pair_at, triple_spelling, triple_at};
+ghost use Rattle.sr_base.specs.PartLaws.{option_takes, option_again, pair_takes, pair_again, triple_takes, triple_again};
+
+use crate::broken::Broken;
+use crate::copied::NoMemory;
+use crate::field::Field;
+use std::alloc::Global;
+
+impl<T: Field> Field for Option<T> {
+    ghost can_write = { λ o. IfSome o T.can_write };
+
+    ghost fits = { λ o. IfSome o T.fits };
+
+    ghost spelling = { option_spelling T.spelling };
+
+    ghost reading = { option_at T.reading };
+
+    ghost takes = { option_takes T.reading T.spelling T.fits T.takes T.again };
+
+    ghost again = { option_again T.reading T.spelling T.fits T.takes T.again };
+
+    #[tactic(auto, unfolding(crate::specs::Fields::option_at))]
+    fn read(alloc: Global, bytes: &[u8]) -> Result<(Option<T>, &[u8]), Broken> {
+        match bytes {
+            [] => Err(Broken::Left(0)),
+            [0, rest @ ..] => Ok((None, rest)),
+            [1, rest @ ..] => {
+                let (value, rest) = T::read(alloc, rest)?;
+                Ok((Some(value), rest))
+            }
+            [_, ..] => Err(Broken::Left(bytes.len())),
+        }
+    }
+
+    fn write(&self, out: &mut Vec<u8>) -> Result<(), NoMemory> {
+        let before = out.len();
+        match self {
+            None => {
+                out.push(0)?;
+            }
+            Some(value) => {
+                out.push(1)?;
+                if let Err(refused) = value.write(out) {
+                    out.truncate(before);
+                    return Err(refused);
+                }
+            }
+        }
+        Ok(())
+    }
+}
+
+impl<A: Field, B: Field> Field for (A, B) {
+    ghost can_write = { λ p. A.can_write p.0 × B.can_write p.1 };
+
+    ghost fits = { λ p. A.fits p.0 × B.fits p.1 };
+
+    ghost spelling = { pair_spelling A.spelling B.spelling };
+
+    ghost reading = { pair_at A.reading B.reading };
+
+    ghost takes = { pair_takes A.reading A.spelling A.fits A.takes A.again B.reading B.spelling B.fits B.takes B.again };
+
+    ghost again = { pair_again A.reading A.spelling A.fits A.takes A.again B.reading B.spelling B.fits B.takes B.again };
+
+    #[tactic(auto, unfolding(crate::specs::Fields::pair_at))]
+    fn read(alloc: Global, bytes: &[u8]) -> Result<((A, B), &[u8]), Broken> {
+        let (first, rest) = A::read(alloc, bytes)?;
+        let (second, rest) = B::read(alloc, rest)?;
+        Ok(((first, second), rest))
+    }
+
+    fn write(&self, out: &mut Vec<u8>) -> Result<(), NoMemory> {
+        let before = out.len();
+        self.0.write(out)?;
+        if let Err(refused) = self.1.write(out) {
+            out.truncate(before);
+            return Err(refused);
+        }
+        Ok(())
+    }
+}
+
+impl<A: Field, B: Field, C: Field> Field for (A, B, C) {
+    ghost can_write = { λ p. A.can_write p.0 × B.can_write p.1 × C.can_write p.2 };
+
+    ghost fits = { λ p. A.fits p.0 × B.fits p.1 × C.fits p.2 };
+
+    ghost spelling = { triple_spelling A.spelling B.spelling C.spelling };
+
+    ghost reading = { triple_at A.reading B.reading C.reading };
+
+    ghost takes = { triple_takes A.reading A.spelling A.fits A.takes A.again B.reading B.spelling B.fits B.takes B.again C.reading C.spelling C.fits C.takes C.again };
+
+    ghost again = { triple_again A.reading A.spelling A.fits A.takes A.again B.reading B.spelling B.fits B.takes B.again C.reading C.spelling C.fits C.takes C.again };
+
+    #[tactic(auto, unfolding(crate::specs::Fields::triple_at))]
+    fn read(alloc: Global, bytes: &[u8]) -> Result<((A, B, C), &[u8]), Broken> {
+        let (first, rest) = A::read(alloc, bytes)?;
+        let (second, rest) = B::read(alloc, rest)?;
+        let (third, rest) = C::read(alloc, rest)?;
+        Ok(((first, second, third), rest))
+    }
+
+    fn write(&self, out: &mut Vec<u8>) -> Result<(), NoMemory> {
+        let before = out.len();
+        self.0.write(out)?;
+        if let Err(refused) = self.1.write(out) {
+            out.truncate(before);
+            return Err(refused);
+        }
+        if let Err(refused) = self.2.write(out) {
+            out.truncate(before);
+            return Err(refused);
+        }
+        Ok(())
+    }
+}
