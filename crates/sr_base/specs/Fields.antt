@@ -118,3 +118,10 @@ triple_at first second third bytes = do
   two ← second one.1
   three ← third two.1
   Ok ((one.0, two.0, three.0), three.1)
+
+-- ---- a value that is another one under a name of its own
+
+unfoldable pub mapped_at : {A B : Type 0} → (A → B) → (List ℕ → Read A) → List ℕ → Read B
+mapped_at to item bytes = do
+  value ← item bytes
+  Ok (to value.0, value.1)

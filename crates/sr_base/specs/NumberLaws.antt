@@ -7,7 +7,7 @@ use Rattle.std.proofs.lemmas.Int.{ints, to_z-of_z, of_z-to_z}
 use Rattle.std.proofs.lemmas.List.{take_at, drop_at, take-append-drop, length-append, length-take, get_or-drop, get_or-take, get_or_past}
 use Rattle.std.proofs.lemmas.Nat.{be_bytes_4, be_bytes_8, from_be_bytes-to_be_bytes_4, from_be_bytes-to_be_bytes_8}
 use Rattle.sr_base.specs.Fields.{byte_at, number_at, signed_at, signed_spelling}
-use Rattle.sr_base.specs.Reading.{Read, ◌>>=◌, IsBytes, Takes}
+use Rattle.sr_base.specs.Reading.{Read, ◌>>=◌, IsBytes, Takes, IsFormat}
 
 pub IsBytes-drop : (n : ℕ) (bytes : List ℕ) → IsBytes bytes → IsBytes (drop n bytes)
 IsBytes-drop n bytes h i = rw get_or-drop (h (n + i))
@@ -123,3 +123,18 @@ pub signed_again : (w : Width) (limit : ℕ) (wide : IsWide w limit) (signed : I
 unfolding signed_at
 signed_again w limit wide signed n rest fits =
     rw (number_again w limit wide (cast_unsigned w n) rest (signed.below n fits), to_z-of_z w n fits) refl
+
+pub byte_format : IsFormat byte_at (λ n. n ∷ []) (λ n. n < 2 ^ 8)
+byte_format = record { takes = byte_takes; again = byte_again }
+
+pub format32 : IsFormat (number_at w32) (to_be_bytes w32) (λ n. n < 2 ^ 32)
+format32 = record { takes = number_takes w32 (2 ^ 32) wide32; again = number_again w32 (2 ^ 32) wide32 }
+
+pub format64 : IsFormat (number_at w64) (to_be_bytes w64) (λ n. n < 2 ^ 64)
+format64 = record { takes = number_takes w64 (2 ^ 64) wide64; again = number_again w64 (2 ^ 64) wide64 }
+
+pub signed_format32 : IsFormat (signed_at w32) (signed_spelling w32) (FitsSigned w32)
+signed_format32 = record { takes = signed_takes w32 (2 ^ 32) wide32 signed32; again = signed_again w32 (2 ^ 32) wide32 signed32 }
+
+pub signed_format64 : IsFormat (signed_at w64) (signed_spelling w64) (FitsSigned w64)
+signed_format64 = record { takes = signed_takes w64 (2 ^ 64) wide64 signed64; again = signed_again w64 (2 ^ 64) wide64 signed64 }

@@ -1,59 +1,80 @@
 -- Options, pairs and triples: what is read is spelled so, and what is spelled is read again, where both hold of the parts.
 use Rattle.std.proofs.Common.{◌≡◌, ℕ, zero, suc, List, [], ◌∷◌, ◌++◌, length, Option, Some, None, Result, Ok, Err, refl, sym, ap, subst, ◌∙◌, append_assoc, arith}
 use Rattle.std.specs.Prelude.{IfSome}
-use Rattle.sr_base.specs.Fields.{option_at, option_spelling, pair_at, pair_spelling, triple_at, triple_spelling}
+use Rattle.sr_base.specs.Fields.{option_at, option_spelling, pair_at, pair_spelling, triple_at, triple_spelling, mapped_at}
 use Rattle.sr_base.specs.NumberLaws.{IsBytes-rest, bind_ok, ok_is, Takes-then}
-use Rattle.sr_base.specs.Reading.{Read, ◌>>=◌, IsBytes, Takes}
+use Rattle.sr_base.specs.Reading.{Read, ◌>>=◌, IsBytes, Takes, IsFormat}
 
-module _ {A : Type 0} (item : List ℕ → Read A) (spelling : A → List ℕ) (fits : A → Type 0) (takes : (bytes : List ℕ) (x : A) (rest : List ℕ) → IsBytes bytes → item bytes ≡ Ok (x, rest) → Takes bytes (spelling x) rest × fits x) (again : (x : A) (rest : List ℕ) → fits x → item (spelling x ++ rest) ≡ Ok (x, rest)) where
-  pub option_takes : (bytes : List ℕ) (x : Option A) (rest : List ℕ) → IsBytes bytes → option_at item bytes ≡ Ok (x, rest) → Takes bytes (option_spelling spelling x) rest × IfSome x fits
+module _ {A : Type 0} {item : List ℕ → Read A} {spelling : A → List ℕ} {fits : A → Type 0} (format : IsFormat item spelling fits) where
+  option_takes : (bytes : List ℕ) (x : Option A) (rest : List ℕ) → IsBytes bytes → option_at item bytes ≡ Ok (x, rest) → Takes bytes (option_spelling spelling x) rest × IfSome x fits
   unfolding option_at
   option_takes [] x rest h e = absurd cc
   option_takes (zero ∷ bytes) x rest h e =
       subst (λ (r : Option A × List ℕ). Takes (0 ∷ bytes) (option_spelling spelling r.0) r.1 × IfSome r.0 fits) (ok_is (None, bytes) (x, rest) e) (record { parts = refl; rest_fits = IsBytes-rest 0 bytes h }, tt)
   option_takes (suc zero ∷ bytes) x rest h e =
       let b = bind_ok (item bytes) (λ value. Ok (Some value.0, value.1)) (x, rest) e in
-      let t = takes bytes b.0.0 b.0.1 (IsBytes-rest 1 bytes h) b.1 in
+      let t = format.takes bytes b.0.0 b.0.1 (IsBytes-rest 1 bytes h) b.1 in
       subst (λ (r : Option A × List ℕ). Takes (1 ∷ bytes) (option_spelling spelling r.0) r.1 × IfSome r.0 fits) (ok_is (Some b.0.0, b.0.1) (x, rest) b.2) (record { parts = ap (λ (w : List ℕ). 1 ∷ w) t.0.parts; rest_fits = t.0.rest_fits }, t.1)
   option_takes (suc (suc flag) ∷ bytes) x rest h e = absurd cc
 
-  pub option_again : (x : Option A) (rest : List ℕ) → IfSome x fits → option_at item (option_spelling spelling x ++ rest) ≡ Ok (x, rest)
+  option_again : (x : Option A) (rest : List ℕ) → IfSome x fits → option_at item (option_spelling spelling x ++ rest) ≡ Ok (x, rest)
   unfolding option_at
   option_again None rest h = refl
-  option_again (Some x) rest h = rw (again x rest h) refl
+  option_again (Some x) rest h = rw (format.again x rest h) refl
 
-module _ {A B : Type 0} (first : List ℕ → Read A) (spelling : A → List ℕ) (fits : A → Type 0) (takes : (bytes : List ℕ) (x : A) (rest : List ℕ) → IsBytes bytes → first bytes ≡ Ok (x, rest) → Takes bytes (spelling x) rest × fits x) (again : (x : A) (rest : List ℕ) → fits x → first (spelling x ++ rest) ≡ Ok (x, rest)) (second : List ℕ → Read B) (spelling2 : B → List ℕ) (fits2 : B → Type 0) (takes2 : (bytes : List ℕ) (x : B) (rest : List ℕ) → IsBytes bytes → second bytes ≡ Ok (x, rest) → Takes bytes (spelling2 x) rest × fits2 x) (again2 : (x : B) (rest : List ℕ) → fits2 x → second (spelling2 x ++ rest) ≡ Ok (x, rest)) where
-  pub pair_takes : (bytes : List ℕ) (x : A × B) (rest : List ℕ) → IsBytes bytes → pair_at first second bytes ≡ Ok (x, rest) → Takes bytes (pair_spelling spelling spelling2 x) rest × (fits x.0 × fits2 x.1)
+  pub option_format : IsFormat (option_at item) (option_spelling spelling) (λ o. IfSome o fits)
+  option_format = record { takes = option_takes; again = option_again }
+
+module _ {A B : Type 0} {first : List ℕ → Read A} {spelling : A → List ℕ} {fits : A → Type 0} (format : IsFormat first spelling fits) {second : List ℕ → Read B} {spelling2 : B → List ℕ} {fits2 : B → Type 0} (format2 : IsFormat second spelling2 fits2) where
+  pair_takes : (bytes : List ℕ) (x : A × B) (rest : List ℕ) → IsBytes bytes → pair_at first second bytes ≡ Ok (x, rest) → Takes bytes (pair_spelling spelling spelling2 x) rest × (fits x.0 × fits2 x.1)
   unfolding pair_at
   pair_takes bytes x rest h e =
       let a = bind_ok (first bytes) (λ one. second one.1 >>= λ two. Ok ((one.0, two.0), two.1)) (x, rest) e in
       let b = bind_ok (second a.0.1) (λ two. Ok ((a.0.0, two.0), two.1)) (x, rest) a.2 in
-      let one = takes bytes a.0.0 a.0.1 h a.1 in
-      let two = takes2 a.0.1 b.0.0 b.0.1 one.0.rest_fits b.1 in
+      let one = format.takes bytes a.0.0 a.0.1 h a.1 in
+      let two = format2.takes a.0.1 b.0.0 b.0.1 one.0.rest_fits b.1 in
       subst (λ (r : (A × B) × List ℕ). Takes bytes (pair_spelling spelling spelling2 r.0) r.1 × (fits r.0.0 × fits2 r.0.1)) (ok_is ((a.0.0, b.0.0), b.0.1) (x, rest) b.2)
       (Takes-then bytes (spelling a.0.0) a.0.1 (spelling2 b.0.0) b.0.1 one.0 two.0, (one.1, two.1))
 
-  pub pair_again : (x : A × B) (rest : List ℕ) → fits x.0 × fits2 x.1 → pair_at first second (pair_spelling spelling spelling2 x ++ rest) ≡ Ok (x, rest)
+  pair_again : (x : A × B) (rest : List ℕ) → fits x.0 × fits2 x.1 → pair_at first second (pair_spelling spelling spelling2 x ++ rest) ≡ Ok (x, rest)
   unfolding pair_at
   pair_again x rest h =
-      ap (pair_at first second) (append_assoc (spelling x.0) (spelling2 x.1) rest) ∙ rw (again x.0 (spelling2 x.1 ++ rest) h.0, again2 x.1 rest h.1) refl
+      ap (pair_at first second) (append_assoc (spelling x.0) (spelling2 x.1) rest) ∙ rw (format.again x.0 (spelling2 x.1 ++ rest) h.0, format2.again x.1 rest h.1) refl
 
-  module _ {C : Type 0} (third : List ℕ → Read C) (spelling3 : C → List ℕ) (fits3 : C → Type 0) (takes3 : (bytes : List ℕ) (x : C) (rest : List ℕ) → IsBytes bytes → third bytes ≡ Ok (x, rest) → Takes bytes (spelling3 x) rest × fits3 x) (again3 : (x : C) (rest : List ℕ) → fits3 x → third (spelling3 x ++ rest) ≡ Ok (x, rest)) where
-    pub triple_takes : (bytes : List ℕ) (x : A × B × C) (rest : List ℕ) → IsBytes bytes → triple_at first second third bytes ≡ Ok (x, rest) → Takes bytes (triple_spelling spelling spelling2 spelling3 x) rest × (fits x.0 × fits2 x.1 × fits3 x.2)
+  pub pair_format : IsFormat (pair_at first second) (pair_spelling spelling spelling2) (λ p. fits p.0 × fits2 p.1)
+  pair_format = record { takes = pair_takes; again = pair_again }
+
+  module _ {C : Type 0} {third : List ℕ → Read C} {spelling3 : C → List ℕ} {fits3 : C → Type 0} (format3 : IsFormat third spelling3 fits3) where
+    triple_takes : (bytes : List ℕ) (x : A × B × C) (rest : List ℕ) → IsBytes bytes → triple_at first second third bytes ≡ Ok (x, rest) → Takes bytes (triple_spelling spelling spelling2 spelling3 x) rest × (fits x.0 × fits2 x.1 × fits3 x.2)
     unfolding triple_at
     triple_takes bytes x rest h e =
         let a = bind_ok (first bytes) (λ one. second one.1 >>= λ two. third two.1 >>= λ three. Ok ((one.0, two.0, three.0), three.1)) (x, rest) e in
         let b = bind_ok (second a.0.1) (λ two. third two.1 >>= λ three. Ok ((a.0.0, two.0, three.0), three.1)) (x, rest) a.2 in
         let c = bind_ok (third b.0.1) (λ three. Ok ((a.0.0, b.0.0, three.0), three.1)) (x, rest) b.2 in
-        let one = takes bytes a.0.0 a.0.1 h a.1 in
-        let two = takes2 a.0.1 b.0.0 b.0.1 one.0.rest_fits b.1 in
-        let three = takes3 b.0.1 c.0.0 c.0.1 two.0.rest_fits c.1 in
+        let one = format.takes bytes a.0.0 a.0.1 h a.1 in
+        let two = format2.takes a.0.1 b.0.0 b.0.1 one.0.rest_fits b.1 in
+        let three = format3.takes b.0.1 c.0.0 c.0.1 two.0.rest_fits c.1 in
         let front = Takes-then bytes (spelling a.0.0) a.0.1 (spelling2 b.0.0) b.0.1 one.0 two.0 in
         subst (λ (r : (A × B × C) × List ℕ). Takes bytes (triple_spelling spelling spelling2 spelling3 r.0) r.1 × (fits r.0.0 × fits2 r.0.1 × fits3 r.0.2)) (ok_is ((a.0.0, b.0.0, c.0.0), c.0.1) (x, rest) c.2)
         (Takes-then bytes (spelling a.0.0 ++ spelling2 b.0.0) b.0.1 (spelling3 c.0.0) c.0.1 front three.0, (one.1, two.1, three.1))
 
-    pub triple_again : (x : A × B × C) (rest : List ℕ) → fits x.0 × fits2 x.1 × fits3 x.2 → triple_at first second third (triple_spelling spelling spelling2 spelling3 x ++ rest) ≡ Ok (x, rest)
+    triple_again : (x : A × B × C) (rest : List ℕ) → fits x.0 × fits2 x.1 × fits3 x.2 → triple_at first second third (triple_spelling spelling spelling2 spelling3 x ++ rest) ≡ Ok (x, rest)
     unfolding triple_at
     triple_again x rest h =
         let regrouped : triple_spelling spelling spelling2 spelling3 x ++ rest ≡ spelling x.0 ++ (spelling2 x.1 ++ (spelling3 x.2 ++ rest)) = append_assoc (spelling x.0 ++ spelling2 x.1) (spelling3 x.2) rest ∙ append_assoc (spelling x.0) (spelling2 x.1) (spelling3 x.2 ++ rest) in
-        ap (triple_at first second third) regrouped ∙ rw (again x.0 (spelling2 x.1 ++ (spelling3 x.2 ++ rest)) h.0, again2 x.1 (spelling3 x.2 ++ rest) h.1, again3 x.2 rest h.2) refl
+        ap (triple_at first second third) regrouped ∙ rw (format.again x.0 (spelling2 x.1 ++ (spelling3 x.2 ++ rest)) h.0, format2.again x.1 (spelling3 x.2 ++ rest) h.1, format3.again x.2 rest h.2) refl
+
+    pub triple_format : IsFormat (triple_at first second third) (triple_spelling spelling spelling2 spelling3) (λ p. fits p.0 × fits2 p.1 × fits3 p.2)
+    triple_format = record { takes = triple_takes; again = triple_again }
+
+-- a value that is seen as another one: what is read is `to` of what is read, and its spelling is that of `from` of it
+pub mapped_format : {A B : Type 0} {reading : List ℕ → Read A} {spelling : A → List ℕ} {fits : A → Type 0} (to : A → B) (from : B → A) → ((x : A) → from (to x) ≡ x) → ((y : B) → to (from y) ≡ y) → IsFormat reading spelling fits → IsFormat (mapped_at to reading) (λ y. spelling (from y)) (λ y. fits (from y))
+unfolding mapped_at
+mapped_format {A} {B} {reading} {spelling} {fits} to from back forth format = record {
+  takes = λ bytes y rest h e.
+    let b = bind_ok (reading bytes) (λ x. Ok (to x.0, x.1)) (y, rest) e in
+    let t = format.takes bytes b.0.0 b.0.1 h b.1 in
+    subst (λ (r : B × List ℕ). Takes bytes (spelling (from r.0)) r.1 × fits (from r.0)) (ok_is (to b.0.0, b.0.1) (y, rest) b.2)
+        (subst (λ (x : A). Takes bytes (spelling x) b.0.1 × fits x) (sym (back b.0.0)) t);
+  again = λ y rest h. rw (format.again (from y) rest h, forth y) refl;
+}

@@ -34,6 +34,11 @@ pub record Takes (bytes spelling rest : List ℕ) : Type 0 where
   pub parts : bytes ≡ spelling ++ rest
   pub rest_fits : IsBytes rest
 
+-- a format: what is read is spelled so, and what is spelled so is read, whatever follows it
+pub record IsFormat {A : Type 0} (reading : List ℕ → Read A) (spelling : A → List ℕ) (fits : A → Type 0) : Type 0 where
+  pub takes : (bytes : List ℕ) (value : A) (rest : List ℕ) → IsBytes bytes → reading bytes ≡ Ok (value, rest) → Takes bytes (spelling value) rest × fits value
+  pub again : (value : A) (rest : List ℕ) → fits value → reading (spelling value ++ rest) ≡ Ok (value, rest)
+
 -- the spelling stands at the front of the bytes, and so many bytes are its own
 pub record BeginsWith (bytes spelling : List ℕ) (taken : ℕ) : Type 0 where
   pub taken_all : taken ≡ length spelling

@@ -1,15 +1,15 @@
 -- Bytes, texts and names: what is read is spelled so, and what is spelled is read again.
-use Rattle.std.proofs.Common.{◌≡◌, ℕ, ◌+◌, ◌^◌, ◌<◌, ◌≤◌, Bool, true, false, cond, ltb, List, [], ◌∷◌, ◌++◌, length, take, drop, Result, Ok, Err, refl, sym, ap, subst, ◌∙◌, append_assoc, arith}
+use Rattle.std.proofs.Common.{◌≡◌, ℕ, ◌+◌, ◌^◌, ◌<◌, ◌≤◌, Bool, true, false, cond, ltb, leb, ◌&&◌, rules, List, [], ◌∷◌, ◌++◌, length, take, drop, Result, Ok, Err, refl, sym, ap, subst, ◌∙◌, append_assoc, arith}
 use Rattle.std.specs.Prelude.{IsTrue}
 use Rattle.std.specs.Int.{w32, to_be_bytes}
 use Rattle.std.specs.Str.{IsUtf8, is_utf8}
-use Rattle.std.proofs.lemmas.Bool.{ltb-false, le-ltb}
+use Rattle.std.proofs.lemmas.Bool.{ltb-false, le-ltb, leb-true, le-leb, and_parts, and_from}
 use Rattle.std.proofs.lemmas.List.{take_at, drop_at, take-append-drop, length-append, length-take}
 use Rattle.std.proofs.lemmas.Str.{IsUtf8-from_is_utf8, is_utf8-from_IsUtf8}
-use Rattle.sr_base.specs.Fields.{number_at, bytes_at, bytes_spelling, text_at, IsText, name_at, name_spelling, is_name_size, IsName}
+use Rattle.sr_base.specs.Fields.{byte_at, number_at, bytes_at, bytes_spelling, text_at, IsText, name_at, name_spelling, is_name_size, IsName}
 use Rattle.sr_base.specs.Names.{is_lower_name}
-use Rattle.sr_base.specs.NumberLaws.{IsBytes-drop, bind_ok, guard_ok, passed_ok, ok_is, Takes-then, wide32, number_takes, number_again}
-use Rattle.sr_base.specs.Reading.{Read, ◌>>=◌, IsBytes, Takes}
+use Rattle.sr_base.specs.NumberLaws.{IsBytes-drop, byte_takes, bind_ok, guard_ok, passed_ok, ok_is, Takes-then, wide32, number_takes, number_again}
+use Rattle.sr_base.specs.Reading.{Read, ◌>>=◌, IsBytes, Takes, IsFormat}
 
 -- a test that did not refuse, before another step
 pub unless_ok : {A : Type 0} (b : Bool) (left : ℕ) (read : Result A ℕ) (y : A) → cond b (Err left) read ≡ Ok y → (b ≡ false) × (read ≡ Ok y)
@@ -55,3 +55,59 @@ text_again text rest fits =
     let long : ltb (length (text ++ rest)) (length text) ≡ false = le-ltb _ _ (omega (arith, length-append text rest)) in
     let utf8 : is_utf8 text ≡ true = is_utf8-from_IsUtf8 text fits.utf8 in
     rw (number_again w32 (2 ^ 32) wide32 (length text) (text ++ rest) fits.short, long, take_at text rest (length text) refl, drop_at text rest (length text) refl, utf8) refl
+
+-- a length of a name, taken apart
+is_name_size-true : (size behind : ℕ) → is_name_size size behind ≡ true → (1 ≤ size) × (size ≤ 64) × (size ≤ behind)
+is_name_size-true size behind e =
+    let both = and_parts (leb 1 size && leb size 64) (leb size behind) e in
+    let low = and_parts (leb 1 size) (leb size 64) both.0 in
+    (leb-true _ _ low.0, leb-true _ _ low.1, leb-true _ _ both.1)
+
+is_name_size-from : (size behind : ℕ) → 1 ≤ size → size ≤ 64 → size ≤ behind → is_name_size size behind ≡ true
+is_name_size-from size behind one most long = and_from _ _ (and_from _ _ (le-leb _ _ one) (le-leb _ _ most)) (le-leb _ _ long)
+
+-- a name has 1 to 64 bytes
+is_lower_name-length : (name : List ℕ) → is_lower_name name ≡ true → (1 ≤ length name) × (length name ≤ 64)
+is_lower_name-length [] e = absurd cc
+is_lower_name-length (byte ∷ bytes) e =
+    let short : length bytes ≤ 63 = leb-true _ _ (and_parts _ (leb (length bytes) 63) e).1 in
+    (omega arith, omega arith)
+
+-- the test passed, before another step
+passes_ok : {A : Type 0} (b : Bool) (left : ℕ) (read : Result A ℕ) (y : A) → cond b read (Err left) ≡ Ok y → (b ≡ true) × (read ≡ Ok y)
+passes_ok true left read y e = (refl, e)
+passes_ok false left read y e = absurd cc
+
+pub name_takes : (bytes name rest : List ℕ) → IsBytes bytes → name_at bytes ≡ Ok (name, rest) → Takes bytes (name_spelling name) rest × IsName name
+unfolding name_at
+name_takes bytes name rest fits e =
+    let b = bind_ok (byte_at bytes) (λ size. cond (is_name_size size.0 (length size.1)) (cond (is_lower_name (take size.0 size.1)) (Ok (take size.0 size.1, drop size.0 size.1)) (Err (length size.1))) (Err (length bytes))) (name, rest) e in
+    let size = b.0.0 in
+    let behind = b.0.1 in
+    let t = byte_takes bytes size behind fits b.1 in
+    let s = passes_ok (is_name_size size (length behind)) (length bytes) (cond (is_lower_name (take size behind)) (Ok (take size behind, drop size behind)) (Err (length behind))) (name, rest) b.2 in
+    let g = passed_ok (is_lower_name (take size behind)) (length behind) (take size behind, drop size behind) (name, rest) s.1 in
+    let sized = is_name_size-true size (length behind) s.0 in
+    let len : length (take size behind) ≡ size = omega (arith, length-take size behind, sized.2) in
+    let second : Takes behind (take size behind) (drop size behind) = record { parts = sym (take-append-drop size behind); rest_fits = IsBytes-drop size behind t.0.rest_fits } in
+    let both = Takes-then bytes (size ∷ []) behind (take size behind) (drop size behind) t.0 second in
+    let whole = subst (λ (k : ℕ). Takes bytes ((k ∷ []) ++ take size behind) (drop size behind)) (sym len) both in
+    let named : IsName (take size behind) = search (rules, g.0) in
+    subst (λ (p : List ℕ × List ℕ). Takes bytes (name_spelling p.0) p.1 × IsName p.0) g.1 (whole, named)
+
+pub name_again : (name rest : List ℕ) → IsName name → name_at (name_spelling name ++ rest) ≡ Ok (name, rest)
+unfolding name_at
+name_again name rest fits =
+    let named : is_lower_name name ≡ true = search rules in
+    let size = is_lower_name-length name named in
+    let sized : is_name_size (length name) (length (name ++ rest)) ≡ true = is_name_size-from (length name) (length (name ++ rest)) size.0 size.1 (omega (arith, length-append name rest)) in
+    rw (sized, take_at name rest (length name) refl, drop_at name rest (length name) refl, named) refl
+
+pub bytes_format : IsFormat bytes_at bytes_spelling (λ part. length part < 2 ^ 32)
+bytes_format = record { takes = bytes_takes; again = bytes_again }
+
+pub text_format : IsFormat text_at bytes_spelling IsText
+text_format = record { takes = text_takes; again = text_again }
+
+pub name_format : IsFormat name_at name_spelling IsName
+name_format = record { takes = name_takes; again = name_again }

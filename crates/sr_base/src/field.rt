@@ -1,5 +1,5 @@
-ghost use Rattle.std.specs.Prelude.{◌≡◌, ℕ, List, ◌++◌, Ok, OnOk, OnErr};
-ghost use Rattle.sr_base.specs.Reading.{Read, Gives, IsBytes, Takes};
+ghost use Rattle.std.specs.Prelude.{◌≡◌, ℕ, List, ◌++◌, OnOk, OnErr};
+ghost use Rattle.sr_base.specs.Reading.{Read, Gives, IsFormat};
 
 use crate::broken::Broken;
 use crate::copied::NoMemory;
@@ -8,7 +8,7 @@ use std::alloc::Global;
 /// What has one spelling in bytes, and is read from the front of them.
 ///
 /// Each format is built from fields: its `spelling` says which bytes a value has, its `reading` answers the value at the front
-/// of bytes with the bytes after it, or where a field breaks. The two laws tie them together: what is read is spelled so, and
+/// of bytes with the bytes after it, or where a field breaks. The law `format` ties them together: what is read is spelled so, and
 /// what is spelled so is read, whatever follows it.
 pub trait Field: Drop {
     /// What a value must keep to be written, beside what its type keeps.
@@ -32,9 +32,6 @@ pub trait Field: Drop {
         ensures err { OnErr result (out.new.items ≡ out.old.items) }
         ensures kept { OnOk result (fits self.now) };
 
-    /// What is read is spelled so.
-    ghost takes: { (bytes : List ℕ) (x : Self) (rest : List ℕ) → IsBytes bytes → reading bytes ≡ Ok (x, rest) → Takes bytes (spelling x) rest × fits x };
-
-    /// What is spelled so is read, whatever follows it.
-    ghost again: { (x : Self) (rest : List ℕ) → fits x → reading (spelling x ++ rest) ≡ Ok (x, rest) };
+    /// What is read is spelled so, and what is spelled so is read, whatever follows it.
+    ghost format: { IsFormat reading spelling fits };
 }

@@ -2,7 +2,7 @@
 
 ghost use Rattle.std.specs.Prelude.{◌≡◌, ◌<◌, ◌^◌, length};
 ghost use Rattle.sr_base.specs.Fields.{list_spelling, list_at, items_at, IsListOf};
-ghost use Rattle.sr_base.specs.ListLaws.{list_takes, list_again};
+ghost use Rattle.sr_base.specs.ListLaws.{list_format};
 ghost use Rattle.sr_base.specs.Reading.{Gives};
 
 use crate::broken::Broken;
@@ -34,9 +34,7 @@ impl<T: Field> Field for Seq<T> {
 
     ghost reading = { list_at T.reading };
 
-    ghost takes = { list_takes T.reading T.spelling T.fits T.takes T.again };
-
-    ghost again = { list_again T.reading T.spelling T.fits T.takes T.again };
+    ghost format = { list_format T.format };
 
     #[tactic(auto, unfolding(crate::specs::Fields::list_at))]
     fn read(alloc: Global, bytes: &[u8]) -> Result<(Seq<T>, &[u8]), Broken> {

@@ -3,7 +3,7 @@
 ghost use Rattle.std.specs.Prelude.{ℕ, ◌^◌, ◌<◌, [], ◌∷◌, ⊤};
 ghost use Rattle.std.specs.Int.{w32, w64, to_be_bytes};
 ghost use Rattle.sr_base.specs.Fields.{byte_at, number_at};
-ghost use Rattle.sr_base.specs.NumberLaws.{wide32, wide64, byte_takes, byte_again, number_takes, number_again};
+ghost use Rattle.sr_base.specs.NumberLaws.{byte_format, format32, format64};
 
 use crate::broken::Broken;
 use crate::copied::NoMemory;
@@ -19,9 +19,7 @@ impl Field for u8 {
 
     ghost reading = { byte_at };
 
-    ghost takes = { byte_takes };
-
-    ghost again = { byte_again };
+    ghost format = { byte_format };
 
     fn read(_alloc: Global, bytes: &[u8]) -> Result<(u8, &[u8]), Broken> {
         match bytes {
@@ -45,9 +43,7 @@ impl Field for u32 {
 
     ghost reading = { number_at w32 };
 
-    ghost takes = { number_takes w32 (2 ^ 32) wide32 };
-
-    ghost again = { number_again w32 (2 ^ 32) wide32 };
+    ghost format = { format32 };
 
     fn read(_alloc: Global, bytes: &[u8]) -> Result<(u32, &[u8]), Broken> {
         if bytes.len() < 4 {
@@ -72,9 +68,7 @@ impl Field for u64 {
 
     ghost reading = { number_at w64 };
 
-    ghost takes = { number_takes w64 (2 ^ 64) wide64 };
-
-    ghost again = { number_again w64 (2 ^ 64) wide64 };
+    ghost format = { format64 };
 
     fn read(_alloc: Global, bytes: &[u8]) -> Result<(u64, &[u8]), Broken> {
         if bytes.len() < 8 {

@@ -2,7 +2,7 @@
 
 ghost use Rattle.std.specs.Prelude.{IfSome};
 ghost use Rattle.sr_base.specs.Fields.{option_spelling, option_at, pair_spelling, pair_at, triple_spelling, triple_at};
-ghost use Rattle.sr_base.specs.PartLaws.{option_takes, option_again, pair_takes, pair_again, triple_takes, triple_again};
+ghost use Rattle.sr_base.specs.PartLaws.{option_format, pair_format, triple_format};
 
 use crate::broken::Broken;
 use crate::copied::NoMemory;
@@ -18,9 +18,7 @@ impl<T: Field> Field for Option<T> {
 
     ghost reading = { option_at T.reading };
 
-    ghost takes = { option_takes T.reading T.spelling T.fits T.takes T.again };
-
-    ghost again = { option_again T.reading T.spelling T.fits T.takes T.again };
+    ghost format = { option_format T.format };
 
     #[tactic(auto, unfolding(crate::specs::Fields::option_at))]
     fn read(alloc: Global, bytes: &[u8]) -> Result<(Option<T>, &[u8]), Broken> {
@@ -62,9 +60,7 @@ impl<A: Field, B: Field> Field for (A, B) {
 
     ghost reading = { pair_at A.reading B.reading };
 
-    ghost takes = { pair_takes A.reading A.spelling A.fits A.takes A.again B.reading B.spelling B.fits B.takes B.again };
-
-    ghost again = { pair_again A.reading A.spelling A.fits A.takes A.again B.reading B.spelling B.fits B.takes B.again };
+    ghost format = { pair_format A.format B.format };
 
     #[tactic(auto, unfolding(crate::specs::Fields::pair_at))]
     fn read(alloc: Global, bytes: &[u8]) -> Result<((A, B), &[u8]), Broken> {
@@ -93,9 +89,7 @@ impl<A: Field, B: Field, C: Field> Field for (A, B, C) {
 
     ghost reading = { triple_at A.reading B.reading C.reading };
 
-    ghost takes = { triple_takes A.reading A.spelling A.fits A.takes A.again B.reading B.spelling B.fits B.takes B.again C.reading C.spelling C.fits C.takes C.again };
-
-    ghost again = { triple_again A.reading A.spelling A.fits A.takes A.again B.reading B.spelling B.fits B.takes B.again C.reading C.spelling C.fits C.takes C.again };
+    ghost format = { triple_format A.format B.format C.format };
 
     #[tactic(auto, unfolding(crate::specs::Fields::triple_at))]
     fn read(alloc: Global, bytes: &[u8]) -> Result<((A, B, C), &[u8]), Broken> {
