@@ -1,5 +1,5 @@
 -- The bytes of numbers, names, texts, lists, options, pairs and triples, and how they are read.
-use Rattle.std.specs.Prelude.{◌≡◌, ℕ, zero, suc, ◌+◌, ◌<◌, ◌^◌, Bool, nat_lt, nat_le, ◌&&◌, ℤ, FitsSigned, IsTrue, List, [], ◌∷◌, ◌++◌, length, take, drop, Option, Some, None, IfSome, Result, Ok, Err, if◌then◌else◌}
+use Rattle.std.specs.Prelude.{◌≡◌, ℕ, zero, suc, ◌+◌, ◌<◌, ◌^◌, Bool, nat_lt, nat_le, ◌==◌, ◌&&◌, ℤ, FitsSigned, IsTrue, List, [], ◌∷◌, ◌++◌, length, take, drop, Option, Some, None, IfSome, Result, Ok, Err, if◌then◌else◌}
 use Rattle.std.specs.Int.{Width, w32, byte_len, from_be_bytes, to_be_bytes, cast_signed, cast_unsigned}
 use Rattle.std.specs.List.{flat_map, AllByRecursion}
 use Rattle.std.specs.Str.{IsUtf8, is_utf8}
@@ -121,7 +121,22 @@ triple_at first second third bytes = do
 
 -- ---- a value that is another one under a name of its own
 
-unfoldable pub mapped_at : {A B : Type 0} → (A → B) → (List ℕ → Read A) → List ℕ → Read B
+abbrev pub mapped_at : {A B : Type 0} → (A → B) → (List ℕ → Read A) → List ℕ → Read B
 mapped_at to item bytes = do
   value ← item bytes
   Ok (to value.0, value.1)
+
+-- ---- tags: a byte says what follows; a byte that is no tag breaks
+
+-- behind this tag stands an item; another byte is left to what follows in the table
+abbrev pub tag_at : {A : Type 0} → ℕ → (List ℕ → Read A) → (List ℕ → Read A) → List ℕ → Read A
+tag_at tag item other [] = Err 0
+tag_at tag item other (byte ∷ rest) = if byte == tag then item rest else other (byte ∷ rest)
+
+-- nothing stands behind the tag
+abbrev pub just_at : {A : Type 0} → A → List ℕ → Read A
+just_at value bytes = Ok (value, bytes)
+
+-- no tag is left
+abbrev pub untagged_at : {A : Type 0} → List ℕ → Read A
+untagged_at bytes = Err (length bytes)

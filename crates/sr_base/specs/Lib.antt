@@ -6,3 +6,5 @@ pub mod NumberLaws
 pub mod PartLaws
 pub mod Reading
 pub mod TextLaws
+pub mod ValueLaws
+pub mod Values

@@ -1,7 +1,8 @@
 -- Options, pairs and triples: what is read is spelled so, and what is spelled is read again, where both hold of the parts.
-use Rattle.std.proofs.Common.{◌≡◌, ℕ, zero, suc, List, [], ◌∷◌, ◌++◌, length, Option, Some, None, Result, Ok, Err, refl, sym, ap, subst, ◌∙◌, append_assoc, arith}
+use Rattle.std.proofs.Common.{◌≡◌, ℕ, zero, suc, List, [], ◌∷◌, ◌++◌, length, Option, Some, None, Result, Ok, Err, refl, sym, ap, subst, Bool, true, false, cond, eqb, ◌⊎◌, inl, inr, ◌∙◌, append_assoc, arith}
 use Rattle.std.specs.Prelude.{IfSome}
-use Rattle.sr_base.specs.Fields.{option_at, option_spelling, pair_at, pair_spelling, triple_at, triple_spelling, mapped_at}
+use Rattle.std.proofs.lemmas.Bool.{eqb-true}
+use Rattle.sr_base.specs.Fields.{option_at, option_spelling, pair_at, pair_spelling, triple_at, triple_spelling, mapped_at, tag_at, just_at, untagged_at}
 use Rattle.sr_base.specs.NumberLaws.{IsBytes-rest, bind_ok, ok_is, Takes-then}
 use Rattle.sr_base.specs.Reading.{Read, ◌>>=◌, IsBytes, Takes, IsFormat}
 
@@ -69,7 +70,6 @@ module _ {A B : Type 0} {first : List ℕ → Read A} {spelling : A → List ℕ
 
 -- a value that is seen as another one: what is read is `to` of what is read, and its spelling is that of `from` of it
 pub mapped_format : {A B : Type 0} {reading : List ℕ → Read A} {spelling : A → List ℕ} {fits : A → Type 0} (to : A → B) (from : B → A) → ((x : A) → from (to x) ≡ x) → ((y : B) → to (from y) ≡ y) → IsFormat reading spelling fits → IsFormat (mapped_at to reading) (λ y. spelling (from y)) (λ y. fits (from y))
-unfolding mapped_at
 mapped_format {A} {B} {reading} {spelling} {fits} to from back forth format = record {
   takes = λ bytes y rest h e.
     let b = bind_ok (reading bytes) (λ x. Ok (to x.0, x.1)) (y, rest) e in
@@ -77,4 +77,51 @@ mapped_format {A} {B} {reading} {spelling} {fits} to from back forth format = re
     subst (λ (r : B × List ℕ). Takes bytes (spelling (from r.0)) r.1 × fits (from r.0)) (ok_is (to b.0.0, b.0.1) (y, rest) b.2)
         (subst (λ (x : A). Takes bytes (spelling x) b.0.1 × fits x) (sym (back b.0.0)) t);
   again = λ y rest h. rw (format.again (from y) rest h, forth y) refl;
+}
+
+-- what is read behind this tag is spelled so, the tag in front
+pub record IsTagged {A : Type 0} (tag : ℕ) (item : List ℕ → Read A) (spelling : A → List ℕ) (fits : A → Type 0) : Type 0 where
+  pub takes : (bytes : List ℕ) (value : A) (rest : List ℕ) → IsBytes bytes → item bytes ≡ Ok (value, rest) → Takes (tag ∷ bytes) (spelling value) rest × fits value
+
+-- what is read from a table of tags is spelled so
+pub record IsTable {A : Type 0} (item : List ℕ → Read A) (spelling : A → List ℕ) (fits : A → Type 0) : Type 0 where
+  pub takes : (bytes : List ℕ) (value : A) (rest : List ℕ) → IsBytes bytes → item bytes ≡ Ok (value, rest) → Takes bytes (spelling value) rest × fits value
+
+chosen : {A : Type 0} (b : Bool) (x y z : A) → cond b x y ≡ z → ((b ≡ true) × (x ≡ z)) ⊎ ((b ≡ false) × (y ≡ z))
+chosen true x y z e = inl (refl, e)
+chosen false x y z e = inr (refl, e)
+
+module _ {A : Type 0} {tag : ℕ} {item other : List ℕ → Read A} {spelling : A → List ℕ} {fits : A → Type 0} (first : IsTagged tag item spelling fits) (others : IsTable other spelling fits) where
+  tag_takes : (bytes : List ℕ) (value : A) (rest : List ℕ) → IsBytes bytes → tag_at tag item other bytes ≡ Ok (value, rest) → Takes bytes (spelling value) rest × fits value
+  tag_takes [] value rest h e = absurd cc
+  tag_takes (byte ∷ bytes) value rest h e =
+      elim (chosen (eqb byte tag) (item bytes) (other (byte ∷ bytes)) (Ok (value, rest)) e) [
+        | inl here ↦ subst (λ (t : ℕ). Takes (t ∷ bytes) (spelling value) rest × fits value) (sym (eqb-true _ _ here.0)) (first.takes bytes value rest (IsBytes-rest byte bytes h) here.1)
+        | inr there ↦ others.takes (byte ∷ bytes) value rest h there.1
+      ]
+
+  -- one more tag in front of a table
+  pub tag_table : IsTable (tag_at tag item other) spelling fits
+  tag_table = record { takes = tag_takes }
+
+pub no_table : {A : Type 0} {spelling : A → List ℕ} {fits : A → Type 0} → IsTable untagged_at spelling fits
+no_table = record { takes = λ bytes value rest h e. absurd cc }
+
+-- a variant that holds a value, behind its tag
+pub variant : {A B : Type 0} {reading : List ℕ → Read A} {part : A → List ℕ} {holds : A → Type 0} {tag : ℕ} {spelling : B → List ℕ} {fits : B → Type 0} → IsFormat reading part holds → (to : A → B) → ((x : A) → spelling (to x) ≡ tag ∷ part x) → ((x : A) → holds x → fits (to x)) → IsTagged tag (mapped_at to reading) spelling fits
+variant {A} {B} {reading} {part} {holds} {tag} {spelling} {fits} format to spelled kept = record {
+  takes = λ bytes value rest h e.
+    let b = bind_ok (reading bytes) (λ x. Ok (to x.0, x.1)) (value, rest) e in
+    let t = format.takes bytes b.0.0 b.0.1 h b.1 in
+    let parts : tag ∷ bytes ≡ spelling (to b.0.0) ++ b.0.1 = ap (λ (w : List ℕ). tag ∷ w) t.0.parts ∙ ap (λ (w : List ℕ). w ++ b.0.1) (sym (spelled b.0.0)) in
+    subst (λ (r : B × List ℕ). Takes (tag ∷ bytes) (spelling r.0) r.1 × fits r.0) (ok_is (to b.0.0, b.0.1) (value, rest) b.2)
+        (record { parts = parts; rest_fits = t.0.rest_fits }, kept b.0.0 t.1);
+}
+
+-- a variant that holds nothing
+pub bare_variant : {B : Type 0} {tag : ℕ} {value : B} {spelling : B → List ℕ} {fits : B → Type 0} → spelling value ≡ tag ∷ [] → fits value → IsTagged tag (just_at value) spelling fits
+bare_variant {B} {tag} {value} {spelling} {fits} spelled kept = record {
+  takes = λ bytes found rest h e.
+    subst (λ (r : B × List ℕ). Takes (tag ∷ bytes) (spelling r.0) r.1 × fits r.0) (ok_is (value, bytes) (found, rest) e)
+        (record { parts = ap (λ (w : List ℕ). w ++ bytes) (sym spelled); rest_fits = h }, kept);
 }
