@@ -1,5 +1,5 @@
 -- The bytes of numbers, names, texts, lists, options, pairs and triples, and how they are read.
-use Rattle.std.specs.Prelude.{◌≡◌, ℕ, zero, suc, ◌+◌, ◌<◌, ◌^◌, Bool, nat_lt, nat_le, ◌==◌, ◌&&◌, ℤ, FitsSigned, IsTrue, List, [], ◌∷◌, ◌++◌, length, take, drop, Option, Some, None, IfSome, Result, Ok, Err, if◌then◌else◌}
+use Rattle.std.specs.Prelude.{ℕ, zero, suc, ◌<◌, ◌^◌, Bool, nat_lt, nat_le, ◌==◌, ◌&&◌, ℤ, IsTrue, List, [], ◌∷◌, ◌++◌, length, take, drop, Option, Some, None, Ok, Err, if◌then◌else◌}
 use Rattle.std.specs.Int.{Width, w32, byte_len, from_be_bytes, to_be_bytes, cast_signed, cast_unsigned}
 use Rattle.std.specs.List.{flat_map, AllByRecursion}
 use Rattle.std.specs.Str.{IsUtf8, is_utf8}

@@ -1,10 +1,10 @@
 -- Lists: what is read is spelled so, and what is spelled is read again, where both hold of an item.
-use Rattle.std.proofs.Common.{◌≡◌, ℕ, zero, suc, ◌^◌, ◌<◌, List, [], ◌∷◌, ◌++◌, length, Result, Ok, Err, refl, sym, ap, subst, ◌∙◌, append_assoc, arith}
+use Rattle.std.proofs.Common.{◌≡◌, ℕ, zero, suc, ◌^◌, ◌≤◌, List, [], ◌∷◌, ◌++◌, length, Ok, refl, sym, ap, subst, ◌∙◌, append_assoc, arith}
 use Rattle.std.specs.Int.{w32, to_be_bytes}
 use Rattle.std.specs.List.{flat_map, AllByRecursion}
 use Rattle.sr_base.specs.Fields.{number_at, items_at, list_at, list_spelling, IsListOf}
-use Rattle.sr_base.specs.NumberLaws.{bind_ok, ok_is, Takes-then, wide32, number_takes, number_again}
-use Rattle.sr_base.specs.Reading.{Read, ◌>>=◌, IsBytes, Takes, IsFormat}
+use Rattle.sr_base.specs.NumberLaws.{within_ok, within_bind, within_then, format32, bind_ok, ok_is, Takes-then, wide32, number_takes, number_again}
+use Rattle.sr_base.specs.Reading.{Read, ◌>>=◌, IsBytes, Takes, IsWithin, IsFormat}
 
 module _ {A : Type 0} {item : List ℕ → Read A} {spelling : A → List ℕ} {fits : A → Type 0} (format : IsFormat item spelling fits) where
   items_takes : (count : ℕ) (bytes : List ℕ) (xs : List A) (rest : List ℕ) → IsBytes bytes → items_at item count bytes ≡ Ok (xs, rest) → Takes bytes (flat_map spelling xs) rest × (length xs ≡ count) × AllByRecursion fits xs
@@ -40,5 +40,16 @@ module _ {A : Type 0} {item : List ℕ → Read A} {spelling : A → List ℕ} {
       let regrouped : list_spelling spelling xs ++ rest ≡ to_be_bytes w32 (length xs) ++ (flat_map spelling xs ++ rest) = append_assoc (to_be_bytes w32 (length xs)) (flat_map spelling xs) rest in
       ap (list_at item) regrouped ∙ rw (number_again w32 (2 ^ 32) wide32 (length xs) (flat_map spelling xs ++ rest) h.0) (items_again xs rest h.1)
 
+  items_within : (count : ℕ) (bytes : List ℕ) (bound : ℕ) → IsBytes bytes → length bytes ≤ bound → IsWithin (items_at item count bytes) bound
+  unfolding items_at
+  items_within zero bytes bound h le = within_ok ([], bytes) bound
+  items_within (suc count) bytes bound h le =
+      within_then format bytes (λ first. items_at item count first.1 >>= λ others. Ok (first.0 ∷ others.0, others.1)) bound h le
+      (λ first h1 le1. within_bind (items_at item count first.1) (λ others. Ok (first.0 ∷ others.0, others.1)) bound (items_within count first.1 bound h1 le1) (λ others e. within_ok (first.0 ∷ others.0, others.1) bound))
+
+  list_within : (bytes : List ℕ) → IsBytes bytes → IsWithin (list_at item bytes) (length bytes)
+  unfolding list_at
+  list_within bytes h = within_then format32 bytes (λ count. items_at item count.0 count.1) (length bytes) h (omega arith) (λ count h1 le1. items_within count.0 count.1 (length bytes) h1 le1)
+
   pub list_format : IsFormat (list_at item) (list_spelling spelling) (IsListOf fits)
-  list_format = record { takes = list_takes; again = list_again }
+  list_format = record { takes = list_takes; again = list_again; within = list_within }

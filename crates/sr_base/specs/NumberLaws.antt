@@ -1,5 +1,5 @@
 -- A number that is read is the one that was written, and what was written is read again.
-use Rattle.std.proofs.Common.{◌≡◌, ℕ, suc, ◌+◌, ◌^◌, ◌<◌, ◌≤◌, Bool, true, false, cond, ltb, List, [], ◌∷◌, ◌++◌, length, get_or, take, drop, Result, Ok, Err, refl, sym, ap, subst, ◌∙◌, append_assoc, arith, inl, inr}
+use Rattle.std.proofs.Common.{◌≡◌, ℕ, suc, ◌+◌, ◌^◌, ◌<◌, ◌≤◌, Bool, true, false, cond, ltb, List, [], ◌∷◌, ◌++◌, length, take, drop, Result, Ok, Err, refl, sym, ap, subst, ◌∙◌, append_assoc, arith, inl, inr}
 use Rattle.std.specs.Prelude.{ℤ, FitsSigned}
 use Rattle.std.specs.Int.{Width, w32, w64, byte_len, from_be_bytes, to_be_bytes, cast_signed, cast_unsigned}
 use Rattle.std.proofs.lemmas.Bool.{cases_lt, ltb-false, le-ltb}
@@ -7,7 +7,7 @@ use Rattle.std.proofs.lemmas.Int.{ints, to_z-of_z, of_z-to_z}
 use Rattle.std.proofs.lemmas.List.{take_at, drop_at, take-append-drop, length-append, length-take, get_or-drop, get_or-take, get_or_past}
 use Rattle.std.proofs.lemmas.Nat.{be_bytes_4, be_bytes_8, from_be_bytes-to_be_bytes_4, from_be_bytes-to_be_bytes_8}
 use Rattle.sr_base.specs.Fields.{byte_at, number_at, signed_at, signed_spelling}
-use Rattle.sr_base.specs.Reading.{Read, ◌>>=◌, IsBytes, Takes, IsFormat}
+use Rattle.sr_base.specs.Reading.{Read, ◌>>=◌, IsBytes, Takes, IsWithin, IsFormat}
 
 pub IsBytes-drop : (n : ℕ) (bytes : List ℕ) → IsBytes bytes → IsBytes (drop n bytes)
 IsBytes-drop n bytes h i = rw get_or-drop (h (n + i))
@@ -124,17 +124,56 @@ unfolding signed_at
 signed_again w limit wide signed n rest fits =
     rw (number_again w limit wide (cast_unsigned w n) rest (signed.below n fits), to_z-of_z w n fits) refl
 
+-- ---- where reading breaks
+
+pub within_ok : {A : Type 0} (x : A) (bound : ℕ) → IsWithin (Ok x) bound
+within_ok x bound = record { breaks = λ left e. absurd cc }
+
+pub within_err : {A : Type 0} (place bound : ℕ) → place ≤ bound → IsWithin {A = A} (Err place) bound
+within_err {A} place bound le = record { breaks = λ left e. let same : place ≡ left = cc in omega arith }
+
+pub within_cond : {A : Type 0} (b : Bool) (r s : Result A ℕ) (bound : ℕ) → IsWithin r bound → IsWithin s bound → IsWithin (cond b r s) bound
+within_cond true r s bound p q = p
+within_cond false r s bound p q = q
+
+pub within_bind : {A B : Type 0} (r : Result A ℕ) (f : A → Result B ℕ) (bound : ℕ) → IsWithin r bound → ((x : A) → r ≡ Ok x → IsWithin (f x) bound) → IsWithin (r >>= f) bound
+within_bind (Ok x) f bound p q = q x refl
+within_bind {A} {B} (Err place) f bound p q = within_err place bound (p.breaks place refl)
+
+-- what a format leaves is not longer
+pub rest_le : {A : Type 0} {reading : List ℕ → Read A} {spelling : A → List ℕ} {fits : A → Type 0} (format : IsFormat reading spelling fits) (bytes : List ℕ) (x : A × List ℕ) → IsBytes bytes → reading bytes ≡ Ok x → IsBytes x.1 × (length x.1 ≤ length bytes)
+rest_le {A} {reading} {spelling} {fits} format bytes x h e =
+    let t = format.takes bytes x.0 x.1 h e in
+    (t.0.rest_fits, omega (arith, ap length t.0.parts, length-append (spelling x.0) x.1))
+
+-- a format, and then something that breaks in what it left
+pub within_then : {A B : Type 0} {reading : List ℕ → Read A} {spelling : A → List ℕ} {fits : A → Type 0} (format : IsFormat reading spelling fits) (bytes : List ℕ) (f : A × List ℕ → Result B ℕ) (bound : ℕ) → IsBytes bytes → length bytes ≤ bound → ((x : A × List ℕ) → IsBytes x.1 → length x.1 ≤ bound → IsWithin (f x) bound) → IsWithin (reading bytes >>= f) bound
+within_then {A} {B} {reading} {spelling} {fits} format bytes f bound h le q =
+    within_bind (reading bytes) f bound (record { breaks = λ left e. let near = (format.within bytes h).breaks left e in omega arith })
+    (λ x e. let rest = rest_le format bytes x h e in q x rest.0 (omega (arith, rest.1)))
+
+number_within : (w : Width) (bytes : List ℕ) → IsBytes bytes → IsWithin (number_at w bytes) (length bytes)
+number_within w bytes h = within_cond (ltb (length bytes) (byte_len w)) (Err (length bytes)) (Ok (from_be_bytes w (take (byte_len w) bytes), drop (byte_len w) bytes)) (length bytes) (within_err (length bytes) (length bytes) (omega arith)) (within_ok _ (length bytes))
+
+byte_within : (bytes : List ℕ) → IsBytes bytes → IsWithin (byte_at bytes) (length bytes)
+byte_within [] h = within_err 0 0 (omega arith)
+byte_within (byte ∷ bytes) h = within_ok (byte, bytes) (suc (length bytes))
+
+signed_within : (w : Width) (bytes : List ℕ) → IsBytes bytes → IsWithin (signed_at w bytes) (length bytes)
+unfolding signed_at
+signed_within w bytes h = within_bind (number_at w bytes) (λ bits. Ok (cast_signed w bits.0, bits.1)) (length bytes) (number_within w bytes h) (λ bits e. within_ok (cast_signed w bits.0, bits.1) (length bytes))
+
 pub byte_format : IsFormat byte_at (λ n. n ∷ []) (λ n. n < 2 ^ 8)
-byte_format = record { takes = byte_takes; again = byte_again }
+byte_format = record { takes = byte_takes; again = byte_again; within = byte_within }
 
 pub format32 : IsFormat (number_at w32) (to_be_bytes w32) (λ n. n < 2 ^ 32)
-format32 = record { takes = number_takes w32 (2 ^ 32) wide32; again = number_again w32 (2 ^ 32) wide32 }
+format32 = record { takes = number_takes w32 (2 ^ 32) wide32; again = number_again w32 (2 ^ 32) wide32; within = number_within w32 }
 
 pub format64 : IsFormat (number_at w64) (to_be_bytes w64) (λ n. n < 2 ^ 64)
-format64 = record { takes = number_takes w64 (2 ^ 64) wide64; again = number_again w64 (2 ^ 64) wide64 }
+format64 = record { takes = number_takes w64 (2 ^ 64) wide64; again = number_again w64 (2 ^ 64) wide64; within = number_within w64 }
 
 pub signed_format32 : IsFormat (signed_at w32) (signed_spelling w32) (FitsSigned w32)
-signed_format32 = record { takes = signed_takes w32 (2 ^ 32) wide32 signed32; again = signed_again w32 (2 ^ 32) wide32 signed32 }
+signed_format32 = record { takes = signed_takes w32 (2 ^ 32) wide32 signed32; again = signed_again w32 (2 ^ 32) wide32 signed32; within = signed_within w32 }
 
 pub signed_format64 : IsFormat (signed_at w64) (signed_spelling w64) (FitsSigned w64)
-signed_format64 = record { takes = signed_takes w64 (2 ^ 64) wide64 signed64; again = signed_again w64 (2 ^ 64) wide64 signed64 }
+signed_format64 = record { takes = signed_takes w64 (2 ^ 64) wide64 signed64; again = signed_again w64 (2 ^ 64) wide64 signed64; within = signed_within w64 }

@@ -1,5 +1,5 @@
 -- Reading a field from the front of bytes, as a function on lists.
-use Rattle.std.specs.Prelude.{◌≡◌, ℕ, ◌+◌, ◌<◌, List, ◌++◌, length, drop, slice_index, Result, Ok, Err}
+use Rattle.std.specs.Prelude.{◌≡◌, ℕ, ◌+◌, ◌<◌, ◌≤◌, List, ◌++◌, length, drop, slice_index, Result, Ok, Err}
 use Rattle.sr_base.specs.declared.broken.Broken.{Broken}
 use Rattle.sr_base.specs.declared.broken.Broken.TheVariants as broken
 use Rattle.sr_base.specs.declared.broken.Bad.{Bad}
@@ -34,10 +34,15 @@ pub record Takes (bytes spelling rest : List ℕ) : Type 0 where
   pub parts : bytes ≡ spelling ++ rest
   pub rest_fits : IsBytes rest
 
--- a format: what is read is spelled so, and what is spelled so is read, whatever follows it
+-- it breaks, if it does, where at most so many bytes are left
+pub record IsWithin {A : Type 0} (read : Result A ℕ) (bound : ℕ) : Type 0 where
+  pub breaks : (left : ℕ) → read ≡ Err left → left ≤ bound
+
+-- a format: what is read is spelled so, what is spelled so is read, whatever follows it, and a field that breaks stands in the bytes
 pub record IsFormat {A : Type 0} (reading : List ℕ → Read A) (spelling : A → List ℕ) (fits : A → Type 0) : Type 0 where
   pub takes : (bytes : List ℕ) (value : A) (rest : List ℕ) → IsBytes bytes → reading bytes ≡ Ok (value, rest) → Takes bytes (spelling value) rest × fits value
   pub again : (value : A) (rest : List ℕ) → fits value → reading (spelling value ++ rest) ≡ Ok (value, rest)
+  pub within : (bytes : List ℕ) → IsBytes bytes → IsWithin (reading bytes) (length bytes)
 
 -- the spelling stands at the front of the bytes, and so many bytes are its own
 pub record BeginsWith (bytes spelling : List ℕ) (taken : ℕ) : Type 0 where

@@ -1,15 +1,14 @@
 -- Bytes, texts and names: what is read is spelled so, and what is spelled is read again.
-use Rattle.std.proofs.Common.{◌≡◌, ℕ, ◌+◌, ◌^◌, ◌<◌, ◌≤◌, Bool, true, false, cond, ltb, leb, ◌&&◌, rules, List, [], ◌∷◌, ◌++◌, length, take, drop, Result, Ok, Err, refl, sym, ap, subst, ◌∙◌, append_assoc, arith}
-use Rattle.std.specs.Prelude.{IsTrue}
+use Rattle.std.proofs.Common.{◌≡◌, ℕ, ◌^◌, ◌<◌, ◌≤◌, Bool, true, false, cond, ltb, leb, ◌&&◌, rules, List, [], ◌∷◌, ◌++◌, length, take, drop, Result, Ok, Err, refl, sym, subst, arith}
 use Rattle.std.specs.Int.{w32, to_be_bytes}
-use Rattle.std.specs.Str.{IsUtf8, is_utf8}
+use Rattle.std.specs.Str.{is_utf8}
 use Rattle.std.proofs.lemmas.Bool.{ltb-false, le-ltb, leb-true, le-leb, and_parts, and_from}
 use Rattle.std.proofs.lemmas.List.{take_at, drop_at, take-append-drop, length-append, length-take}
 use Rattle.std.proofs.lemmas.Str.{IsUtf8-from_is_utf8, is_utf8-from_IsUtf8}
 use Rattle.sr_base.specs.Fields.{byte_at, number_at, bytes_at, bytes_spelling, text_at, IsText, name_at, name_spelling, is_name_size, IsName}
 use Rattle.sr_base.specs.Names.{is_lower_name}
-use Rattle.sr_base.specs.NumberLaws.{IsBytes-drop, byte_takes, bind_ok, guard_ok, passed_ok, ok_is, Takes-then, wide32, number_takes, number_again}
-use Rattle.sr_base.specs.Reading.{Read, ◌>>=◌, IsBytes, Takes, IsFormat}
+use Rattle.sr_base.specs.NumberLaws.{format32, byte_format, within_ok, within_err, within_cond, within_then, IsBytes-drop, byte_takes, bind_ok, guard_ok, passed_ok, Takes-then, wide32, number_takes, number_again}
+use Rattle.sr_base.specs.Reading.{IsBytes, Takes, IsWithin, IsFormat}
 
 -- a test that did not refuse, before another step
 pub unless_ok : {A : Type 0} (b : Bool) (left : ℕ) (read : Result A ℕ) (y : A) → cond b (Err left) read ≡ Ok y → (b ≡ false) × (read ≡ Ok y)
@@ -103,11 +102,31 @@ name_again name rest fits =
     let sized : is_name_size (length name) (length (name ++ rest)) ≡ true = is_name_size-from (length name) (length (name ++ rest)) size.0 size.1 (omega (arith, length-append name rest)) in
     rw (sized, take_at name rest (length name) refl, drop_at name rest (length name) refl, named) refl
 
+bytes_within : (bytes : List ℕ) → IsBytes bytes → IsWithin (bytes_at bytes) (length bytes)
+unfolding bytes_at
+bytes_within bytes h =
+    within_then format32 bytes (λ size. cond (ltb (length size.1) size.0) (Err (length bytes)) (Ok (take size.0 size.1, drop size.0 size.1))) (length bytes) h (omega arith)
+    (λ size h1 le1. within_cond (ltb (length size.1) size.0) (Err (length bytes)) (Ok (take size.0 size.1, drop size.0 size.1)) (length bytes) (within_err (length bytes) (length bytes) (omega arith)) (within_ok _ (length bytes)))
+
+text_within : (bytes : List ℕ) → IsBytes bytes → IsWithin (text_at bytes) (length bytes)
+unfolding text_at
+text_within bytes h =
+    within_then format32 bytes (λ size. cond (ltb (length size.1) size.0) (Err (length bytes)) (cond (is_utf8 (take size.0 size.1)) (Ok (take size.0 size.1, drop size.0 size.1)) (Err (length size.1)))) (length bytes) h (omega arith)
+    (λ size h1 le1. within_cond (ltb (length size.1) size.0) (Err (length bytes)) (cond (is_utf8 (take size.0 size.1)) (Ok (take size.0 size.1, drop size.0 size.1)) (Err (length size.1))) (length bytes) (within_err (length bytes) (length bytes) (omega arith))
+    (within_cond (is_utf8 (take size.0 size.1)) (Ok (take size.0 size.1, drop size.0 size.1)) (Err (length size.1)) (length bytes) (within_ok _ (length bytes)) (within_err (length size.1) (length bytes) le1)))
+
+name_within : (bytes : List ℕ) → IsBytes bytes → IsWithin (name_at bytes) (length bytes)
+unfolding name_at
+name_within bytes h =
+    within_then byte_format bytes (λ size. cond (is_name_size size.0 (length size.1)) (cond (is_lower_name (take size.0 size.1)) (Ok (take size.0 size.1, drop size.0 size.1)) (Err (length size.1))) (Err (length bytes))) (length bytes) h (omega arith)
+    (λ size h1 le1. within_cond (is_name_size size.0 (length size.1)) (cond (is_lower_name (take size.0 size.1)) (Ok (take size.0 size.1, drop size.0 size.1)) (Err (length size.1))) (Err (length bytes)) (length bytes)
+    (within_cond (is_lower_name (take size.0 size.1)) (Ok (take size.0 size.1, drop size.0 size.1)) (Err (length size.1)) (length bytes) (within_ok _ (length bytes)) (within_err (length size.1) (length bytes) le1)) (within_err (length bytes) (length bytes) (omega arith)))
+
 pub bytes_format : IsFormat bytes_at bytes_spelling (λ part. length part < 2 ^ 32)
-bytes_format = record { takes = bytes_takes; again = bytes_again }
+bytes_format = record { takes = bytes_takes; again = bytes_again; within = bytes_within }
 
 pub text_format : IsFormat text_at bytes_spelling IsText
-text_format = record { takes = text_takes; again = text_again }
+text_format = record { takes = text_takes; again = text_again; within = text_within }
 
 pub name_format : IsFormat name_at name_spelling IsName
-name_format = record { takes = name_takes; again = name_again }
+name_format = record { takes = name_takes; again = name_again; within = name_within }

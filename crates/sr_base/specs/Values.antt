@@ -1,10 +1,11 @@
 -- The bytes of days, values and rows, and how they are read.
-use Rattle.std.specs.Prelude.{◌≡◌, ℕ, ◌<◌, ◌^◌, Bool, not, ◌&&◌, ℤ, pos, negsuc, int_lt, FitsSigned, ⊤, List, [], ◌∷◌, length, Result, Ok, Err, if◌then◌else◌}
-use Rattle.std.specs.Int.{w32, w64}
+use Rattle.std.specs.Prelude.{ℕ, ◌<◌, ◌^◌, Bool, not, ◌&&◌, ℤ, pos, negsuc, int_lt, FitsSigned, ⊤, List, [], ◌∷◌, length, Ok, Err, if◌then◌else◌}
+use Rattle.std.specs.Int.{w32, w64, to_be_bytes}
+use Rattle.sr_base.specs.declared.offset.Offset.{Offset}
 use Rattle.sr_base.specs.declared.value.Value.{Value}
 use Rattle.sr_base.specs.declared.value.Value.TheVariants.{Null, Int, Big, Str, Date}
 use Rattle.sr_base.specs.Days.{IsDay}
-use Rattle.sr_base.specs.Fields.{signed_at, signed_spelling, bytes_spelling, text_at, IsText, list_at, list_spelling, IsListOf, mapped_at, tag_at, just_at, untagged_at}
+use Rattle.sr_base.specs.Fields.{number_at, signed_at, signed_spelling, bytes_spelling, text_at, IsText, list_at, list_spelling, IsListOf, mapped_at, tag_at, just_at, untagged_at}
 use Rattle.sr_base.specs.Reading.{Read, ◌>>=◌}
 
 -- ---- days: an i32, from -719162 to 2932896; another number breaks
@@ -16,6 +17,20 @@ unfoldable pub day_at : List ℕ → Read ℤ
 day_at bytes = do
   days ← signed_at w32 bytes
   if is_day days.0 then Ok days else Err (length bytes)
+
+-- ---- offsets: a u64
+
+abbrev pub offset_from : ℕ → Offset
+offset_from position = record { 0 = position }
+
+abbrev pub offset_spelling : Offset → List ℕ
+offset_spelling offset = to_be_bytes w64 offset.0
+
+abbrev pub IsOffset : Offset → Type 0
+IsOffset offset = offset.0 < 2 ^ 64
+
+abbrev pub offset_at : List ℕ → Read Offset
+offset_at = mapped_at offset_from (number_at w64)
 
 -- ---- values: a tag byte, and what stands behind it
 

@@ -1,9 +1,9 @@
 //! Numbers as fields, all big-endian.
 
-ghost use Rattle.std.specs.Prelude.{ℕ, ◌^◌, ◌<◌, [], ◌∷◌, ⊤};
+ghost use Rattle.std.specs.Prelude.{ℕ, ◌^◌, ◌<◌, [], ◌∷◌, ⊤, FitsSigned};
 ghost use Rattle.std.specs.Int.{w32, w64, to_be_bytes};
-ghost use Rattle.sr_base.specs.Fields.{byte_at, number_at};
-ghost use Rattle.sr_base.specs.NumberLaws.{byte_format, format32, format64};
+ghost use Rattle.sr_base.specs.Fields.{byte_at, number_at, signed_at, signed_spelling};
+ghost use Rattle.sr_base.specs.NumberLaws.{byte_format, format32, format64, signed_format32, signed_format64};
 
 use crate::broken::Broken;
 use crate::copied::NoMemory;
@@ -83,5 +83,49 @@ impl Field for u64 {
 
     fn write(&self, out: &mut Vec<u8>) -> Result<(), NoMemory> {
         out.extend_from_slice(&self.to_be_bytes())
+    }
+}
+
+impl Field for i32 {
+    ghost can_write = { λ _. ⊤ };
+
+    ghost fits = { FitsSigned w32 };
+
+    ghost spelling = { signed_spelling w32 };
+
+    ghost reading = { signed_at w32 };
+
+    ghost format = { signed_format32 };
+
+    #[tactic(auto, unfolding(crate::specs::Fields::signed_at))]
+    fn read(alloc: Global, bytes: &[u8]) -> Result<(i32, &[u8]), Broken> {
+        let (number, rest) = u32::read(alloc, bytes)?;
+        Ok((number.cast_signed(), rest))
+    }
+
+    fn write(&self, out: &mut Vec<u8>) -> Result<(), NoMemory> {
+        self.cast_unsigned().write(out)
+    }
+}
+
+impl Field for i64 {
+    ghost can_write = { λ _. ⊤ };
+
+    ghost fits = { FitsSigned w64 };
+
+    ghost spelling = { signed_spelling w64 };
+
+    ghost reading = { signed_at w64 };
+
+    ghost format = { signed_format64 };
+
+    #[tactic(auto, unfolding(crate::specs::Fields::signed_at))]
+    fn read(alloc: Global, bytes: &[u8]) -> Result<(i64, &[u8]), Broken> {
+        let (number, rest) = u64::read(alloc, bytes)?;
+        Ok((number.cast_signed(), rest))
+    }
+
+    fn write(&self, out: &mut Vec<u8>) -> Result<(), NoMemory> {
+        self.cast_unsigned().write(out)
     }
 }

@@ -1,6 +1,6 @@
 //! Options, pairs and triples as fields.
 
-ghost use Rattle.std.specs.Prelude.{IfSome};
+ghost use Rattle.std.specs.Prelude.{◌≡◌, ◌++◌, IfSome, OnOk, OnErr};
 ghost use Rattle.sr_base.specs.Fields.{option_spelling, option_at, pair_spelling, pair_at, triple_spelling, triple_at};
 ghost use Rattle.sr_base.specs.PartLaws.{option_format, pair_format, triple_format};
 
@@ -51,6 +51,50 @@ impl<T: Field> Field for Option<T> {
     }
 }
 
+/// Adds the spellings of two values, one after the other. For want of memory `out` stays as it was.
+pub fn write_pair<A: Field, B: Field>(
+    first: &A,
+    second: &B,
+    out: &mut Vec<u8>,
+) -> Result<(), NoMemory>
+    requires first { A.can_write first.now }
+    requires second { B.can_write second.now }
+    ensures ok { OnOk result (out.new.items ≡ out.old.items ++ (A.spelling first.now ++ B.spelling second.now)) }
+    ensures err { OnErr result (out.new.items ≡ out.old.items) }
+    ensures kept { OnOk result (A.fits first.now × B.fits second.now) }
+{
+    let before = out.len();
+    first.write(out)?;
+    if let Err(refused) = second.write(out) {
+        out.truncate(before);
+        return Err(refused);
+    }
+    Ok(())
+}
+
+/// Adds the spellings of three values, one after the other. For want of memory `out` stays as it was.
+pub fn write_triple<A: Field, B: Field, C: Field>(
+    first: &A,
+    second: &B,
+    third: &C,
+    out: &mut Vec<u8>,
+) -> Result<(), NoMemory>
+    requires first { A.can_write first.now }
+    requires second { B.can_write second.now }
+    requires third { C.can_write third.now }
+    ensures ok { OnOk result (out.new.items ≡ out.old.items ++ (A.spelling first.now ++ B.spelling second.now ++ C.spelling third.now)) }
+    ensures err { OnErr result (out.new.items ≡ out.old.items) }
+    ensures kept { OnOk result (A.fits first.now × B.fits second.now × C.fits third.now) }
+{
+    let before = out.len();
+    write_pair(first, second, out)?;
+    if let Err(refused) = third.write(out) {
+        out.truncate(before);
+        return Err(refused);
+    }
+    Ok(())
+}
+
 impl<A: Field, B: Field> Field for (A, B) {
     ghost can_write = { λ p. A.can_write p.0 × B.can_write p.1 };
 
@@ -70,13 +114,7 @@ impl<A: Field, B: Field> Field for (A, B) {
     }
 
     fn write(&self, out: &mut Vec<u8>) -> Result<(), NoMemory> {
-        let before = out.len();
-        self.0.write(out)?;
-        if let Err(refused) = self.1.write(out) {
-            out.truncate(before);
-            return Err(refused);
-        }
-        Ok(())
+        write_pair(&self.0, &self.1, out)
     }
 }
 
@@ -100,16 +138,6 @@ impl<A: Field, B: Field, C: Field> Field for (A, B, C) {
     }
 
     fn write(&self, out: &mut Vec<u8>) -> Result<(), NoMemory> {
-        let before = out.len();
-        self.0.write(out)?;
-        if let Err(refused) = self.1.write(out) {
-            out.truncate(before);
-            return Err(refused);
-        }
-        if let Err(refused) = self.2.write(out) {
-            out.truncate(before);
-            return Err(refused);
-        }
-        Ok(())
+        write_triple(&self.0, &self.1, &self.2, out)
     }
 }
