@@ -158,3 +158,11 @@ bare_variant {B} {tag} {value} {spelling} {fits} spelled kept = record {
       (record { parts = ap (λ (w : List ℕ). w ++ bytes) (sym spelled); rest_fits = h }, kept);
   within = λ bytes h. within_ok (value, bytes) (suc (length bytes));
 }
+
+-- the same bytes, said otherwise
+pub respelled_format : {A : Type 0} {reading : List ℕ → Read A} {spelling spelling2 : A → List ℕ} {fits fits2 : A → Type 0} → ((x : A) → spelling x ≡ spelling2 x) → ((x : A) → fits x → fits2 x) → ((x : A) → fits2 x → fits x) → IsFormat reading spelling fits → IsFormat reading spelling2 fits2
+respelled_format {A} {reading} {spelling} {spelling2} {fits} {fits2} same to from format = record {
+  takes = λ bytes x rest h e. let t = format.takes bytes x rest h e in (subst (λ (text : List ℕ). Takes bytes text rest) (same x) t.0, to x t.1);
+  again = λ x rest h. ap (λ (text : List ℕ). reading (text ++ rest)) (sym (same x)) ∙ format.again x rest (from x h);
+  within = format.within;
+}

@@ -1,3 +1,19 @@
+//! What has one spelling in bytes.
+//!
+//! All numbers are big-endian. A field breaks at the first byte of the innermost part that is not as in this table.
+//!
+//! | Field | Bytes | Breaks |
+//! |---|---|---|
+//! | u8, u32, u64, offset | the number (an offset is a u64) | at its first byte, where fewer bytes are left than it has |
+//! | i32, i64 | the number in two's complement | likewise |
+//! | name | u8 length from 1 to 64, then the bytes of a name in lower case | at the length, where it is missing, 0, past 64 or more than the bytes that are left; at the byte behind it, where the bytes are no such name |
+//! | text | u32 length, then so many bytes of UTF-8 | at the length, where it is cut off or more than the bytes that are left; at the byte behind it, where the bytes are no UTF-8 |
+//! | date | i32: days since 1970-01-01, from -719162 to 2932896 | at its first byte |
+//! | value | u8 tag 0 for NULL; 1 and an i32; 2 and an i64; 3 and a text; 4 and a date | at the tag, where it is missing or another byte; behind it as there |
+//! | list of X, row, key | u32 count, then the items | at the count, where it is cut off; at an item as there |
+//! | option of X | u8 0, or u8 1 and X | at the byte, where it is missing or another one; behind it as there |
+//! | pair, triple | one part after the other | at a part as there |
+
 ghost use Rattle.std.specs.Prelude.{◌≡◌, ℕ, List, ◌++◌, OnOk, OnErr};
 ghost use Rattle.sr_base.specs.Reading.{Read, Gives, IsFormat};
 

@@ -1,4 +1,4 @@
-ghost use Rattle.std.specs.Prelude.{◌≡◌, IfOk, IsTrue};
+ghost use Rattle.std.specs.Prelude.{◌≡◌, ◌≤◌, length, IfOk, IsTrue};
 ghost use Rattle.sr_base.specs.Names.{is_lower_name};
 
 use crate::copied::{Copied, NoMemory};
@@ -28,6 +28,7 @@ impl Name {
     pub fn bytes(&self) -> &[u8]
         ensures bytes { result.now ≡ self.now }
         ensures name { IsTrue (is_lower_name result.now) }
+        ensures short { length result.now ≤ 64 }
     {
         self.bytes.as_slice()
     }
