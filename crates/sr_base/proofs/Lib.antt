@@ -1,0 +1,4 @@
+pub mod Formats
+pub mod Loop
+pub mod NameCase
+pub mod Utf8

@@ -1,2 +1,12 @@
 pub mod Days
+pub mod Fields
+pub mod Laws
+pub mod ListLaws
 pub mod Names
+pub mod NumberLaws
+pub mod PartLaws
+pub mod Reading
+pub mod Refusals
+pub mod TextLaws
+pub mod ValueLaws
+pub mod Values

@@ -1,4 +1,4 @@
-ghost use Rattle.std.specs.Prelude.{◌≡◌, IsTrue};
+ghost use Rattle.std.specs.Prelude.{◌≡◌, ◌≤◌, length, IfOk, IsTrue};
 ghost use Rattle.sr_base.specs.Names.{is_lower_name};
 
 use crate::copied::{Copied, NoMemory};
@@ -28,8 +28,29 @@ impl Name {
     pub fn bytes(&self) -> &[u8]
         ensures bytes { result.now ≡ self.now }
         ensures name { IsTrue (is_lower_name result.now) }
+        ensures short { length result.now ≤ 64 }
     {
         self.bytes.as_slice()
+    }
+}
+
+impl Name {
+    /// The name of bytes that are known to be one.
+    pub(crate) fn from_lower(alloc: Global, bytes: &[u8]) -> Result<Name, NoMemory>
+        requires { IsTrue (is_lower_name bytes.now) }
+        ensures { IfOk result (λ name. name ≡ bytes.now) }
+    {
+        Ok(Name {
+            bytes: Vec::from_slice(alloc, bytes)?,
+        })
+    }
+
+    /// The name that keeps these bytes.
+    pub(crate) fn from_vec(bytes: Vec<u8>) -> Name
+        requires { IsTrue (is_lower_name bytes.items) }
+        ensures { result ≡ bytes.items }
+    {
+        Name { bytes }
     }
 }
 

@@ -29,6 +29,12 @@ impl Row {
         Row { values }
     }
 
+    pub(crate) fn as_seq(&self) -> &Seq<Value>
+        ensures values { result.now ≡ self.now }
+    {
+        &self.values
+    }
+
     /// The values, in table order.
     pub fn values(&self) -> &[Value]
         ensures values { result.now ≡ self.now }
@@ -66,6 +72,12 @@ impl Key {
         ensures values { result ≡ values }
     {
         Key { values }
+    }
+
+    pub(crate) fn as_seq(&self) -> &Seq<Value>
+        ensures values { result.now ≡ self.now }
+    {
+        &self.values
     }
 
     /// The values, in key order.

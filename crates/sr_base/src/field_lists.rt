@@ -1,0 +1,58 @@
+//! Lists as fields: a u32 count, then the items.
+
+ghost use Rattle.std.specs.Prelude.{◌≡◌, ◌<◌, ◌^◌, length};
+ghost use Rattle.sr_base.specs.Fields.{list_spelling, list_at, items_at, IsListOf};
+ghost use Rattle.sr_base.specs.ListLaws.{list_format};
+ghost use Rattle.sr_base.specs.Reading.{Gives};
+
+use crate::broken::Broken;
+use crate::copied::NoMemory;
+use crate::field::Field;
+use crate::seq::Seq;
+use std::alloc::Global;
+
+/// So many items.
+fn items_of<T: Field>(alloc: Global, count: u32, bytes: &[u8]) -> Result<(Vec<T>, &[u8]), Broken>
+    ensures { Gives (λ x. (x.0.items, x.1.now)) result (items_at T.reading count bytes.now) }
+{
+    let mut items = Vec::new(alloc);
+    let mut rest = bytes;
+    for _ in 0..count {
+        let (item, after) = T::read(alloc, rest)?;
+        items.push(item)?;
+        rest = after;
+    }
+    Ok((items, rest))
+}
+
+impl<T: Field> Field for Seq<T> {
+    ghost can_write = { IsListOf T.can_write };
+
+    ghost fits = { IsListOf T.fits };
+
+    ghost spelling = { list_spelling T.spelling };
+
+    ghost reading = { list_at T.reading };
+
+    ghost format = { list_format T.format };
+
+    #[tactic(auto, unfolding(crate::specs::Fields::list_at))]
+    fn read(alloc: Global, bytes: &[u8]) -> Result<(Seq<T>, &[u8]), Broken> {
+        let (count, rest) = u32::read(alloc, bytes)?;
+        let (items, rest) = items_of::<T>(alloc, count, rest)?;
+        Ok((Seq::from_vec(items), rest))
+    }
+
+    fn write(&self, out: &mut Vec<u8>) -> Result<(), NoMemory> {
+        let before = out.len();
+        let items = self.as_slice();
+        (items.len() as u32).write(out)?;
+        for item in items {
+            if let Err(refused) = item.write(out) {
+                out.truncate(before);
+                return Err(refused);
+            }
+        }
+        Ok(())
+    }
+}

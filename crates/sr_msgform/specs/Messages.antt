@@ -1,0 +1,91 @@
+-- Messages and their bytes.
+use Rattle.std.specs.Prelude.{◌≡◌, ℕ, ◌+◌, ◌<◌, ◌≤◌, ◌^◌, ◌↔◌, List, [], ◌∷◌, ◌++◌, length}
+use Rattle.std.specs.Int.{w32, w64, to_be_bytes}
+use Rattle.sha2.specs.Sha256.{sha256}
+use Rattle.sr_base.specs.declared.offset.Offset.{Offset}
+use Rattle.sr_base.specs.Fields.{number_at, bytes_at, bytes_spelling, name_at, name_spelling, IsName, triple_at, mapped_at}
+use Rattle.sr_base.specs.Reading.{Read}
+use Rattle.sr_base.specs.Values.{offset_at, offset_spelling, IsOffset}
+use Rattle.sr_msgform.specs.declared.message.Message.{Message}
+
+-- the magic `SRMF`, and version 1
+abbrev pub heading : List ℕ
+heading = 83 ∷ 82 ∷ 77 ∷ 70 ∷ 1 ∷ []
+
+-- the fields before the fragment, and after it
+abbrev pub head_fields : Message → List ℕ
+head_fields m =
+    (name_spelling m.from ++ name_spelling m.to ++ to_be_bytes w64 m.resend_count)
+    ++ (offset_spelling m.prev ++ offset_spelling m.upto ++ to_be_bytes w32 m.total)
+    ++ to_be_bytes w32 m.start
+
+abbrev pub tail_fields : Message → List ℕ
+tail_fields m = offset_spelling m.confirm ++ to_be_bytes w64 m.ask_count ++ offset_spelling m.ask_offset
+
+-- all of them, in their order
+unfoldable pub fields : Message → List ℕ
+fields m = head_fields m ++ bytes_spelling m.fragment ++ tail_fields m
+
+-- bytes, and the digest of all of them
+unfoldable pub sealed : List ℕ → List ℕ
+sealed bytes = bytes ++ sha256 bytes
+
+-- the bytes of a message file
+abbrev pub message_spelling : Message → List ℕ
+message_spelling m = sealed (heading ++ fields m)
+
+-- their number: without its fragment and its names a message has 99
+abbrev pub message_length : Message → ℕ
+message_length m = 99 + length m.from + length m.to + length m.fragment
+
+-- the rules that tie the fields of a message
+pub record KeepsRules (m : Message) : Type 0 where
+  pub window_goes_on : m.prev.0 ≤ m.upto.0
+  pub body_is_short : m.total ≤ 67108864
+  pub body_is_empty : (m.total ≡ 0) ↔ (m.prev.0 ≡ m.upto.0)
+  pub fragment_lies_in : m.start + length m.fragment ≤ m.total
+  pub fragment_is_empty : (length m.fragment ≡ 0) ↔ (m.total ≡ 0)
+  pub nothing_is_asked : m.ask_count ≡ 0 → m.ask_offset.0 ≡ 0
+  pub file_is_short : message_length m ≤ 2097152
+
+-- names are names, and numbers are in their ranges
+abbrev pub HeadInRange : Message → Type 0
+HeadInRange m =
+    (IsName m.from × IsName m.to × (m.resend_count < 2 ^ 64))
+    × (IsOffset m.prev × IsOffset m.upto × (m.total < 2 ^ 32))
+    × (m.start < 2 ^ 32)
+
+abbrev pub TailInRange : Message → Type 0
+TailInRange m = IsOffset m.confirm × (m.ask_count < 2 ^ 64) × IsOffset m.ask_offset
+
+abbrev pub IsInRange : Message → Type 0
+IsInRange m = HeadInRange m × (length m.fragment < 2 ^ 32) × TailInRange m
+
+-- what has a spelling
+abbrev pub IsMessage : Message → Type 0
+IsMessage m = IsInRange m × KeepsRules m
+
+-- ---- reading the fields, which breaks at the first field from the left
+
+abbrev pub Head : Type 0
+Head = (List ℕ × List ℕ × ℕ) × (Offset × Offset × ℕ) × ℕ
+
+abbrev pub Tail : Type 0
+Tail = Offset × ℕ × Offset
+
+abbrev pub head_at : List ℕ → Read Head
+head_at = triple_at (triple_at name_at name_at (number_at w64)) (triple_at offset_at offset_at (number_at w32)) (number_at w32)
+
+abbrev pub tail_at : List ℕ → Read Tail
+tail_at = triple_at offset_at (number_at w64) offset_at
+
+abbrev pub message_of : Head × List ℕ × Tail → Message
+message_of parts = record {
+  from = parts.0.0.0; to = parts.0.0.1; resend_count = parts.0.0.2;
+  prev = parts.0.1.0; upto = parts.0.1.1; total = parts.0.1.2;
+  start = parts.0.2; fragment = parts.1;
+  confirm = parts.2.0; ask_count = parts.2.1; ask_offset = parts.2.2;
+}
+
+unfoldable pub fields_at : List ℕ → Read Message
+fields_at = mapped_at message_of (triple_at head_at bytes_at tail_at)
