@@ -1,3 +1,4 @@
+pub mod Calendar
 pub mod Days
 pub mod Names
 pub mod Order

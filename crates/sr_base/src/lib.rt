@@ -6,6 +6,7 @@
 
 mod copied;
 mod day;
+mod day_reading;
 mod name;
 mod offset;
 mod ordering;
@@ -16,6 +17,7 @@ mod value;
 
 pub use copied::{Copied, NoMemory};
 pub use day::Day;
+pub use day_reading::day_of;
 pub use name::Name;
 pub use offset::Offset;
 pub use ordering::{compare, order};
