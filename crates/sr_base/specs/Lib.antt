@@ -1,4 +1,5 @@
 pub mod Calendar
 pub mod Days
+pub mod Fitting
 pub mod Names
 pub mod Order

@@ -7,6 +7,7 @@
 mod copied;
 mod day;
 mod day_reading;
+mod fitting;
 mod name;
 mod offset;
 mod ordering;
@@ -18,6 +19,7 @@ mod value;
 pub use copied::{Copied, NoMemory};
 pub use day::Day;
 pub use day_reading::day_of;
+pub use fitting::fit;
 pub use name::Name;
 pub use offset::Offset;
 pub use ordering::{compare, order};
