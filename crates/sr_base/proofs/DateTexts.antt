@@ -1,18 +1,19 @@
 -- A text names a day exactly where it is the day's text.
-use Rattle.std.proofs.Common.{◌≡◌, ℕ, zero, suc, ◌+◌, ◌-◌, ◌*◌, ◌/◌, ◌%◌, ◌<◌, ◌≤◌, nat_lt, nat_le, nat_eq, if◌then◌else◌, ◌&&◌, Bool, true, false, List, [], ◌∷◌, ◌++◌, Option, Some, None, refl, sym, ap, subst, ◌∙◌, arith, rules, IsTrue, get_or, length, to_z, w8, w16, ℤ, pos, negsuc, ◌+ℤ◌, ◌-ℤ◌, ◌≤ℤ◌, unsigned_abs}
+use Rattle.std.proofs.Common.{◌≡◌, ℕ, zero, suc, ◌+◌, ◌-◌, ◌*◌, ◌/◌, ◌%◌, ◌<◌, ◌≤◌, nat_lt, nat_le, nat_eq, if◌then◌else◌, ◌&&◌, Bool, true, false, List, [], ◌∷◌, ◌++◌, Option, Some, None, refl, sym, ap, subst, ◌∙◌, arith, rules, IsTrue, get_or, length, to_z, of_z, w8, w16, w32, ◌^◌, ℤ, pos, negsuc, ◌+ℤ◌, ◌-ℤ◌, ◌≤ℤ◌, unsigned_abs}
 use Rattle.std.proofs.lemmas.Bool.{eqb-true, eq-eqb}
 use Rattle.std.proofs.lemmas.Bool.Decides.{nat_tests}
-use Rattle.std.proofs.lemmas.Int.{to_z_pos}
+use Rattle.std.proofs.lemmas.Int.{to_z_pos, to_z-of_z, by_lt_z}
 use Rattle.std.specs.Option.{SomeIff}
 use Rattle.jiff_core.specs.declared.civil.date.Date.{Date}
 use Rattle.jiff_core.specs.Date.{epoch_day}
 use Rattle.jiff_core.specs.Calendar.{days_from_civil, days_in_month, IsDate}
-use Rattle.jiff_core.proofs.CalendarLemmas.{days_in_month_bounds}
+use Rattle.jiff_core.proofs.CalendarLemmas.{days_in_month_bounds, days_from_civil-day_count, day_count-lt_year}
+use Rattle.jiff_core.proofs.DateLemmas.{civil as civil_parts}
 use Rattle.jiff_core.proofs.SignedLemmas.{signed_arith}
 use Rattle.sr_base.specs.Names.{is_digit}
 use Rattle.sr_base.specs.Days.{IsDay}
 use Rattle.sr_base.specs.Calendar.{Civil, civil, date_at, two_digits, four_digits, civil_text, date_text, is_date, number_of_two, day_named}
-use Rattle.sr_base.proofs.Dates.{HasDate, day_number, date_at-number, number_low, number_high, year_high, same_date}
+use Rattle.sr_base.proofs.Dates.{HasDate, day_number, date_at-number, day_number-first, number_low, number_high, year_high, same_date}
 
 both_true : (a b : Bool) → (a && b) ≡ true → (a ≡ true) × (b ≡ true)
 both_true true b e = (refl, e)
@@ -208,5 +209,52 @@ named_parts (a ∷ b ∷ c ∷ d ∷ x ∷ e ∷ f ∷ y ∷ g ∷ h ∷ []) cen
     λ i. if (ab.0 i && (ab.1 i && (cd.0 i && (cd.1 i && (ef.0 i && (ef.1 i && (gh.0 i && (gh.1 i && true)))))))) && x_dash i && y_dash i && is_date (civil (y_of i) (sym third.1 i) (sym fourth.1 i))
     then Some (days_from_civil (pos (y_of i)) (sym third.1 i) (sym fourth.1 i)) else None
 named_parts _ century year month day low high first second third fourth x_is y_is = absurd (omega arith)
+
+-- a date not before 0001-01-01 has a year from 1 on
+pub year_low : (date : Date) → negsuc 719_161 ≤ℤ epoch_day date → pos 1 ≤ℤ date.year
+year_low date h = by_lt_z date.year (pos 1)
+    (λ lt. absurd (omega (arith, signed_arith, days_from_civil-day_count date.year date.month date.day, days_from_civil-day_count (pos 1) 1 1, day_number-first, day_count-lt_year date.year date.month date.day (pos 1) 1 1 (civil_parts date) (omega arith) lt)))
+    (λ le. le)
+
+-- the date of a day, by the calendar's own count
+pub parts_of_day : (date : Date) (day : ℤ) (year : ℕ) → IsDay day → epoch_day date ≡ day → date.year ≡ pos year → civil year date.month date.day ≡ date_at (unsigned_abs (day +ℤ pos 719_162))
+parts_of_day date day year h number is =
+    let low = year_low date (omega (arith, signed_arith, h.first)) in
+    let small : year ≤ 9999 = omega (arith, signed_arith, date.year_in) in
+    let last : date.day ≤ days_in_month (pos year) date.month = subst (λ n. date.day ≤ days_in_month n date.month) is (omega (arith, date.day_in)) in
+    let has : HasDate (civil year date.month date.day) = (omega (arith, signed_arith), omega (arith, date.month_in), omega (arith, date.month_in), omega (arith, date.day_in), last) in
+    let same : day_number (civil year date.month date.day) ≡ day = (λ i. days_from_civil (sym is i) date.month date.day) ∙ number in
+    sym (ap (λ n. date_at (unsigned_abs (n +ℤ pos 719_162))) (sym same) ∙ date_at-day_number (civil year date.month date.day) has small)
+
+-- the day of a count from -9999-01-01, as the code adds it
+counted : (e n : ℤ) → IsDay n → e +ℤ pos 4_371_587 ≡ pos (unsigned_abs (to_z w32 (of_z w32 (to_z w32 (of_z w32 n) +ℤ pos 4_371_587)))) → e ≡ n
+counted e n h is =
+    let back = to_z-of_z w32 n (omega (arith, signed_arith, h.first, h.last)) in
+    let sum = ap (λ z. z +ℤ pos 4_371_587) back in
+    let whole = ap (λ z. to_z w32 (of_z w32 z)) sum ∙ to_z-of_z w32 (n +ℤ pos 4_371_587) (omega (arith, signed_arith, h.first, h.last)) in
+    let plain = pos-unsigned_abs (n +ℤ pos 4_371_587) (omega (arith, signed_arith, h.first)) in
+    let total : e +ℤ pos 4_371_587 ≡ n +ℤ pos 4_371_587 = is ∙ ap (λ z. pos (unsigned_abs z)) whole ∙ plain in
+    omega (arith, signed_arith, total)
+
+-- the year comes through its cast
+year_back : (date : Date) → to_z w16 (of_z w16 date.year) ≡ date.year
+year_back date = to_z-of_z w16 date.year (omega (arith, signed_arith, date.year_in))
+
+pub year_of_count : (date : Date) (day : ℤ) → IsDay day → epoch_day date +ℤ pos 4_371_587 ≡ pos (unsigned_abs (to_z w32 (of_z w32 (to_z w32 (of_z w32 day) +ℤ pos 4_371_587))))
+    → (pos 0 ≤ℤ to_z w16 (of_z w16 date.year)) × (unsigned_abs (to_z w16 (of_z w16 date.year)) < 2 ^ 16)
+year_of_count date day h is =
+    let number = counted (epoch_day date) day h is in
+    let low = year_low date (omega (arith, signed_arith, h.first)) in
+    let plain = pos-unsigned_abs date.year (omega (arith, signed_arith)) in
+    let back = year_back date in
+    (omega (arith, signed_arith), subst (λ z. unsigned_abs z < 2 ^ 16) (sym back) (omega (arith, signed_arith, date.year_in)))
+
+pub parts_of_count : (date : Date) (day : ℤ) → IsDay day → epoch_day date +ℤ pos 4_371_587 ≡ pos (unsigned_abs (to_z w32 (of_z w32 (to_z w32 (of_z w32 day) +ℤ pos 4_371_587))))
+    → civil (unsigned_abs (to_z w16 (of_z w16 date.year))) date.month date.day ≡ date_at (unsigned_abs (day +ℤ pos 719_162))
+parts_of_count date day h is =
+    let number = counted (epoch_day date) day h is in
+    let low = year_low date (omega (arith, signed_arith, h.first)) in
+    let plain = pos-unsigned_abs date.year (omega (arith, signed_arith)) in
+    ap (λ z. civil (unsigned_abs z) date.month date.day) (year_back date) ∙ parts_of_day date day (unsigned_abs date.year) h number (sym plain)
 
 pub ruleset reading = (day_named-text, only_day)

@@ -1,5 +1,6 @@
 pub mod Calendar
 pub mod Days
 pub mod Fitting
+pub mod Literals
 pub mod Names
 pub mod Order
