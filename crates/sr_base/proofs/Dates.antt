@@ -1,17 +1,13 @@
 -- The calendar's days one after another, and the text of each.
-use Rattle.std.proofs.Common.{◌≡◌, ℕ, zero, suc, ◌+◌, ◌-◌, ◌*◌, ◌/◌, ◌%◌, ◌<◌, ◌≤◌, ◌⊎◌, inl, inr, nat_lt, nat_le, if◌then◌else◌, Bool, true, false, IsTrue, List, [], ◌∷◌, ◌++◌, refl, sym, ap, subst, ◌∙◌, arith, rules, ℤ, pos, negsuc, neg_ℤ, ◌+ℤ◌, ◌-ℤ◌, ◌<ℤ◌, ◌≤ℤ◌, unsigned_abs}
+use Rattle.std.proofs.Common.{◌≡◌, ℕ, zero, suc, ◌+◌, ◌<◌, ◌≤◌, inl, inr, nat_lt, if◌then◌else◌, Bool, true, false, refl, sym, ap, subst, arith, rules, ℤ, pos, negsuc, ◌+ℤ◌, ◌-ℤ◌, ◌≤ℤ◌}
 use Rattle.std.proofs.lemmas.Bool.{cases_order, ltb-true, ltb-false}
-use Rattle.std.proofs.lemmas.Bool.Decides.{nat_tests}
-use Rattle.std.specs.Int.{IsInRange}
 use Rattle.jiff_core.specs.declared.civil.date.Date.{Date}
-use Rattle.jiff_core.specs.Date.{epoch_day}
-use Rattle.jiff_core.specs.Calendar.{day_count, days_from_civil, days_in_month, day_of_year, IsYear, IsCivilDate}
+use Rattle.jiff_core.specs.Calendar.{day_count, days_from_civil, days_in_month}
 use Rattle.jiff_core.proofs.SignedLemmas.{signed_arith}
 use Rattle.jiff_core.proofs.MarchLemmas.{day_count-early}
-use Rattle.jiff_core.proofs.CalendarLemmas.{days_from_civil-day_count, day_count_bounds, day_count-lt_year, day_count-day_of_year, days_in_month_bounds}
+use Rattle.jiff_core.proofs.CalendarLemmas.{days_from_civil-day_count, day_count-lt_year, day_count-day_of_year, days_in_month_bounds}
 use Rattle.jiff_core.proofs.DateLemmas.{epoch_day_injective, epoch_day_range, days_from_civil-day, days_from_civil-next_month, days_from_civil-next_year, days_from_civil-max}
 use Rattle.sr_base.specs.Calendar.{Civil, civil, date_after, date_at}
-use borrow.Author.Differences.{up, down}
 
 -- the calendar has the date
 abbrev pub HasDate : Civil → Type 0
@@ -44,11 +40,12 @@ at_new_year : (y m d : ℕ) → HasDate (civil y m d) → days_in_month (pos y) 
 at_new_year y m d h last le =
     let december : m ≡ 12 = omega arith in
     let long = days_in_month_bounds (pos (y + 1)) 1 in
-    let day : d ≡ 31 = subst (λ n. days_in_month (pos y) n ≤ d → d ≤ days_in_month (pos y) n → d ≡ 31) (sym december) (λ low high. omega arith) last h.4 in
-    ((omega arith, omega arith, omega arith, omega arith, omega arith),
-    subst (λ n. days_from_civil (pos (y + 1)) 1 1 ≡ days_from_civil (pos y) n d +ℤ pos 1) (sym december)
-    (subst (λ n. days_from_civil (pos (y + 1)) 1 1 ≡ days_from_civil (pos y) 12 n +ℤ pos 1) (sym day)
-    (days_from_civil-next_year (pos y) (pos (y + 1)) (omega (arith, signed_arith)) (omega (arith, signed_arith)))))
+    let day : d ≡ 31 = subst (λ n. days_in_month (pos y) n ≤ d → d ≤ days_in_month (pos y) n → d ≡ 31) (sym december) (λ low high. omega arith) last h.4 in (
+      (omega arith, omega arith, omega arith, omega arith, omega arith),
+      subst (λ n. days_from_civil (pos (y + 1)) 1 1 ≡ days_from_civil (pos y) n d +ℤ pos 1) (sym december)
+          (subst (λ n. days_from_civil (pos (y + 1)) 1 1 ≡ days_from_civil (pos y) 12 n +ℤ pos 1) (sym day)
+          (days_from_civil-next_year (pos y) (pos (y + 1)) (omega (arith, signed_arith)) (omega (arith, signed_arith)))),
+    )
 
 past_month : (y m d : ℕ) (early : Bool) → nat_lt m 12 ≡ early → HasDate (civil y m d) → days_in_month (pos y) m ≤ d → Follows (civil y m d) (if early then civil y (m + 1) 1 else civil (y + 1) 1 1)
 past_month y m d true e h last = in_year y m d h last (ltb-true m 12 e)

@@ -8,14 +8,14 @@ use Rattle.sr_base.specs.declared.value.Value.{Value}
 use Rattle.sr_base.specs.declared.value.Value.TheVariants.{Null, Int, Big, Str, Date}
 use Rattle.std.specs.Cmp.{tied_itself}
 use Rattle.std.specs.declared.cmp.Ordering.TheVariants.{Equal}
-use Rattle.sr_base.specs.Order.{class_of, number_of, text_of, width_of, value_cmp, key_cmp, key_cmp_total}
+use Rattle.sr_base.specs.Order.{class_rank, number_of, bytes_of, width_of, value_cmp, key_cmp, key_cmp_total}
 
 -- all that the order compares
 abbrev Parts : Type 0
 Parts = ℕ × ((ℤ × List ℕ) × ℕ)
 
 abbrev parts : Value → Parts
-parts v = (class_of v, ((number_of v, text_of v), width_of v))
+parts v = (class_rank v, ((number_of v, bytes_of v), width_of v))
 
 -- the value of these parts
 abbrev value_of : ℕ → ℤ → List ℕ → ℕ → Value

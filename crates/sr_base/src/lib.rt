@@ -16,6 +16,8 @@ mod row;
 mod seq;
 mod text;
 mod value;
+#[cfg(test)]
+mod value_tests;
 
 pub use copied::{Copied, NoMemory};
 pub use day::Day;

@@ -3,7 +3,7 @@ ghost use Rattle.std.proofs.Common.{rules};
 ghost use Rattle.std.specs.Cmp.{IsTotalOrder, po, eq_by_cmp_equiv, partial_equiv_from_equiv};
 ghost use Rattle.std.specs.Cmp.Rules.{comparing};
 ghost use Rattle.std.specs.Ordering.{eq_by_cmp, as_partial_cmp};
-ghost use Rattle.sr_base.specs.Order.{class_of, number_of, text_of, width_of, compared, worth_cmp, value_cmp, key_cmp, value_cmp_total, key_cmp_total};
+ghost use Rattle.sr_base.specs.Order.{class_rank, number_of, bytes_of, width_of, compared, worth_cmp, value_cmp, key_cmp, value_cmp_total, key_cmp_total};
 
 use crate::row::Key;
 use crate::value::Value;
@@ -32,7 +32,7 @@ pub fn order(a: &Key, b: &Key) -> Ordering
 }
 
 fn class(value: &Value) -> u8
-    ensures class { result ≡ class_of value.now }
+    ensures class { result ≡ class_rank value.now }
 {
     match value {
         Value::Null => 0,
@@ -56,7 +56,7 @@ fn number(value: &Value) -> i64
 }
 
 fn text(value: &Value) -> &[u8]
-    ensures text { result.now ≡ text_of value.now }
+    ensures text { result.now ≡ bytes_of value.now }
 {
     match value {
         Value::Str(text) => text.bytes(),
@@ -119,9 +119,10 @@ impl Ord for Value {
     ghost matches_eq = { Prim.search (comparing, rules) };
 
     fn cmp(&self, other: &Value) -> Ordering {
+        let widths = width(self).cmp(&width(other));
         class(self)
             .cmp(&class(other))
-            .then(worth_order(self, other).then(width(self).cmp(&width(other))))
+            .then(worth_order(self, other).then(widths))
     }
 }
 
