@@ -1,39 +1,14 @@
 -- Values that compare alike are one.
-use Rattle.std.proofs.Common.{◌≡◌, ◌↔◌, ℕ, zero, suc, ℤ, List, refl, sym, ap, ◌∙◌}
+use Rattle.std.proofs.Common.{◌≡◌, ◌↔◌, ℕ, ℤ, List, refl, sym, ap, ◌∙◌}
 use Rattle.std.proofs.lemmas.Map.Lookups.{CmpEqualImpliesEq, exact_pairs, exact_unsigned, exact_signed, exact_bytes}
 use Rattle.std.specs.Ordering.{nat_cmp, int_cmp, ordering_then}
 use Rattle.std.specs.Cmp.Lexicographic.{slice_cmp}
 use Rattle.std.specs.FinMap.{slice_cmp-IsAntisymmetric}
 use Rattle.sr_base.specs.declared.value.Value.{Value}
-use Rattle.sr_base.specs.declared.value.Value.TheVariants.{Null, Int, Big, Str, Date}
 use Rattle.std.specs.Cmp.{tied_itself}
 use Rattle.std.specs.declared.cmp.Ordering.TheVariants.{Equal}
-use Rattle.sr_base.specs.Order.{class_rank, number_of, bytes_of, width_of, value_cmp, key_cmp, key_cmp_total}
-
--- all that the order compares
-abbrev Parts : Type 0
-Parts = ℕ × ((ℤ × List ℕ) × ℕ)
-
-abbrev parts : Value → Parts
-parts v = (class_rank v, ((number_of v, bytes_of v), width_of v))
-
--- the value of these parts
-abbrev value_of : ℕ → ℤ → List ℕ → ℕ → Value
-value_of zero n t w = Null
-value_of (suc zero) n t zero = Int n
-value_of (suc zero) n t (suc w) = Big n
-value_of (suc (suc zero)) n t w = Str t
-value_of (suc (suc (suc c))) n t w = Date n
-
-abbrev whole : Parts → Value
-whole p = value_of p.0 p.1.0.0 p.1.0.1 p.1.1
-
-whole-parts : (v : Value) → whole (parts v) ≡ v
-whole-parts Null = refl
-whole-parts (Int n) = refl
-whole-parts (Big n) = refl
-whole-parts (Str t) = refl
-whole-parts (Date d) = refl
+use Rattle.sr_base.specs.Codes.{Parts, parts, whole, whole-parts}
+use Rattle.sr_base.specs.Order.{value_cmp, key_cmp, key_cmp_total}
 
 exact_worths : CmpEqualImpliesEq (λ (x y : ℤ × List ℕ). ordering_then (int_cmp x.0 y.0) (slice_cmp nat_cmp x.1 y.1))
 exact_worths = exact_pairs int_cmp (slice_cmp nat_cmp) exact_signed exact_bytes

@@ -1,4 +1,5 @@
 pub mod Calendar
+pub mod Codes
 pub mod Days
 pub mod Fitting
 pub mod Literals

@@ -50,6 +50,10 @@ compared a b = if nat_lt 0 (class_rank a) && nat_eq (class_rank a) (class_rank b
 abbrev pub value_cmp : Value → Value → Ordering
 value_cmp = then_cmp (on class_rank nat_cmp) (then_cmp worth_cmp (on width_of nat_cmp))
 
+-- the order of names, by their bytes
+abbrev pub name_cmp : List ℕ → List ℕ → Ordering
+name_cmp = slice_cmp nat_cmp
+
 -- the order of keys: value by value, a prefix first
 abbrev pub key_cmp : List Value → List Value → Ordering
 key_cmp = slice_cmp value_cmp
@@ -59,3 +63,6 @@ value_cmp_total = then_total (on_total class_rank nat_cmp_total) (then_total (th
 
 pub key_cmp_total : IsTotalOrder key_cmp
 key_cmp_total = lists_total value_cmp_total
+
+pub name_cmp_total : IsTotalOrder name_cmp
+name_cmp_total = nat_list_cmp_total

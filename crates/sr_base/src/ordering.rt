@@ -3,8 +3,9 @@ ghost use Rattle.std.proofs.Common.{rules};
 ghost use Rattle.std.specs.Cmp.{IsTotalOrder, po, eq_by_cmp_equiv, partial_equiv_from_equiv};
 ghost use Rattle.std.specs.Cmp.Rules.{comparing};
 ghost use Rattle.std.specs.Ordering.{eq_by_cmp, as_partial_cmp};
-ghost use Rattle.sr_base.specs.Order.{class_rank, number_of, bytes_of, width_of, compared, worth_cmp, value_cmp, key_cmp, value_cmp_total, key_cmp_total};
+ghost use Rattle.sr_base.specs.Order.{class_rank, number_of, bytes_of, width_of, compared, worth_cmp, value_cmp, key_cmp, name_cmp, value_cmp_total, key_cmp_total, name_cmp_total};
 
+use crate::name::Name;
 use crate::row::Key;
 use crate::value::Value;
 use std::cmp::Ordering;
@@ -161,5 +162,43 @@ impl Ord for Key {
 
     fn cmp(&self, other: &Key) -> Ordering {
         self.values().cmp(other.values())
+    }
+}
+
+impl PartialEq for Name {
+    ghost eq = { eq_by_cmp name_cmp };
+
+    ghost laws = { partial_equiv_from_equiv (eq_by_cmp_equiv name_cmp_total) };
+
+    fn eq(&self, other: &Name) -> bool {
+        self.cmp(other).is_eq()
+    }
+}
+
+impl Eq for Name {
+    ghost laws = { eq_by_cmp_equiv name_cmp_total };
+}
+
+impl PartialOrd for Name {
+    ghost partial_cmp = { as_partial_cmp name_cmp };
+
+    ghost laws = { po name_cmp_total (λ x y. refl) };
+
+    fn partial_cmp(&self, other: &Name) -> Option<Ordering> {
+        Some(self.cmp(other))
+    }
+}
+
+impl Ord for Name {
+    ghost cmp = { name_cmp };
+
+    ghost total = { name_cmp_total };
+
+    ghost matches_partial_cmp = { Prim.search (comparing, rules) };
+
+    ghost matches_eq = { Prim.search (comparing, rules) };
+
+    fn cmp(&self, other: &Name) -> Ordering {
+        self.bytes().cmp(other.bytes())
     }
 }
