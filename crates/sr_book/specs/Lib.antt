@@ -1,0 +1,4 @@
+pub mod Books
+pub mod Entries
+pub mod Histories
+pub mod Rising

@@ -1,3 +1,10 @@
+ghost use Rattle.std.specs.Prelude.{◌≡◌, ◌<◌, ◌⊎◌, ◌↔◌, IsTrue};
+ghost use Rattle.sr_book.specs.Books.{new_book, with_taken, with_note};
+
+use crate::note::Note;
+use sr_base::{Copied, NoMemory, Offset};
+use std::alloc::Global;
+
 /// What one database keeps of one partner, as SYSREMOTEUSER does: offsets are stream offsets in bytes, counts stop at 2^64 - 1.
 ///
 /// All are 0 when the partner is granted.
@@ -19,4 +26,155 @@ pub struct Book {
     pub receive_count: u64,
     /// Asks for a resend that were raised here.
     pub rereceive_count: u64,
+}
+
+impl Book {
+    /// The book of a partner that was just granted: eight zeros. It takes no memory.
+    pub fn new() -> Book
+        ensures { result ≡ new_book }
+    {
+        Book {
+            log_sent: 0,
+            confirm_sent: 0,
+            send_count: 0,
+            resend_count: 0,
+            log_received: 0,
+            confirm_received: 0,
+            receive_count: 0,
+            rereceive_count: 0,
+        }
+    }
+
+    /// The book after a note. An ask whose count was noted already, or an older one, changes nothing.
+    pub fn after(self, note: &Note) -> Book
+        ensures { result ≡ with_note self note.now }
+    {
+        match *note {
+            Note::Confirmed(place) => self.confirmed(place),
+            Note::Asked(count, place) => self.asked(count, place),
+            Note::Raised => self.raised(),
+            Note::Sent {
+                end,
+                messages,
+                confirm,
+            } => self.sent(end, messages, confirm),
+        }
+    }
+
+    /// The book after one of the partner's transactions was taken, whose offset in the partner's log is `at`.
+    pub fn took(self, at: Offset) -> Book
+        ensures { result ≡ with_taken self at.0 }
+    {
+        Book {
+            log_received: at.0,
+            receive_count: self.receive_count.saturating_add(1),
+            ..self
+        }
+    }
+
+    /// Whether a message is due where no transaction is to be sent: an ask is to be made, or more was taken than confirmed.
+    pub fn need(&self, ask: bool) -> bool
+        ensures { IsTrue result ↔ (IsTrue ask ⊎ (self.now.confirm_received < self.now.log_received)) }
+    {
+        ask || self.confirm_received < self.log_received
+    }
+
+    fn confirmed(self, place: Offset) -> Book
+        ensures { result ≡ with_note self (Note.Confirmed place) }
+    {
+        Book {
+            log_sent: self.log_sent.max(place.0),
+            confirm_sent: self.confirm_sent.max(place.0),
+            ..self
+        }
+    }
+
+    fn asked(self, count: u64, place: Offset) -> Book
+        ensures { result ≡ with_note self (Note.Asked count place) }
+    {
+        if self.resend_count < count {
+            Book {
+                log_sent: self.confirm_sent.max(place.0),
+                resend_count: count,
+                ..self
+            }
+        } else {
+            self
+        }
+    }
+
+    fn raised(self) -> Book
+        ensures { result ≡ with_note self Note.Raised }
+    {
+        Book {
+            rereceive_count: self.rereceive_count.saturating_add(1),
+            ..self
+        }
+    }
+
+    fn sent(self, end: Offset, messages: u32, confirm: Offset) -> Book
+        ensures { result ≡ with_note self (Note.Sent end messages confirm) }
+    {
+        Book {
+            log_sent: end.0,
+            send_count: self.send_count.saturating_add(u64::from(messages)),
+            confirm_received: confirm.0,
+            ..self
+        }
+    }
+}
+
+impl Copied for Book {
+    fn copy(&self, _alloc: Global) -> Result<Book, NoMemory> {
+        Ok(*self)
+    }
+}
+
+#[cfg(test)]
+mod tests {
+    use super::*;
+    use std::test::Fail;
+
+    /// log_sent, confirm_sent, send_count, resend_count; log_received, confirm_received, receive_count, rereceive_count
+    fn columns(book: &Book) -> [u64; 8] {
+        [
+            book.log_sent,
+            book.confirm_sent,
+            book.send_count,
+            book.resend_count,
+            book.log_received,
+            book.confirm_received,
+            book.receive_count,
+            book.rereceive_count,
+        ]
+    }
+
+    #[test]
+    fn a_lost_file_is_asked_for_again(rt: HostRuntime) -> Result<(), Fail> {
+        let sent = Note::Sent {
+            end: Offset(252),
+            messages: 3,
+            confirm: Offset(0),
+        };
+        let steps = [
+            (sent, [252, 0, 3, 0, 0, 0, 0, 0]),
+            (Note::Confirmed(Offset(100)), [252, 100, 3, 0, 0, 0, 0, 0]),
+            (Note::Asked(1, Offset(180)), [180, 100, 3, 1, 0, 0, 0, 0]),
+            (Note::Asked(1, Offset(120)), [180, 100, 3, 1, 0, 0, 0, 0]),
+            (Note::Asked(2, Offset(90)), [100, 100, 3, 2, 0, 0, 0, 0]),
+            (Note::Raised, [100, 100, 3, 2, 0, 0, 0, 1]),
+            (Note::Confirmed(Offset(260)), [260, 260, 3, 2, 0, 0, 0, 1]),
+        ];
+        let mut book = Book::new();
+        for (note, want) in steps {
+            book = book.after(&note.copy(rt.alloc())?);
+            assert_eq!(rt; columns(&book), want);
+        }
+        let book = book.took(Offset(93)).copy(rt.alloc())?;
+        assert_eq!(rt; columns(&book), [260, 260, 3, 2, 93, 0, 1, 1]);
+        assert!(rt; book.need(false));
+        assert!(rt; !Book::new().need(false));
+        assert!(rt; Book::new().need(true));
+        Ok(())
+    }
 }

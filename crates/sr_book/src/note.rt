@@ -1,4 +1,5 @@
-use sr_base::Offset;
+use sr_base::{Copied, NoMemory, Offset};
+use std::alloc::Global;
 
 /// A change of a partner's book that is no taken transaction.
 #[derive(Clone, Copy)]
@@ -15,4 +16,10 @@ pub enum Note {
         messages: u32,
         confirm: Offset,
     },
+}
+
+impl Copied for Note {
+    fn copy(&self, _alloc: Global) -> Result<Note, NoMemory> {
+        Ok(*self)
+    }
 }

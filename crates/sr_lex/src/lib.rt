@@ -1,0 +1,18 @@
+//! The tokens of an SQL script: words, whole numbers, texts in quotes and signs, each with its place.
+//!
+//! It stands on sr_base. The contract that matters most is that of `lex`: the tokens are the slices of their spans, in order, and
+//! between them stands only white space and comments; it refuses a text exactly where no token begins.
+#![tactic(auto)]
+
+mod bytes;
+mod gap;
+mod kind;
+mod lexing;
+mod number;
+mod quoted;
+#[cfg(test)]
+mod tests;
+mod token;
+
+pub use lexing::{LexFault, lex};
+pub use token::{Token, TokenKind};

@@ -1,0 +1,123 @@
+-- What the writes of a commit leave of a file that goes on behind a front and a gate.
+use Rattle.std.proofs.Common.{◌≡◌, ℕ, ◌+◌, ◌<◌, ◌≤◌, List, [], ◌∷◌, ◌++◌, length, get_or, take, drop, refl, sym, ◌∙◌, ap, subst, arith, append_assoc, length-append, take-append-drop, inl, inr, Result, Ok, Err}
+use Rattle.std.specs.Prelude.{OnErr}
+use Rattle.std.proofs.lemmas.List.{take_at, drop_at, drop_more}
+use Rattle.sr_site.specs.declared.file.File.{File}
+use Rattle.sr_site.specs.declared.file.File.TheVariants.{Root, Log0, Log1, Snap0, Snap1}
+use Rattle.sr_site.specs.Files.{Files, bytes_of, with_bytes, overwritten, IsTorn, OthersStay}
+use Rattle.sr_logfile.specs.Appends.{GoesOn, HasRecord, HasGatedRecord, HasPart, LeavesPart, LeavesRecord}
+
+pub bytes_of-with_bytes : (files : Files) (file : File) (bytes : List ℕ) → bytes_of (with_bytes files file bytes) file ≡ bytes
+bytes_of-with_bytes files Root bytes = refl
+bytes_of-with_bytes files Log0 bytes = refl
+bytes_of-with_bytes files Log1 bytes = refl
+bytes_of-with_bytes files Snap0 bytes = refl
+bytes_of-with_bytes files Snap1 bytes = refl
+
+-- no file differs
+pub OthersStay-same : (file : File) (old new : Files) → new ≡ old → OthersStay file old new
+OthersStay-same file old new is = subst (λ (files : Files). OthersStay file old files) (sym is) (same file)
+  where
+    same : (file : File) → OthersStay file old old
+    same Root = refl
+    same Log0 = refl
+    same Log1 = refl
+    same Snap0 = refl
+    same Snap1 = refl
+
+module _ (front : List ℕ) (gate : ℕ) (rest : List ℕ) where
+  -- the front and the gate
+  regroup : (tail : List ℕ) → front ++ gate ∷ tail ≡ (front ++ gate ∷ []) ++ tail
+  regroup tail = sym (append_assoc front (gate ∷ []) tail)
+
+  length-gated : length (front ++ gate ∷ []) ≡ length front + 1
+  length-gated = length-append front (gate ∷ [])
+
+  take-gate : take (length front + 1) (front ++ gate ∷ rest) ≡ front ++ gate ∷ []
+  take-gate = ap (take (length front + 1)) (regroup rest) ∙ take_at (front ++ gate ∷ []) rest (length front + 1) length-gated
+
+  drop-gate : drop (length front + 1) (front ++ gate ∷ rest) ≡ rest
+  drop-gate = ap (drop (length front + 1)) (regroup rest) ∙ drop_at (front ++ gate ∷ []) rest (length front + 1) length-gated
+
+  -- a record written behind the gate
+  pub written_behind : (framed : List ℕ) → HasRecord front gate framed (overwritten (front ++ gate ∷ rest) (length front + 1) framed)
+  written_behind framed =
+      let behind = drop (length front + 1 + length framed) (front ++ gate ∷ rest) in
+      record {
+        rest = behind;
+        bytes_are = ap (λ (l : List ℕ). l ++ framed ++ behind) take-gate ∙ append_assoc (front ++ gate ∷ []) framed behind ∙ append_assoc front (gate ∷ []) (framed ++ behind);
+      }
+
+  -- another byte in the gate's place
+  pub written_gate : (byte : ℕ) → overwritten (front ++ gate ∷ rest) (length front) (byte ∷ []) ≡ front ++ byte ∷ rest
+  written_gate byte =
+      ap (λ (l : List ℕ). l ++ (byte ∷ []) ++ drop (length front + 1) (front ++ gate ∷ rest)) (take_at front (gate ∷ rest) (length front) refl)
+      ∙ ap (λ (l : List ℕ). front ++ (byte ∷ []) ++ l) drop-gate
+      ∙ append_assoc front (byte ∷ []) rest
+
+  -- a write behind the gate that failed
+  pub torn_behind : (count : ℕ) (new : List ℕ) → IsTorn (length front + 1) count (front ++ gate ∷ rest) new → GoesOn front gate new
+  torn_behind count new torn =
+      let behind = drop (length front + 1) new in
+      record {
+        rest = behind;
+        bytes_are = sym (take-append-drop (length front + 1) new) ∙ ap (λ (l : List ℕ). l ++ behind) (torn.before ∙ take-gate) ∙ append_assoc front (gate ∷ []) behind;
+      }
+
+  -- a write of the gate that failed
+  pub torn_gate : (new : List ℕ) → IsTorn (length front) 1 (front ++ gate ∷ rest) new → (byte : ℕ) × (new ≡ front ++ byte ∷ rest)
+  torn_gate new torn =
+      let long : length front < length new = omega (arith, torn.longer, length-append front (gate ∷ rest)) in
+      let byte = get_or new (length front) 0 in (
+        byte,
+        sym (take-append-drop (length front) new)
+            ∙ ap (λ (l : List ℕ). l ++ drop (length front) new) (torn.before ∙ take_at front (gate ∷ rest) (length front) refl)
+            ∙ ap (λ (l : List ℕ). front ++ l) (drop_more new (length front) 0 long ∙ ap (λ (l : List ℕ). byte ∷ l) (torn.behind ∙ drop-gate)),
+      )
+
+-- what each of the four calls leaves, where the file goes on so
+module _ (place : ℕ) (framed old : List ℕ) where
+  module _ (front rest : List ℕ) (gate : ℕ) (is : old ≡ front ++ gate ∷ rest) (at : length front ≡ place) where
+    after_torn : (new : List ℕ) → IsTorn (place + 1) (length framed) old new → HasPart front gate framed new
+    after_torn new torn =
+        let there : IsTorn (length front + 1) (length framed) (front ++ gate ∷ rest) new = subst (λ (l : List ℕ). IsTorn (length front + 1) (length framed) l new) is (subst (λ (n : ℕ). IsTorn (n + 1) (length framed) old new) (sym at) torn) in
+        inl (torn_behind front gate rest (length framed) new there)
+
+    after_written : (new : List ℕ) → new ≡ overwritten old (place + 1) framed → HasRecord front gate framed new
+    after_written new e =
+        let there : new ≡ overwritten (front ++ gate ∷ rest) (length front + 1) framed = e ∙ ap (λ (n : ℕ). overwritten old (n + 1) framed) (sym at) ∙ ap (λ (l : List ℕ). overwritten l (length front + 1) framed) is in
+        subst (λ (l : List ℕ). HasRecord front gate framed l) (sym there) (written_behind front gate rest framed)
+
+    after_gate_torn : (middle new : List ℕ) → middle ≡ overwritten old (place + 1) framed → IsTorn place 1 middle new → HasPart front gate framed new
+    after_gate_torn middle new e torn =
+        let has = after_written middle e in
+        let there : IsTorn (length front) 1 (front ++ gate ∷ (framed ++ has.rest)) new = subst (λ (l : List ℕ). IsTorn (length front) 1 l new) has.bytes_are (subst (λ (n : ℕ). IsTorn n 1 middle new) (sym at) torn) in
+        let left = torn_gate front gate (framed ++ has.rest) new there in
+        inr (record { gate = left.0; holds = record { rest = has.rest; bytes_are = left.1 } })
+
+    after_gate_written : (middle new : List ℕ) → middle ≡ overwritten old (place + 1) framed → new ≡ overwritten middle place (1 ∷ []) → HasRecord front 1 framed new
+    after_gate_written middle new e e2 =
+        let has = after_written middle e in
+        record {
+          rest = has.rest;
+          bytes_are = e2 ∙ ap (λ (n : ℕ). overwritten middle n (1 ∷ [])) (sym at) ∙ ap (λ (l : List ℕ). overwritten l (length front) (1 ∷ [])) has.bytes_are ∙ written_gate front gate (framed ++ has.rest) 1;
+        }
+
+  pub first_torn : (new : List ℕ) → IsTorn (place + 1) (length framed) old new → LeavesPart place framed old new
+  first_torn new torn = record { part = λ front rest gate is at. after_torn front rest gate is at new torn }
+
+  pub first_written : (new : List ℕ) → new ≡ overwritten old (place + 1) framed → LeavesPart place framed old new
+  first_written new e = record { part = λ front rest gate is at. inr (record { gate = gate; holds = after_written front rest gate is at new e }) }
+
+  pub second_torn : (middle new : List ℕ) → middle ≡ overwritten old (place + 1) framed → IsTorn place 1 middle new → LeavesPart place framed old new
+  second_torn middle new e torn = record { part = λ front rest gate is at. after_gate_torn front rest gate is at middle new e torn }
+
+  pub second_written : (middle new : List ℕ) → middle ≡ overwritten old (place + 1) framed → new ≡ overwritten middle place (1 ∷ []) → LeavesRecord place framed old new
+  second_written middle new e e2 = record { opened = λ front rest gate is at. after_gate_written front rest gate is at middle new e e2 }
+
+  pub second_part : (middle new : List ℕ) → middle ≡ overwritten old (place + 1) framed → new ≡ overwritten middle place (1 ∷ []) → LeavesPart place framed old new
+  second_part middle new e e2 = record { part = λ front rest gate is at. inr (record { gate = 1; holds = after_gate_written front rest gate is at middle new e e2 }) }
+
+pub OnErr-always : {T E P : Type 0} (r : Result T E) → P → OnErr r P
+OnErr-always (Ok x) p = tt
+OnErr-always (Err e) p = p

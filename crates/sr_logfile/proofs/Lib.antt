@@ -1,0 +1,10 @@
+pub mod Appends
+pub mod Commits
+pub mod Ends
+pub mod Fronts
+pub mod Nexts
+pub mod Openings
+pub mod Records
+pub mod Scans
+pub mod Totality
+pub mod Uniqueness

@@ -1,0 +1,155 @@
+-- What stands behind a position that parts a log's bodies.
+use Rattle.std.proofs.Common.{◌≡◌, ◌≢◌, ℕ, ◌+◌, ◌-◌, ◌^◌, ◌<◌, ◌≤◌, List, [], ◌∷◌, ◌++◌, length, take, drop, refl, sym, ◌∙◌, ap, subst, arith, append_assoc, length-append, take-append-drop}
+use Rattle.std.specs.Int.{w32, to_be_bytes}
+use Rattle.std.specs.List.{AllByRecursion}
+use Rattle.std.proofs.lemmas.List.{append-nil, take_at, drop_at, drop-drop, length-drop, take-append-le}
+use Rattle.sr_site.specs.Files.{Files, bytes_of}
+use Rattle.sr_site.specs.Reads.{HasRead}
+use Rattle.sr_site.specs.declared.file.File.{File}
+use Rattle.sr_logfile.specs.declared.head.Head.{Head}
+use Rattle.sr_logfile.specs.declared.head.Head.TheVariants.{Closed, Cut, Open}
+use Rattle.sr_logfile.specs.Heads.{IsHead, IsClosed, IsCut, HasLength}
+use Rattle.sr_logfile.specs.Log.{Log}
+use Rattle.sr_logfile.specs.Logs.{IsLog, IsAt}
+use Rattle.sr_logfile.specs.Records.{header, record_of, open_records, IsBody, Spells}
+use Rattle.sr_logfile.specs.Steps.{IsNext}
+use Rattle.sr_logfile.proofs.Records.{length-record, length-push}
+use Rattle.sr_logfile.proofs.Commits.{length-front}
+use Rattle.sr_logfile.proofs.Ends.{length_is}
+
+open_records-append : (done left : List (List ℕ)) → open_records (done ++ left) ≡ open_records done ++ open_records left
+open_records-append [] left = refl
+open_records-append (x ∷ xs) left = ap (λ (l : List ℕ). (1 ∷ record_of x) ++ l) (open_records-append xs left) ∙ sym (append_assoc (1 ∷ record_of x) (open_records xs) (open_records left))
+
+is_body_left : (done : List (List ℕ)) (body : List ℕ) (rest : List (List ℕ)) → AllByRecursion IsBody (done ++ body ∷ rest) → IsBody body
+is_body_left [] body rest all = all.0
+is_body_left (x ∷ xs) body rest all = is_body_left xs body rest all.1
+
+none_left : (left : List (List ℕ)) → length (open_records left) ≡ 0 → left ≡ []
+none_left [] e = refl
+none_left (x ∷ xs) e = absurd (omega arith)
+
+-- a record stands behind the position
+pub record HasNext (log : Log) (after : ℕ) (done left : List (List ℕ)) (files : Files) : Type 0 where
+  pub body : List ℕ
+  pub rest : List (List ℕ)
+  pub tail : List ℕ
+  pub left_is : left ≡ body ∷ rest
+  pub is_body : IsBody body
+  pub bytes_are : drop (16 + (after - log.base)) (bytes_of files log.file) ≡ 1 ∷ (record_of body ++ tail)
+  pub some : 0 < length tail
+  pub room : after + 5 + length body ≤ log.end
+  pub goes_on : IsAt log (after + 5 + length body) (done ++ body ∷ []) rest files
+
+module _ (log : Log) (after : ℕ) (done : List (List ℕ)) (files : Files) where
+  -- the position behind the last record
+  pub at_end : (left : List (List ℕ)) → IsAt log after done left files → log.end ≤ after → left ≡ []
+  at_end left at past = none_left left (omega (arith, past, at.is_log.end_is, at.after_is, ap length (open_records-append done left), length-append (open_records done) (open_records left)))
+
+  pub not_before : (left : List (List ℕ)) → IsAt log after done left files → after < log.base → ⊥
+  not_before left at early = omega (arith, early, at.after_is)
+
+  tail_is : (left : List (List ℕ)) → (at : IsAt log after done left files) → drop (16 + (after - log.base)) (bytes_of files log.file) ≡ open_records left ++ at.is_log.spells.gate ∷ at.is_log.spells.rest
+  tail_is left at =
+      let s = at.is_log.spells in
+      let after_is = at.after_is in
+      let front = header log.base ++ open_records done in
+      let place : length front ≡ 16 + (after - log.base) = omega (arith, length-front log.base done) in
+      let apart : bytes_of files log.file ≡ front ++ (open_records left ++ s.gate ∷ s.rest) =
+      s.bytes_are
+      ∙ ap (λ (l : List ℕ). (header log.base ++ l) ++ s.gate ∷ s.rest) (open_records-append done left)
+      ∙ ap (λ (l : List ℕ). l ++ s.gate ∷ s.rest) (sym (append_assoc (header log.base) (open_records done) (open_records left)))
+      ∙ append_assoc front (open_records left) (s.gate ∷ s.rest) in
+      ap (drop (16 + (after - log.base))) apart ∙ drop_at front (open_records left ++ s.gate ∷ s.rest) (16 + (after - log.base)) place
+
+  pub has_next : (left : List (List ℕ)) → IsAt log after done left files → after < log.end → HasNext log after done left files
+  has_next [] at before = absurd (omega (arith, before, at.is_log.end_is, at.after_is, ap (λ (l : List (List ℕ)). length (open_records l)) (append-nil done)))
+  has_next (body ∷ rest) at before =
+      let s = at.is_log.spells in
+      let tail = open_records rest ++ s.gate ∷ s.rest in
+      let after_is = at.after_is in
+      let end_is = at.is_log.end_is in
+      let all = ap length (open_records-append done (body ∷ rest)) in
+      let one = length-append (1 ∷ record_of body) (open_records rest) in
+      let long = length-record body in
+      record {
+        body = body;
+        rest = rest;
+        tail = tail;
+        left_is = refl;
+        is_body = is_body_left done body rest s.all_bodies;
+        bytes_are = tail_is (body ∷ rest) at ∙ append_assoc (1 ∷ record_of body) (open_records rest) (s.gate ∷ s.rest);
+        some = omega (arith, length-append (open_records rest) (s.gate ∷ s.rest));
+        room = omega (arith, length-append (open_records done) (open_records (body ∷ rest)));
+        goes_on = record {
+          is_log = subst (λ (l : List (List ℕ)). IsLog log l files) (sym (append_assoc done (body ∷ []) rest)) at.is_log;
+          after_is = omega (arith, length-push done body);
+        };
+      }
+
+  module _ (left : List (List ℕ)) (next : HasNext log after done left files) where
+    long : length (drop (16 + (after - log.base)) (bytes_of files log.file)) ≡ 5 + length next.body + length next.tail
+    long = omega (arith, ap length next.bytes_are, length-append (record_of next.body) next.tail, length-record next.body)
+
+    pub not_closed : IsClosed (drop (16 + (after - log.base)) (bytes_of files log.file)) → ⊥
+    not_closed closed =
+        let same : closed.gate ∷ closed.rest ≡ 1 ∷ (record_of next.body ++ next.tail) = sym closed.bytes_are ∙ next.bytes_are in
+        closed.closed cc
+
+    pub not_cut : IsCut (drop (16 + (after - log.base)) (bytes_of files log.file)) → ⊥
+    not_cut cut = omega (arith, cut.short, long, next.is_body.0)
+
+    pub same_length : (count : ℕ) → HasLength (drop (16 + (after - log.base)) (bytes_of files log.file)) count → count ≡ length next.body
+    same_length count has =
+        let is_body = next.is_body in
+        let same : to_be_bytes w32 count ++ has.rest ≡ to_be_bytes w32 (length next.body) ++ (next.body ++ next.tail) = ap (drop 1) (sym has.bytes_are ∙ next.bytes_are) ∙ append_assoc (to_be_bytes w32 (length next.body)) next.body next.tail in
+        length_is count (length next.body) has.rest (next.body ++ next.tail) has.fits (omega arith) same
+
+    behind_head : drop (16 + (after - log.base) + 5) (bytes_of files log.file) ≡ next.body ++ next.tail
+    behind_head = sym (drop-drop 5 (16 + (after - log.base)) (bytes_of files log.file)) ∙ ap (drop 5) (next.bytes_are ∙ ap (λ (l : List ℕ). 1 ∷ l) (append_assoc (to_be_bytes w32 (length next.body)) next.body next.tail))
+
+    pub whole_read : (count : ℕ) (front : List ℕ) → HasRead (bytes_of files log.file) (16 + (after - log.base) + 5) (length next.body) count front → count ≡ length next.body
+    whole_read count front read = omega (arith, read.count_is, ap length behind_head, length-append next.body next.tail, length-drop (16 + (after - log.base) + 5) (bytes_of files log.file))
+
+    pub front_read : (count : ℕ) (front : List ℕ) → HasRead (bytes_of files log.file) (16 + (after - log.base) + 5) (length next.body) count front → take (length next.body) front ≡ next.body
+    front_read count front read =
+        let all = whole_read count front read in
+        subst (λ (n : ℕ). take n front ≡ take (length next.body) (drop (16 + (after - log.base) + 5) (bytes_of files log.file))) all read.front ∙ ap (take (length next.body)) behind_head ∙ take_at next.body next.tail (length next.body) refl
+
+-- the head of the record is read, at a base and a file that are the log's
+module _ (log : Log) (after base : ℕ) (done left : List (List ℕ)) (files : Files) (file : File) (base_is : base ≡ log.base) (file_is : file ≡ log.file) (next : HasNext log after done left files) where
+  here : (head : Head) → IsHead (drop (16 + (after - base)) (bytes_of files file)) head → IsHead (drop (16 + (after - log.base)) (bytes_of files log.file)) head
+  here head is = subst (λ (f : File). IsHead (drop (16 + (after - log.base)) (bytes_of files f)) head) file_is (subst (λ (b : ℕ). IsHead (drop (16 + (after - b)) (bytes_of files file)) head) base_is is)
+
+  pub never_damaged : (head : Head) → IsHead (drop (16 + (after - base)) (bytes_of files file)) head → ((count : ℕ) → head ≡ Open count → ⊥) → ⊥
+  never_damaged Closed is not_open = not_closed log after done files left next (here Closed is)
+  never_damaged Cut is not_open = not_cut log after done files left next (here Cut is)
+  never_damaged (Open count) is not_open = not_open count refl
+
+  pub length_read : (head : Head) (count : ℕ) → IsHead (drop (16 + (after - base)) (bytes_of files file)) head → head ≡ Open count → count ≡ length next.body
+  length_read head count is opened = same_length log after done files left next count (subst (λ (h : Head). IsHead (drop (16 + (after - log.base)) (bytes_of files log.file)) h) opened (here head is))
+
+  pub body_read : (now : Files) (wanted count : ℕ) (front : List ℕ) → now ≡ files → wanted ≡ length next.body → HasRead (bytes_of now file) (16 + (after - base) + 5) wanted count front → HasRead (bytes_of files log.file) (16 + (after - log.base) + 5) (length next.body) count front
+  body_read now wanted count front same is read =
+      subst (λ (n : ℕ). HasRead (bytes_of files log.file) (16 + (after - log.base) + 5) n count front) is
+      (subst (λ (f : File). HasRead (bytes_of files f) (16 + (after - log.base) + 5) wanted count front) file_is
+      (subst (λ (b : ℕ). HasRead (bytes_of files file) (16 + (after - b) + 5) wanted count front) base_is
+      (subst (λ (f : Files). HasRead (bytes_of f file) (16 + (after - base) + 5) wanted count front) same read)))
+
+  pub record_step : (prior now : Files) (count wanted got : ℕ) (front back : List ℕ) → prior ≡ files → now ≡ files → count ≡ length next.body → wanted ≡ count → length front ≡ wanted
+      → HasRead (bytes_of prior file) (16 + (after - base) + 5) wanted got front → IsNext log after done left now (front ++ back) (after + 5 + count) count × (count ≤ length (front ++ back))
+  record_step prior now count wanted got front back before stands is wants long read =
+      let whole = body_read prior wanted got front before (wants ∙ is) read in
+      let body_is : take (length next.body) front ≡ next.body = front_read log after done files left next got front whole in
+      let fits : count ≤ length front = omega arith in (
+        record {
+          body = next.body;
+          rest = next.rest;
+          left_is = next.left_is;
+          count_is = is;
+          front = take-append-le count front back fits ∙ ap (λ (n : ℕ). take n front) is ∙ body_is;
+          end_is = refl;
+          goes_on = subst (λ (f : Files). IsAt log (after + 5 + count) (done ++ next.body ∷ []) next.rest f) (sym stands) (subst (λ (n : ℕ). IsAt log (after + 5 + n) (done ++ next.body ∷ []) next.rest files) (sym is) next.goes_on);
+        },
+        omega (arith, length-append front back),
+      )

@@ -1,0 +1,15 @@
+use Rattle.std.specs.Prelude.{ℕ, ◌+◌, ◌-◌, ◌^◌, ◌≤◌, Bool, false}
+use Rattle.sr_site.specs.declared.file.File.{File}
+
+-- a log file that was opened: which of the five, the stream positions of its first gate and of its first closed gate, and whether it can
+-- still be used
+pub record Log : Type 0 where
+  pub file : File
+  pub base : ℕ
+  pub end : ℕ
+  pub usable : Bool
+
+-- positions come in order, up to the last offset
+pub record InOrder (base end : ℕ) : Type 0 where
+  pub order : base ≤ end
+  pub limit : end ≤ 2 ^ 62

@@ -1,0 +1,122 @@
+ghost use Rattle.std.specs.Prelude.{◌≡◌, ◌⊎◌, ◌+◌, ◌^◌, ◌≤◌, [], ◌∷◌, ◌++◌, List, ℕ, length, true, IsTrue, IfOk, OnOk, OnErr, IfErr, Err};
+ghost use Rattle.sr_site.specs.Calls.{wrote, synced};
+ghost use Rattle.sr_site.specs.Causes.{DiskStays};
+ghost use Rattle.sr_site.specs.Files.{bytes_of, OthersStay};
+ghost use Rattle.sr_logfile.specs.Faults.{CommitCause};
+ghost use Rattle.sr_logfile.specs.Logs.{IsLog, HasLog, IsFull, gate_of, longer};
+ghost use Rattle.sr_logfile.specs.Log.{InOrder};
+ghost use Rattle.sr_logfile.specs.Records.{IsFramed, Spells, body_of};
+ghost use Rattle.sr_logfile.specs.declared.fault.LogFault.TheVariants.{Full};
+
+use crate::appending::append;
+use crate::fault::LogFault;
+use crate::head::{HEADER, LAST_OFFSET};
+use sr_base::Offset;
+use sr_site::{Disk, File};
+use std::marker::Model;
+
+/// A log file that was opened: it knows where its first closed gate stands.
+///
+/// Its file is to stand, at each call, as the calls of this value left it. After `commit` answered `Disk` the value is not used again.
+#[derive(Drop)]
+pub struct LogFile {
+    file: File,
+    base: u64,
+    end: u64,
+    usable: bool,
+}
+
+impl Model for LogFile {
+    ghost use Rattle.sr_logfile.specs.Log.{Log, InOrder};
+
+    ghost Value = { Log };
+
+    ghost view = { λ l. record { file = l.file; base = l.base; end = l.end; usable = l.usable } };
+
+    ghost invariant = { λ l. InOrder l.base l.end };
+}
+
+impl LogFile {
+    /// The log of a file whose first gate stands at the stream position `base` and whose first closed gate stands at `end`.
+    pub(crate) fn at(file: File, base: u64, end: u64) -> LogFile
+        requires { InOrder base end }
+        ensures { result ≡ record { file = file; base = base; end = end; usable = true } }
+    {
+        LogFile {
+            file,
+            base,
+            end,
+            usable: true,
+        }
+    }
+
+    /// Which of the five files it is.
+    pub fn file(&self) -> File
+        ensures file { result ≡ self.now.file }
+    {
+        self.file
+    }
+
+    /// The stream position of the first gate, in bytes.
+    pub fn base(&self) -> Offset
+        ensures base { result.0 ≡ self.now.base }
+        ensures order { InOrder self.now.base self.now.end }
+    {
+        Offset(self.base)
+    }
+
+    /// The stream position of the first closed gate, in bytes: the offset of the last record.
+    pub fn end(&self) -> Offset
+        ensures end { result.0 ≡ self.now.end }
+        ensures order { InOrder self.now.base self.now.end }
+    {
+        Offset(self.end)
+    }
+
+    /// Whether the value can be used: not after `commit` answered `Disk`.
+    pub fn usable(&self) -> bool
+        ensures usable { result ≡ self.now.usable }
+    {
+        self.usable
+    }
+
+    /// Puts a framed record behind the last, and answers its offset: the stream position behind its body.
+    ///
+    /// It writes the record behind the first closed gate, syncs, opens that gate and syncs. `Full` comes exactly where the record would pass
+    /// the place `bound` in the file or the last offset, 2^62, and leaves all as it was. After `Disk` the file holds the records
+    /// before, or those and the new one, and the value is not used again.
+    pub fn commit<S: Disk>(
+        &mut self,
+        site: &mut S,
+        framed: &[u8],
+        bound: u64,
+    ) -> Result<Offset, LogFault>
+        requires framed { IsFramed framed.now }
+        requires usable { self.old.usable ≡ true }
+        requires log { IsTrue (S.seen site.old).told → HasLog self.old (S.seen site.old).files }
+        ensures offset { IfOk result (λ offset. offset.0 ≡ self.old.end + length framed.now) }
+        ensures log { OnOk result (self.new ≡ longer self.old (length framed.now)) }
+        ensures has_log { IsTrue (S.seen site.old).told → OnOk result (HasLog self.new (S.seen site.new).files) }
+        ensures record { IsTrue (S.seen site.old).told → OnOk result ((bodies : List (List ℕ)) → IsLog self.old bodies (S.seen site.old).files → IsLog self.new (bodies ++ body_of framed.now ∷ []) (S.seen site.new).files) }
+        ensures stands { IsTrue (S.seen site.old).told → OnErr result ((bodies : List (List ℕ)) → IsLog self.old bodies (S.seen site.old).files → Spells self.old.base bodies (bytes_of (S.seen site.new).files self.old.file) ⊎ Spells self.old.base (bodies ++ body_of framed.now ∷ []) (bytes_of (S.seen site.new).files self.old.file)) }
+        ensures calls { IsTrue (S.seen site.old).told → OnOk result ((S.seen site.new).calls ≡ synced self.old.file ∷ wrote self.old.file (gate_of self.old) (1 ∷ []) ∷ synced self.old.file ∷ wrote self.old.file (gate_of self.old + 1) framed.now ∷ (S.seen site.old).calls) }
+        ensures others { IsTrue (S.seen site.old).told → OthersStay self.old.file (S.seen site.old).files (S.seen site.new).files }
+        ensures full { IsFull self.old (length framed.now) bound → result ≡ Err (Full (gate_of self.old + 1) (length framed.now)) }
+        ensures stays { DiskStays (S.seen site.old) (S.seen site.new) }
+        ensures cause { IfErr result (CommitCause self.old self.new (length framed.now) bound (S.seen site.old) (S.seen site.new)) }
+    {
+        let gate = HEADER + (self.end - self.base);
+        let need = framed.len() as u64;
+        if need > LAST_OFFSET || gate + 1 + need > bound || self.end + need > LAST_OFFSET {
+            return Err(LogFault::Full {
+                end: gate + 1,
+                need,
+            });
+        }
+        self.usable = false;
+        append(site, self.file, gate, framed)?;
+        self.usable = true;
+        self.end += need;
+        Ok(Offset(self.end))
+    }
+}

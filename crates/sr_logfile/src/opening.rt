@@ -1,0 +1,164 @@
+ghost use Rattle.std.specs.Prelude.{◌≡◌, ◌∷◌, ◌+◌, ◌-◌, ◌^◌, ◌≤◌, ◌<◌, List, ℕ, length, take, drop, true, IsTrue, IfOk, IfErr, IfSome, IsErr, IsNone};
+ghost use Rattle.std.specs.Option.{SomeIff};
+ghost use Rattle.sr_site.specs.Calls.{synced};
+ghost use Rattle.sr_site.specs.Causes.{DiskStays};
+ghost use Rattle.sr_site.specs.Files.{bytes_of};
+ghost use Rattle.sr_logfile.specs.Damage.{IsDamaged};
+ghost use Rattle.sr_logfile.specs.Faults.{IsDisk, IsDiskOrDamaged, OpenCause};
+ghost use Rattle.sr_logfile.specs.Heads.{FitsBody, IsRecordEnd, RecordCause, RecordsCause, SpellsTo};
+ghost use Rattle.sr_logfile.specs.Log.{InOrder};
+ghost use Rattle.sr_logfile.specs.Logs.{HasLog, IsLog};
+ghost use Rattle.sr_logfile.specs.Records.{HasHeader, Spells, header};
+
+use crate::fault::LogFault;
+use crate::head::{HEADER, Head, LAST_OFFSET, LONGEST_BODY, RECORD_HEAD, head_at};
+use crate::log::LogFile;
+use sr_site::{Disk, File};
+
+/// Opens the file as a log: its records are those up to the first closed gate.
+///
+/// It syncs, so that what it reads is durable, and reads front to back once, five bytes a record. `Damaged` comes exactly where the header or
+/// an open record is not as written, with the place of that record's gate, or 0. It takes no memory.
+pub fn open<S: Disk>(site: &mut S, file: File) -> Result<LogFile, LogFault>
+    ensures log { IsTrue (S.seen site.old).told → IfOk result (λ log. HasLog log (S.seen site.new).files) }
+    ensures usable { IfOk result (λ log. (log.file ≡ file) × (log.usable ≡ true)) }
+    ensures spelled { IsTrue (S.seen site.old).told → (base : ℕ) (bodies : List (List ℕ)) → Spells base bodies (bytes_of (S.seen site.old).files file) → IfOk result (λ log. (log.base ≡ base) × IsLog log bodies (S.seen site.new).files) × IfErr result IsDisk }
+    ensures damaged { IsTrue (S.seen site.old).told → (place : ℕ) → IsDamaged (bytes_of (S.seen site.old).files file) place → IsErr result × IfErr result (IsDiskOrDamaged place) }
+    ensures files { IsTrue (S.seen site.old).told → (S.seen site.new).files ≡ (S.seen site.old).files }
+    ensures calls { IsTrue (S.seen site.old).told → (S.seen site.new).calls ≡ synced file ∷ (S.seen site.old).calls }
+    ensures stays { DiskStays (S.seen site.old) (S.seen site.new) }
+    ensures cause { IfErr result (OpenCause file (S.seen site.old) (S.seen site.new)) }
+{
+    let opened = read(site, file);
+    opened
+}
+
+/// Syncs the file and reads it up to the first closed gate.
+fn read<S: Disk>(site: &mut S, file: File) -> Result<LogFile, LogFault>
+    ensures log { IsTrue (S.seen site.old).told → IfOk result (λ log. HasLog log (S.seen site.new).files) }
+    ensures usable { IfOk result (λ log. (log.file ≡ file) × (log.usable ≡ true)) }
+    ensures files { IsTrue (S.seen site.old).told → (S.seen site.new).files ≡ (S.seen site.old).files }
+    ensures calls { IsTrue (S.seen site.old).told → (S.seen site.new).calls ≡ synced file ∷ (S.seen site.old).calls }
+    ensures stays { DiskStays (S.seen site.old) (S.seen site.new) }
+    ensures cause { IfErr result (OpenCause file (S.seen site.old) (S.seen site.new)) }
+{
+    site.sync(file)?;
+    let size = site.length(file)?;
+    let base = base_of(site, file)?;
+    let end = end_of(site, file, base, size)?;
+    Ok(LogFile::at(file, base, end))
+}
+
+/// The base that the file's header has, where a gate stands behind it.
+fn base_of<S: Disk>(site: &mut S, file: File) -> Result<u64, LogFault>
+    ensures header { IsTrue (S.seen site.old).told → IfOk result (λ base. HasHeader base (bytes_of (S.seen site.old).files file)) }
+    ensures limit { IfOk result (λ base. base ≤ 2 ^ 62) }
+    ensures files { IsTrue (S.seen site.old).told → (S.seen site.new).files ≡ (S.seen site.old).files }
+    ensures calls { IsTrue (S.seen site.old).told → (S.seen site.new).calls ≡ (S.seen site.old).calls }
+    ensures stays { DiskStays (S.seen site.old) (S.seen site.new) }
+    ensures cause { IfErr result (OpenCause file (S.seen site.old) (S.seen site.new)) }
+{
+    let mut front = [0; 17];
+    let count = site.read_at(file, 0, &mut front)?;
+    match base_in(&front) {
+        Some(base) if count == 17 => Ok(base),
+        _ => Err(LogFault::Damaged { at: 0 }),
+    }
+}
+
+/// The base in the header at the front of 17 bytes, if they have one.
+fn base_in(front: &[u8; 17]) -> Option<u64>
+    ensures some { IfSome result (λ base. (take 16 front.now ≡ header base) × (base ≤ 2 ^ 62)) }
+    ensures none { IsNone result → (base : ℕ) → base ≤ 2 ^ 62 → take 16 front.now ≡ header base → ⊥ }
+{
+    let [
+        b'S',
+        b'R',
+        b'L',
+        b'O',
+        b'G',
+        b'0',
+        b'0',
+        b'1',
+        a,
+        b,
+        c,
+        d,
+        e,
+        f,
+        g,
+        h,
+        _,
+    ] = *front
+    else {
+        return None;
+    };
+    let base = u64::from_be_bytes([a, b, c, d, e, f, g, h]);
+    if base > LAST_OFFSET { None } else { Some(base) }
+}
+
+/// The position of the first closed gate: that of the header's gate is `base`, and the file has `size` bytes.
+#[tactic(auto, using(crate::proofs::Scans::scanning))]
+fn end_of<S: Disk>(site: &mut S, file: File, base: u64, size: u64) -> Result<u64, LogFault>
+    requires limit { base ≤ 2 ^ 62 }
+    requires header { IsTrue (S.seen site.old).told → HasHeader base (bytes_of (S.seen site.old).files file) }
+    requires size { IsTrue (S.seen site.old).told → size ≡ length (bytes_of (S.seen site.old).files file) }
+    ensures spelled { IsTrue (S.seen site.old).told → IfOk result (λ end. SpellsTo base end (bytes_of (S.seen site.old).files file)) }
+    ensures order { IfOk result (λ end. InOrder base end) }
+    ensures files { IsTrue (S.seen site.old).told → (S.seen site.new).files ≡ (S.seen site.old).files }
+    ensures calls { IsTrue (S.seen site.old).told → (S.seen site.new).calls ≡ (S.seen site.old).calls }
+    ensures stays { DiskStays (S.seen site.old) (S.seen site.new) }
+    ensures cause { IfErr result (RecordsCause file (S.seen site.old) (S.seen site.new)) }
+{
+    let mut position = base;
+    'records: while let Some(end) = record_end(site, file, base, position, size)? {
+        position = end;
+    }
+    Ok(position)
+}
+
+/// The position behind the record whose gate stands at `position`; `None` where that gate is closed.
+fn record_end<S: Disk>(
+    site: &mut S,
+    file: File,
+    base: u64,
+    position: u64,
+    size: u64,
+) -> Result<Option<u64>, LogFault>
+    requires order { InOrder base position }
+    requires size { IsTrue (S.seen site.old).told → size ≡ length (bytes_of (S.seen site.old).files file) }
+    ensures record { IsTrue (S.seen site.old).told → IfOk result (IsRecordEnd position (drop (16 + (position - base)) (bytes_of (S.seen site.old).files file))) }
+    ensures onward { IfOk result (λ found. IfSome found (λ end. (position < end) × (end ≤ 2 ^ 62))) }
+    ensures files { IsTrue (S.seen site.old).told → (S.seen site.new).files ≡ (S.seen site.old).files }
+    ensures calls { IsTrue (S.seen site.old).told → (S.seen site.new).calls ≡ (S.seen site.old).calls }
+    ensures stays { DiskStays (S.seen site.old) (S.seen site.new) }
+    ensures cause { IfErr result (RecordCause file (16 + (position - base)) position (S.seen site.old) (S.seen site.new)) }
+{
+    let place = HEADER + (position - base);
+    match head_at(site, file, place)? {
+        Head::Closed => Ok(None),
+        Head::Cut => Err(LogFault::Damaged { at: place }),
+        Head::Open { length } => match end_behind(place, position, length, size) {
+            Some(end) => Ok(Some(end)),
+            None => Err(LogFault::Damaged { at: place }),
+        },
+    }
+}
+
+/// The position behind a body of that length whose gate stands at `place`, where it is whole in a file of `size` bytes.
+fn end_behind(place: u64, position: u64, length: u32, size: u64) -> Option<u64>
+    requires place { place ≤ 2 ^ 62 + 16 }
+    requires position { position ≤ 2 ^ 62 }
+    ensures { SomeIff result (FitsBody place position length size) (position + 5 + length) }
+{
+    let length = length as u64;
+    let end = position + RECORD_HEAD + length;
+    if length == 0
+        || length > LONGEST_BODY
+        || place + RECORD_HEAD + length >= size
+        || end > LAST_OFFSET
+    {
+        return None;
+    }
+    Some(end)
+}

@@ -1,0 +1,32 @@
+ghost use Rattle.std.specs.Prelude.{◌≡◌, ◌^◌, ◌≤◌, [], ◌∷◌, IsTrue, OnOk, IfErr};
+ghost use Rattle.sr_site.specs.Calls.{wrote, cut_to, synced};
+ghost use Rattle.sr_site.specs.Causes.{DiskStays};
+ghost use Rattle.sr_site.specs.Files.{bytes_of, with_bytes, OthersStay};
+ghost use Rattle.sr_logfile.specs.Faults.{FreshCause};
+ghost use Rattle.sr_logfile.specs.Records.{Spells, fresh_bytes};
+
+use crate::fault::LogFault;
+use sr_base::Offset;
+use sr_site::{Disk, File};
+
+/// Makes the file a log without records: the 17 bytes of a header with this base, at most 2^62, and a closed gate.
+///
+/// It cuts the file to nothing, writes the 17 bytes and syncs. After `Disk` the file may hold anything.
+pub fn fresh<S: Disk>(site: &mut S, file: File, base: Offset) -> Result<(), LogFault>
+    requires base { base.0 ≤ 2 ^ 62 }
+    ensures bytes { IsTrue (S.seen site.old).told → OnOk result ((S.seen site.new).files ≡ with_bytes (S.seen site.old).files file (fresh_bytes base.0)) }
+    ensures empty { IsTrue (S.seen site.old).told → OnOk result (Spells base.0 [] (bytes_of (S.seen site.new).files file)) }
+    ensures others { IsTrue (S.seen site.old).told → OthersStay file (S.seen site.old).files (S.seen site.new).files }
+    ensures calls { IsTrue (S.seen site.old).told → OnOk result ((S.seen site.new).calls ≡ synced file ∷ wrote file 0 (fresh_bytes base.0) ∷ cut_to file 0 ∷ (S.seen site.old).calls) }
+    ensures stays { DiskStays (S.seen site.old) (S.seen site.new) }
+    ensures cause { IfErr result (FreshCause (S.seen site.old) (S.seen site.new)) }
+{
+    let [a, b, c, d, e, f, g, h] = base.0.to_be_bytes();
+    let bytes = [
+        b'S', b'R', b'L', b'O', b'G', b'0', b'0', b'1', a, b, c, d, e, f, g, h, 0,
+    ];
+    site.cut(file, 0)?;
+    site.write_at(file, 0, &bytes)?;
+    site.sync(file)?;
+    Ok(())
+}

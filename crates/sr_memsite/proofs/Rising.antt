@@ -1,0 +1,67 @@
+-- The names of one folder rise, as the places of a map do.
+use Rattle.std.proofs.Common.{◌≡◌, ℕ, zero, suc, List, [], ◌∷◌, refl, true, false, cond, ap, sym, ◌∙◌, subst, map, filter, take}
+use Rattle.std.specs.declared.cmp.Ordering.{Ordering}
+use Rattle.std.specs.declared.cmp.Ordering.TheVariants.{Less, Equal, Greater}
+use Rattle.std.specs.Ordering.{nat_cmp, is_eq, ordering_then, ordering_reverse}
+use Rattle.std.specs.Cmp.Lexicographic.{slice_cmp, nat_list_cmp_total}
+use Rattle.std.specs.List.{AllByRecursion}
+use Rattle.std.specs.List.Sorted.{IsStrictlySortedBy}
+use Rattle.std.specs.Map.{keys_of}
+use Rattle.std.specs.Map.Iter.{deref_pair}
+use Rattle.std.proofs.Common.{Vec, Global}
+use Rattle.std.proofs.lemmas.Simd.{map-map}
+use Rattle.sr_memsite.specs.declared.place.Place.{Place}
+use Rattle.sr_memsite.specs.Places.{place_cmp}
+use Rattle.sr_memsite.specs.Folders.{names_in, is_in, most_names}
+use Rattle.sr_memsite.proofs.Listings.{Lent, file_of, names_so_far}
+
+abbrev order : List ℕ → List ℕ → Ordering
+order = slice_cmp nat_cmp
+
+equal : (o : Ordering) → is_eq o ≡ true → o ≡ Equal
+equal Less h = cc
+equal Equal h = refl
+equal Greater h = cc
+
+-- of two places in one folder the one with the lesser name comes first
+by_name : (p q : Place) (address : List ℕ) → is_eq (order p.address address) ≡ true → is_eq (order q.address address) ≡ true → place_cmp p q ≡ Less → order p.name q.name ≡ Less
+by_name p q address hp hq less =
+    let together : order p.address q.address ≡ Equal =
+    nat_list_cmp_total.congr p.address address q.address (equal (order p.address address) hp) ∙ nat_list_cmp_total.antisymm address q.address ∙ ap ordering_reverse (equal (order q.address address) hq) in
+    sym (ap (λ o. ordering_then o (order p.name q.name)) together) ∙ less
+
+-- a name is below those of the files behind it
+below : (p : Place) (address : List ℕ) → is_eq (order p.address address) ≡ true → (files : List (Place × List ℕ)) → AllByRecursion (λ q. place_cmp p q ≡ Less) (keys_of files)
+    → AllByRecursion (λ name. order p.name name ≡ Less) (names_in files address)
+below p address hp [] h = tt
+below p address hp (file ∷ files) h =
+    let rest : AllByRecursion (λ name. order p.name name ≡ Less) (names_in files address) = below p address hp files h.1 in
+    elim (is_in address file) as (λ b. is_in address file ≡ b → AllByRecursion (λ name. order p.name name ≡ Less) (map (λ file. file.0.name) (cond b (file ∷ filter (is_in address) files) (filter (is_in address) files))))
+    [ true ↦ λ e. (by_name p file.0 address hp e h.0, rest) | false ↦ λ e. rest ] refl
+
+names_rise : (files : List (Place × List ℕ)) (address : List ℕ) → IsStrictlySortedBy place_cmp (keys_of files) → IsStrictlySortedBy order (names_in files address)
+unfolding IsStrictlySortedBy
+names_rise [] address h = tt
+names_rise (file ∷ files) address h =
+    let rest : IsStrictlySortedBy order (names_in files address) = names_rise files address h.1 in
+    elim (is_in address file) as (λ b. is_in address file ≡ b → IsStrictlySortedBy order (map (λ file. file.0.name) (cond b (file ∷ filter (is_in address) files) (filter (is_in address) files))))
+    [ true ↦ λ e. (below file.0 address e files h.0, rest) | false ↦ λ e. rest ] refl
+
+first_below : (name : List ℕ) (n : ℕ) (names : List (List ℕ)) → AllByRecursion (λ other. order name other ≡ Less) names → AllByRecursion (λ other. order name other ≡ Less) (take n names)
+first_below name zero names h = tt
+first_below name (suc n) [] h = tt
+first_below name (suc n) (other ∷ names) h = (h.0, first_below name n names h.1)
+
+-- the first of names that rise do so too
+first_rise : (n : ℕ) (names : List (List ℕ)) → IsStrictlySortedBy order names → IsStrictlySortedBy order (take n names)
+unfolding IsStrictlySortedBy
+first_rise zero names h = tt
+first_rise (suc n) [] h = tt
+first_rise (suc n) (name ∷ names) h = (first_below name n names h.0, first_rise n names h.1)
+
+-- a listing of a map in order
+pub listing_rises : (files : List Lent) (entries : List (Place × Vec ℕ Global)) (address : List ℕ) → map deref_pair files ≡ entries → IsStrictlySortedBy place_cmp (keys_of entries)
+    → IsStrictlySortedBy order (take most_names (names_so_far files address))
+listing_rises files entries address all ordered =
+    let keys : keys_of (map file_of files) ≡ keys_of entries = map-map (λ e. e.0) file_of files ∙ sym (map-map (λ e. e.0) deref_pair files) ∙ ap keys_of all in
+    first_rise most_names (names_so_far files address) (names_rise (map file_of files) address (subst (IsStrictlySortedBy place_cmp) (sym keys) ordered))

@@ -1,0 +1,28 @@
+use Rattle.std.specs.Prelude.{ℕ, List, drop}
+use Rattle.sr_memsite.specs.Numbering.{Numbering}
+use Rattle.sr_memsite.specs.declared.source.MemorySource.{MemorySource}
+use Rattle.sr_memsite.specs.declared.sink.MemorySink.{MemorySink}
+
+-- the bytes that a source in memory has left
+abbrev pub left_of : MemorySource → List ℕ
+left_of source = drop source.given source.bytes.items
+
+-- its calls since the last `fail_calls`, and those that are to fail
+abbrev pub source_numbering : MemorySource → Numbering
+source_numbering source = source.turns
+
+-- how many of its calls have failed
+abbrev pub source_faults : MemorySource → ℕ
+source_faults source = source.faults
+
+-- the bytes that a sink in memory took
+abbrev pub taken_of : MemorySink → List ℕ
+taken_of sink = sink.bytes.items
+
+-- its calls since the last `fail_calls`, and those that are to fail
+abbrev pub sink_numbering : MemorySink → Numbering
+sink_numbering sink = sink.turns
+
+-- how many of its calls have failed
+abbrev pub sink_faults : MemorySink → ℕ
+sink_faults sink = sink.faults
