@@ -1,0 +1,11 @@
+pub mod Offsets
+pub mod Lengths
+pub mod Longer
+pub mod Spelled
+pub mod Sound
+pub mod Lines
+pub mod Good
+pub mod Leave
+pub mod Windows
+pub mod Machinery
+pub mod Reached

@@ -1,0 +1,5 @@
+use Rattle.sr_model.proofs.Machinery.{whole_laws}
+use Rattle.sr_model.proofs.folded.has_laws.Goals as goal
+
+pub returns : goal.returns
+returns g c = whole_laws

@@ -1,0 +1,5 @@
+use Rattle.sr_model.proofs.Leave.{still}
+use Rattle.sr_model.proofs.freedom.still_allowed.Goals as goal
+
+pub returns : goal.returns
+returns g c = still

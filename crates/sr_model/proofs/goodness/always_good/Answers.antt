@@ -1,0 +1,9 @@
+use Rattle.sr_model.specs.Worlds.{fresh_world}
+use Rattle.sr_model.proofs.Good.{stay, fresh}
+use Rattle.sr_model.proofs.goodness.always_good.Goals as goal
+
+pub returns-clause-from_good : goal.returns-clause-from_good
+returns-clause-from_good g c = stay
+
+pub returns-clause-from_fresh : goal.returns-clause-from_fresh
+returns-clause-from_fresh g c = λ p laws names steps allowed. stay p laws (fresh_world names) steps (fresh p laws names) allowed

@@ -1,0 +1,5 @@
+use Rattle.sr_model.proofs.Longer.{true_longer}
+use Rattle.sr_model.proofs.outlook.true_longer.Goals as goal
+
+pub returns : goal.returns
+returns g c = true_longer
