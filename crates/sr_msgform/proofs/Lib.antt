@@ -1,0 +1,3 @@
+pub mod Parts
+pub mod Sealing
+pub mod Whole

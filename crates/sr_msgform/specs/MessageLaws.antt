@@ -18,10 +18,10 @@ fields_format_of : IsFormat (mapped_at message_of (triple_at head_at bytes_at ta
 unfolding fields
 fields_format_of =
     mapped_format message_of parts_of (λ x. refl) (λ m. refl)
-        (triple_format
-            (triple_format (triple_format name_format name_format format64) (triple_format offset_format offset_format format32) format32)
-            bytes_format
-            (triple_format offset_format format64 offset_format))
+    (triple_format
+    (triple_format (triple_format name_format name_format format64) (triple_format offset_format offset_format format32) format32)
+    bytes_format
+    (triple_format offset_format format64 offset_format))
 
 pub fields_format : IsFormat fields_at fields IsInRange
 unfolding fields_at

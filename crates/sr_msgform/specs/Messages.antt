@@ -38,15 +38,22 @@ message_spelling m = sealed (heading ++ fields m)
 abbrev pub message_length : Message → ℕ
 message_length m = 99 + length m.from + length m.to + length m.fragment
 
--- the rules that tie the fields of a message
+-- the window goes on from `prev` to `upto`; its body has at most 64 MiB, and is empty exactly where the window is
+pub record KeepsWindow (prev upto total : ℕ) : Type 0 where
+  pub goes_on : prev ≤ upto
+  pub short : total ≤ 67108864
+  pub empty : (total ≡ 0) ↔ (prev ≡ upto)
+
+-- the fragment lies in the body, and is empty exactly where the body is
+pub record KeepsFragment (total start size : ℕ) : Type 0 where
+  pub within : start + size ≤ total
+  pub empty : (size ≡ 0) ↔ (total ≡ 0)
+
+-- the rules that tie the fields of a message; where nothing is asked, no offset is
 pub record KeepsRules (m : Message) : Type 0 where
-  pub window_goes_on : m.prev.0 ≤ m.upto.0
-  pub body_is_short : m.total ≤ 67108864
-  pub body_is_empty : (m.total ≡ 0) ↔ (m.prev.0 ≡ m.upto.0)
-  pub fragment_lies_in : m.start + length m.fragment ≤ m.total
-  pub fragment_is_empty : (length m.fragment ≡ 0) ↔ (m.total ≡ 0)
-  pub nothing_is_asked : m.ask_count ≡ 0 → m.ask_offset.0 ≡ 0
-  pub file_is_short : message_length m ≤ 2097152
+  pub window : KeepsWindow m.prev.0 m.upto.0 m.total
+  pub part : KeepsFragment m.total m.start (length m.fragment)
+  pub ask : m.ask_count ≡ 0 → m.ask_offset.0 ≡ 0
 
 -- names are names, and numbers are in their ranges
 abbrev pub HeadInRange : Message → Type 0
@@ -61,9 +68,11 @@ TailInRange m = IsOffset m.confirm × (m.ask_count < 2 ^ 64) × IsOffset m.ask_o
 abbrev pub IsInRange : Message → Type 0
 IsInRange m = HeadInRange m × (length m.fragment < 2 ^ 32) × TailInRange m
 
--- what has a spelling
-abbrev pub IsMessage : Message → Type 0
-IsMessage m = IsInRange m × KeepsRules m
+-- what has a spelling: a file has at most 2 MiB
+pub record IsMessage (m : Message) : Type 0 where
+  pub ranges : IsInRange m
+  pub rules : KeepsRules m
+  pub file : message_length m ≤ 2097152
 
 -- ---- reading the fields, which breaks at the first field from the left
 
@@ -81,10 +90,17 @@ tail_at = triple_at offset_at (number_at w64) offset_at
 
 abbrev pub message_of : Head × List ℕ × Tail → Message
 message_of parts = record {
-  from = parts.0.0.0; to = parts.0.0.1; resend_count = parts.0.0.2;
-  prev = parts.0.1.0; upto = parts.0.1.1; total = parts.0.1.2;
-  start = parts.0.2; fragment = parts.1;
-  confirm = parts.2.0; ask_count = parts.2.1; ask_offset = parts.2.2;
+  from = parts.0.0.0;
+  to = parts.0.0.1;
+  resend_count = parts.0.0.2;
+  prev = parts.0.1.0;
+  upto = parts.0.1.1;
+  total = parts.0.1.2;
+  start = parts.0.2;
+  fragment = parts.1;
+  confirm = parts.2.0;
+  ask_count = parts.2.1;
+  ask_offset = parts.2.2;
 }
 
 unfoldable pub fields_at : List ℕ → Read Message

@@ -6,7 +6,7 @@ ghost use Rattle.sr_base.specs.Reading.{Gives};
 ghost use Rattle.sr_msgform.specs.Messages.{head_fields, fields, fields_at, HeadInRange, IsInRange};
 
 use crate::message::Message;
-use sr_base::{write_triple, Broken, Field, Name, NoMemory, Offset, Seq};
+use sr_base::{Broken, Field, Name, NoMemory, Offset, Seq, write_triple};
 use std::alloc::Global;
 
 type Head = ((Name, Name, u64), (Offset, Offset, u32), u32);
@@ -81,5 +81,10 @@ pub(crate) fn write_fields(message: &Message, out: &mut Vec<u8>) -> Result<(), N
 {
     write_head(message, out)?;
     write_fragment(message.fragment.as_slice(), out)?;
-    write_triple(&message.confirm, &message.ask_count, &message.ask_offset, out)
+    write_triple(
+        &message.confirm,
+        &message.ask_count,
+        &message.ask_offset,
+        out,
+    )
 }

@@ -1,4 +1,5 @@
-use sr_base::{Name, Offset, Seq};
+use sr_base::{Copied, Name, NoMemory, Offset, Seq};
+use std::alloc::Global;
 
 /// One message file, without its magic, version and digest.
 #[derive(Drop)]
@@ -25,4 +26,22 @@ pub struct Message {
     pub ask_count: u64,
     /// The offset of the receiver's log past which the sender asks, 0 for none.
     pub ask_offset: Offset,
+}
+
+impl Copied for Message {
+    fn copy(&self, alloc: Global) -> Result<Message, NoMemory> {
+        Ok(Message {
+            from: self.from.copy(alloc)?,
+            to: self.to.copy(alloc)?,
+            resend_count: self.resend_count,
+            prev: self.prev,
+            upto: self.upto,
+            total: self.total,
+            start: self.start,
+            fragment: self.fragment.copy(alloc)?,
+            confirm: self.confirm,
+            ask_count: self.ask_count,
+            ask_offset: self.ask_offset,
+        })
+    }
 }
