@@ -49,7 +49,7 @@ IsValue (Str text) = IsText text
 IsValue (Date days) = IsDay days
 
 -- what has to be known of a value to write it: a text has fewer than 2 ^ 32 bytes
-unfoldable pub IsShort : Value → Type 0
+abbrev pub IsShort : Value → Type 0
 IsShort Null = ⊤
 IsShort (Int number) = ⊤
 IsShort (Big number) = ⊤

@@ -102,7 +102,7 @@ impl Field for Value {
         }
     }
 
-    #[tactic(auto, unfolding(crate::specs::Values::value_spelling, crate::specs::Values::IsValue, crate::specs::Values::IsShort))]
+    #[tactic(auto, unfolding(crate::specs::Values::value_spelling, crate::specs::Values::IsValue))]
     fn write(&self, out: &mut Vec<u8>) -> Result<(), NoMemory> {
         match self {
             Value::Null => 0u8.write(out),
