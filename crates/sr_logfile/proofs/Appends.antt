@@ -1,11 +1,11 @@
 -- What the writes of a commit leave of a file that goes on behind a front and a gate.
-use Rattle.std.proofs.Common.{◌≡◌, ℕ, ◌+◌, ◌<◌, ◌≤◌, List, [], ◌∷◌, ◌++◌, length, get_or, take, drop, refl, sym, ◌∙◌, ap, subst, arith, append_assoc, length-append, take-append-drop, inl, inr, Result, Ok, Err}
+use Rattle.std.proofs.Common.{◌≡◌, ℕ, ◌+◌, ◌<◌, List, [], ◌∷◌, ◌++◌, length, get_or, take, drop, refl, sym, ◌∙◌, ap, subst, arith, append_assoc, length-append, take-append-drop, inl, inr, Result, Ok, Err}
 use Rattle.std.specs.Prelude.{OnErr}
 use Rattle.std.proofs.lemmas.List.{take_at, drop_at, drop_more}
 use Rattle.sr_site.specs.declared.file.File.{File}
 use Rattle.sr_site.specs.declared.file.File.TheVariants.{Root, Log0, Log1, Snap0, Snap1}
 use Rattle.sr_site.specs.Files.{Files, bytes_of, with_bytes, overwritten, IsTorn, OthersStay}
-use Rattle.sr_logfile.specs.Appends.{GoesOn, HasRecord, HasGatedRecord, HasPart, LeavesPart, LeavesRecord}
+use Rattle.sr_logfile.specs.Appends.{GoesOn, HasRecord, HasPart, LeavesPart, LeavesRecord}
 
 pub bytes_of-with_bytes : (files : Files) (file : File) (bytes : List ℕ) → bytes_of (with_bytes files file bytes) file ≡ bytes
 bytes_of-with_bytes files Root bytes = refl

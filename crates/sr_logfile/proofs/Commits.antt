@@ -1,10 +1,10 @@
 -- What a commit makes of a log.
-use Rattle.std.proofs.Common.{◌≡◌, ◌⊎◌, ℕ, ◌+◌, ◌-◌, ◌^◌, ◌≤◌, List, [], ◌∷◌, ◌++◌, length, sym, ◌∙◌, ap, subst, arith, length-append, rules}
+use Rattle.std.proofs.Common.{◌≡◌, ◌⊎◌, ℕ, ◌+◌, ◌^◌, ◌≤◌, List, [], ◌∷◌, ◌++◌, length, ap, subst, arith, length-append}
 use Rattle.sr_site.specs.Files.{Files, bytes_of}
 use Rattle.sr_logfile.specs.Appends.{HasRecord, HasPart, LeavesPart, LeavesRecord}
 use Rattle.sr_logfile.specs.Log.{Log}
-use Rattle.sr_logfile.specs.Logs.{IsLog, HasLog, longer, gate_of}
-use Rattle.sr_logfile.specs.Records.{header, record_of, framed_of, open_records, IsFramed, body_of, Spells}
+use Rattle.sr_logfile.specs.Logs.{IsLog, longer, gate_of}
+use Rattle.sr_logfile.specs.Records.{header, record_of, open_records, IsFramed, body_of, Spells}
 use Rattle.sr_logfile.proofs.Records.{spells_opened, spells_part, length-record, length-push}
 
 pub length-front : (base : ℕ) (bodies : List (List ℕ)) → length (header base ++ open_records bodies) ≡ 16 + length (open_records bodies)

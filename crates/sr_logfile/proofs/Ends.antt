@@ -1,11 +1,11 @@
 -- Whether a whole record follows an open gate.
-use Rattle.std.proofs.Common.{◌≡◌, ◌≢◌, ℕ, ◌+◌, ◌-◌, ◌^◌, ◌<◌, ◌≤◌, List, [], ◌∷◌, ◌++◌, length, get_or, take, drop, refl, sym, ◌∙◌, ap, subst, arith, append_assoc, length-append, take-append-drop}
+use Rattle.std.proofs.Common.{◌≡◌, ℕ, ◌+◌, ◌-◌, ◌^◌, ◌<◌, List, ◌∷◌, ◌++◌, length, get_or, take, drop, refl, sym, ◌∙◌, ap, arith, append_assoc, length-append, take-append-drop}
 use Rattle.std.specs.Int.{w32, to_be_bytes, from_be_bytes}
-use Rattle.std.proofs.lemmas.List.{take_at, drop_at, drop_more, length-take, length-drop}
+use Rattle.std.proofs.lemmas.List.{take_at, drop_more, length-take, length-drop}
 use Rattle.std.proofs.lemmas.Nat.{from_be_bytes-to_be_bytes_4}
 use Rattle.sr_logfile.specs.Damage.{BeginsRecord}
 use Rattle.sr_logfile.specs.Heads.{HasLength, IsCut, FitsBody, HasWhole, IsBroken}
-use Rattle.sr_logfile.specs.Records.{record_of, IsBody}
+use Rattle.sr_logfile.specs.Records.{record_of}
 use Rattle.sr_logfile.proofs.Records.{length-record}
 
 -- the length that a record's front spells

@@ -1,5 +1,5 @@
 -- What stands behind a position that parts a log's bodies.
-use Rattle.std.proofs.Common.{◌≡◌, ◌≢◌, ℕ, ◌+◌, ◌-◌, ◌^◌, ◌<◌, ◌≤◌, List, [], ◌∷◌, ◌++◌, length, take, drop, refl, sym, ◌∙◌, ap, subst, arith, append_assoc, length-append, take-append-drop}
+use Rattle.std.proofs.Common.{◌≡◌, ℕ, ◌+◌, ◌-◌, ◌<◌, ◌≤◌, List, [], ◌∷◌, ◌++◌, length, take, drop, refl, sym, ◌∙◌, ap, subst, arith, append_assoc, length-append}
 use Rattle.std.specs.Int.{w32, to_be_bytes}
 use Rattle.std.specs.List.{AllByRecursion}
 use Rattle.std.proofs.lemmas.List.{append-nil, take_at, drop_at, drop-drop, length-drop, take-append-le}
@@ -11,7 +11,7 @@ use Rattle.sr_logfile.specs.declared.head.Head.TheVariants.{Closed, Cut, Open}
 use Rattle.sr_logfile.specs.Heads.{IsHead, IsClosed, IsCut, HasLength}
 use Rattle.sr_logfile.specs.Log.{Log}
 use Rattle.sr_logfile.specs.Logs.{IsLog, IsAt}
-use Rattle.sr_logfile.specs.Records.{header, record_of, open_records, IsBody, Spells}
+use Rattle.sr_logfile.specs.Records.{header, record_of, open_records, IsBody}
 use Rattle.sr_logfile.specs.Steps.{IsNext}
 use Rattle.sr_logfile.proofs.Records.{length-record, length-push}
 use Rattle.sr_logfile.proofs.Commits.{length-front}

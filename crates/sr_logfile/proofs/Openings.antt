@@ -1,5 +1,5 @@
 -- What a log is that was read, and what damage says of it.
-use Rattle.std.proofs.Common.{◌≡◌, ℕ, ◌≤◌, List, true, Result, Ok, Err, refl, sym, ◌∙◌, ap, subst, arith}
+use Rattle.std.proofs.Common.{◌≡◌, ℕ, ◌≤◌, List, true, Result, Ok, Err, refl, sym, subst, arith}
 use Rattle.std.specs.Prelude.{IfOk, IfErr, IsErr, IsTrue}
 use Rattle.sr_site.specs.declared.file.File.{File}
 use Rattle.sr_site.specs.Files.{Files, bytes_of}

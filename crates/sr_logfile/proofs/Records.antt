@@ -1,12 +1,11 @@
 -- How the spelling of a log's records grows, and that one file has one spelling.
-use Rattle.std.proofs.Common.{◌≡◌, ◌≢◌, ℕ, ◌+◌, ◌-◌, ◌^◌, ◌<◌, ◌≤◌, List, [], ◌∷◌, ◌++◌, length, take, drop, refl, sym, ◌∙◌, ap, subst, arith, append_assoc, length-append, ◌⊎◌, inl, inr}
-use Rattle.std.specs.Int.{w32, w64, to_be_bytes, from_be_bytes}
+use Rattle.std.proofs.Common.{◌≡◌, ◌≢◌, ℕ, ◌+◌, ◌^◌, ◌≤◌, List, [], ◌∷◌, ◌++◌, length, sym, ◌∙◌, ap, subst, arith, append_assoc, length-append, ◌⊎◌, inl, inr}
+use Rattle.std.specs.Int.{w32, to_be_bytes}
 use Rattle.std.specs.List.{AllByRecursion}
-use Rattle.std.proofs.lemmas.List.{append-nil, append_cancel_left, take_at, drop_at}
+use Rattle.std.proofs.lemmas.List.{append-nil}
 use Rattle.std.proofs.lemmas.Bool.{cases_eq}
-use Rattle.std.proofs.lemmas.Nat.{from_be_bytes-to_be_bytes_4, from_be_bytes-to_be_bytes_8}
-use Rattle.sr_logfile.specs.Appends.{GoesOn, HasRecord, HasGatedRecord, HasPart}
-use Rattle.sr_logfile.specs.Records.{header, fresh_bytes, record_of, framed_of, open_records, IsBody, HasHeader, Spells}
+use Rattle.sr_logfile.specs.Appends.{GoesOn, HasRecord, HasPart}
+use Rattle.sr_logfile.specs.Records.{header, fresh_bytes, record_of, framed_of, open_records, IsBody, Spells}
 
 -- one more record behind the others
 pub open_records-push : (bodies : List (List ℕ)) (body tail : List ℕ) → open_records (bodies ++ body ∷ []) ++ tail ≡ open_records bodies ++ 1 ∷ (record_of body ++ tail)

@@ -1,7 +1,7 @@
 -- How a read of the records goes from gate to gate.
-use Rattle.std.proofs.Common.{◌≡◌, ◌≢◌, ℕ, ◌+◌, ◌-◌, ◌^◌, ◌<◌, ◌≤◌, List, [], ◌∷◌, ◌++◌, length, take, drop, refl, sym, ◌∙◌, ap, subst, arith, append_assoc, length-append, take-append-drop}
+use Rattle.std.proofs.Common.{◌≡◌, ℕ, ◌+◌, ◌-◌, ◌^◌, ◌≤◌, List, [], ◌∷◌, ◌++◌, length, drop, sym, ◌∙◌, ap, subst, arith}
 use Rattle.std.specs.Prelude.{IsTrue}
-use Rattle.std.proofs.lemmas.List.{append-nil, drop_at, length-drop}
+use Rattle.std.proofs.lemmas.List.{append-nil, drop_at}
 use Rattle.sr_site.specs.declared.file.File.{File}
 use Rattle.sr_site.specs.Causes.{DiskStays}
 use Rattle.sr_site.specs.Files.{bytes_of}
@@ -10,7 +10,7 @@ use Rattle.sr_logfile.specs.Damage.{LacksRecord, BeginsRecord}
 use Rattle.sr_logfile.specs.Heads.{IsClosed, HasWhole, IsBroken, Reaches, SpellsTo}
 use Rattle.sr_logfile.specs.Log.{InOrder}
 use Rattle.std.specs.List.{AllByRecursion}
-use Rattle.sr_logfile.specs.Records.{header, record_of, open_records, IsBody, HasHeader}
+use Rattle.sr_logfile.specs.Records.{header, open_records, IsBody, HasHeader}
 use Rattle.sr_logfile.proofs.Records.{front-push, length-push, all_bodies-push}
 use Rattle.sr_logfile.proofs.Commits.{length-front}
 

@@ -1,11 +1,11 @@
 -- Each file is spelled or damaged.
-use Rattle.std.proofs.Common.{◌≡◌, ◌≢◌, ◌⊎◌, inl, inr, ℕ, zero, suc, ◌+◌, ◌-◌, ◌^◌, ◌<◌, ◌≤◌, List, [], ◌∷◌, ◌++◌, length, get_or, take, drop, refl, sym, ◌∙◌, ap, subst, arith, append_assoc, length-append, take-append-drop}
+use Rattle.std.proofs.Common.{◌≡◌, ◌⊎◌, inl, inr, ℕ, zero, suc, ◌+◌, ◌-◌, ◌^◌, ◌<◌, ◌≤◌, List, [], ◌∷◌, ◌++◌, length, get_or, take, drop, refl, sym, ◌∙◌, ap, subst, arith, length-append, take-append-drop}
 use Rattle.std.specs.Int.{w32, w64, to_be_bytes, from_be_bytes}
 use Rattle.std.proofs.lemmas.Bool.{cases_eq, cases_lt}
 use Rattle.std.proofs.lemmas.List.{length-drop, length-take, get_or-drop, get_or-take, get_or_past, take_at, drop_more}
-use Rattle.std.proofs.lemmas.Nat.{be_bytes_4, be_bytes_8, from_be_bytes-to_be_bytes_8}
-use Rattle.sr_logfile.specs.Damage.{BeginsRecord, LacksHeader, LacksRecord, IsDamaged, AreBytes, IsSpelled, IsDamagedSomewhere}
-use Rattle.sr_logfile.specs.Heads.{IsClosed, HasLength, IsCut, FitsBody, HasWhole, IsBroken, Reaches, SpellsTo}
+use Rattle.std.proofs.lemmas.Nat.{be_bytes_4, from_be_bytes-to_be_bytes_8}
+use Rattle.sr_logfile.specs.Damage.{LacksHeader, AreBytes, IsSpelled, IsDamagedSomewhere}
+use Rattle.sr_logfile.specs.Heads.{IsClosed, HasLength, FitsBody, HasWhole, IsBroken, Reaches}
 use Rattle.sr_logfile.specs.Records.{header, HasHeader}
 use Rattle.sr_logfile.proofs.Ends.{has_whole, broken_length, broken_cut}
 use Rattle.sr_logfile.proofs.Scans.{starts, goes_on, ends, breaks}

@@ -1,17 +1,14 @@
 -- One file has one spelling or one damage.
-use Rattle.std.proofs.Common.{◌≡◌, ◌≢◌, ◌⊎◌, inl, inr, ℕ, zero, suc, ◌+◌, ◌-◌, ◌^◌, ◌<◌, ◌≤◌, List, [], ◌∷◌, ◌++◌, length, get_or, take, drop, refl, sym, ◌∙◌, ap, subst, arith, append_assoc, length-append, take-append-drop}
+use Rattle.std.proofs.Common.{◌≡◌, ◌⊎◌, inl, inr, ℕ, ◌+◌, ◌^◌, ◌≤◌, List, [], ◌∷◌, ◌++◌, length, take, drop, refl, sym, ◌∙◌, ap, subst, arith, append_assoc, length-append}
 use Rattle.std.specs.Int.{w32, w64, to_be_bytes, from_be_bytes}
 use Rattle.std.specs.List.{AllByRecursion}
-use Rattle.std.proofs.lemmas.Bool.{cases_eq, cases_lt}
-use Rattle.std.proofs.lemmas.List.{append-nil, append_cancel_left, take_at, drop_at, length-drop, length-take, get_or-drop, get_or-take, get_or_past}
-use Rattle.std.proofs.lemmas.Nat.{be_bytes_4, be_bytes_8, from_be_bytes-to_be_bytes_8}
-use Rattle.sr_logfile.specs.Damage.{BeginsRecord, LacksHeader, LacksRecord, IsDamaged, AreBytes, IsSpelled, IsDamagedSomewhere}
-use Rattle.sr_logfile.specs.Heads.{IsClosed, HasLength, IsCut, FitsBody, HasWhole, IsBroken, Reaches, SpellsTo}
+use Rattle.std.proofs.lemmas.List.{take_at, drop_at}
+use Rattle.std.proofs.lemmas.Nat.{from_be_bytes-to_be_bytes_8}
+use Rattle.sr_logfile.specs.Damage.{BeginsRecord, IsDamaged}
 use Rattle.sr_logfile.specs.Records.{header, record_of, open_records, IsBody, HasHeader, Spells}
-use Rattle.sr_logfile.proofs.Records.{length-record, length-push}
+use Rattle.sr_logfile.proofs.Records.{length-record}
 use Rattle.sr_logfile.proofs.Commits.{length-front}
-use Rattle.sr_logfile.proofs.Ends.{length_is, has_whole, broken_length, broken_cut}
-use Rattle.sr_logfile.proofs.Scans.{starts, goes_on, ends, breaks}
+use Rattle.sr_logfile.proofs.Ends.{length_is}
 
 -- two headers in one place are one
 same_header : (b c : ℕ) (front other : List ℕ) → b ≤ 2 ^ 62 → c ≤ 2 ^ 62 → header b ++ front ≡ header c ++ other → (b ≡ c) × (front ≡ other)

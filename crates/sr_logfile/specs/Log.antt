@@ -1,4 +1,4 @@
-use Rattle.std.specs.Prelude.{ℕ, ◌+◌, ◌-◌, ◌^◌, ◌≤◌, Bool, false}
+use Rattle.std.specs.Prelude.{ℕ, ◌^◌, ◌≤◌, Bool}
 use Rattle.sr_site.specs.declared.file.File.{File}
 
 -- a log file that was opened: which of the five, the stream positions of its first gate and of its first closed gate, and whether it can

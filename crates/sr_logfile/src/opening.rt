@@ -29,12 +29,11 @@ pub fn open<S: Disk>(site: &mut S, file: File) -> Result<LogFile, LogFault>
     ensures stays { DiskStays (S.seen site.old) (S.seen site.new) }
     ensures cause { IfErr result (OpenCause file (S.seen site.old) (S.seen site.new)) }
 {
-    let opened = read(site, file);
-    opened
+    read_records(site, file)
 }
 
 /// Syncs the file and reads it up to the first closed gate.
-fn read<S: Disk>(site: &mut S, file: File) -> Result<LogFile, LogFault>
+fn read_records<S: Disk>(site: &mut S, file: File) -> Result<LogFile, LogFault>
     ensures log { IsTrue (S.seen site.old).told → IfOk result (λ log. HasLog log (S.seen site.new).files) }
     ensures usable { IfOk result (λ log. (log.file ≡ file) × (log.usable ≡ true)) }
     ensures files { IsTrue (S.seen site.old).told → (S.seen site.new).files ≡ (S.seen site.old).files }

@@ -1,6 +1,7 @@
 use super::{MemoryDisk, MemorySink, MemorySite, MemorySource, SharedMail};
-use sr_base::Text;
-use sr_site::{Disk, File, Sink, Site, Source};
+use sr_base::{NoMemory, Text, name_of};
+use sr_site::{Disk, File, Listing, Mail, MailFault, Sink, Site, Source};
+use std::alloc::Global;
 use std::test::*;
 
 #[test]
@@ -80,5 +81,73 @@ fn a_sink_takes_whole_pieces(rt: HostRuntime) -> Result<(), Fail> {
     assert!(rt; sink.write(b"lost ").is_err());
     assert!(rt; sink.write(b"line").is_ok_and(|n| n == 4));
     assert_eq!(rt; sink.bytes(), b"one line".as_slice());
+    Ok(())
+}
+
+/// The names of a listing, each followed by a blank.
+fn spelled(alloc: Global, listing: &Listing) -> Result<Vec<u8>, NoMemory> {
+    let mut all = Vec::new(alloc);
+    for name in listing.names.as_slice() {
+        all.extend_from_slice(name.bytes())?;
+        all.push(b' ')?;
+    }
+    Ok(all)
+}
+
+#[test]
+fn a_file_is_put_listed_fetched_and_removed(rt: HostRuntime) -> Result<(), Fail> {
+    let alloc = rt.alloc();
+    let (Ok(cons), Ok(r1)) = (name_of(alloc, b"cons"), name_of(alloc, b"r1")) else {
+        assert!(rt; false);
+        return Ok(());
+    };
+    let (second, first) = (
+        Text::from_str(alloc, "cons.2")?,
+        Text::from_str(alloc, "cons.1")?,
+    );
+    let mut site = MemorySite::new(alloc, SharedMail::new(alloc));
+    for (address, name, bytes) in [
+        (&r1, &second, b"two".as_slice()),
+        (&r1, &first, b"old one"),
+        (&r1, &first, b"one"),
+        (&cons, &first, b"elsewhere"),
+    ] {
+        assert!(rt; site.put(alloc, address, name, bytes).is_ok());
+    }
+    let Ok(listing) = site.list(alloc, &r1) else {
+        assert!(rt; false);
+        return Ok(());
+    };
+    assert_eq!(rt;
+        spelled(alloc, &listing)?.as_slice(),
+        b"cons.1 cons.2 ".as_slice()
+    );
+    assert!(rt; !listing.more);
+    let fetched = site.fetch(alloc, &r1, &first, 2).ok().flatten();
+    assert!(rt; fetched.is_some_and(|bytes| bytes.as_slice() == b"on".as_slice()));
+    assert!(rt; site.remove(alloc, &r1, &second).is_ok());
+    assert!(rt; site.remove(alloc, &r1, &second).is_ok());
+    site.fail_calls(alloc, &[1, 2, 3, 4])?;
+    assert!(rt; site.put(alloc, &r1, &second, b"lost") == Err(MailFault::Failed));
+    assert!(rt; site.remove(alloc, &r1, &first) == Err(MailFault::Failed));
+    assert!(rt; site.list(alloc, &r1).is_err());
+    assert!(rt; site.fetch(alloc, &r1, &first, 9).is_err());
+    assert!(rt;
+        site.fetch(alloc, &r1, &second, 9)
+            .is_ok_and(|found| found.is_none())
+    );
+    let (_, mut mail) = site.apart();
+    assert_eq!(rt; mail.puts().len(), 4);
+    assert!(rt;
+        mail.file(alloc, &r1, &first)?
+            .is_some_and(|bytes| bytes == b"one".as_slice())
+    );
+    mail.lay(alloc, &r1, &first, Vec::from_slice(alloc, b"forged")?)?;
+    assert_eq!(rt; mail.puts().len(), 4);
+    assert!(rt;
+        mail.file(alloc, &r1, &first)?
+            .is_some_and(|bytes| bytes == b"forged".as_slice())
+    );
+    assert!(rt; mail.file(alloc, &cons, &second)?.is_none());
     Ok(())
 }

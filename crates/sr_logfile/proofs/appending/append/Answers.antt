@@ -1,7 +1,7 @@
 -- What each exit leaves of the file, from what the write that it comes after left.
-use Rattle.std.proofs.Common.{ℕ, List, ◌≡◌, ◌+◌, [], ◌∷◌, sym, ap, ◌∙◌, subst}
+use Rattle.std.proofs.Common.{sym, ap, ◌∙◌, subst}
 use Rattle.std.specs.Prelude.{IsTrue}
-use Rattle.sr_site.specs.Files.{Files, bytes_of, overwritten}
+use Rattle.sr_site.specs.Files.{Files, bytes_of}
 use Rattle.sr_logfile.proofs.Appends.{bytes_of-with_bytes, first_torn, first_written, second_torn, second_part, second_written, OnErr-always}
 use Rattle.sr_logfile.proofs.appending.append.Goals as goal
 

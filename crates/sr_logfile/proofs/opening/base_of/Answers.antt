@@ -1,4 +1,4 @@
-use Rattle.std.proofs.Common.{◌≡◌, ℕ, length, subst, arith}
+use Rattle.std.proofs.Common.{ℕ, subst, arith}
 use Rattle.sr_site.specs.Files.{bytes_of}
 use Rattle.sr_site.specs.Reads.{HasRead}
 use Rattle.sr_logfile.proofs.Fronts.{has_header}

@@ -1,10 +1,10 @@
-use Rattle.std.proofs.Common.{◌≡◌, ◌≤◌, sym, ◌∙◌, subst, arith}
+use Rattle.std.proofs.Common.{◌≤◌, sym, ◌∙◌, subst, arith}
 use Rattle.std.specs.Prelude.{IsTrue}
 use Rattle.std.proofs.lemmas.Result.{err_from_is_err_and}
 use Rattle.sr_site.specs.Seen.{Seen}
 use Rattle.sr_logfile.specs.Faults.{OpenCause}
 use Rattle.sr_logfile.proofs.Openings.{cause_before, IfErr-from}
-use Rattle.sr_logfile.proofs.opening.read.Goals as goal
+use Rattle.sr_logfile.proofs.opening.read_records.Goals as goal
 
 pub returns-in_err-base-clause-cause : goal.returns-in_err-base-clause-cause
 returns-in_err-base-clause-cause g c =

@@ -1,0 +1,25 @@
+use Rattle.std.proofs.Common.{rules, sym, ap, ◌∙◌}
+use Rattle.std.specs.FinMap as map
+use Rattle.std.proofs.lemmas.Result.{IfOk-weaker, on_ok_weaker, on_err_weaker}
+use Rattle.sr_rows.proofs.Gathering.{get-held, place_at-held, gathered-inserted, gathered-same}
+use Rattle.sr_rows.proofs.tables.insert_there.Goals as goal
+
+pub returns-clause-before : goal.returns-clause-before
+returns-clause-before c =
+    IfOk-weaker c.insert.result _ _ (λ before e. e ∙ sym (get-held c.args.tables.now.entries c.args.table.now c.in-Some.held.now c.args.key c.in-Some.ensures.value)) c.insert.ensures.before
+
+pub returns-clause-ok : goal.returns-clause-ok
+returns-clause-ok c =
+    let es = c.args.tables.now.entries in
+    let table = c.insert.new.self in
+    on_ok_weaker c.insert.result
+    (λ e. gathered-inserted es (c.get_mut.follows.lender table).entries c.args.table.now c.in-Some.held.now table c.args.key c.args.place ((c.get_mut.follows.holds table).3 (search rules)).0 (place_at-held es c.args.table.now c.in-Some.held.now c.in-Some.ensures.value) e)
+    c.insert.ensures.ok
+
+pub returns-clause-err : goal.returns-clause-err
+returns-clause-err c =
+    let es = c.args.tables.now.entries in
+    let table = c.insert.new.self in
+    on_err_weaker c.insert.result
+    (λ e. gathered-same es (c.get_mut.follows.lender table).entries c.args.table.now table ((c.get_mut.follows.holds table).3 (search rules)).0 (λ j. place_at-held es c.args.table.now c.in-Some.held.now c.in-Some.ensures.value j ∙ ap (λ m. map.get m j) (sym e)))
+    c.insert.ensures.err

@@ -1,0 +1,27 @@
+use Rattle.std.specs.Prelude.{⊤, List, [], ◌∷◌, Option, Some, None, IsSome}
+use Rattle.std.specs.FinMap as map
+use Rattle.sr_base.specs.declared.value.Value.{Value}
+use Rattle.sr_rows.specs.declared.undo.Undo.{Undo}
+use Rattle.sr_rows.specs.Marks.{Place, place_cmp}
+
+-- places that hold a row or nothing
+abbrev pub PlaceMap : Type 0
+PlaceMap = map.FinMap place_cmp (Option (List Value))
+
+-- the places with what stood at one: a row, nothing, or no place at all
+abbrev pub with_place : PlaceMap → Place → Option (Option (List Value)) → PlaceMap
+with_place places at None = map.remove places at
+with_place places at (Some place) = map.insert places at place
+
+abbrev pub put_back : PlaceMap → Undo → PlaceMap
+put_back places change = with_place places (change.table, change.key) change.place
+
+-- the places before the changes, of which the last is taken back first
+abbrev pub undone : List Undo → PlaceMap → PlaceMap
+undone [] places = places
+undone (change ∷ later) places = put_back (undone later places) change
+
+-- each change finds its place when it is taken back
+abbrev pub Undoable : List Undo → PlaceMap → Type 0
+Undoable [] places = ⊤
+Undoable (change ∷ later) places = Undoable later places × IsSome (map.get (undone later places) (change.table, change.key))

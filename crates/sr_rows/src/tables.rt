@@ -1,0 +1,88 @@
+ghost use Rattle.std.specs.Prelude.{◌≡◌, Option, Some, None, IsSome, IfOk, OnOk, OnErr};
+ghost use Rattle.std.specs.Option.{option_copied};
+ghost use Rattle.std.specs.BTreeMap as tree;
+ghost use Rattle.std.specs.FinMap as map;
+ghost use Rattle.sr_base.specs.Order.{name_cmp};
+ghost use Rattle.sr_rows.specs.Gathered.{gathered};
+
+use crate::table::Table;
+use sr_base::{Copied, Key, Name, NoMemory, Row};
+use std::alloc::Global;
+use std::collections::BTreeMap;
+
+/// The places of all tables. A table without a place may be there or not.
+pub(crate) type Tables = BTreeMap<Name, Table>;
+
+/// What stands at a place, if the place is there.
+pub(crate) fn place_at<'a>(tables: &'a Tables, table: &Name, key: &Key) -> Option<&'a Option<Row>>
+    ensures place { option_copied result ≡ map.get (gathered tables.now.entries) (table.now, key.now) }
+{
+    let held = tables.get(table)?;
+    held.get(key)
+}
+
+/// Puts a row or nothing at a place, which is made where it is not there.
+pub(crate) fn insert_at(
+    alloc: Global,
+    tables: &mut Tables,
+    table: &Name,
+    key: Key,
+    place: Option<Row>,
+) -> Result<Option<Option<Row>>, NoMemory>
+    ensures before { IfOk result (λ before. before ≡ map.get (gathered tables.old.entries) (table.now, key)) }
+    ensures ok { OnOk result (gathered tables.new.entries ≡ map.insert (gathered tables.old.entries) (table.now, key) place) }
+    ensures err { OnErr result (gathered tables.new.entries ≡ gathered tables.old.entries) }
+{
+    if tables.contains_key(table) {
+        return insert_there(tables, table, key, place);
+    }
+    let mut made = Table::new(alloc);
+    made.insert(key, place)?;
+    tables.insert(table.copy(alloc)?, made)?;
+    Ok(None)
+}
+
+fn insert_there(
+    tables: &mut Tables,
+    table: &Name,
+    key: Key,
+    place: Option<Row>,
+) -> Result<Option<Option<Row>>, NoMemory>
+    requires there { IsSome (tree.get_by (name_cmp table.now) tables.old) }
+    ensures before { IfOk result (λ before. before ≡ map.get (gathered tables.old.entries) (table.now, key)) }
+    ensures ok { OnOk result (gathered tables.new.entries ≡ map.insert (gathered tables.old.entries) (table.now, key) place) }
+    ensures err { OnErr result (gathered tables.new.entries ≡ gathered tables.old.entries) }
+{
+    let Some(held) = tables.get_mut(table) else {
+        return Ok(None);
+    };
+    held.insert(key, place)
+}
+
+/// Puts a row or nothing at a place that is there. It takes no memory.
+pub(crate) fn set_at(
+    tables: &mut Tables,
+    table: &Name,
+    key: &Key,
+    place: Option<Row>,
+) -> Option<Row>
+    requires there { IsSome (map.get (gathered tables.old.entries) (table.now, key.now)) }
+    ensures before { map.get (gathered tables.old.entries) (table.now, key.now) ≡ Some result }
+    ensures set { gathered tables.new.entries ≡ map.insert (gathered tables.old.entries) (table.now, key.now) place }
+{
+    let Some(held) = tables.get_mut(table) else {
+        return None;
+    };
+    held.set(key, place)
+}
+
+/// Removes a place that is there.
+pub(crate) fn remove_at(tables: &mut Tables, table: &Name, key: &Key)
+    requires there { IsSome (map.get (gathered tables.old.entries) (table.now, key.now)) }
+    ensures removed { gathered tables.new.entries ≡ map.remove (gathered tables.old.entries) (table.now, key.now) }
+{
+    let Some(held) = tables.get_mut(table) else {
+        return;
+    };
+    held.remove(key);
+}
