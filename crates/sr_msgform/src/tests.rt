@@ -1,3 +1,5 @@
+ghost use Rattle.std.specs.Prelude.{◌<◌};
+
 use super::*;
 use sha2::{Digest, Sha256};
 use sr_base::{Copied, name_of, write_name, write_u32, write_u64};
@@ -103,7 +105,10 @@ fn file_of(
     write_u64(alloc, window.1, &mut out)?;
     write_u32(alloc, body.0, &mut out)?;
     write_u32(alloc, body.1, &mut out)?;
-    write_u32(alloc, fragment.len() as u32, &mut out)?;
+    let length = u32::try_from(fragment.len())
+        .ok()
+        .ok_or("a short fragment")?;
+    write_u32(alloc, length, &mut out)?;
     out.extend_from_slice(fragment)?;
     write_u64(alloc, 9, &mut out)?;
     write_u64(alloc, ask.0, &mut out)?;
