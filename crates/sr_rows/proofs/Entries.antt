@@ -1,11 +1,10 @@
 -- A finite map that is made of a list of entries.
-use Rattle.std.proofs.Common.{◌≡◌, IsSome, is_some, Bool, false, cond, List, [], ◌∷◌, Option, Some, None, Result, Ok, Err, OnErr, refl, sym, ap, ◌∙◌}
+use Rattle.std.proofs.Common.{◌≡◌, IsSome, is_some, false, cond, List, [], ◌∷◌, Option, Some, None, Result, Ok, Err, OnErr, refl, sym, ap, ◌∙◌}
 use Rattle.std.specs.declared.cmp.Ordering.{Ordering}
 use Rattle.std.specs.Cmp.{IsTotalOrder, eq_by_cmp_equiv}
-use Rattle.std.specs.Ordering.{eq_by_cmp}
 use Rattle.std.specs.Map.{lookup}
 use Rattle.std.specs.BTreeMap.{is_at}
-use Rattle.std.specs.FinMap.{IsAntisymmetric, FinMap, from_entries, get, insert, remove, find, same_map, get-from_entries, get-insert, get-remove}
+use Rattle.std.specs.FinMap.{IsAntisymmetric, from_entries, get, insert, remove, find, same_map, get-from_entries, get-insert, get-remove}
 
 module _ {K X : Type 0} {R : K → K → Ordering} (o : IsTotalOrder R) where
   abbrev at : List (K × X) → K → Option X

@@ -1,4 +1,4 @@
-use Rattle.std.specs.Prelude.{Bool, not, List, [], ◌∷◌, Option, Some, None, ℕ}
+use Rattle.std.specs.Prelude.{not, List, [], ◌∷◌, Option, Some, None, ℕ}
 use Rattle.std.specs.Ordering.{eq_by_cmp}
 use Rattle.std.specs.FinMap as map
 use Rattle.sr_base.specs.declared.value.Value.{Value}

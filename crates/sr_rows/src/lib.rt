@@ -7,6 +7,8 @@
 mod rows;
 mod table;
 mod tables;
+#[cfg(test)]
+mod tests;
 mod undo;
 
 pub use rows::Rows;

@@ -1,4 +1,4 @@
-use Rattle.std.proofs.Common.{rules, sym, ap, subst, IsSome, ◌∙◌}
+use Rattle.std.proofs.Common.{rules, subst, IsSome, ◌∙◌}
 use Rattle.std.specs.FinMap as map
 use Rattle.sr_rows.specs.Gathered.{gathered}
 use Rattle.sr_rows.proofs.Entries.{there_not_none}

@@ -1,4 +1,4 @@
-use Rattle.std.proofs.Common.{sym, ap, ◌∙◌}
+use Rattle.std.proofs.Common.{ap, ◌∙◌}
 use Rattle.sr_rows.specs.Gathered.{gathered, filled}
 use Rattle.sr_rows.specs.Undoing.{undone}
 use Rattle.sr_rows.proofs.Keeping.{filled-none}

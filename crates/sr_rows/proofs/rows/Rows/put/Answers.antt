@@ -1,10 +1,10 @@
-use Rattle.std.proofs.Common.{◌≡◌, List, Option, Some, None, sym, ap, ◌∙◌}
+use Rattle.std.proofs.Common.{◌≡◌, Some, sym, ap, ◌∙◌}
 use Rattle.std.specs.FinMap as map
 use Rattle.sr_rows.specs.Marks.{Place, Marked}
 use Rattle.sr_rows.specs.Gathered.{gathered, filled, row_of}
 use Rattle.sr_rows.specs.Undoing.{undone}
-use Rattle.sr_rows.proofs.Entries.{on_err-intro, none_of_test}
-use Rattle.sr_rows.proofs.Keeping.{noted-there, noted-back, undoable-ok, undoable-err, undone-ok, undone-err, get-filled, filled-insert, remove-none}
+use Rattle.sr_rows.proofs.Entries.{on_err-intro}
+use Rattle.sr_rows.proofs.Keeping.{noted-there, noted-back, undoable-ok, undoable-err, undone-ok, undone-err, get-filled, filled-insert}
 use Rattle.sr_rows.proofs.rows.Rows.put.Goals as goal
 
 pub note_change-requires : goal.note_change-requires

@@ -1,4 +1,4 @@
-use Rattle.std.proofs.Common.{◌≡◌, List, Option, Some, None, sym, ap, ◌∙◌}
+use Rattle.std.proofs.Common.{◌≡◌, None, sym, ap, ◌∙◌}
 use Rattle.std.specs.FinMap as map
 use Rattle.sr_rows.specs.Marks.{Place, Marked}
 use Rattle.sr_rows.specs.Gathered.{gathered, filled, row_of}
