@@ -1,0 +1,68 @@
+"""What the measurements share: running the program, its peak memory, scripts, and tables."""
+
+import argparse
+import contextlib
+import os
+import shutil
+import subprocess
+import sys
+import tempfile
+import time
+
+# the script that a new database begins with, before the rows of a measurement
+SETUP = b""
+# the table that the rows go into has two INTEGERs, of which the first is the key
+INSERT = b"INSERT INTO t VALUES (%d, %d);\n"
+
+
+def arguments(about):
+    """The words of a measurement: the program, and where its files are to lie."""
+    parser = argparse.ArgumentParser(description=about)
+    parser.add_argument("program", help="the proved program, as crates/dbremote/out/dbremote")
+    parser.add_argument("--folder", default=".", help="the disk that is measured: a folder on it (default: the present one)")
+    parser.add_argument("--times", type=int, default=3, help="how often each run is made; the least time counts (default 3)")
+    parser.add_argument("--small", action="store_true", help="a tenth of each size, to see that it works")
+    words = parser.parse_args()
+    words.program = os.path.abspath(words.program)
+    return words
+
+
+@contextlib.contextmanager
+def room(folder):
+    """A new folder, which goes again."""
+    made = tempfile.mkdtemp(prefix="dbremote-bench-", dir=folder)
+    try:
+        yield made
+    finally:
+        shutil.rmtree(made, ignore_errors=True)
+
+
+def run(words, script, folder):
+    """Runs the program on a script; returns its seconds, its peak resident memory in MiB, and what it wrote."""
+    with open(script, "rb") as source, open(f"{folder}/lines", "w+b") as lines:
+        begun = time.perf_counter()
+        child = subprocess.Popen(words, stdin=source, stdout=lines, cwd=folder)
+        _, status, used = os.wait4(child.pid, 0)
+        seconds = time.perf_counter() - begun
+        child.returncode = os.waitstatus_to_exitcode(status)
+        lines.seek(0)
+        wrote = lines.read()
+    if child.returncode != 0:
+        sys.exit(f"{' '.join(words)} ended with status {child.returncode}: {wrote[-200:].decode(errors='replace')}")
+    return seconds, used.ru_maxrss / 1024, wrote
+
+
+def fresh(folder, name):
+    """Lets go of the files of a database."""
+    for suffix in ("root", "log0", "log1", "snap0", "snap1"):
+        with contextlib.suppress(FileNotFoundError):
+            os.remove(f"{folder}/{name}.{suffix}")
+
+
+def table(heads, rows):
+    """Prints a table, each column as wide as it needs."""
+    texts = [heads, *[[text if isinstance(text, str) else f"{text:,.2f}" if isinstance(text, float) else f"{text:,}" for text in row] for row in rows]]
+    widths = [max(len(row[at]) for row in texts) for at in range(len(heads))]
+    for row in texts:
+        print("  ".join(text.rjust(width) for text, width in zip(row, widths)))
+    print(flush=True)

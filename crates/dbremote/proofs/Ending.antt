@@ -1,0 +1,218 @@
+-- From the fault that ended `sql`, and what was written of it, to what is true of the run.
+use Rattle.std.proofs.Common.{◌≡◌, ◌≢◌, ◌⊎◌, ◌≤◌, ℕ, IsTrue, List, [], ◌++◌, refl, ap, sym, ◌∙◌, subst, append_assoc, inl, inr, arith}
+use Rattle.dbremote.specs.declared.item.Item.{Item}
+use Rattle.dbremote.specs.declared.statement.Statement.{Statement}
+use Rattle.dbremote.specs.declared.fault.Fault.{Fault}
+use Rattle.dbremote.specs.declared.fault.Fault.TheVariants.{Words, Memory, Disk, Damaged, Source, TooLong, Script, Refused, Full, Sink}
+use Rattle.dbremote.specs.Faults.{status_of}
+use Rattle.dbremote.specs.Histories.{HasHistory}
+use Rattle.dbremote.specs.Reports.{Wrote}
+use Rattle.dbremote.specs.Runs.{Stream, Outside, HoldsDone, SaidAll, SaidFronts, SaidDone, StoppedEarly, StoppedLate, IsStopped, IsStatusOfOpening, line_of}
+use Rattle.dbremote.specs.Sessions.{SaidLines}
+use Rattle.dbremote.specs.Stops.{StopsEarly, StopsLate, StopsSql, BeginCause, IsOfOpening}
+use Rattle.dbremote.specs.Streams.{TookFront, Said}
+use Rattle.dbremote.specs.Transactions.{lines_of, lines_at}
+
+-- the outside after the sink took more
+abbrev pub with_output : Outside → Stream → Outside
+with_output mid out = record { site = mid.site; input = mid.input; output = out }
+
+-- what was written after an early fault
+early_said : (old mid : Outside) (out : Stream) (kept : List ℕ) (fault : Fault) → StopsEarly old mid kept → Wrote (kept ++ line_of fault) mid.output.bytes out.bytes mid.output.faults out.faults
+    → SaidAll old (with_output mid out) (line_of fault)
+early_said old mid out kept fault s w =
+    let w' : Wrote (line_of fault) old.output.bytes out.bytes old.output.faults out.faults =
+    subst (λ (o : Stream). Wrote (line_of fault) o.bytes out.bytes o.faults out.faults) s.silent
+    (subst (λ (k : List ℕ). Wrote (k ++ line_of fault) mid.output.bytes out.bytes mid.output.faults out.faults) s.kept_is w) in
+    record { front = w'.front; whole = w'.whole }
+
+-- an early fault, told
+pub early_told : (old mid : Outside) (out : Stream) (kept : List ℕ) (fault : Fault) → StopsEarly old mid kept
+    → (IsTrue mid.output.told → Wrote (kept ++ line_of fault) mid.output.bytes out.bytes mid.output.faults out.faults) → StoppedEarly old (with_output mid out) fault
+early_told old mid out kept fault s w = record {
+  kept = s.history;
+  said = λ told. early_said old mid out kept fault s (w (subst (λ (o : Stream). IsTrue o.told) (sym s.silent) told));
+}
+
+-- lines that were kept, told with a fault's
+said_all : (old mid : Outside) (out : Stream) (said kept line : List ℕ) → mid.output.faults ≤ out.faults → old.output.faults ≤ mid.output.faults → Said said kept old.output.bytes mid.output.bytes
+    → Wrote (kept ++ line) mid.output.bytes out.bytes mid.output.faults out.faults → SaidAll old (with_output mid out) (said ++ line)
+said_all old mid out said kept line later earlier s w =
+    let text : s.written ++ (kept ++ line) ≡ said ++ line = sym (append_assoc s.written kept line) ∙ ap (λ l. l ++ line) s.all in
+    record {
+      front = (
+        s.written ++ w.front.0,
+        (w.front.1.0, sym text ∙ ap (λ l. s.written ++ l) w.front.1.1 ∙ sym (append_assoc s.written w.front.0 w.front.1.0)),
+        w.front.2 ∙ ap (λ l. l ++ w.front.0) s.bytes_are ∙ append_assoc old.output.bytes s.written w.front.0,
+      );
+      whole = elim w.whole [
+        | inl all ↦ inl (all ∙ ap (λ l. l ++ (kept ++ line)) s.bytes_are ∙ append_assoc old.output.bytes s.written (kept ++ line) ∙ ap (λ l. old.output.bytes ++ l) text)
+        | inr rose ↦ inr (omega (arith, rose, earlier))
+      ];
+    }
+
+-- after the sink's own fault
+said_fronts : (old mid : Outside) (out : Stream) (all kept line : List ℕ) → TookFront all old.output.bytes mid.output.bytes → kept ≡ [] → TookFront (kept ++ line) mid.output.bytes out.bytes
+    → SaidFronts old (with_output mid out) all line
+said_fronts old mid out all kept line front none w = record {
+  between = mid.output.bytes;
+  lines = front;
+  fault = subst (λ (k : List ℕ). TookFront (k ++ line) mid.output.bytes out.bytes) none w;
+}
+
+late_said : (old mid : Outside) (out : Stream) (said all kept : List ℕ) (fault : Fault) → mid.output.faults ≤ out.faults → old.output.faults ≤ mid.output.faults
+    → SaidLines said all kept old.output.bytes mid.output.bytes fault → Wrote (kept ++ line_of fault) mid.output.bytes out.bytes mid.output.faults out.faults → SaidDone old (with_output mid out) said all fault
+late_said old mid out said all kept Sink later earlier s w = said_fronts old mid out all kept (line_of Sink) s.0 s.1 w.front
+late_said old mid out said all kept (Refused number id) later earlier s w = said_all old mid out said kept (line_of (Refused number id)) later earlier s w
+late_said old mid out said all kept (Full end need) later earlier s w = said_all old mid out said kept (line_of (Full end need)) later earlier s w
+late_said old mid out said all kept Disk later earlier s w = said_all old mid out said kept (line_of Disk) later earlier s w
+late_said old mid out said all kept Memory later earlier s w = said_all old mid out said kept (line_of Memory) later earlier s w
+late_said old mid out said all kept Words later earlier s w = said_all old mid out said kept (line_of Words) later earlier s w
+late_said old mid out said all kept (Damaged place) later earlier s w = said_all old mid out said kept (line_of (Damaged place)) later earlier s w
+late_said old mid out said all kept Source later earlier s w = said_all old mid out said kept (line_of Source) later earlier s w
+late_said old mid out said all kept TooLong later earlier s w = said_all old mid out said kept (line_of TooLong) later earlier s w
+late_said old mid out said all kept (Script place) later earlier s w = said_all old mid out said kept (line_of (Script place)) later earlier s w
+
+-- a late fault, told
+pub late_told : (old mid : Outside) (out : Stream) (kept : List ℕ) (fault : Fault) → StopsLate old mid kept fault → mid.output.faults ≤ out.faults
+    → (IsTrue mid.output.told → Wrote (kept ++ line_of fault) mid.output.bytes out.bytes mid.output.faults out.faults) → StoppedLate old (with_output mid out) fault
+late_told old mid out kept fault s later w = record {
+  done = s.done;
+  rest = s.rest;
+  rows = s.rows;
+  end = s.end;
+  are_statements = s.are_statements;
+  read = s.read;
+  free = s.free;
+  database = s.database;
+  said = λ t. late_said old mid out (lines_of s.end [] s.done) (lines_at s.end s.done s.rest) kept fault later s.later (s.said t) (w (subst IsTrue (sym s.told) t));
+}
+
+-- the fault itself was told
+pub ends_told : (words : List (List ℕ)) (old mid : Outside) (out : Stream) (kept : List ℕ) (fault : Fault) → StopsSql old mid kept fault → mid.output.faults ≤ out.faults
+    → (IsTrue mid.output.told → Wrote (kept ++ line_of fault) mid.output.bytes out.bytes mid.output.faults out.faults) → IsStopped words old (with_output mid out) fault
+unfolding late_told
+ends_told words old mid out kept Words s later w = absurd s
+ends_told words old mid out kept Memory s later w = elim s [
+  | inl early ↦ inl (early_told old mid out kept Memory early w)
+  | inr late ↦ inr (late_told old mid out kept Memory late later w)
+]
+ends_told words old mid out kept Disk s later w = (
+  elim s.0 [
+    | inl early ↦ inl (early_told old mid out kept Disk early w)
+    | inr late ↦ inr (late_told old mid out kept Disk late later w)
+  ],
+  s.1,
+)
+ends_told words old mid out kept (Damaged place) s later w = (early_told old mid out kept (Damaged place) s.0 w, s.1)
+ends_told words old mid out kept Source s later w = (early_told old mid out kept Source s.0 w, s.1)
+ends_told words old mid out kept TooLong s later w = (early_told old mid out kept TooLong s.0 w, s.1)
+ends_told words old mid out kept (Script place) s later w = (early_told old mid out kept (Script place) s.0 w, s.1)
+ends_told words old mid out kept (Refused number id) s later w = record { stopped = late_told old mid out kept (Refused number id) s.stopped later w; refused = s.refused }
+ends_told words old mid out kept (Full end need) s later w = elim s [
+  | inl early ↦ inl (early_told old mid out kept (Full end need) early.0 w, early.1)
+  | inr late ↦ inr (record { stopped = late_told old mid out kept (Full end need) late.stopped later w; after = late.after; rest_is = late.rest_is; base = late.base; base_is = late.base_is; need_is = late.need_is; place_is = late.place_is; full = late.full })
+]
+ends_told words old mid out kept Sink s later w =
+    (late_told old mid out kept Sink s.0 later w, omega (arith, s.1, later))
+
+-- what stands, where only memory is blamed
+unsaid_holds : (base : ℕ) (txs : List (List Item)) (done : List Statement) (bytes : List ℕ) (fault : Fault) → HoldsDone base txs done bytes fault → HoldsDone base txs done bytes Memory
+unsaid_holds base txs done bytes Words h = inl h
+unsaid_holds base txs done bytes Memory h = h
+unsaid_holds base txs done bytes Disk h = h
+unsaid_holds base txs done bytes (Damaged place) h = inl h
+unsaid_holds base txs done bytes Source h = inl h
+unsaid_holds base txs done bytes TooLong h = inl h
+unsaid_holds base txs done bytes (Script place) h = inl h
+unsaid_holds base txs done bytes (Refused number id) h = inl h
+unsaid_holds base txs done bytes (Full end need) h = inl h
+unsaid_holds base txs done bytes Sink h = inl h
+
+unsaid_said : (said all kept old new : List ℕ) (fault : Fault) → fault ≢ Sink → SaidLines said all kept old new fault → SaidLines said all kept old new Memory
+unsaid_said said all kept old new Words other s = s
+unsaid_said said all kept old new Memory other s = s
+unsaid_said said all kept old new Disk other s = s
+unsaid_said said all kept old new (Damaged place) other s = s
+unsaid_said said all kept old new Source other s = s
+unsaid_said said all kept old new TooLong other s = s
+unsaid_said said all kept old new (Script place) other s = s
+unsaid_said said all kept old new (Refused number id) other s = s
+unsaid_said said all kept old new (Full end need) other s = s
+unsaid_said said all kept old new Sink other s = absurd (other refl)
+
+-- a late fault, of which memory was wanting for the line
+late_unsaid : (old mid : Outside) (kept : List ℕ) (fault : Fault) → fault ≢ Sink → StopsLate old mid kept fault → StopsLate old mid kept Memory
+late_unsaid old mid kept fault other s = record {
+  done = s.done;
+  rest = s.rest;
+  rows = s.rows;
+  end = s.end;
+  are_statements = s.are_statements;
+  read = s.read;
+  free = s.free;
+  database = λ t. let d = s.database t in record { found = d.found; holds_done = unsaid_holds d.found.base d.found.txs s.done mid.site.files.log0 fault d.holds_done };
+  said = λ t. unsaid_said (lines_of s.end [] s.done) (lines_at s.end s.done s.rest) kept old.output.bytes mid.output.bytes fault other (s.said t);
+  told = s.told;
+  later = s.later;
+}
+
+-- for want of memory for its line another fault was told
+pub ends_unsaid : (words : List (List ℕ)) (old mid : Outside) (out : Stream) (kept : List ℕ) (fault : Fault) → fault ≢ Sink → StopsSql old mid kept fault → mid.output.faults ≤ out.faults
+    → (IsTrue mid.output.told → Wrote (kept ++ line_of Memory) mid.output.bytes out.bytes mid.output.faults out.faults) → IsStopped words old (with_output mid out) Memory
+ends_unsaid words old mid out kept Words other s later w = absurd s
+ends_unsaid words old mid out kept Memory other s later w = ends_told words old mid out kept Memory s later w
+ends_unsaid words old mid out kept Disk other s later w = ends_told words old mid out kept Memory (elim s.0 [ inl early ↦ inl early | inr late ↦ inr (late_unsaid old mid kept Disk other late) ]) later w
+ends_unsaid words old mid out kept (Damaged place) other s later w = inl (early_told old mid out kept Memory s.0 w)
+ends_unsaid words old mid out kept Source other s later w = inl (early_told old mid out kept Memory s.0 w)
+ends_unsaid words old mid out kept TooLong other s later w = inl (early_told old mid out kept Memory s.0 w)
+ends_unsaid words old mid out kept (Script place) other s later w = inl (early_told old mid out kept Memory s.0 w)
+ends_unsaid words old mid out kept (Refused number id) other s later w = inr (late_told old mid out kept Memory (late_unsaid old mid kept (Refused number id) other s.stopped) later w)
+ends_unsaid words old mid out kept (Full end need) other s later w = ends_told words old mid out kept Memory (elim s [ inl early ↦ inl early.0 | inr late ↦ inr (late_unsaid old mid kept (Full end need) other late.stopped) ]) later w
+ends_unsaid words old mid out kept Sink other s later w = absurd (other refl)
+
+-- why a script does not begin, and what is true of `sql` then
+pub stops_begin : (old new : Outside) (fault : Fault) → BeginCause old.site new.site old.input new.input fault → new.output ≡ old.output
+    → (IsTrue old.site.told → (base : ℕ) (txs : List (List Item)) → HasHistory base txs old.site.files.log0 → new.site.files ≡ old.site.files) → StopsSql old new [] fault
+stops_begin old new Memory cause silent history = inl (record { kept_is = refl; history = history; silent = silent })
+stops_begin old new Disk cause silent history = (inl (record { kept_is = refl; history = history; silent = silent }), cause)
+stops_begin old new (Damaged place) cause silent history = (record { kept_is = refl; history = history; silent = silent }, cause)
+stops_begin old new Source cause silent history = (record { kept_is = refl; history = history; silent = silent }, cause)
+stops_begin old new TooLong cause silent history = (record { kept_is = refl; history = history; silent = silent }, cause)
+stops_begin old new (Script place) cause silent history = (record { kept_is = refl; history = history; silent = silent }, cause)
+stops_begin old new (Full end need) cause silent history = inl (record { kept_is = refl; history = history; silent = silent }, cause)
+stops_begin old new Words cause silent history = absurd cause
+stops_begin old new (Refused number id) cause silent history = absurd cause
+stops_begin old new Sink cause silent history = absurd cause
+
+-- `sql` was ended by a fault, and the one that was told is it, or the want of memory for its line
+pub ends : (words : List (List ℕ)) (old mid : Outside) (out : Stream) (kept written : List ℕ) (fault told : Fault) → written ≡ kept → (told ≡ fault) ⊎ ((told ≡ Memory) × (fault ≢ Sink)) → StopsSql old mid kept fault
+    → mid.output.faults ≤ out.faults → (IsTrue mid.output.told → Wrote (written ++ line_of told) mid.output.bytes out.bytes mid.output.faults out.faults) → IsStopped words old (with_output mid out) told
+ends words old mid out kept written fault told e which s later w =
+    let w' : IsTrue mid.output.told → Wrote (kept ++ line_of told) mid.output.bytes out.bytes mid.output.faults out.faults =
+    λ t. subst (λ (k : List ℕ). Wrote (k ++ line_of told) mid.output.bytes out.bytes mid.output.faults out.faults) e (w t) in
+    elim which [
+      | inl same ↦ subst (IsStopped words old (with_output mid out)) (sym same)
+          (ends_told words old mid out kept fault s later (λ t. subst (λ (f : Fault). Wrote (kept ++ line_of f) mid.output.bytes out.bytes mid.output.faults out.faults) same (w' t)))
+      | inr other ↦ subst (IsStopped words old (with_output mid out)) (sym other.0)
+          (ends_unsaid words old mid out kept fault other.1 s later (λ t. subst (λ (f : Fault). Wrote (kept ++ line_of f) mid.output.bytes out.bytes mid.output.faults out.faults) other.0 (w' t)))
+    ]
+
+own_status : (fault : Fault) → IsOfOpening fault → IsStatusOfOpening (status_of fault)
+own_status Words of = absurd of
+own_status Memory of = inr (inr (inr (inl refl)))
+own_status Disk of = inr (inr (inl refl))
+own_status (Damaged place) of = inr (inl refl)
+own_status Source of = absurd of
+own_status TooLong of = absurd of
+own_status (Script place) of = absurd of
+own_status (Refused number id) of = absurd of
+own_status (Full end need) of = inr (inr (inr (inr refl)))
+own_status Sink of = absurd of
+
+-- the status of a fault of the opening, as it was told
+pub status_of_opening : (fault told : Fault) (status : ℕ) → IsOfOpening fault → (told ≡ fault) ⊎ ((told ≡ Memory) × (fault ≢ Sink)) → status ≡ status_of told → IsStatusOfOpening status
+status_of_opening fault told status of which e = elim which [
+  | inl same ↦ subst IsStatusOfOpening (sym (e ∙ ap status_of same)) (own_status fault of)
+  | inr other ↦ subst IsStatusOfOpening (sym (e ∙ ap status_of other.0)) (inr (inr (inr (inl refl))))
+]

@@ -1,0 +1,17 @@
+pub mod Changes
+pub mod Committing
+pub mod Damages
+pub mod Ending
+pub mod Entries
+pub mod Finding
+pub mod Folding
+pub mod Legal
+pub mod Making
+pub mod Maps
+pub mod Numerals
+pub mod Opened
+pub mod Parts
+pub mod Pieces
+pub mod Reached
+pub mod Scripts
+pub mod Telling

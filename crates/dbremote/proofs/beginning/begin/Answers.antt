@@ -1,0 +1,39 @@
+use Rattle.std.proofs.lemmas.Result.{err_from_is_err_and}
+use Rattle.dbremote.specs.Runs.{stream}
+use Rattle.dbremote.proofs.Finding.{kept_on, begin_open, undamaged}
+use Rattle.dbremote.proofs.beginning.begin.Goals as goal
+
+pub returns-in_err-table-clause-kept : goal.returns-in_err-table-clause-kept
+returns-in_err-table-clause-kept g c =
+    kept_on (g.S.Held.seen c.args.site.now) (g.S.Held.seen c.attach.new.site) (g.S.Held.seen c.open_database.new.site) c.in_ok-attach.ensures.files c.in_ok-attach.ensures.stays.told c.in_err-table.ensures.kept
+
+pub returns-in_err-text-clause-kept : goal.returns-in_err-text-clause-kept
+returns-in_err-text-clause-kept g c =
+    kept_on (g.S.Held.seen c.args.site.now) (g.S.Held.seen c.attach.new.site) (g.S.Held.seen c.open_database.new.site) c.in_ok-attach.ensures.files c.in_ok-attach.ensures.stays.told c.in_ok-table.ensures.kept
+
+pub returns-in_err-statements-clause-kept : goal.returns-in_err-statements-clause-kept
+returns-in_err-statements-clause-kept g c =
+    kept_on (g.S.Held.seen c.args.site.now) (g.S.Held.seen c.attach.new.site) (g.S.Held.seen c.open_database.new.site) c.in_ok-attach.ensures.files c.in_ok-attach.ensures.stays.told c.in_ok-table.ensures.kept
+
+pub returns-clause-kept : goal.returns-clause-kept
+returns-clause-kept g c =
+    kept_on (g.S.Held.seen c.args.site.now) (g.S.Held.seen c.attach.new.site) (g.S.Held.seen c.open_database.new.site) c.in_ok-attach.ensures.files c.in_ok-attach.ensures.stays.told c.in_ok-table.ensures.kept
+
+pub returns-in_err-table-clause-cause : goal.returns-in_err-table-clause-cause
+returns-in_err-table-clause-cause g c =
+    let input = stream (g.I.Source.told c.args.input.now) (g.I.Source.left c.args.input.now) (g.I.Source.faults c.args.input.now) in
+    let p = err_from_is_err_and c.from_residual-in_err-table.result c.from_residual-in_err-table.ensures.1 in
+    rw (p.1, p.2) (begin_open (g.S.Held.seen c.args.site.now) (g.S.Held.seen c.attach.new.site) (g.S.Held.seen c.open_database.new.site) input input _
+    c.in_ok-attach.ensures.files c.in_ok-attach.ensures.stays.told c.in_ok-attach.ensures.stays.later c.in_err-table.ensures.cause)
+
+pub returns-in_err-text-clause-damaged : goal.returns-in_err-text-clause-damaged
+returns-in_err-text-clause-damaged g c = λ told place d.
+    absurd (undamaged (g.S.Held.seen c.args.site.now) (g.S.Held.seen c.attach.new.site) c.in_ok-attach.ensures.files c.in_ok-attach.ensures.stays.told c.in_ok-table.ensures.damaged told place d)
+
+pub returns-in_err-statements-clause-damaged : goal.returns-in_err-statements-clause-damaged
+returns-in_err-statements-clause-damaged g c = λ told place d.
+    absurd (undamaged (g.S.Held.seen c.args.site.now) (g.S.Held.seen c.attach.new.site) c.in_ok-attach.ensures.files c.in_ok-attach.ensures.stays.told c.in_ok-table.ensures.damaged told place d)
+
+pub returns-clause-damaged : goal.returns-clause-damaged
+returns-clause-damaged g c = λ told place d.
+    absurd (undamaged (g.S.Held.seen c.args.site.now) (g.S.Held.seen c.attach.new.site) c.in_ok-attach.ensures.files c.in_ok-attach.ensures.stays.told c.in_ok-table.ensures.damaged told place d)

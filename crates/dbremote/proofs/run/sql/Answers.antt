@@ -1,0 +1,51 @@
+use Rattle.std.proofs.Common.{IsTrue, List, length, ap, sym, subst, refl, arith}
+use Rattle.std.proofs.lemmas.Result.{err_from_is_err_and}
+use Rattle.dbremote.specs.declared.statement.Statement.{Statement}
+use Rattle.dbremote.specs.Lines.{script, AreStatements}
+use Rattle.dbremote.specs.Runs.{Outside, HasRead, outside}
+use Rattle.dbremote.proofs.Finding.{stops_late, goes_on_of, no_error}
+use Rattle.dbremote.proofs.run.sql.Goals as goal
+
+pub returns-in_err-run_script-clause-stopped : goal.returns-in_err-run_script-clause-stopped
+returns-in_err-run_script-clause-stopped g c =
+    let seen = g.S.Held.seen in
+    let begun = c.in_ok-beginning.beginning in
+    let is = c.as_slice.ensures.value in
+    let old : Outside = outside (seen c.args.site.now) (g.I.Source.told c.args.input.now) (g.I.Source.left c.args.input.now) (g.I.Source.faults c.args.input.now) (g.O.Sink.told c.args.output.now) (g.O.Sink.taken c.args.output.now) (g.O.Sink.faults c.args.output.now) in
+    let new : Outside = outside (seen c.run_script.new.site) (g.I.Source.told c.begin.new.input) (g.I.Source.left c.begin.new.input) (g.I.Source.faults c.begin.new.input) (g.O.Sink.told c.run_script.new.output) (g.O.Sink.taken c.run_script.new.output) (g.O.Sink.faults c.run_script.new.output) in
+    let p = err_from_is_err_and c.from_residual-in_err-run_script.result c.from_residual-in_err-run_script.ensures.1 in
+    rw (p.1, p.2) (stops_late old new (seen c.begin.new.site).files begun.table begun.log c.as_slice.result.now c.run_script.new.kept.items (seen c.begin.new.site) _
+    c.in_ok-beginning.ensures.opened c.in_ok-beginning.ensures.log.1
+    (subst AreStatements (sym is) c.in_ok-beginning.ensures.statements.0) (omega (arith, c.in_ok-beginning.ensures.statements.1, ap (λ (l : List Statement). length (script l)) is))
+    (λ t. subst (λ (l : List Statement). HasRead old.input new.input (script l)) (sym is) (c.in_ok-beginning.ensures.read t))
+    (λ t. refl) c.in_ok-beginning.ensures.stays.told c.in_ok-beginning.ensures.stays.later
+    c.in_err-run_script.ensures.told c.in_err-run_script.ensures.later c.in_err-run_script.ensures.stopped)
+
+pub returns-clause-done : goal.returns-clause-done
+returns-clause-done g c =
+    let seen = g.S.Held.seen in
+    let begun = c.in_ok-beginning.beginning in
+    let is = c.as_slice.ensures.value in
+    let old : Outside = outside (seen c.args.site.now) (g.I.Source.told c.args.input.now) (g.I.Source.left c.args.input.now) (g.I.Source.faults c.args.input.now) (g.O.Sink.told c.args.output.now) (g.O.Sink.taken c.args.output.now) (g.O.Sink.faults c.args.output.now) in
+    let new : Outside = outside (seen c.run_script.new.site) (g.I.Source.told c.begin.new.input) (g.I.Source.left c.begin.new.input) (g.I.Source.faults c.begin.new.input) (g.O.Sink.told c.run_script.new.output) (g.O.Sink.taken c.run_script.new.output) (g.O.Sink.faults c.run_script.new.output) in
+    let are = subst AreStatements (sym is) c.in_ok-beginning.ensures.statements.0 in
+    record {
+      statements = c.as_slice.result.now;
+      rows = begun.table;
+      end = begun.log.end;
+      are_statements = are;
+      read = λ t. subst (λ (l : List Statement). HasRead old.input new.input (script l)) (sym is) (c.in_ok-beginning.ensures.read t);
+      free = c.in_ok-run_script.ensures.free;
+      database = λ t. goes_on_of old.site.files (seen c.begin.new.site).files new.site.files begun.table begun.log c.as_slice.result.now (c.in_ok-beginning.ensures.opened t) c.in_ok-beginning.ensures.log.1
+          are (omega (arith, c.in_ok-beginning.ensures.statements.1, ap (λ (l : List Statement). length (script l)) is)) c.in_ok-run_script.ensures.free
+          (c.in_ok-run_script.ensures.holds (subst IsTrue (sym c.in_ok-beginning.ensures.stays.told) t));
+      said = c.in_ok-run_script.ensures.said;
+    }
+
+pub returns-in_err-beginning-clause-damaged : goal.returns-in_err-beginning-clause-damaged
+returns-in_err-beginning-clause-damaged g c =
+    let p = err_from_is_err_and c.from_residual.result c.from_residual.ensures.1 in
+    rw (p.1, p.2) (λ told place d. (refl, (c.in_err-beginning.ensures.damaged told place d).1))
+
+pub returns-in_err-run_script-clause-damaged : goal.returns-in_err-run_script-clause-damaged
+returns-in_err-run_script-clause-damaged g c = λ told place d. absurd (no_error (c.in_ok-beginning.ensures.damaged told place d).0)

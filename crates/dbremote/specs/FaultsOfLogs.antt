@@ -1,0 +1,10 @@
+use Rattle.sr_logfile.specs.declared.fault.LogFault.{LogFault}
+use Rattle.sr_logfile.specs.declared.fault.LogFault.TheVariants as log
+use Rattle.dbremote.specs.declared.fault.Fault.{Fault}
+use Rattle.dbremote.specs.declared.fault.Fault.TheVariants.{Disk, Full, Damaged}
+
+-- the log's refusal as the run's
+abbrev pub fault_of : LogFault → Fault
+fault_of log.Disk = Disk
+fault_of (log.Full end need) = Full end need
+fault_of (log.Damaged place) = Damaged place

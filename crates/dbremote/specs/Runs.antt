@@ -1,0 +1,202 @@
+use Rattle.std.specs.Prelude.{◌≡◌, ◌≢◌, ◌⊎◌, ◌+◌, ◌-◌, ◌^◌, ◌<◌, ℕ, ℤ, Bool, true, IsTrue, None, List, [], ◌∷◌, ◌++◌, length}
+use Rattle.sr_site.specs.Causes.{Rose}
+use Rattle.sr_site.specs.Seen.{Seen}
+use Rattle.sr_logfile.specs.Records.{open_records, framed_of}
+use Rattle.dbremote.specs.declared.item.Item.{Item}
+use Rattle.dbremote.specs.declared.fault.Fault.{Fault}
+use Rattle.dbremote.specs.declared.fault.Fault.TheVariants.{Words, Memory, Disk, Damaged, Source, TooLong, Script, Refused, Full, Sink}
+use Rattle.dbremote.specs.declared.statement.Statement.{Statement}
+use Rattle.dbremote.specs.declared.statement.Statement.TheVariants.{Commit}
+use Rattle.dbremote.specs.declared.stream.TheConstants.{LONGEST_SCRIPT}
+use Rattle.dbremote.specs.Entries.{own}
+use Rattle.dbremote.specs.Faults.{fault_line, status_of}
+use Rattle.dbremote.specs.Histories.{bodies_of, rows_of, HasHistory, StandsFor, IsDamagedDatabase}
+use Rattle.dbremote.specs.Lines.{script, AreStatements, IsRefusedAt}
+use Rattle.dbremote.specs.Openings.{TableHasNoRoom, IsBlankAtTheEnd}
+use Rattle.dbremote.specs.Sessions.{IsRefused}
+use Rattle.dbremote.specs.Streams.{TookFront}
+use Rattle.dbremote.specs.Tables.{Rows, are_free}
+use Rattle.dbremote.specs.Transactions.{items_of, open_after, committed, transactions, end_after, lines_of, last_line, lines_at}
+use Rattle.dbremote.specs.Words.{sql_name}
+
+-- what a source or a sink means: whether it tells its bytes, those that it has left or took, and its count of faults
+pub record Stream : Type 0 where
+  pub told : Bool
+  pub bytes : List ℕ
+  pub faults : ℕ
+
+-- all that a run touches
+pub record Outside : Type 0 where
+  pub site : Seen
+  pub input : Stream
+  pub output : Stream
+
+-- a source or a sink from its parts
+abbrev pub stream : Bool → List ℕ → ℕ → Stream
+stream told bytes faults = record { told = told; bytes = bytes; faults = faults }
+
+-- the same from its parts
+abbrev pub outside : Seen → Bool → List ℕ → ℕ → Bool → List ℕ → ℕ → Outside
+outside site input_told left input_faults output_told taken output_faults =
+    record {
+      site = site;
+      input = stream input_told left input_faults;
+      output = stream output_told taken output_faults;
+    }
+
+-- the stream position behind the records of a database
+abbrev pub end_of : ℕ → List (List Item) → ℕ
+end_of base txs = base + length (open_records (bodies_of txs))
+
+-- all that a source had left was read, and it is this text
+pub record HasRead (old new : Stream) (text : List ℕ) : Type 0 where
+  pub was : old.bytes ≡ text
+  pub left : new.bytes ≡ []
+
+-- the database that the run found: its base and transactions, and with them the rows of t and the log's end
+pub record Found (bytes : List ℕ) (rows : Rows) (end : ℕ) : Type 0 where
+  pub base : ℕ
+  pub txs : List (List Item)
+  pub stood : StandsFor base txs bytes
+  pub rows_are : rows ≡ rows_of txs
+  pub end_is : end ≡ end_of base txs
+
+-- the database that was found, and these transactions behind it
+pub record FoundAndGoesOn (old new : List ℕ) (rows : Rows) (end : ℕ) (more : List (List Item)) : Type 0 where
+  pub found : Found old rows end
+  pub stands : HasHistory found.base (found.txs ++ more) new
+
+-- `sql` ran a script to its end: the script, the rows and the log's end before it, what was committed and what was said
+pub record RanScript (old new : Outside) : Type 0 where
+  pub statements : List Statement
+  pub rows : Rows
+  pub end : ℕ
+  pub are_statements : AreStatements statements
+  pub read : IsTrue old.input.told → HasRead old.input new.input (script statements)
+  pub free : are_free rows (items_of statements) ≡ true
+  pub database : IsTrue old.site.told → FoundAndGoesOn old.site.files.log0 new.site.files.log0 rows end (transactions [] statements)
+  pub said : IsTrue old.output.told → new.output.bytes ≡ old.output.bytes ++ lines_of end [] statements ++ last_line (open_after [] statements)
+
+-- the line of a fault
+abbrev pub line_of : Fault → List ℕ
+line_of fault = fault_line fault ++ 10 ∷ []
+
+-- a text was written whole, or a front of it where the sink failed
+pub record SaidAll (old new : Outside) (text : List ℕ) : Type 0 where
+  pub front : TookFront text old.output.bytes new.output.bytes
+  pub whole : (new.output.bytes ≡ old.output.bytes ++ text) ⊎ Rose old.output.faults new.output.faults
+
+-- a fault came before the first statement: a database that was there stands as it was, and nothing was said but the fault
+pub record StoppedEarly (old new : Outside) (fault : Fault) : Type 0 where
+  pub kept : IsTrue old.site.told → (base : ℕ) (txs : List (List Item)) → HasHistory base txs old.site.files.log0 → new.site.files ≡ old.site.files
+  pub said : IsTrue old.output.told → SaidAll old new (line_of fault)
+
+-- the database that was found, and behind it the transactions that were done; where the disk failed in a commit, or memory was wanting, perhaps
+-- that one too
+abbrev pub HoldsDone : ℕ → List (List Item) → List Statement → List ℕ → Fault → Type 0
+HoldsDone base txs done bytes Disk = HasHistory base (txs ++ transactions [] done) bytes ⊎ HasHistory base ((txs ++ transactions [] done) ++ committed (open_after [] done)) bytes
+HoldsDone base txs done bytes Words = HasHistory base (txs ++ transactions [] done) bytes
+HoldsDone base txs done bytes Memory = HasHistory base (txs ++ transactions [] done) bytes ⊎ HasHistory base ((txs ++ transactions [] done) ++ committed (open_after [] done)) bytes
+HoldsDone base txs done bytes (Damaged place) = HasHistory base (txs ++ transactions [] done) bytes
+HoldsDone base txs done bytes Source = HasHistory base (txs ++ transactions [] done) bytes
+HoldsDone base txs done bytes TooLong = HasHistory base (txs ++ transactions [] done) bytes
+HoldsDone base txs done bytes (Script place) = HasHistory base (txs ++ transactions [] done) bytes
+HoldsDone base txs done bytes (Refused number id) = HasHistory base (txs ++ transactions [] done) bytes
+HoldsDone base txs done bytes (Full end need) = HasHistory base (txs ++ transactions [] done) bytes
+HoldsDone base txs done bytes Sink = HasHistory base (txs ++ transactions [] done) bytes
+
+pub record FoundAndHolds (old new : List ℕ) (rows : Rows) (end : ℕ) (done : List Statement) (fault : Fault) : Type 0 where
+  pub found : Found old rows end
+  pub holds_done : HoldsDone found.base found.txs done new fault
+
+-- what was said: the lines of what was done and the fault's, or a front of them where the sink failed. After the sink's own fault, a front of
+-- the lines and then a front of the fault's
+pub record SaidFronts (old new : Outside) (said line : List ℕ) : Type 0 where
+  pub between : List ℕ
+  pub lines : TookFront said old.output.bytes between
+  pub fault : TookFront line between new.output.bytes
+
+abbrev pub SaidDone : Outside → Outside → List ℕ → List ℕ → Fault → Type 0
+SaidDone old new said all Sink = SaidFronts old new all (line_of Sink)
+SaidDone old new said all Words = SaidAll old new (said ++ line_of Words)
+SaidDone old new said all Memory = SaidAll old new (said ++ line_of Memory)
+SaidDone old new said all Disk = SaidAll old new (said ++ line_of Disk)
+SaidDone old new said all (Damaged place) = SaidAll old new (said ++ line_of (Damaged place))
+SaidDone old new said all Source = SaidAll old new (said ++ line_of Source)
+SaidDone old new said all TooLong = SaidAll old new (said ++ line_of TooLong)
+SaidDone old new said all (Script place) = SaidAll old new (said ++ line_of (Script place))
+SaidDone old new said all (Refused number id) = SaidAll old new (said ++ line_of (Refused number id))
+SaidDone old new said all (Full end need) = SaidAll old new (said ++ line_of (Full end need))
+
+-- a fault ended the statements: the script, those that were done before it and those that were not, what was found, what stands and what was
+-- said
+pub record StoppedLate (old new : Outside) (fault : Fault) : Type 0 where
+  pub done : List Statement
+  pub rest : List Statement
+  pub rows : Rows
+  pub end : ℕ
+  pub are_statements : AreStatements (done ++ rest)
+  pub read : IsTrue old.input.told → HasRead old.input new.input (script (done ++ rest))
+  pub free : are_free rows (items_of done) ≡ true
+  pub database : IsTrue old.site.told → FoundAndHolds old.site.files.log0 new.site.files.log0 rows end done fault
+  pub said : IsTrue old.output.told → SaidDone old new (lines_of end [] done) (lines_at end done rest) fault
+
+-- a statement was refused: it is the first whose key is held, by the rows before or by an INSERT before it
+pub record RefusedKey (old new : Outside) (number : ℕ) (id : ℤ) : Type 0 where
+  pub stopped : StoppedLate old new (Refused number id)
+  pub refused : IsRefused stopped.rows stopped.done stopped.rest number id
+
+-- a COMMIT found no room: the place past the first closed gate and the record's bytes, which pass 960 MiB, or the last offset 2^62
+pub record LacksRoomAt (old new : Outside) (end need : ℕ) : Type 0 where
+  pub stopped : StoppedLate old new (Full end need)
+  pub after : List Statement
+  pub rest_is : stopped.rest ≡ Commit ∷ after
+  pub base : ℕ
+  pub base_is : (told : IsTrue old.site.told) → base ≡ (stopped.database told).found.base
+  pub need_is : need ≡ length (framed_of (own (open_after [] stopped.done)))
+  pub place_is : end ≡ 16 + (end_after stopped.end [] stopped.done - base) + 1
+  pub full : (1006632960 < end + need) ⊎ (2 ^ 62 < end_after stopped.end [] stopped.done + need)
+
+-- the script has a wrong line, and this is the place of the first
+pub record HasWrongLine (old new : Stream) (place : ℕ) : Type 0 where
+  pub text : List ℕ
+  pub read : IsTrue old.told → HasRead old new text
+  pub refused : IsRefusedAt text place
+
+-- an empty log had no room for the table's record in front of the last offset
+pub record FoundNoRoom (site : Seen) (end need : ℕ) : Type 0 where
+  pub no_room : TableHasNoRoom end need
+  pub blank : IsTrue site.told → IsBlankAtTheEnd site.files.log0
+
+-- what is true of a run of these words that a fault ended
+abbrev pub IsStopped : List (List ℕ) → Outside → Outside → Fault → Type 0
+IsStopped words old new Words = (sql_name words ≡ None) × StoppedEarly old new Words
+IsStopped words old new Memory = StoppedEarly old new Memory ⊎ StoppedLate old new Memory
+IsStopped words old new Disk = (StoppedEarly old new Disk ⊎ StoppedLate old new Disk) × Rose old.site.disk_faults new.site.disk_faults
+IsStopped words old new (Damaged place) = StoppedEarly old new (Damaged place) × (IsTrue old.site.told → IsDamagedDatabase old.site.files.log0 place)
+IsStopped words old new Source = StoppedEarly old new Source × Rose old.input.faults new.input.faults
+IsStopped words old new TooLong = StoppedEarly old new TooLong × (IsTrue old.input.told → LONGEST_SCRIPT < length old.input.bytes)
+IsStopped words old new (Script place) = StoppedEarly old new (Script place) × HasWrongLine old.input new.input place
+IsStopped words old new (Refused number id) = RefusedKey old new number id
+IsStopped words old new (Full end need) = (StoppedEarly old new (Full end need) × FoundNoRoom old.site end need) ⊎ LacksRoomAt old new end need
+IsStopped words old new Sink = StoppedLate old new Sink × Rose old.output.faults new.output.faults
+
+-- a run of these words that a fault ended, with the status of that fault
+pub record StoppedBy (words : List (List ℕ)) (old new : Outside) (status : ℕ) : Type 0 where
+  pub fault : Fault
+  pub status_is : status ≡ status_of fault
+  pub stopped : IsStopped words old new fault
+
+-- a run of `sql` whose script was run to its end
+pub record RanToEnd (words : List (List ℕ)) (old new : Outside) (status : ℕ) : Type 0 where
+  pub is_sql : sql_name words ≢ None
+  pub status_is : status ≡ 0
+  pub script_ran : RanScript old new
+
+-- what a run does: all that its words ask for, with status 0, or a fault ends it, with that fault's status
+abbrev pub RanOrStopped : List (List ℕ) → Outside → Outside → ℕ → Type 0
+RanOrStopped words old new status = RanToEnd words old new status ⊎ StoppedBy words old new status
+
+-- the statuses of a run whose database could not be opened, or whose words were refused before
+abbrev pub IsStatusOfOpening : ℕ → Type 0
+IsStatusOfOpening status = (status ≡ 2) ⊎ (status ≡ 3) ⊎ (status ≡ 5) ⊎ (status ≡ 8) ⊎ (status ≡ 9)

@@ -1,0 +1,107 @@
+use Rattle.std.specs.Prelude.{◌≡◌, ◌⊎◌, ◌+◌, ◌-◌, ◌^◌, ◌<◌, ◌≤◌, ℕ, ℤ, true, IsTrue, List, [], ◌∷◌, ◌++◌, length}
+use Rattle.sr_site.specs.Causes.{Rose}
+use Rattle.sr_site.specs.Seen.{Seen}
+use Rattle.sr_logfile.specs.Records.{framed_of}
+use Rattle.dbremote.specs.declared.item.Item.{Item}
+use Rattle.dbremote.specs.declared.fault.Fault.{Fault}
+use Rattle.dbremote.specs.declared.fault.Fault.TheVariants.{Words, Memory, Disk, Damaged, Source, TooLong, Script, Refused, Full, Sink}
+use Rattle.dbremote.specs.declared.statement.Statement.{Statement}
+use Rattle.dbremote.specs.declared.statement.Statement.TheVariants.{Commit}
+use Rattle.dbremote.specs.declared.stream.TheConstants.{LONGEST_SCRIPT}
+use Rattle.dbremote.specs.Entries.{own}
+use Rattle.dbremote.specs.Histories.{HasHistory, IsDamagedDatabase}
+use Rattle.dbremote.specs.Lines.{script, AreStatements}
+use Rattle.dbremote.specs.Runs.{FoundNoRoom}
+use Rattle.dbremote.specs.Runs.{Stream, Outside, HasRead, FoundAndHolds, HasWrongLine}
+use Rattle.dbremote.specs.Sessions.{IsRefused, SaidLines}
+use Rattle.dbremote.specs.Tables.{Rows, are_free}
+use Rattle.dbremote.specs.Transactions.{items_of, open_after, end_after, lines_of, lines_at}
+
+-- before the fault is told: it came before the first statement, and nothing was said
+pub record StopsEarly (old new : Outside) (kept : List ℕ) : Type 0 where
+  pub kept_is : kept ≡ []
+  pub history : IsTrue old.site.told → (base : ℕ) (txs : List (List Item)) → HasHistory base txs old.site.files.log0 → new.site.files ≡ old.site.files
+  pub silent : new.output ≡ old.output
+
+-- before the fault is told: it ended the statements, and the lines kept are not said yet
+pub record StopsLate (old new : Outside) (kept : List ℕ) (fault : Fault) : Type 0 where
+  pub done : List Statement
+  pub rest : List Statement
+  pub rows : Rows
+  pub end : ℕ
+  pub are_statements : AreStatements (done ++ rest)
+  pub read : IsTrue old.input.told → HasRead old.input new.input (script (done ++ rest))
+  pub free : are_free rows (items_of done) ≡ true
+  pub database : IsTrue old.site.told → FoundAndHolds old.site.files.log0 new.site.files.log0 rows end done fault
+  pub said : IsTrue old.output.told → SaidLines (lines_of end [] done) (lines_at end done rest) kept old.output.bytes new.output.bytes fault
+  pub told : new.output.told ≡ old.output.told
+  pub later : old.output.faults ≤ new.output.faults
+
+-- a statement was refused for its key
+pub record StopsAtKey (old new : Outside) (kept : List ℕ) (number : ℕ) (id : ℤ) : Type 0 where
+  pub stopped : StopsLate old new kept (Refused number id)
+  pub refused : IsRefused stopped.rows stopped.done stopped.rest number id
+
+-- a COMMIT found no room: `end` is the place in the file past its first closed gate, `need` the record's bytes; together they pass 960 MiB, or the
+-- offset passes 2^62
+pub record StopsAtRoom (old new : Outside) (kept : List ℕ) (end need : ℕ) : Type 0 where
+  pub stopped : StopsLate old new kept (Full end need)
+  pub after : List Statement
+  pub rest_is : stopped.rest ≡ Commit ∷ after
+  pub base : ℕ
+  pub base_is : (told : IsTrue old.site.told) → base ≡ (stopped.database told).found.base
+  pub need_is : need ≡ length (framed_of (own (open_after [] stopped.done)))
+  pub place_is : end ≡ 16 + (end_after stopped.end [] stopped.done - base) + 1
+  pub full : (1006632960 < end + need) ⊎ (2 ^ 62 < end_after stopped.end [] stopped.done + need)
+
+-- what is true of `sql` where a fault ended it, before the fault is told
+abbrev pub StopsSql : Outside → Outside → List ℕ → Fault → Type 0
+StopsSql old new kept Words = ⊥
+StopsSql old new kept Memory = StopsEarly old new kept ⊎ StopsLate old new kept Memory
+StopsSql old new kept Disk = (StopsEarly old new kept ⊎ StopsLate old new kept Disk) × Rose old.site.disk_faults new.site.disk_faults
+StopsSql old new kept (Damaged place) = StopsEarly old new kept × (IsTrue old.site.told → IsDamagedDatabase old.site.files.log0 place)
+StopsSql old new kept Source = StopsEarly old new kept × Rose old.input.faults new.input.faults
+StopsSql old new kept TooLong = StopsEarly old new kept × (IsTrue old.input.told → LONGEST_SCRIPT < length old.input.bytes)
+StopsSql old new kept (Script place) = StopsEarly old new kept × HasWrongLine old.input new.input place
+StopsSql old new kept (Refused number id) = StopsAtKey old new kept number id
+StopsSql old new kept (Full end need) = (StopsEarly old new kept × FoundNoRoom old.site end need) ⊎ StopsAtRoom old new kept end need
+StopsSql old new kept Sink = StopsLate old new kept Sink × Rose old.output.faults new.output.faults
+
+-- why a script does not begin
+abbrev pub BeginCause : Seen → Seen → Stream → Stream → Fault → Type 0
+BeginCause before now old new Memory = Unit {0}
+BeginCause before now old new Disk = Rose before.disk_faults now.disk_faults
+BeginCause before now old new (Damaged place) = IsTrue before.told → IsDamagedDatabase before.files.log0 place
+BeginCause before now old new Source = Rose old.faults new.faults
+BeginCause before now old new TooLong = IsTrue old.told → LONGEST_SCRIPT < length old.bytes
+BeginCause before now old new (Script place) = HasWrongLine old new place
+BeginCause before now old new (Full end need) = FoundNoRoom before end need
+BeginCause before now old new Words = ⊥
+BeginCause before now old new (Refused number id) = ⊥
+BeginCause before now old new Sink = ⊥
+
+-- why a database is not attached
+abbrev pub AttachCause : Seen → Seen → Fault → Type 0
+AttachCause before now Memory = Unit {0}
+AttachCause before now Disk = Rose before.disk_faults now.disk_faults
+AttachCause before now (Damaged place) = ⊥
+AttachCause before now Source = ⊥
+AttachCause before now TooLong = ⊥
+AttachCause before now (Script place) = ⊥
+AttachCause before now (Full end need) = ⊥
+AttachCause before now Words = ⊥
+AttachCause before now (Refused number id) = ⊥
+AttachCause before now Sink = ⊥
+
+-- the faults of the opening of a database, up to its end
+abbrev pub IsOfOpening : Fault → Type 0
+IsOfOpening Memory = Unit {0}
+IsOfOpening Disk = Unit {0}
+IsOfOpening (Damaged place) = Unit {0}
+IsOfOpening (Full end need) = Unit {0}
+IsOfOpening Words = ⊥
+IsOfOpening Source = ⊥
+IsOfOpening TooLong = ⊥
+IsOfOpening (Script place) = ⊥
+IsOfOpening (Refused number id) = ⊥
+IsOfOpening Sink = ⊥

@@ -1,0 +1,13 @@
+use Rattle.std.specs.Prelude.{ℕ, [], false}
+use Rattle.sr_site.specs.Seen.{Seen}
+
+-- what a site means that tells nothing of what it holds: its two counts of faults alone
+abbrev pub untold : ℕ → ℕ → Seen
+untold disk_faults mail_faults = record {
+  told = false;
+  files = record { root = []; log0 = []; log1 = []; snap0 = []; snap1 = [] };
+  calls = [];
+  mail = [];
+  disk_faults = disk_faults;
+  mail_faults = mail_faults;
+}

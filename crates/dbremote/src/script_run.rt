@@ -1,0 +1,53 @@
+ghost use Rattle.std.specs.Prelude.{◌≡◌, ◌+◌, ◌^◌, ◌≤◌, [], ◌∷◌, ◌++◌, ℕ, List, length, true, IsTrue, IfErr, OnOk};
+ghost use Rattle.sr_site.specs.Causes.{DiskStays};
+ghost use Rattle.sr_site.specs.Files.{OthersStay};
+ghost use Rattle.sr_site.specs.declared.file.File.TheVariants.{Log0 as log0};
+ghost use Rattle.sr_logfile.specs.Logs.{HasLog};
+ghost use Rattle.dbremote.specs.Lines.{script};
+ghost use Rattle.dbremote.specs.Sessions.{HoldsBeside, Stopped};
+ghost use Rattle.dbremote.specs.Tables.{are_free};
+ghost use Rattle.dbremote.specs.Transactions.{items_of, open_after, transactions, lines_of, last_line};
+
+use crate::fault::Fault;
+use crate::session::Session;
+use crate::statement::Statement;
+use crate::table::Table;
+use sr_logfile::LogFile;
+use sr_site::{Disk, Sink};
+use std::alloc::Global;
+use std::mem;
+
+/// Runs the statements on an opened database, to the last line. After a fault `kept` has the lines that were not written.
+pub fn run_script<S: Disk, O: Sink>(
+    alloc: Global,
+    site: &mut S,
+    output: &mut O,
+    table: Table,
+    log: LogFile,
+    statements: &[Statement],
+    kept: &mut Vec<u8>,
+) -> Result<(), Fault>
+    requires short { length (script statements.now) ≤ 2 ^ 26 }
+    requires usable { log.usable ≡ true }
+    requires file { log.file ≡ log0 }
+    requires log { IsTrue (S.seen site.old).told → HasLog log (S.seen site.old).files }
+    requires kept { kept.old.items ≡ [] }
+    ensures free { OnOk result (are_free table (items_of statements.now) ≡ true) }
+    ensures holds { IsTrue (S.seen site.old).told → OnOk result (HoldsBeside log (transactions [] statements.now) (S.seen site.old).files (S.seen site.new).files) }
+    ensures said { IsTrue (O.told output.old) → OnOk result (O.taken output.new ≡ O.taken output.old ++ lines_of log.end [] statements.now ++ last_line (open_after [] statements.now)) }
+    ensures others { IsTrue (S.seen site.old).told → OthersStay log0 (S.seen site.old).files (S.seen site.new).files }
+    ensures stays { DiskStays (S.seen site.old) (S.seen site.new) }
+    ensures told { O.told output.new ≡ O.told output.old }
+    ensures later { O.faults output.old ≤ O.faults output.new }
+    ensures stopped { IfErr result (Stopped table log kept.new.items statements.now (S.seen site.old) (S.seen site.new) (O.told output.old) (O.taken output.old) (O.taken output.new) (O.faults output.old) (O.faults output.new)) }
+{
+    let mut session = Session {
+        table,
+        log,
+        pending: Vec::new(alloc),
+        lines: Vec::new(alloc),
+    };
+    let outcome = session.run_to_end(alloc, site, output, statements);
+    mem::swap(kept, &mut session.lines);
+    outcome
+}

@@ -1,0 +1,193 @@
+use crate::damaged_log::{BYTES, LOG, STANDS};
+use crate::run::run;
+use sr_base::{NoMemory, Text};
+use sr_memsite::{MemoryDisk, MemorySink, MemorySite, MemorySource, SharedMail};
+use sr_site::File;
+use std::alloc::Global;
+use std::test::Fail;
+
+/// What a run over memory devices left.
+#[derive(Drop)]
+struct Outcome {
+    status: u8,
+    printed: Vec<u8>,
+    log: Vec<u8>,
+}
+
+/// Runs `sql c1` on a log, with the calls of these numbers made to fail.
+fn ran(alloc: Global, log: &[u8], script: &[u8], failing: &[u64]) -> Result<Outcome, NoMemory> {
+    let mut disk = MemoryDisk::new(alloc);
+    disk.set(File::Log0, Vec::from_slice(alloc, log)?);
+    let mut site = MemorySite::with(disk, SharedMail::new(alloc));
+    site.fail_calls(alloc, failing)?;
+    let mut input = MemorySource::new(Vec::from_slice(alloc, script)?);
+    let mut output = MemorySink::new(alloc);
+    let mut words = Vec::new(alloc);
+    words.push(Text::from_str(alloc, "sql")?)?;
+    words.push(Text::from_str(alloc, "c1")?)?;
+    let status = run(
+        alloc,
+        words.as_slice(),
+        &mut site,
+        &mut input,
+        &mut output,
+        0,
+    );
+    let printed = Vec::from_slice(alloc, output.bytes())?;
+    let (disk, _) = site.apart();
+    let log = Vec::from_slice(alloc, disk.bytes(File::Log0))?;
+    Ok(Outcome {
+        status,
+        printed,
+        log,
+    })
+}
+
+const FIRST_SCRIPT: &[u8] =
+    b"INSERT INTO t VALUES (1, 2147483647);\nCOMMIT;\nINSERT INTO t VALUES (1, 0);\nCOMMIT;\n";
+
+#[test]
+fn the_first_run(rt: HostRuntime) -> Result<(), Fail> {
+    let first = ran(rt.alloc(), &[], FIRST_SCRIPT, &[])?;
+    assert_eq!(rt; first.status, 4);
+    assert_eq!(rt;
+        first.printed.as_slice(),
+        b"1 rows\ncommitted 103\nstatement 3 refused: Duplicate (1)\n".as_slice()
+    );
+    assert_eq!(rt; first.log.as_slice(), LOG.as_slice());
+    Ok(())
+}
+
+#[test]
+fn an_empty_script_makes_the_log(rt: HostRuntime) -> Result<(), Fail> {
+    let empty = ran(rt.alloc(), &[], &[], &[])?;
+    assert_eq!(rt; empty.status, 0);
+    assert_eq!(rt; empty.printed.as_slice(), b"".as_slice());
+    assert_eq!(rt; empty.log.len(), 92);
+    assert_eq!(rt; &empty.log[..91], &LOG[..91]);
+    assert_eq!(rt; empty.log[91], 0);
+    Ok(())
+}
+
+#[test]
+fn the_second_run_goes_on(rt: HostRuntime) -> Result<(), Fail> {
+    let script =
+        b"INSERT INTO t VALUES (-5, -2147483648);\nINSERT INTO t VALUES (0, 0);\nCOMMIT;\nCOMMIT;\nINSERT INTO t VALUES (9, 9);\n";
+    let second = ran(rt.alloc(), &LOG, script, &[])?;
+    assert_eq!(rt; second.status, 0);
+    assert_eq!(rt;
+        second.printed.as_slice(),
+        b"1 rows\n1 rows\ncommitted 149\nnothing to commit\n1 rows\nrolled back\n".as_slice()
+    );
+    assert_eq!(rt; second.log.len(), 166);
+    Ok(())
+}
+
+#[test]
+fn a_disk_that_fails_ends_the_run(rt: HostRuntime) -> Result<(), Fail> {
+    // Naming the files is the first call of the site; the disk's own calls come after it.
+    for call in 2..16u64 {
+        let failed = ran(rt.alloc(), &[], FIRST_SCRIPT, &[call])?;
+        assert_eq!(rt; failed.status, 5, "call {call}");
+        assert!(rt; failed.printed.ends_with(b"disk fault\n"), "call {call}");
+    }
+    Ok(())
+}
+
+fn refusal(alloc: Global, place: u64) -> Result<String, NoMemory> {
+    if place == STANDS {
+        return Ok(String::new(alloc));
+    }
+    format!(in alloc; "database damaged log0 {place}\n")
+}
+
+/// Whether the run of an empty script on the log says that it stands, or that it is damaged at the place, and leaves it.
+fn is_found(alloc: Global, log: &[u8], place: u64) -> Result<bool, NoMemory> {
+    let run = ran(alloc, log, &[], &[])?;
+    let printed = refusal(alloc, place)?;
+    let status = if place == STANDS { 0 } else { 3 };
+    Ok(
+        run.status == status
+            && run.printed.as_slice() == printed.as_bytes()
+            && (place == STANDS || run.log.as_slice() == log),
+    )
+}
+
+#[test]
+fn each_changed_byte_is_found(rt: HostRuntime) -> Result<(), Fail> {
+    for (at, byte, place) in BYTES {
+        let mut log = LOG;
+        assert!(rt; at < 120);
+        log[at] = byte;
+        assert!(rt; is_found(rt.alloc(), &log, place)?, "byte {at} {byte}");
+    }
+    Ok(())
+}
+
+#[test]
+fn each_cut_is_found(rt: HostRuntime) -> Result<(), Fail> {
+    for length in 1..120usize {
+        let place = match length {
+            1..=16 => 0,
+            17..=91 => 16,
+            _ => 91,
+        };
+        assert!(rt;
+            is_found(rt.alloc(), &LOG[..length], place)?,
+            "cut {length}"
+        );
+    }
+    Ok(())
+}
+
+#[test]
+fn lengths_and_bases_have_limits(rt: HostRuntime) -> Result<(), Fail> {
+    for (at, bytes, place) in [
+        (17usize, [0u8, 0, 0, 0], 16u64),
+        (17, [255, 255, 255, 255], 16),
+        (17, [4, 0, 0, 1], 16),
+        (92, [0, 0, 0, 0], 91),
+        (92, [255, 255, 255, 255], 91),
+        (8, [64, 0, 0, 1], 0),
+        (8, [127, 255, 255, 255], 0),
+    ] {
+        let mut log = LOG;
+        for (i, byte) in bytes.iter().enumerate() {
+            assert!(rt; at + i < 120);
+            log[at + i] = *byte;
+        }
+        assert!(rt; is_found(rt.alloc(), &log, place)?, "bytes at {at}");
+    }
+    Ok(())
+}
+
+#[test]
+fn other_words_are_refused(rt: HostRuntime) -> Result<(), Fail> {
+    let alloc = rt.alloc();
+    for list in [
+        ["sql", ""].as_slice(),
+        ["sql"].as_slice(),
+        ["SQL", "c1"].as_slice(),
+        ["sql", "c1", "c2"].as_slice(),
+        [].as_slice(),
+    ] {
+        let mut words = Vec::new(alloc);
+        for word in list {
+            words.push(Text::from_str(alloc, word)?)?;
+        }
+        let mut site = MemorySite::new(alloc, SharedMail::new(alloc));
+        let mut input = MemorySource::new(Vec::new(alloc));
+        let mut output = MemorySink::new(alloc);
+        let status = run(
+            alloc,
+            words.as_slice(),
+            &mut site,
+            &mut input,
+            &mut output,
+            0,
+        );
+        assert_eq!(rt; status, 2);
+        assert_eq!(rt; output.bytes(), b"words refused\n".as_slice());
+    }
+    Ok(())
+}
