@@ -105,9 +105,9 @@ ends_told words old mid out kept Disk s later w = (
   s.1,
 )
 ends_told words old mid out kept (Damaged place) s later w = (early_told old mid out kept (Damaged place) s.0 w, s.1)
-ends_told words old mid out kept Source s later w = (early_told old mid out kept Source s.0 w, s.1)
-ends_told words old mid out kept TooLong s later w = (early_told old mid out kept TooLong s.0 w, s.1)
-ends_told words old mid out kept (Script place) s later w = (early_told old mid out kept (Script place) s.0 w, s.1)
+ends_told words old mid out kept Source s later w = (early_told old mid out kept Source s.0 w, s.1, s.2)
+ends_told words old mid out kept TooLong s later w = (early_told old mid out kept TooLong s.0 w, s.1, s.2)
+ends_told words old mid out kept (Script place) s later w = (early_told old mid out kept (Script place) s.0 w, s.1, s.2)
 ends_told words old mid out kept (Refused number id) s later w = record { stopped = late_told old mid out kept (Refused number id) s.stopped later w; refused = s.refused }
 ends_told words old mid out kept (Full end need) s later w = elim s [
   | inl early ↦ inl (early_told old mid out kept (Full end need) early.0 w, early.1)
@@ -177,9 +177,9 @@ pub stops_begin : (old new : Outside) (fault : Fault) → BeginCause old.site ne
 stops_begin old new Memory cause silent history = inl (record { kept_is = refl; history = history; silent = silent })
 stops_begin old new Disk cause silent history = (inl (record { kept_is = refl; history = history; silent = silent }), cause)
 stops_begin old new (Damaged place) cause silent history = (record { kept_is = refl; history = history; silent = silent }, cause)
-stops_begin old new Source cause silent history = (record { kept_is = refl; history = history; silent = silent }, cause)
-stops_begin old new TooLong cause silent history = (record { kept_is = refl; history = history; silent = silent }, cause)
-stops_begin old new (Script place) cause silent history = (record { kept_is = refl; history = history; silent = silent }, cause)
+stops_begin old new Source cause silent history = (record { kept_is = refl; history = history; silent = silent }, cause.0, cause.1)
+stops_begin old new TooLong cause silent history = (record { kept_is = refl; history = history; silent = silent }, cause.0, cause.1)
+stops_begin old new (Script place) cause silent history = (record { kept_is = refl; history = history; silent = silent }, cause.0, cause.1)
 stops_begin old new (Full end need) cause silent history = inl (record { kept_is = refl; history = history; silent = silent }, cause)
 stops_begin old new Words cause silent history = absurd cause
 stops_begin old new (Refused number id) cause silent history = absurd cause

@@ -1,5 +1,5 @@
 -- From the database that was opened, and what the statements left, to what a run found and left.
-use Rattle.std.proofs.Common.{◌≡◌, ◌⊎◌, ◌+◌, ◌^◌, ◌≤◌, ◌<◌, ◌*◌, ℕ, true, false, IsTrue, List, [], ◌++◌, length, length-append, map, ap, sym, ◌∙◌, subst, inl, inr, arith}
+use Rattle.std.proofs.Common.{refl, ◌≡◌, ◌⊎◌, ◌+◌, ◌^◌, ◌≤◌, ◌<◌, ◌*◌, ℕ, true, false, IsTrue, List, [], ◌++◌, length, length-append, map, ap, sym, ◌∙◌, subst, inl, inr, arith}
 use Rattle.sr_site.specs.Files.{Files, bytes_of}
 use Rattle.sr_site.specs.Seen.{Seen}
 use Rattle.sr_site.specs.declared.file.File.TheVariants.{Log0}
@@ -9,11 +9,19 @@ use Rattle.dbremote.specs.declared.item.Item.{Item}
 use Rattle.dbremote.specs.declared.fault.Fault.{Fault}
 use Rattle.dbremote.specs.declared.fault.Fault.TheVariants.{Words, Memory, Disk, Damaged, Source, TooLong, Script, Refused, Full, Sink}
 use Rattle.dbremote.specs.declared.statement.Statement.{Statement}
+use Rattle.dbremote.specs.declared.statement.ScriptFault.{ScriptFault}
+use Rattle.dbremote.specs.declared.statement.ScriptFault.TheVariants as script_fault
+use Rattle.dbremote.specs.declared.stream.InputFault.{InputFault}
+use Rattle.dbremote.specs.declared.stream.InputFault.TheVariants as source
+use Rattle.dbremote.specs.declared.stream.TheConstants.{LONGEST_SCRIPT}
 use Rattle.dbremote.specs.Entries.{own}
-use Rattle.dbremote.specs.Histories.{bodies_of, rows_of, AreLegal, HasHistory, IsOpened, IsDamagedDatabase}
+use Rattle.dbremote.specs.FaultsOfReading.{fault_of_input, fault_of_script}
+use Rattle.dbremote.specs.ScriptFaults.{IsScriptFault}
+use Rattle.dbremote.specs.Streams.{InputCause}
+use Rattle.dbremote.specs.Histories.{bodies_of, rows_of, AreLegal, HasHistory, StandsFor, IsOpened, IsDamagedDatabase}
 use Rattle.dbremote.specs.Openings.{OpenFault, IsBlankAtTheEnd}
 use Rattle.dbremote.specs.Lines.{script, AreStatements}
-use Rattle.dbremote.specs.Runs.{Stream, Outside, Found, FoundAndGoesOn, HoldsDone, HasRead, end_of}
+use Rattle.dbremote.specs.Runs.{FoundAndLeft, Stream, Outside, Found, FoundAndGoesOn, HoldsDone, HasRead, end_of}
 use Rattle.dbremote.specs.Sessions.{log_to, HoldsBeside, HoldsAfter, HasNoRoom, Stopped}
 use Rattle.dbremote.specs.Stops.{StopsLate, StopsSql, BeginCause}
 use Rattle.dbremote.specs.Tables.{Rows, are_free}
@@ -191,3 +199,33 @@ undamaged old mid same told damaged t place d =
 
 pub no_error : false ≡ true → ⊥
 no_error h = cc
+
+-- what was opened behind the attaching, and left so
+pub left_of : (old mid new : Seen) (table : Rows) (log : Log) → (IsTrue old.told → mid.files ≡ old.files) → mid.told ≡ old.told → log.file ≡ Log0
+    → (IsTrue mid.told → IsOpened mid.files new.files table log) → IsTrue old.told → FoundAndLeft old.files.log0 new.files.log0
+left_of old mid new table log same told file opened t =
+    let o = opened (subst IsTrue (sym told) t) in
+    record {
+      base = o.base;
+      txs = o.txs;
+      stood = subst (λ (f : Files). StandsFor o.base o.txs f.log0) (same t) o.stood;
+      stands = record {
+        spells =
+            subst (λ (n : ℕ). Spells n (bodies_of o.txs) new.files.log0) o.base_is
+            (subst (λ f. Spells log.base (bodies_of o.txs) (bytes_of new.files f)) file o.is_log.spells);
+        legal = o.legal;
+      };
+    }
+
+-- why a script was not read
+pub begin_read : (old new : Seen) (input input' : Stream) (fault : InputFault) → InputCause input.faults input'.faults fault
+    → (fault ≡ source.TooLong → IsTrue input.told → LONGEST_SCRIPT < length input.bytes) → (IsTrue old.told → FoundAndLeft old.files.log0 new.files.log0) → BeginCause old new input input' (fault_of_input fault)
+begin_read old new input input' source.Source cause long left = (cause, left)
+begin_read old new input input' source.TooLong cause long left = (long refl, left)
+begin_read old new input input' source.Memory cause long left = tt
+
+-- why it was refused
+pub begin_script : (old new : Seen) (input input' : Stream) (text : List ℕ) (fault : ScriptFault) → IsScriptFault text fault → (IsTrue input.told → HasRead input input' text)
+    → (IsTrue old.told → FoundAndLeft old.files.log0 new.files.log0) → BeginCause old new input input' (fault_of_script fault)
+begin_script old new input input' text (script_fault.Line place) refused read left = (record { text = text; read = read; refused = refused }, left)
+begin_script old new input input' text script_fault.Memory refused read left = tt

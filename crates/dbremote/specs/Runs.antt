@@ -66,6 +66,13 @@ pub record FoundAndGoesOn (old new : List ℕ) (rows : Rows) (end : ℕ) (more :
   pub found : Found old rows end
   pub stands : HasHistory found.base (found.txs ++ more) new
 
+-- the database that was found, and nothing behind it: where nothing was committed yet, the table's record alone
+pub record FoundAndLeft (old new : List ℕ) : Type 0 where
+  pub base : ℕ
+  pub txs : List (List Item)
+  pub stood : StandsFor base txs old
+  pub stands : HasHistory base txs new
+
 -- `sql` ran a script to its end: the script, the rows and the log's end before it, what was committed and what was said
 pub record RanScript (old new : Outside) : Type 0 where
   pub statements : List Statement
@@ -174,9 +181,9 @@ IsStopped words old new Words = (sql_name words ≡ None) × StoppedEarly old ne
 IsStopped words old new Memory = StoppedEarly old new Memory ⊎ StoppedLate old new Memory
 IsStopped words old new Disk = (StoppedEarly old new Disk ⊎ StoppedLate old new Disk) × Rose old.site.disk_faults new.site.disk_faults
 IsStopped words old new (Damaged place) = StoppedEarly old new (Damaged place) × (IsTrue old.site.told → IsDamagedDatabase old.site.files.log0 place)
-IsStopped words old new Source = StoppedEarly old new Source × Rose old.input.faults new.input.faults
-IsStopped words old new TooLong = StoppedEarly old new TooLong × (IsTrue old.input.told → LONGEST_SCRIPT < length old.input.bytes)
-IsStopped words old new (Script place) = StoppedEarly old new (Script place) × HasWrongLine old.input new.input place
+IsStopped words old new Source = StoppedEarly old new Source × Rose old.input.faults new.input.faults × (IsTrue old.site.told → FoundAndLeft old.site.files.log0 new.site.files.log0)
+IsStopped words old new TooLong = StoppedEarly old new TooLong × (IsTrue old.input.told → LONGEST_SCRIPT < length old.input.bytes) × (IsTrue old.site.told → FoundAndLeft old.site.files.log0 new.site.files.log0)
+IsStopped words old new (Script place) = StoppedEarly old new (Script place) × HasWrongLine old.input new.input place × (IsTrue old.site.told → FoundAndLeft old.site.files.log0 new.site.files.log0)
 IsStopped words old new (Refused number id) = RefusedKey old new number id
 IsStopped words old new (Full end need) = (StoppedEarly old new (Full end need) × FoundNoRoom old.site end need) ⊎ LacksRoomAt old new end need
 IsStopped words old new Sink = StoppedLate old new Sink × Rose old.output.faults new.output.faults

@@ -12,7 +12,7 @@ use Rattle.dbremote.specs.Entries.{own}
 use Rattle.dbremote.specs.Histories.{HasHistory, IsDamagedDatabase}
 use Rattle.dbremote.specs.Lines.{script, AreStatements}
 use Rattle.dbremote.specs.Runs.{FoundNoRoom}
-use Rattle.dbremote.specs.Runs.{Stream, Outside, HasRead, FoundAndHolds, HasWrongLine}
+use Rattle.dbremote.specs.Runs.{Stream, Outside, HasRead, FoundAndHolds, FoundAndLeft, HasWrongLine}
 use Rattle.dbremote.specs.Sessions.{IsRefused, SaidLines}
 use Rattle.dbremote.specs.Tables.{Rows, are_free}
 use Rattle.dbremote.specs.Transactions.{items_of, open_after, end_after, lines_of, lines_at}
@@ -60,9 +60,9 @@ StopsSql old new kept Words = ⊥
 StopsSql old new kept Memory = StopsEarly old new kept ⊎ StopsLate old new kept Memory
 StopsSql old new kept Disk = (StopsEarly old new kept ⊎ StopsLate old new kept Disk) × Rose old.site.disk_faults new.site.disk_faults
 StopsSql old new kept (Damaged place) = StopsEarly old new kept × (IsTrue old.site.told → IsDamagedDatabase old.site.files.log0 place)
-StopsSql old new kept Source = StopsEarly old new kept × Rose old.input.faults new.input.faults
-StopsSql old new kept TooLong = StopsEarly old new kept × (IsTrue old.input.told → LONGEST_SCRIPT < length old.input.bytes)
-StopsSql old new kept (Script place) = StopsEarly old new kept × HasWrongLine old.input new.input place
+StopsSql old new kept Source = StopsEarly old new kept × Rose old.input.faults new.input.faults × (IsTrue old.site.told → FoundAndLeft old.site.files.log0 new.site.files.log0)
+StopsSql old new kept TooLong = StopsEarly old new kept × (IsTrue old.input.told → LONGEST_SCRIPT < length old.input.bytes) × (IsTrue old.site.told → FoundAndLeft old.site.files.log0 new.site.files.log0)
+StopsSql old new kept (Script place) = StopsEarly old new kept × HasWrongLine old.input new.input place × (IsTrue old.site.told → FoundAndLeft old.site.files.log0 new.site.files.log0)
 StopsSql old new kept (Refused number id) = StopsAtKey old new kept number id
 StopsSql old new kept (Full end need) = (StopsEarly old new kept × FoundNoRoom old.site end need) ⊎ StopsAtRoom old new kept end need
 StopsSql old new kept Sink = StopsLate old new kept Sink × Rose old.output.faults new.output.faults
@@ -72,9 +72,9 @@ abbrev pub BeginCause : Seen → Seen → Stream → Stream → Fault → Type 0
 BeginCause before now old new Memory = Unit {0}
 BeginCause before now old new Disk = Rose before.disk_faults now.disk_faults
 BeginCause before now old new (Damaged place) = IsTrue before.told → IsDamagedDatabase before.files.log0 place
-BeginCause before now old new Source = Rose old.faults new.faults
-BeginCause before now old new TooLong = IsTrue old.told → LONGEST_SCRIPT < length old.bytes
-BeginCause before now old new (Script place) = HasWrongLine old new place
+BeginCause before now old new Source = Rose old.faults new.faults × (IsTrue before.told → FoundAndLeft before.files.log0 now.files.log0)
+BeginCause before now old new TooLong = (IsTrue old.told → LONGEST_SCRIPT < length old.bytes) × (IsTrue before.told → FoundAndLeft before.files.log0 now.files.log0)
+BeginCause before now old new (Script place) = HasWrongLine old new place × (IsTrue before.told → FoundAndLeft before.files.log0 now.files.log0)
 BeginCause before now old new (Full end need) = FoundNoRoom before end need
 BeginCause before now old new Words = ⊥
 BeginCause before now old new (Refused number id) = ⊥

@@ -1,6 +1,7 @@
+use Rattle.std.proofs.Common.{Err, ap, sym, ◌∙◌}
 use Rattle.std.proofs.lemmas.Result.{err_from_is_err_and}
 use Rattle.dbremote.specs.Runs.{stream}
-use Rattle.dbremote.proofs.Finding.{kept_on, begin_open, undamaged}
+use Rattle.dbremote.proofs.Finding.{kept_on, begin_open, undamaged, left_of, begin_read, begin_script}
 use Rattle.dbremote.proofs.beginning.begin.Goals as goal
 
 pub returns-in_err-table-clause-kept : goal.returns-in_err-table-clause-kept
@@ -37,3 +38,23 @@ returns-in_err-statements-clause-damaged g c = λ told place d.
 pub returns-clause-damaged : goal.returns-clause-damaged
 returns-clause-damaged g c = λ told place d.
     absurd (undamaged (g.S.Held.seen c.args.site.now) (g.S.Held.seen c.attach.new.site) c.in_ok-attach.ensures.files c.in_ok-attach.ensures.stays.told c.in_ok-table.ensures.damaged told place d)
+
+pub returns-in_err-text-clause-cause : goal.returns-in_err-text-clause-cause
+returns-in_err-text-clause-cause g c =
+    let seen = g.S.Held.seen in
+    let input = stream (g.I.Source.told c.args.input.now) (g.I.Source.left c.args.input.now) (g.I.Source.faults c.args.input.now) in
+    let input' = stream (g.I.Source.told c.read_all.new.source) (g.I.Source.left c.read_all.new.source) (g.I.Source.faults c.read_all.new.source) in
+    let p = err_from_is_err_and c.from_residual-in_err-text.result c.from_residual-in_err-text.ensures.1 in
+    rw (p.1, p.2) (begin_read (seen c.args.site.now) (seen c.open_database.new.site) input input' _ c.in_err-text.ensures.cause
+    (λ e t. c.in_err-text.ensures.long t (ap Err e))
+    (left_of (seen c.args.site.now) (seen c.attach.new.site) (seen c.open_database.new.site) c.in_ok-table.table c.in_ok-table.log c.in_ok-attach.ensures.files c.in_ok-attach.ensures.stays.told c.in_ok-table.ensures.usable.1 c.in_ok-table.ensures.opened))
+
+pub returns-in_err-statements-clause-cause : goal.returns-in_err-statements-clause-cause
+returns-in_err-statements-clause-cause g c =
+    let seen = g.S.Held.seen in
+    let input = stream (g.I.Source.told c.args.input.now) (g.I.Source.left c.args.input.now) (g.I.Source.faults c.args.input.now) in
+    let input' = stream (g.I.Source.told c.read_all.new.source) (g.I.Source.left c.read_all.new.source) (g.I.Source.faults c.read_all.new.source) in
+    let p = err_from_is_err_and c.from_residual-in_err-statements.result c.from_residual-in_err-statements.ensures.1 in
+    rw (p.1, p.2) (begin_script (seen c.args.site.now) (seen c.open_database.new.site) input input' c.as_slice.result.now _ c.in_err-statements.ensures.refused
+    (λ t. let all = c.in_ok-text.ensures.all t in record { was = all.0 ∙ sym c.as_slice.ensures.value; left = all.1 })
+    (left_of (seen c.args.site.now) (seen c.attach.new.site) (seen c.open_database.new.site) c.in_ok-table.table c.in_ok-table.log c.in_ok-attach.ensures.files c.in_ok-attach.ensures.stays.told c.in_ok-table.ensures.usable.1 c.in_ok-table.ensures.opened))

@@ -1,8 +1,10 @@
-use Rattle.std.proofs.Common.{IsTrue, List, length, ap, sym, subst, refl, arith}
+use Rattle.std.proofs.Common.{ℕ, IsTrue, List, length, ap, sym, subst, refl, arith}
 use Rattle.std.proofs.lemmas.Result.{err_from_is_err_and}
 use Rattle.dbremote.specs.declared.statement.Statement.{Statement}
 use Rattle.dbremote.specs.Lines.{script, AreStatements}
 use Rattle.dbremote.specs.Runs.{Outside, HasRead, outside}
+use Rattle.dbremote.specs.Stops.{StopsSql}
+use Rattle.dbremote.proofs.Ending.{stops_begin}
 use Rattle.dbremote.proofs.Finding.{stops_late, goes_on_of, no_error}
 use Rattle.dbremote.proofs.run.sql.Goals as goal
 
@@ -49,3 +51,11 @@ returns-in_err-beginning-clause-damaged g c =
 
 pub returns-in_err-run_script-clause-damaged : goal.returns-in_err-run_script-clause-damaged
 returns-in_err-run_script-clause-damaged g c = λ told place d. absurd (no_error (c.in_ok-beginning.ensures.damaged told place d).0)
+
+pub returns-in_err-beginning-clause-stopped : goal.returns-in_err-beginning-clause-stopped
+returns-in_err-beginning-clause-stopped g c =
+    let seen = g.S.Held.seen in
+    let old : Outside = outside (seen c.args.site.now) (g.I.Source.told c.args.input.now) (g.I.Source.left c.args.input.now) (g.I.Source.faults c.args.input.now) (g.O.Sink.told c.args.output.now) (g.O.Sink.taken c.args.output.now) (g.O.Sink.faults c.args.output.now) in
+    let new : Outside = outside (seen c.begin.new.site) (g.I.Source.told c.begin.new.input) (g.I.Source.left c.begin.new.input) (g.I.Source.faults c.begin.new.input) (g.O.Sink.told c.args.output.now) (g.O.Sink.taken c.args.output.now) (g.O.Sink.faults c.args.output.now) in
+    let p = err_from_is_err_and c.from_residual.result c.from_residual.ensures.1 in
+    rw (p.1, p.2) (subst (λ (kept : List ℕ). StopsSql old new kept c.in_err-beginning.field-0.0) (sym c.requires.kept) (stops_begin old new c.in_err-beginning.field-0.0 c.in_err-beginning.ensures.cause refl c.in_err-beginning.ensures.kept))
