@@ -1,3 +1,0 @@
-pub mod Prints
-pub mod Sizes
-pub mod Utf8
