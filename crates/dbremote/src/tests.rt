@@ -1,4 +1,4 @@
-use crate::damaged_log::{BYTES, LOG, STANDS};
+use crate::damaged_log::{LOG, STANDS, place_of_change};
 use crate::run::run;
 use sr_base::{NoMemory, Text};
 use sr_memsite::{MemoryDisk, MemorySink, MemorySite, MemorySource, SharedMail};
@@ -113,13 +113,30 @@ fn is_found(alloc: Global, log: &[u8], place: u64) -> Result<bool, NoMemory> {
     )
 }
 
+/// Whether the log is found as it must be with this byte at a place below its end.
+fn is_change_found(alloc: Global, at: usize, byte: u8) -> Result<bool, NoMemory> {
+    let mut log = LOG;
+    if at >= 120 {
+        return Ok(false);
+    }
+    let place = if log[at] == byte {
+        STANDS
+    } else {
+        place_of_change(at, byte)
+    };
+    log[at] = byte;
+    is_found(alloc, &log, place)
+}
+
 #[test]
 fn each_changed_byte_is_found(rt: HostRuntime) -> Result<(), Fail> {
-    for (at, byte, place) in BYTES {
-        let mut log = LOG;
-        assert!(rt; at < 120);
-        log[at] = byte;
-        assert!(rt; is_found(rt.alloc(), &log, place)?, "byte {at} {byte}");
+    let alloc = rt.alloc();
+    for at in 0..120usize {
+        let byte = LOG[at];
+        assert!(rt; is_change_found(alloc, at, byte ^ 1)?, "byte {at}");
+        assert!(rt; is_change_found(alloc, at, byte ^ 128)?, "byte {at}");
+        assert!(rt; is_change_found(alloc, at, 0)?, "byte {at}");
+        assert!(rt; is_change_found(alloc, at, 255)?, "byte {at}");
     }
     Ok(())
 }
