@@ -1,4 +1,5 @@
 pub mod Entries
 pub mod Gathering
 pub mod Keeping
+pub mod Listing
 pub mod Walking

@@ -1,3 +1,4 @@
 pub mod Gathered
 pub mod Marks
 pub mod Undoing
+pub mod Walks

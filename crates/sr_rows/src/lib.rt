@@ -4,6 +4,7 @@
 //! is taken. So a row that is taken leaves its empty place in the map until the next `mark`.
 #![tactic(auto)]
 
+mod laws;
 mod rows;
 mod table;
 mod tables;
@@ -11,4 +12,5 @@ mod tables;
 mod tests;
 mod undo;
 
+pub use laws::a_table_is_walked_in_the_order_of_its_keys;
 pub use rows::Rows;

@@ -1,8 +1,9 @@
-ghost use Rattle.std.specs.Prelude.{◌≡◌, is_some, IfOk, OnOk, OnErr, MatchOption};
+ghost use Rattle.std.specs.Prelude.{◌≡◌, ◌∷◌, [], is_some, IfOk, OnOk, OnErr, MatchOption};
 ghost use Rattle.std.specs.Option.{option_copied};
 ghost use Rattle.std.specs.FinMap as map;
 ghost use Rattle.sr_rows.specs.Gathered.{gathered, filled, row_of};
 ghost use Rattle.sr_rows.specs.Marks.{rows_of_table, IsNext, IsLast};
+ghost use Rattle.sr_rows.specs.Walks.{table_rows, past};
 
 use crate::tables::{Tables, insert_at, place_at, remove_at, set_at};
 use crate::undo::{Undo, note_change, take_back, undo_of};
@@ -59,9 +60,12 @@ impl Rows {
     }
 
     /// Of the rows of a table whose keys come after a key, the one with the least key, with that key. All keys come after `None`.
+    /// So going on from `None`, each time after the key before, lists the rows of the table in the order of their keys.
     pub fn next(&self, table: &Name, after: Option<&Key>) -> Option<(&Key, &Row)>
         ensures next { MatchOption result (IsLast (rows_of_table self.now.rows table.now) (option_copied after.entry))
             (λ x. IsNext (rows_of_table self.now.rows table.now) (option_copied after.entry) x.0.now x.1.now) }
+        ensures walk { MatchOption result (past (option_copied after.entry) (table_rows self.now.rows table.now) ≡ [])
+            (λ x. past (option_copied after.entry) (table_rows self.now.rows table.now) ≡ (x.0.now, x.1.now) ∷ past (Some x.0.now) (table_rows self.now.rows table.now)) }
     {
         let held = self.tables.get(table)?;
         held.next(after)
