@@ -1,0 +1,3 @@
+pub mod Prints
+pub mod Sizes
+pub mod Utf8

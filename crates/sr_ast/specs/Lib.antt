@@ -1,0 +1,11 @@
+pub mod ActionFalls
+pub mod Actions
+pub mod Chains
+pub mod Classes
+pub mod Exprs
+pub mod Falls
+pub mod Layout
+pub mod Pages
+pub mod Printing
+pub mod Statements
+pub mod Terms

@@ -1,0 +1,4 @@
+pub mod Listings
+pub mod Meant
+pub mod Readings
+pub mod Tabling

@@ -1,0 +1,19 @@
+use Rattle.std.proofs.Common.{◌+◌, ◌*◌, ◌≤◌, length}
+use Rattle.sr_parse.specs.Triggers.{Acts}
+use Rattle.sr_parse.specs.Triggers.Amount.{many}
+use Rattle.sr_parse.proofs.acting.+acting.Given as goal
+
+abbrev pub decreases-actions : goal.decreases-actions
+decreases-actions l = 2 * l.ifs + 1
+
+abbrev pub decreases-action : goal.decreases-action
+decreases-action l = 2 * l.ifs
+
+abbrev pub invariant-actions-more : goal.invariant-actions-more
+invariant-actions-more l = record {
+  so_far : Acts many l.ifs l.fn.reader l.actions.items l.reader;
+  less : length l.reader ≤ length l.fn.reader;
+}
+
+abbrev pub decreases-actions-more : goal.decreases-actions-more
+decreases-actions-more l = length l.reader

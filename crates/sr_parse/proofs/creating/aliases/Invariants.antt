@@ -1,0 +1,13 @@
+use Rattle.std.proofs.Common.{◌≤◌, length}
+use Rattle.sr_parse.specs.Listing.{Row}
+use Rattle.sr_parse.specs.Triggers.{IsAlias}
+use Rattle.sr_parse.proofs.creating.aliases.Given as goal
+
+abbrev pub invariant-more : goal.invariant-more
+invariant-more l = record {
+  so_far : Row IsAlias l.fn.reader l.aliases.items l.reader;
+  less : length l.reader ≤ length l.fn.reader;
+}
+
+abbrev pub decreases-more : goal.decreases-more
+decreases-more l = length l.reader

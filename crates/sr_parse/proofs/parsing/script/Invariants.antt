@@ -1,0 +1,13 @@
+use Rattle.std.proofs.Common.{◌≤◌, length}
+use Rattle.sr_parse.specs.Scripts.{Pieces}
+use Rattle.sr_parse.specs.Scripts.Stage.{opened}
+use Rattle.sr_parse.proofs.parsing.script.Given as goal
+
+abbrev pub invariant-statements : goal.invariant-statements
+invariant-statements l = record {
+  so_far : Pieces opened l.fn.reader l.script.items l.reader;
+  less : length l.reader ≤ length l.fn.reader;
+}
+
+abbrev pub decreases-statements : goal.decreases-statements
+decreases-statements l = length l.reader

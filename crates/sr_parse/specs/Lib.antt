@@ -1,0 +1,12 @@
+pub mod Catalog
+pub mod Expressions
+pub mod Levels
+pub mod Listing
+pub mod Literals
+pub mod Meanings
+pub mod Places
+pub mod Scripts
+pub mod Symbols
+pub mod Tables
+pub mod Triggers
+pub mod Writing

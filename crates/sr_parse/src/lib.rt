@@ -1,0 +1,21 @@
+//! Scripts read as statements: tokens become symbols, and one function per production reads them.
+//!
+//! It stands on sr_lex and sr_ast. The contract that matters most is that of `parse`: the script that it answers is one that the
+//! text spells, by a grammar that is a relation between symbols and statements (`specs/Scripts.antt` and the files that it names).
+//! It always returns, whatever the text and however deep it nests, and a refusal stands where no token begins, or at a token, or at
+//! the end. That every script of the grammar is read, and that a refusal stands at the first token with which no script goes on, is
+//! tested and not proved.
+#![tactic(auto)]
+
+mod acting;
+mod creating;
+mod exprs;
+mod keyword;
+mod parsing;
+mod querying;
+mod reader;
+mod symbol;
+#[cfg(test)]
+mod tests;
+
+pub use parsing::{ParseFault, parse};

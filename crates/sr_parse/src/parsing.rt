@@ -1,0 +1,214 @@
+ghost use Rattle.std.specs.Prelude.{◌≡◌, ◌+◌, ◌-◌, ◌*◌, ◌<◌, ◌≤◌, ◌↔◌, length, OnOk, IfOk, IsSome, IsTrue, OnSome, ℕ, map, ◌⊎◌, Contains, reverse};
+ghost use Rattle.sr_parse.specs.Places.{IsPlace, IsRefusedAt};
+ghost use Rattle.sr_parse.specs.Meanings.{AreSymbols, Spells, IsWritten};
+ghost use Rattle.sr_parse.specs.Scripts.{IsStatement, IsScript, IsPiece, IsWork};
+
+use crate::creating::{create, drop_statement, grant, subscription};
+use crate::keyword::Keyword;
+use crate::querying::{delete, insert, passthrough, select, update};
+use crate::reader::{Broken, Reader};
+use crate::symbol::{Sign, Symbol, symbol_of};
+use sr_ast::{Dml, Script, Stmt};
+use sr_base::{Seq, Text};
+use sr_lex::{LexFault, Token, lex};
+use std::alloc::{AllocError, AllocFailed, Global};
+
+/// Why a text is no script.
+#[derive(Drop)]
+pub enum ParseFault {
+    /// No script goes on with the token at this byte, or it may not end at the text's length. A fault of the tokens comes first.
+    Refused { at: usize },
+    /// There is no memory for the statements.
+    Memory,
+}
+
+impl From<AllocError> for ParseFault {
+    ghost use Rattle.std.specs.Prelude.{◌≡◌};
+    ghost use Rattle.sr_parse.specs.declared.parsing.ParseFault.TheVariants.{Memory};
+
+    ghost from_gives = { λ _ e. e ≡ Memory };
+
+    fn from(_refused: AllocError) -> ParseFault {
+        ParseFault::Memory
+    }
+}
+
+impl<T: Drop> From<AllocFailed<T>> for ParseFault {
+    ghost use Rattle.std.specs.Prelude.{◌≡◌};
+    ghost use Rattle.sr_parse.specs.declared.parsing.ParseFault.TheVariants.{Memory};
+
+    ghost from_gives = { λ _ e. e ≡ Memory };
+
+    fn from(_refused: AllocFailed<T>) -> ParseFault {
+        ParseFault::Memory
+    }
+}
+
+/// The statements of a script, each in its normal form.
+///
+/// Names and key words are read without regard to the case of ASCII letters. `Refused { at }` is the place where `lex` refuses the
+/// text; else the first byte of the first token with which no script goes on, or the text's length at its end.
+pub fn parse(alloc: Global, text: &Text) -> Result<Script, ParseFault>
+    // The text spells the script that is answered.
+    ensures sound { IfOk result (λ script. IsWritten text.now script) }
+    // A refusal stands where no token begins, or at a token, or at the end.
+    ensures refused { (at : ℕ) → result ≡ Err (ParseFault.Refused at) → IsRefusedAt text.now at }
+{
+    match lex(alloc, text) {
+        Ok(tokens) => parse_tokens(alloc, text, tokens),
+        Err(LexFault::NoToken { at }) => Err(ParseFault::Refused { at }),
+        Err(LexFault::Memory) => Err(ParseFault::Memory),
+    }
+}
+
+fn parse_tokens(alloc: Global, text: &Text, tokens: Vec<Token>) -> Result<Script, ParseFault>
+    ensures sound { IfOk result (λ script. Spells text.now tokens.items script) }
+    ensures refused { (at : ℕ) → result ≡ Err (ParseFault.Refused at) → IsPlace text.now tokens.items at }
+{
+    let starts = starts(alloc, tokens.as_slice())?;
+    let symbols = match symbols(alloc, text.bytes(), tokens) {
+        Ok(symbols) => symbols,
+        Err(_) => return Err(ParseFault::Memory),
+    };
+    let mut reader = Reader::new(alloc, symbols);
+    match script(&mut reader) {
+        Ok(script) => Ok(script),
+        Err(Broken::Memory) => Err(ParseFault::Memory),
+        Err(Broken::Refused) => Err(ParseFault::Refused {
+            at: place(starts.as_slice(), reader.left(), text.bytes().len()),
+        }),
+    }
+}
+
+/// What the tokens mean, the last one first.
+fn symbols(alloc: Global, text: &[u8], tokens: Vec<Token>) -> Result<Vec<Symbol>, Broken>
+    ensures found { IfOk result (λ symbols. AreSymbols text.now tokens.items (reverse symbols.items)) }
+{
+    let mut left = tokens;
+    let mut symbols = Vec::new(alloc);
+    'tokens: while let Some(token) = left.pop() {
+        let symbol = symbol_of(alloc, text, token)?;
+        symbols.push(symbol)?;
+    }
+    Ok(symbols)
+}
+
+fn starts(alloc: Global, tokens: &[Token]) -> Result<Vec<usize>, AllocError>
+    ensures starts { IfOk result (λ starts. starts.items ≡ map (λ t. t.start) tokens.now) }
+{
+    tokens.iter().map(|token| token.start).collect(alloc)
+}
+
+/// The first byte of the token with which so many are left, or the end.
+fn place(starts: &[usize], left: usize, end: usize) -> usize
+    ensures place { (result ≡ end) ⊎ Contains starts.now result }
+{
+    match starts.get(starts.len().saturating_sub(left)) {
+        Some(start) => *start,
+        None => end,
+    }
+}
+
+fn script(reader: &mut Reader) -> Result<Script, Broken>
+    ensures found { IfOk result (λ script. IsScript reader.old script) }
+    ensures shorter { length reader.new ≤ length reader.old }
+{
+    let mut script = Vec::new(reader.alloc());
+    'statements: loop {
+        piece(reader, &mut script)?;
+        if !reader.takes_sign(Sign::Semicolon) {
+            if reader.left() > 0 {
+                return Err(Broken::Refused);
+            }
+            return Ok(Seq::from_vec(script));
+        }
+    }
+}
+
+/// A statement, or nothing before a `;` and at the end.
+fn piece(reader: &mut Reader, script: &mut Vec<Stmt>) -> Result<(), Broken>
+    ensures found { OnOk result (IsPiece reader.old script.old.items script.new.items reader.new) }
+    ensures shorter { length reader.new ≤ length reader.old }
+{
+    if reader.left() == 0 || reader.is_sign(Sign::Semicolon) {
+        return Ok(());
+    }
+    let stmt = statement(reader)?;
+    script.push(stmt)?;
+    Ok(())
+}
+
+fn statement(reader: &mut Reader) -> Result<Stmt, Broken>
+    ensures found { IfOk result (λ stmt. IsStatement reader.old stmt reader.new) }
+    ensures shorter { length reader.new ≤ length reader.old }
+    ensures progress { OnOk result (length reader.new < length reader.old) }
+{
+    if reader.takes(Keyword::Insert) {
+        let insert = insert(reader)?;
+        return Ok(Stmt::Dml(Dml::Insert(insert)));
+    }
+    if reader.takes(Keyword::Update) {
+        let update = update(reader)?;
+        return Ok(Stmt::Dml(Dml::Update(update)));
+    }
+    if reader.takes(Keyword::Delete) {
+        let delete = delete(reader)?;
+        return Ok(Stmt::Dml(Dml::Delete(delete)));
+    }
+    if reader.takes(Keyword::Select) {
+        let select = select(reader)?;
+        return Ok(Stmt::Select(select));
+    }
+    if reader.takes(Keyword::Commit) {
+        work(reader);
+        return Ok(Stmt::Commit);
+    }
+    if reader.takes(Keyword::Rollback) {
+        work(reader);
+        return Ok(Stmt::Rollback);
+    }
+    if reader.takes(Keyword::Passthrough) {
+        let stmt = passthrough(reader)?;
+        return Ok(stmt);
+    }
+    let stmt = definition(reader)?;
+    Ok(stmt)
+}
+
+/// `[WORK]`
+fn work(reader: &mut Reader)
+    ensures found { IsWork reader.old reader.new }
+    ensures shorter { length reader.new ≤ length reader.old }
+{
+    let _ = reader.takes(Keyword::Work);
+}
+
+fn definition(reader: &mut Reader) -> Result<Stmt, Broken>
+    ensures found { IfOk result (λ stmt. IsStatement reader.old stmt reader.new) }
+    ensures shorter { length reader.new ≤ length reader.old }
+    ensures progress { OnOk result (length reader.new < length reader.old) }
+{
+    if reader.takes(Keyword::Create) {
+        let stmt = create(reader)?;
+        return Ok(stmt);
+    }
+    if reader.takes(Keyword::Drop) {
+        let stmt = drop_statement(reader)?;
+        return Ok(stmt);
+    }
+    if reader.takes(Keyword::Grant) {
+        let stmt = grant(reader)?;
+        return Ok(stmt);
+    }
+    if reader.takes(Keyword::Start) {
+        let rule = subscription(reader)?;
+        return Ok(Stmt::StartSubscription(rule));
+    }
+    if reader.takes(Keyword::Stop) {
+        let rule = subscription(reader)?;
+        return Ok(Stmt::StopSubscription(rule));
+    }
+    reader.keyword(Keyword::Synchronize)?;
+    let rule = subscription(reader)?;
+    Ok(Stmt::Synchronize(rule))
+}
