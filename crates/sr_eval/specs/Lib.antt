@@ -1,0 +1,7 @@
+pub mod Bounds
+pub mod Comparisons
+pub mod Laws
+pub mod Meanings
+pub mod Numbers
+pub mod Truths
+pub mod Worths

@@ -1,0 +1,23 @@
+//! The meaning of expressions over a row: values, truths of three values, and numbers that pass their type's end.
+//!
+//! It stands on sr_base and sr_ast. An expression is evaluated where the values lie; only the answer of `eval` is copied. The contracts
+//! that matter most are those of `eval` and `holds`.
+#![tactic(auto)]
+
+mod comparison;
+mod evaluation;
+mod fault;
+mod laws;
+mod meaning;
+mod number;
+#[cfg(test)]
+mod tests;
+mod truth;
+mod worth;
+
+pub use evaluation::{Bound, eval, holds, holds_plain};
+pub use fault::EvalFault;
+pub use laws::{
+    a_value_is_of_its_class, and_holds_where_both_hold, null_equals_nothing,
+    without_arithmetic_there_is_a_value,
+};

@@ -1,0 +1,141 @@
+ghost use Rattle.std.specs.Prelude.{◌≡◌, bytes_eq};
+ghost use Rattle.std.specs.Option.{option_map};
+ghost use Rattle.sr_ast.specs.Exprs.{term_of};
+ghost use Rattle.sr_ast.specs.Classes.{is_meant};
+ghost use Rattle.sr_eval.specs.Meanings.{meaning, unary_meaning, binary_meaning, cell_of, value_at};
+ghost use Rattle.sr_eval.specs.Meanings.Meaning.{value as a_value, truth as a_truth};
+ghost use Rattle.sr_eval.specs.Comparisons.{comparison, test_of};
+ghost use Rattle.sr_eval.specs.Numbers.{arithmetic, function_of};
+ghost use Rattle.sr_eval.specs.Worths.{meant};
+
+use crate::comparison::{Sign, comparison, is_null};
+use crate::number::{Arithmetic, calculated, negated};
+use crate::truth::Truth;
+use crate::worth::Worth;
+use sr_ast::{Binary, Expr, Operand, Unary};
+use sr_base::{Kind, Name, Value};
+
+/// What the expression gives over these columns and their values. `None` where a number passes the end of its type.
+#[cycle(meaning)]
+pub fn meaning<'a>(
+    expr: &'a Expr,
+    columns: &[(Option<Name>, Name, Kind)],
+    values: &'a [Value],
+) -> Option<Worth<'a>>
+    ensures meaning { option_map meant result ≡ meaning columns.now values.now (term_of expr.now) }
+{
+    match expr {
+        Expr::Literal(value) => Some(Worth::Held(value)),
+        Expr::Column(table, name) => Some(column_worth(columns, values, table, name)),
+        Expr::Unary(operator, operand) => {
+            let operand = operand_meaning(operand, columns, values)?;
+            unary_worth(*operator, operand)
+        }
+        Expr::Binary(operator, left, right) => {
+            let left = operand_meaning(left, columns, values)?;
+            let right = operand_meaning(right, columns, values)?;
+            binary_worth(*operator, left, right)
+        }
+    }
+}
+
+#[cycle(meaning)]
+fn operand_meaning<'a>(
+    operand: &'a Operand,
+    columns: &[(Option<Name>, Name, Kind)],
+    values: &'a [Value],
+) -> Option<Worth<'a>>
+    ensures meaning { option_map meant result ≡ meaning columns.now values.now operand.now }
+{
+    meaning(operand.expr(), columns, values)
+}
+
+/// The value of the first column that a name means: one pass over the columns.
+fn column_worth<'a>(
+    columns: &[(Option<Name>, Name, Kind)],
+    values: &'a [Value],
+    table: &Option<Name>,
+    name: &Name,
+) -> Worth<'a>
+    ensures { meant result ≡ a_value (value_at columns.now values.now table.now name.now) }
+{
+    let mut columns_left = columns;
+    let mut values_left = values;
+    'columns: while let Some((column, columns_after)) = columns_left.split_first() {
+        let Some((value, values_after)) = values_left.split_first() else {
+            return Worth::Made(Value::Null);
+        };
+        if is_meant(&column.0, &column.1, table, name) {
+            return Worth::Held(value);
+        }
+        columns_left = columns_after;
+        values_left = values_after;
+    }
+    Worth::Made(Value::Null)
+}
+
+fn is_meant(alias: &Option<Name>, column: &Name, table: &Option<Name>, name: &Name) -> bool
+    ensures { result ≡ is_meant alias.now column.now table.now name.now }
+{
+    if !is_same(column, name) {
+        return false;
+    }
+    match table {
+        None => true,
+        Some(table) => match alias {
+            None => false,
+            Some(alias) => is_same(alias, table),
+        },
+    }
+}
+
+fn is_same(left: &Name, right: &Name) -> bool
+    ensures { result ≡ bytes_eq left.now right.now }
+{
+    left.bytes() == right.bytes()
+}
+
+fn unary_worth<'a>(operator: Unary, operand: Worth<'a>) -> Option<Worth<'a>>
+    ensures { option_map meant result ≡ unary_meaning operator (meant operand.entry) }
+{
+    let null = Value::Null;
+    match operator {
+        Unary::Not => Some(Worth::Judged(operand.truth().negation())),
+        Unary::IsNull => Some(Worth::Judged(Truth::known(is_null(operand.cell(&null))))),
+        Unary::IsNotNull => Some(Worth::Judged(Truth::known(!is_null(operand.cell(&null))))),
+        Unary::Negate => Some(Worth::Made(negated(operand.cell(&null))?)),
+    }
+}
+
+fn binary_worth<'a>(operator: Binary, left: Worth<'a>, right: Worth<'a>) -> Option<Worth<'a>>
+    ensures { option_map meant result ≡ binary_meaning operator (meant left.entry) (meant right.entry) }
+{
+    match operator {
+        Binary::Or => Some(Worth::Judged(left.truth().or(right.truth()))),
+        Binary::And => Some(Worth::Judged(left.truth().and(right.truth()))),
+        Binary::Equal => Some(compared(Sign::Equal, left, right)),
+        Binary::Unequal => Some(compared(Sign::Unequal, left, right)),
+        Binary::Less => Some(compared(Sign::Less, left, right)),
+        Binary::AtMost => Some(compared(Sign::AtMost, left, right)),
+        Binary::Greater => Some(compared(Sign::Greater, left, right)),
+        Binary::AtLeast => Some(compared(Sign::AtLeast, left, right)),
+        Binary::Add => made(Arithmetic::Add, left, right),
+        Binary::Subtract => made(Arithmetic::Subtract, left, right),
+        Binary::Multiply => made(Arithmetic::Multiply, left, right),
+    }
+}
+
+fn compared<'a>(sign: Sign, left: Worth<'a>, right: Worth<'a>) -> Worth<'a>
+    ensures { meant result ≡ a_truth (comparison (test_of sign) (cell_of (meant left.entry)) (cell_of (meant right.entry))) }
+{
+    let null = Value::Null;
+    Worth::Judged(comparison(sign, left.cell(&null), right.cell(&null)))
+}
+
+fn made<'a>(operator: Arithmetic, left: Worth<'a>, right: Worth<'a>) -> Option<Worth<'a>>
+    ensures { option_map meant result ≡ option_map a_value (arithmetic (function_of operator) (cell_of (meant left.entry)) (cell_of (meant right.entry))) }
+{
+    let null = Value::Null;
+    let number = calculated(operator, left.cell(&null), right.cell(&null))?;
+    Some(Worth::Made(number))
+}
