@@ -1,0 +1,12 @@
+pub mod Digits
+pub mod Legal
+pub mod Gathering
+pub mod Own
+pub mod Sendings
+pub mod ReadFaults
+pub mod Taking
+pub mod TakingAll
+pub mod Looks
+pub mod Receives
+pub mod Stops
+pub mod Folders

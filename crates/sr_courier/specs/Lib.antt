@@ -1,0 +1,12 @@
+pub mod AtHand
+pub mod FaultsBelow
+pub mod Finds
+pub mod Looking
+pub mod Parcels
+pub mod Passes
+pub mod Posting
+pub mod Reading
+pub mod ReceivePass
+pub mod Receiving
+pub mod Sending
+pub mod Unsent
