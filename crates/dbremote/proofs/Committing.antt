@@ -8,9 +8,9 @@ use Rattle.sr_logfile.specs.Faults.{CommitCause}
 use Rattle.sr_logfile.specs.Log.{Log}
 use Rattle.sr_logfile.specs.Logs.{IsLog, IsFull}
 use Rattle.sr_logfile.specs.Records.{Spells, framed_of, body_of, IsFramed}
-use Rattle.dbremote.specs.declared.item.Item.{Item}
+use Rattle.sr_exchange.specs.declared.item.Item.{Item}
 use Rattle.dbremote.specs.declared.session.Session.{Session}
-use Rattle.dbremote.specs.Entries.{own}
+use Rattle.sr_exchange.specs.Entries.{own}
 use Rattle.dbremote.specs.FaultsOfLogs.{fault_of}
 use Rattle.dbremote.specs.Sessions.{Appended, StandsAlone, CommitFault}
 use Rattle.dbremote.specs.Transactions.{committed}

@@ -1,11 +1,15 @@
 -- From the fault that ended `sql`, and what was written of it, to what is true of the run.
-use Rattle.std.proofs.Common.{◌≡◌, ◌≢◌, ◌⊎◌, ◌≤◌, ℕ, IsTrue, List, [], ◌++◌, refl, ap, sym, ◌∙◌, subst, append_assoc, inl, inr, arith}
-use Rattle.dbremote.specs.declared.item.Item.{Item}
+use Rattle.std.proofs.Common.{◌≡◌, ◌≢◌, ◌⊎◌, ◌≤◌, ℕ, IsTrue, List, [], ◌++◌, refl, ap, sym, ◌∙◌, subst, append_assoc, inl, inr, Some, arith}
+use Rattle.sr_exchange.specs.declared.item.Item.{Item}
 use Rattle.dbremote.specs.declared.statement.Statement.{Statement}
 use Rattle.dbremote.specs.declared.fault.Fault.{Fault}
 use Rattle.dbremote.specs.declared.fault.Fault.TheVariants.{Words, Memory, Disk, Damaged, Source, TooLong, Script, Refused, Full, Sink}
 use Rattle.dbremote.specs.Faults.{status_of}
-use Rattle.dbremote.specs.Histories.{HasHistory}
+use Rattle.dbremote.specs.Histories.{HoldsSome}
+use Rattle.sr_exchange.specs.declared.role.Role.{Role}
+use Rattle.sr_exchange.specs.declared.entry.Entry.{Entry}
+use Rattle.sr_exchange.specs.Exchange.{waiting_of}
+use Rattle.sr_exchange.specs.Logs.{HasHistory, completed}
 use Rattle.dbremote.specs.Reports.{Wrote}
 use Rattle.dbremote.specs.Runs.{Stream, Outside, HoldsDone, SaidAll, SaidFronts, SaidDone, StoppedEarly, StoppedLate, IsStopped, IsStatusOfOpening, line_of}
 use Rattle.dbremote.specs.Sessions.{SaidLines}
@@ -18,20 +22,21 @@ abbrev pub with_output : Outside → Stream → Outside
 with_output mid out = record { site = mid.site; input = mid.input; output = out }
 
 -- what was written after an early fault
-early_said : (old mid : Outside) (out : Stream) (kept : List ℕ) (fault : Fault) → StopsEarly old mid kept → Wrote (kept ++ line_of fault) mid.output.bytes out.bytes mid.output.faults out.faults
+early_said : (role : Role) (old mid : Outside) (out : Stream) (kept : List ℕ) (fault : Fault) → StopsEarly role old mid kept → Wrote (kept ++ line_of fault) mid.output.bytes out.bytes mid.output.faults out.faults
     → SaidAll old (with_output mid out) (line_of fault)
-early_said old mid out kept fault s w =
+early_said role old mid out kept fault s w =
     let w' : Wrote (line_of fault) old.output.bytes out.bytes old.output.faults out.faults =
     subst (λ (o : Stream). Wrote (line_of fault) o.bytes out.bytes o.faults out.faults) s.silent
     (subst (λ (k : List ℕ). Wrote (k ++ line_of fault) mid.output.bytes out.bytes mid.output.faults out.faults) s.kept_is w) in
     record { front = w'.front; whole = w'.whole }
 
 -- an early fault, told
-pub early_told : (old mid : Outside) (out : Stream) (kept : List ℕ) (fault : Fault) → StopsEarly old mid kept
-    → (IsTrue mid.output.told → Wrote (kept ++ line_of fault) mid.output.bytes out.bytes mid.output.faults out.faults) → StoppedEarly old (with_output mid out) fault
-early_told old mid out kept fault s w = record {
+pub early_told : (role : Role) (old mid : Outside) (out : Stream) (kept : List ℕ) (fault : Fault) → StopsEarly role old mid kept
+    → (IsTrue mid.output.told → Wrote (kept ++ line_of fault) mid.output.bytes out.bytes mid.output.faults out.faults) → StoppedEarly role old (with_output mid out) fault
+early_told role old mid out kept fault s w = record {
   kept = s.history;
-  said = λ told. early_said old mid out kept fault s (w (subst (λ (o : Stream). IsTrue o.told) (sym s.silent) told));
+  left = s.left;
+  said = λ told. early_said role old mid out kept fault s (w (subst (λ (o : Stream). IsTrue o.told) (sym s.silent) told));
 }
 
 -- lines that were kept, told with a fault's
@@ -74,9 +79,9 @@ late_said old mid out said all kept TooLong later earlier s w = said_all old mid
 late_said old mid out said all kept (Script place) later earlier s w = said_all old mid out said kept (line_of (Script place)) later earlier s w
 
 -- a late fault, told
-pub late_told : (old mid : Outside) (out : Stream) (kept : List ℕ) (fault : Fault) → StopsLate old mid kept fault → mid.output.faults ≤ out.faults
-    → (IsTrue mid.output.told → Wrote (kept ++ line_of fault) mid.output.bytes out.bytes mid.output.faults out.faults) → StoppedLate old (with_output mid out) fault
-late_told old mid out kept fault s later w = record {
+pub late_told : (role : Role) (old mid : Outside) (out : Stream) (kept : List ℕ) (fault : Fault) → StopsLate role old mid kept fault → mid.output.faults ≤ out.faults
+    → (IsTrue mid.output.told → Wrote (kept ++ line_of fault) mid.output.bytes out.bytes mid.output.faults out.faults) → StoppedLate role old (with_output mid out) fault
+late_told role old mid out kept fault s later w = record {
   done = s.done;
   rest = s.rest;
   rows = s.rows;
@@ -89,45 +94,45 @@ late_told old mid out kept fault s later w = record {
 }
 
 -- the fault itself was told
-pub ends_told : (words : List (List ℕ)) (old mid : Outside) (out : Stream) (kept : List ℕ) (fault : Fault) → StopsSql old mid kept fault → mid.output.faults ≤ out.faults
-    → (IsTrue mid.output.told → Wrote (kept ++ line_of fault) mid.output.bytes out.bytes mid.output.faults out.faults) → IsStopped words old (with_output mid out) fault
+pub ends_told : (role : Role) (old mid : Outside) (out : Stream) (kept : List ℕ) (fault : Fault) → StopsSql role old mid kept fault → mid.output.faults ≤ out.faults
+    → (IsTrue mid.output.told → Wrote (kept ++ line_of fault) mid.output.bytes out.bytes mid.output.faults out.faults) → IsStopped role old (with_output mid out) fault
 unfolding late_told
-ends_told words old mid out kept Words s later w = absurd s
-ends_told words old mid out kept Memory s later w = elim s [
-  | inl early ↦ inl (early_told old mid out kept Memory early w)
-  | inr late ↦ inr (late_told old mid out kept Memory late later w)
+ends_told role old mid out kept Words s later w = absurd s
+ends_told role old mid out kept Memory s later w = elim s [
+  | inl early ↦ inl (early_told role old mid out kept Memory early w)
+  | inr late ↦ inr (late_told role old mid out kept Memory late later w)
 ]
-ends_told words old mid out kept Disk s later w = (
+ends_told role old mid out kept Disk s later w = (
   elim s.0 [
-    | inl early ↦ inl (early_told old mid out kept Disk early w)
-    | inr late ↦ inr (late_told old mid out kept Disk late later w)
+    | inl early ↦ inl (early_told role old mid out kept Disk early w)
+    | inr late ↦ inr (late_told role old mid out kept Disk late later w)
   ],
   s.1,
 )
-ends_told words old mid out kept (Damaged place) s later w = (early_told old mid out kept (Damaged place) s.0 w, s.1)
-ends_told words old mid out kept Source s later w = (early_told old mid out kept Source s.0 w, s.1, s.2)
-ends_told words old mid out kept TooLong s later w = (early_told old mid out kept TooLong s.0 w, s.1, s.2)
-ends_told words old mid out kept (Script place) s later w = (early_told old mid out kept (Script place) s.0 w, s.1, s.2)
-ends_told words old mid out kept (Refused number id) s later w = record { stopped = late_told old mid out kept (Refused number id) s.stopped later w; refused = s.refused }
-ends_told words old mid out kept (Full end need) s later w = elim s [
-  | inl early ↦ inl (early_told old mid out kept (Full end need) early.0 w, early.1)
-  | inr late ↦ inr (record { stopped = late_told old mid out kept (Full end need) late.stopped later w; after = late.after; rest_is = late.rest_is; base = late.base; base_is = late.base_is; need_is = late.need_is; place_is = late.place_is; full = late.full })
+ends_told role old mid out kept (Damaged place) s later w = (early_told role old mid out kept (Damaged place) s.0 w, s.1)
+ends_told role old mid out kept Source s later w = (early_told role old mid out kept Source s.0 w, s.1, s.2)
+ends_told role old mid out kept TooLong s later w = (early_told role old mid out kept TooLong s.0 w, s.1, s.2)
+ends_told role old mid out kept (Script place) s later w = (early_told role old mid out kept (Script place) s.0 w, s.1, s.2)
+ends_told role old mid out kept (Refused number id) s later w = record { stopped = late_told role old mid out kept (Refused number id) s.stopped later w; refused = s.refused }
+ends_told role old mid out kept (Full end need) s later w = elim s [
+  | inl early ↦ inl (early_told role old mid out kept (Full end need) early.0 w, early.1)
+  | inr late ↦ inr (record { stopped = late_told role old mid out kept (Full end need) late.stopped later w; after = late.after; rest_is = late.rest_is; base = late.base; base_is = late.base_is; need_is = late.need_is; place_is = late.place_is; full = late.full })
 ]
-ends_told words old mid out kept Sink s later w =
-    (late_told old mid out kept Sink s.0 later w, omega (arith, s.1, later))
+ends_told role old mid out kept Sink s later w =
+    (late_told role old mid out kept Sink s.0 later w, omega (arith, s.1, later))
 
 -- what stands, where only memory is blamed
-unsaid_holds : (base : ℕ) (txs : List (List Item)) (done : List Statement) (bytes : List ℕ) (fault : Fault) → HoldsDone base txs done bytes fault → HoldsDone base txs done bytes Memory
-unsaid_holds base txs done bytes Words h = inl h
-unsaid_holds base txs done bytes Memory h = h
-unsaid_holds base txs done bytes Disk h = h
-unsaid_holds base txs done bytes (Damaged place) h = inl h
-unsaid_holds base txs done bytes Source h = inl h
-unsaid_holds base txs done bytes TooLong h = inl h
-unsaid_holds base txs done bytes (Script place) h = inl h
-unsaid_holds base txs done bytes (Refused number id) h = inl h
-unsaid_holds base txs done bytes (Full end need) h = inl h
-unsaid_holds base txs done bytes Sink h = inl h
+unsaid_holds : (role : Role) (base : ℕ) (es : List Entry) (done : List Statement) (bytes : List ℕ) (fault : Fault) → HoldsDone role base es done bytes fault → HoldsDone role base es done bytes Memory
+unsaid_holds role base es done bytes Words h = inl h
+unsaid_holds role base es done bytes Memory h = h
+unsaid_holds role base es done bytes Disk h = h
+unsaid_holds role base es done bytes (Damaged place) h = inl h
+unsaid_holds role base es done bytes Source h = inl h
+unsaid_holds role base es done bytes TooLong h = inl h
+unsaid_holds role base es done bytes (Script place) h = inl h
+unsaid_holds role base es done bytes (Refused number id) h = inl h
+unsaid_holds role base es done bytes (Full end need) h = inl h
+unsaid_holds role base es done bytes Sink h = inl h
 
 unsaid_said : (said all kept old new : List ℕ) (fault : Fault) → fault ≢ Sink → SaidLines said all kept old new fault → SaidLines said all kept old new Memory
 unsaid_said said all kept old new Words other s = s
@@ -142,8 +147,8 @@ unsaid_said said all kept old new (Full end need) other s = s
 unsaid_said said all kept old new Sink other s = absurd (other refl)
 
 -- a late fault, of which memory was wanting for the line
-late_unsaid : (old mid : Outside) (kept : List ℕ) (fault : Fault) → fault ≢ Sink → StopsLate old mid kept fault → StopsLate old mid kept Memory
-late_unsaid old mid kept fault other s = record {
+late_unsaid : (role : Role) (old mid : Outside) (kept : List ℕ) (fault : Fault) → fault ≢ Sink → StopsLate role old mid kept fault → StopsLate role old mid kept Memory
+late_unsaid role old mid kept fault other s = record {
   done = s.done;
   rest = s.rest;
   rows = s.rows;
@@ -151,51 +156,52 @@ late_unsaid old mid kept fault other s = record {
   are_statements = s.are_statements;
   read = s.read;
   free = s.free;
-  database = λ t. let d = s.database t in record { found = d.found; holds_done = unsaid_holds d.found.base d.found.txs s.done mid.site.files.log0 fault d.holds_done };
+  database = λ t. let d = s.database t in record { found = d.found; holds_done = unsaid_holds role d.found.base (completed role d.found.es) s.done mid.site.files.log0 fault d.holds_done };
   said = λ t. unsaid_said (lines_of s.end [] s.done) (lines_at s.end s.done s.rest) kept old.output.bytes mid.output.bytes fault other (s.said t);
   told = s.told;
   later = s.later;
 }
 
 -- for want of memory for its line another fault was told
-pub ends_unsaid : (words : List (List ℕ)) (old mid : Outside) (out : Stream) (kept : List ℕ) (fault : Fault) → fault ≢ Sink → StopsSql old mid kept fault → mid.output.faults ≤ out.faults
-    → (IsTrue mid.output.told → Wrote (kept ++ line_of Memory) mid.output.bytes out.bytes mid.output.faults out.faults) → IsStopped words old (with_output mid out) Memory
-ends_unsaid words old mid out kept Words other s later w = absurd s
-ends_unsaid words old mid out kept Memory other s later w = ends_told words old mid out kept Memory s later w
-ends_unsaid words old mid out kept Disk other s later w = ends_told words old mid out kept Memory (elim s.0 [ inl early ↦ inl early | inr late ↦ inr (late_unsaid old mid kept Disk other late) ]) later w
-ends_unsaid words old mid out kept (Damaged place) other s later w = inl (early_told old mid out kept Memory s.0 w)
-ends_unsaid words old mid out kept Source other s later w = inl (early_told old mid out kept Memory s.0 w)
-ends_unsaid words old mid out kept TooLong other s later w = inl (early_told old mid out kept Memory s.0 w)
-ends_unsaid words old mid out kept (Script place) other s later w = inl (early_told old mid out kept Memory s.0 w)
-ends_unsaid words old mid out kept (Refused number id) other s later w = inr (late_told old mid out kept Memory (late_unsaid old mid kept (Refused number id) other s.stopped) later w)
-ends_unsaid words old mid out kept (Full end need) other s later w = ends_told words old mid out kept Memory (elim s [ inl early ↦ inl early.0 | inr late ↦ inr (late_unsaid old mid kept (Full end need) other late.stopped) ]) later w
-ends_unsaid words old mid out kept Sink other s later w = absurd (other refl)
+pub ends_unsaid : (role : Role) (old mid : Outside) (out : Stream) (kept : List ℕ) (fault : Fault) → fault ≢ Sink → StopsSql role old mid kept fault → mid.output.faults ≤ out.faults
+    → (IsTrue mid.output.told → Wrote (kept ++ line_of Memory) mid.output.bytes out.bytes mid.output.faults out.faults) → IsStopped role old (with_output mid out) Memory
+ends_unsaid role old mid out kept Words other s later w = absurd s
+ends_unsaid role old mid out kept Memory other s later w = ends_told role old mid out kept Memory s later w
+ends_unsaid role old mid out kept Disk other s later w = ends_told role old mid out kept Memory (elim s.0 [ inl early ↦ inl early | inr late ↦ inr (late_unsaid role old mid kept Disk other late) ]) later w
+ends_unsaid role old mid out kept (Damaged place) other s later w = inl (early_told role old mid out kept Memory s.0 w)
+ends_unsaid role old mid out kept Source other s later w = inl (early_told role old mid out kept Memory s.0 w)
+ends_unsaid role old mid out kept TooLong other s later w = inl (early_told role old mid out kept Memory s.0 w)
+ends_unsaid role old mid out kept (Script place) other s later w = inl (early_told role old mid out kept Memory s.0 w)
+ends_unsaid role old mid out kept (Refused number id) other s later w = inr (late_told role old mid out kept Memory (late_unsaid role old mid kept (Refused number id) other s.stopped) later w)
+ends_unsaid role old mid out kept (Full end need) other s later w = ends_told role old mid out kept Memory (elim s [ inl early ↦ inl early.0 | inr late ↦ inr (late_unsaid role old mid kept (Full end need) other late.stopped) ]) later w
+ends_unsaid role old mid out kept Sink other s later w = absurd (other refl)
 
 -- why a script does not begin, and what is true of `sql` then
-pub stops_begin : (old new : Outside) (fault : Fault) → BeginCause old.site new.site old.input new.input fault → new.output ≡ old.output
-    → (IsTrue old.site.told → (base : ℕ) (txs : List (List Item)) → HasHistory base txs old.site.files.log0 → new.site.files ≡ old.site.files) → StopsSql old new [] fault
-stops_begin old new Memory cause silent history = inl (record { kept_is = refl; history = history; silent = silent })
-stops_begin old new Disk cause silent history = (inl (record { kept_is = refl; history = history; silent = silent }), cause)
-stops_begin old new (Damaged place) cause silent history = (record { kept_is = refl; history = history; silent = silent }, cause)
-stops_begin old new Source cause silent history = (record { kept_is = refl; history = history; silent = silent }, cause.0, cause.1)
-stops_begin old new TooLong cause silent history = (record { kept_is = refl; history = history; silent = silent }, cause.0, cause.1)
-stops_begin old new (Script place) cause silent history = (record { kept_is = refl; history = history; silent = silent }, cause.0, cause.1)
-stops_begin old new (Full end need) cause silent history = inl (record { kept_is = refl; history = history; silent = silent }, cause)
-stops_begin old new Words cause silent history = absurd cause
-stops_begin old new (Refused number id) cause silent history = absurd cause
-stops_begin old new Sink cause silent history = absurd cause
+pub stops_begin : (role : Role) (old new : Outside) (fault : Fault) → BeginCause role old.site new.site old.input new.input fault → new.output ≡ old.output
+    → (IsTrue old.site.told → (base : ℕ) (es : List Entry) → HasHistory role base es old.site.files.log0 → waiting_of role es ≡ [] → new.site.files ≡ old.site.files)
+    → (IsTrue old.site.told → (base : ℕ) (es : List Entry) → HasHistory role base es old.site.files.log0 → HoldsSome role base es new.site.files.log0) → StopsSql role old new [] fault
+stops_begin role old new Memory cause silent history left = inl (record { kept_is = refl; history = history; left = left; silent = silent })
+stops_begin role old new Disk cause silent history left = (inl (record { kept_is = refl; history = history; left = left; silent = silent }), cause)
+stops_begin role old new (Damaged place) cause silent history left = (record { kept_is = refl; history = history; left = left; silent = silent }, cause)
+stops_begin role old new Source cause silent history left = (record { kept_is = refl; history = history; left = left; silent = silent }, cause.0, cause.1)
+stops_begin role old new TooLong cause silent history left = (record { kept_is = refl; history = history; left = left; silent = silent }, cause.0, cause.1)
+stops_begin role old new (Script place) cause silent history left = (record { kept_is = refl; history = history; left = left; silent = silent }, cause.0, cause.1)
+stops_begin role old new (Full end need) cause silent history left = inl (record { kept_is = refl; history = history; left = left; silent = silent }, cause)
+stops_begin role old new Words cause silent history left = absurd cause
+stops_begin role old new (Refused number id) cause silent history left = absurd cause
+stops_begin role old new Sink cause silent history left = absurd cause
 
 -- `sql` was ended by a fault, and the one that was told is it, or the want of memory for its line
-pub ends : (words : List (List ℕ)) (old mid : Outside) (out : Stream) (kept written : List ℕ) (fault told : Fault) → written ≡ kept → (told ≡ fault) ⊎ ((told ≡ Memory) × (fault ≢ Sink)) → StopsSql old mid kept fault
-    → mid.output.faults ≤ out.faults → (IsTrue mid.output.told → Wrote (written ++ line_of told) mid.output.bytes out.bytes mid.output.faults out.faults) → IsStopped words old (with_output mid out) told
-ends words old mid out kept written fault told e which s later w =
+pub ends : (role : Role) (old mid : Outside) (out : Stream) (kept written : List ℕ) (fault told : Fault) → written ≡ kept → (told ≡ fault) ⊎ ((told ≡ Memory) × (fault ≢ Sink)) → StopsSql role old mid kept fault
+    → mid.output.faults ≤ out.faults → (IsTrue mid.output.told → Wrote (written ++ line_of told) mid.output.bytes out.bytes mid.output.faults out.faults) → IsStopped role old (with_output mid out) told
+ends role old mid out kept written fault told e which s later w =
     let w' : IsTrue mid.output.told → Wrote (kept ++ line_of told) mid.output.bytes out.bytes mid.output.faults out.faults =
     λ t. subst (λ (k : List ℕ). Wrote (k ++ line_of told) mid.output.bytes out.bytes mid.output.faults out.faults) e (w t) in
     elim which [
-      | inl same ↦ subst (IsStopped words old (with_output mid out)) (sym same)
-          (ends_told words old mid out kept fault s later (λ t. subst (λ (f : Fault). Wrote (kept ++ line_of f) mid.output.bytes out.bytes mid.output.faults out.faults) same (w' t)))
-      | inr other ↦ subst (IsStopped words old (with_output mid out)) (sym other.0)
-          (ends_unsaid words old mid out kept fault other.1 s later (λ t. subst (λ (f : Fault). Wrote (kept ++ line_of f) mid.output.bytes out.bytes mid.output.faults out.faults) other.0 (w' t)))
+      | inl same ↦ subst (IsStopped role old (with_output mid out)) (sym same)
+          (ends_told role old mid out kept fault s later (λ t. subst (λ (f : Fault). Wrote (kept ++ line_of f) mid.output.bytes out.bytes mid.output.faults out.faults) same (w' t)))
+      | inr other ↦ subst (IsStopped role old (with_output mid out)) (sym other.0)
+          (ends_unsaid role old mid out kept fault other.1 s later (λ t. subst (λ (f : Fault). Wrote (kept ++ line_of f) mid.output.bytes out.bytes mid.output.faults out.faults) other.0 (w' t)))
     ]
 
 own_status : (fault : Fault) → IsOfOpening fault → IsStatusOfOpening (status_of fault)

@@ -1,9 +1,9 @@
 -- What the statements of a script do, taken in two parts.
 use Rattle.std.proofs.Common.{◌≡◌, ℕ, Bool, List, [], ◌∷◌, ◌++◌, ◌&&◌, not, true, false, refl, ap, sym, ◌∙◌, append_assoc}
-use Rattle.dbremote.specs.declared.item.Item.{Item}
+use Rattle.sr_exchange.specs.declared.item.Item.{Item}
 use Rattle.dbremote.specs.declared.statement.Statement.{Statement}
 use Rattle.dbremote.specs.declared.statement.Statement.TheVariants.{Insert, Commit}
-use Rattle.dbremote.specs.Tables.{Rows, holds, inserted, all_inserted, are_free}
+use Rattle.sr_exchange.specs.Tables.{Rows, holds, inserted, all_inserted, are_free}
 use Rattle.dbremote.specs.Transactions.{items_of, open_after, committed, transactions, end_committed, end_after, commit_line, lines_of, one_row}
 
 pub items_of-append : (xs ys : List Statement) → items_of (xs ++ ys) ≡ items_of xs ++ items_of ys

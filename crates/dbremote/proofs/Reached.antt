@@ -8,17 +8,17 @@ use Rattle.sr_site.specs.declared.file.File.TheVariants.{Log0}
 use Rattle.sr_logfile.specs.Log.{Log}
 use Rattle.sr_logfile.specs.Logs.{IsLog, HasLog}
 use Rattle.sr_logfile.specs.Records.{Spells}
-use Rattle.dbremote.specs.declared.item.Item.{Item}
+use Rattle.sr_exchange.specs.declared.item.Item.{Item}
 use Rattle.dbremote.specs.declared.fault.Fault.{Fault}
 use Rattle.dbremote.specs.declared.fault.Fault.TheVariants.{Words, Memory, Disk, Damaged, Source, TooLong, Script, Refused, Full, Sink}
 use Rattle.dbremote.specs.declared.session.Session.{Session}
 use Rattle.dbremote.specs.declared.statement.Statement.{Statement}
 use Rattle.dbremote.specs.declared.statement.Statement.TheVariants.{Insert, Commit}
-use Rattle.dbremote.specs.Entries.{own}
+use Rattle.sr_exchange.specs.Entries.{own}
 use Rattle.dbremote.specs.Lines.{line, script}
 use Rattle.dbremote.specs.Sessions.{log_to, Appended, HasDone, HasNoRoom, StepCause, Stopped, HoldsBeside, HoldsAfter, SaidLines, StopCause}
 use Rattle.dbremote.specs.Streams.{TookFront, Said}
-use Rattle.dbremote.specs.Tables.{holds, all_inserted, are_free}
+use Rattle.sr_exchange.specs.Tables.{holds, all_inserted, are_free}
 use Rattle.dbremote.specs.Transactions.{items_of, open_after, committed, transactions, end_after, lines_of, last_line, lines_at}
 use Rattle.dbremote.proofs.Parts.{items_of-append, open_after-append, end_after-append, lines_of-append, transactions-append, all_inserted-append, are_free-append}
 
@@ -96,10 +96,10 @@ appended_more start session new done statement a b c first second bodies is_log 
 same_files : (files : Files) → OthersStay Log0 files files
 same_files files = refl
 
-others_more : (a b c : Files) → OthersStay Log0 a b → OthersStay Log0 b c → OthersStay Log0 a c
+pub others_more : (a b c : Files) → OthersStay Log0 a b → OthersStay Log0 b c → OthersStay Log0 a c
 others_more a b c first second = second ∙ ap (λ (f : Files). with_bytes f Log0 (bytes_of c Log0)) first
 
-stays_more : (a b c : Seen) → DiskStays a b → DiskStays b c → DiskStays a c
+pub stays_more : (a b c : Seen) → DiskStays a b → DiskStays b c → DiskStays a c
 stays_more a b c first second = record { told = second.told ∙ first.told; mail = second.mail ∙ first.mail; mail_faults = second.mail_faults ∙ first.mail_faults; later = omega (arith, first.later, second.later) }
 
 -- at the start nothing is done

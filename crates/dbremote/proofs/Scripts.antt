@@ -2,7 +2,7 @@
 use Rattle.std.proofs.Common.{◌≡◌, ℕ, ◌<◌, List, [], ◌∷◌, ◌++◌, length, refl, sym, ap, ◌∙◌, append_assoc, arith, codes}
 use Rattle.std.specs.Fmt.{signed_decimal}
 use Rattle.std.proofs.lemmas.List.{append-nil, length-append}
-use Rattle.dbremote.specs.declared.item.Item.{Item}
+use Rattle.sr_exchange.specs.declared.item.Item.{Item}
 use Rattle.dbremote.specs.declared.statement.Statement.{Statement}
 use Rattle.dbremote.specs.declared.statement.Statement.TheVariants.{Insert, Commit}
 use Rattle.dbremote.specs.Lines.{line, script, AreStatements, IsStatement}

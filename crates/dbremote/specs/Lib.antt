@@ -1,8 +1,11 @@
-pub mod Entries
+pub mod AgentFaults
+pub mod Agents
+pub mod Commands
 pub mod Faults
 pub mod FaultsOfLogs
 pub mod FaultsOfReading
 pub mod Histories
+pub mod Lateness
 pub mod Lines
 pub mod Numbers
 pub mod Openings
@@ -12,7 +15,6 @@ pub mod ScriptFaults
 pub mod Sessions
 pub mod Stops
 pub mod Streams
-pub mod Tables
 pub mod Transactions
 pub mod Untold
 pub mod Words

@@ -1,16 +1,18 @@
-use Rattle.std.specs.Prelude.{◌≡◌, ◌⊎◌, ◌+◌, ◌^◌, ◌<◌, ℕ, Bool, true, false, IsTrue, List, []}
-use Rattle.sr_site.specs.Causes.{Rose}
-use Rattle.sr_site.specs.Files.{Files}
+use Rattle.std.specs.Prelude.{◌≡◌, ◌≢◌, ◌⊎◌, ◌+◌, ◌-◌, ℕ, Bool, true, false, IsTrue, List, [], ◌∷◌, length}
+use Rattle.sr_site.specs.Causes.{DiskStays, Rose}
 use Rattle.sr_site.specs.Seen.{Seen}
+use Rattle.sr_base.specs.Fields.{bytes_spelling}
 use Rattle.sr_logfile.specs.Log.{Log}
-use Rattle.sr_logfile.specs.Logs.{IsLog, IsAt}
-use Rattle.sr_logfile.specs.Records.{Spells}
-use Rattle.dbremote.specs.declared.item.Item.{Item}
+use Rattle.sr_logfile.specs.Logs.{IsAt, IsFull, gate_of}
+use Rattle.sr_logfile.specs.Records.{Spells, framed_of}
+use Rattle.sr_exchange.specs.declared.entry.Entry.{Entry}
+use Rattle.sr_exchange.specs.declared.role.Role.{Role}
+use Rattle.sr_exchange.specs.Entries.{body, IsEntry}
+use Rattle.sr_exchange.specs.Exchange.{goes_on, is_lawful}
+use Rattle.sr_exchange.specs.Logs.{HasHistory, LacksEntry, IsDamagedDatabase, Standing, stepped}
 use Rattle.dbremote.specs.declared.fault.Fault.{Fault}
 use Rattle.dbremote.specs.declared.fault.Fault.TheVariants.{Words, Memory, Disk, Damaged, Source, TooLong, Script, Refused, Full, Sink}
-use Rattle.dbremote.specs.Entries.{own, IsTransaction}
-use Rattle.dbremote.specs.Histories.{bodies_of, rows_of, AreLegal, LacksTable, LacksEntry, IsDamagedDatabase}
-use Rattle.dbremote.specs.Tables.{Rows, all_inserted, are_free}
+use Rattle.dbremote.specs.Histories.{Stands, LacksRoomFor}
 
 -- why a record is not read: damage only where the file is not as the log's calls left it
 abbrev pub ReadCause : Log → ℕ → Seen → Seen → Fault → Type 0
@@ -25,82 +27,84 @@ ReadCause log after before now (Refused number id) = ⊥
 ReadCause log after before now (Full end need) = ⊥
 ReadCause log after before now Sink = ⊥
 
--- an entry that was folded: its inserts, all of keys that were free, went into the table
-pub record TookEntry (old new : Rows) (body : List ℕ) : Type 0 where
-  pub items : List Item
-  pub is_transaction : IsTransaction items
-  pub body_is : body ≡ own items
-  pub free : are_free old items ≡ true
-  pub table_is : new ≡ all_inserted old items
+-- the log's file is there: it was made where there was none, and is else as it was
+pub record IsPrepared (before now : Seen) : Type 0 where
+  pub stays : DiskStays before now
+  pub state : IsTrue before.told → ((before.files.log0 ≡ []) × Spells 0 [] now.files.log0) ⊎ ((before.files.log0 ≢ []) × (now.files ≡ before.files))
+
+-- an entry that was folded: it goes on, and is in
+pub record TookEntry (old new : Standing) (bytes : List ℕ) : Type 0 where
+  pub entry : Entry
+  pub is_entry : IsEntry entry
+  pub body_is : bytes ≡ body entry
+  pub keeps : goes_on old.state entry ≡ true
+  pub fold_is : new ≡ stepped old entry
 
 -- what folding a body answers
-abbrev pub TakesEntry : Rows → Rows → List ℕ → Bool → Type 0
-TakesEntry old new body true = TookEntry old new body
-TakesEntry old new body false = (items : List Item) → IsTransaction items → body ≡ own items → are_free old items ≡ true → ⊥
-
--- a log that was folded up to a position: the transactions before it, and their rows
-pub record IsFolded (log : Log) (after : ℕ) (table : Rows) (files : Files) : Type 0 where
-  pub txs : List (List Item)
-  pub left : List (List ℕ)
-  pub is_at : IsAt log after (bodies_of txs) left files
-  pub legal : AreLegal txs
-  pub table_is : table ≡ rows_of txs
-
--- a log that was folded whole
-pub record IsFoldedWhole (log : Log) (table : Rows) (files : Files) : Type 0 where
-  pub txs : List (List Item)
-  pub is_log : IsLog log (bodies_of txs) files
-  pub legal : AreLegal txs
-  pub table_is : table ≡ rows_of txs
+abbrev pub TakesEntry : Standing → Standing → List ℕ → Bool → Type 0
+TakesEntry old new bytes true = TookEntry old new bytes
+TakesEntry old new bytes false = (entry : Entry) → IsEntry entry → bytes ≡ body entry → goes_on old.state entry ≡ true → ⊥
 
 -- why a log is not folded
-abbrev pub FoldCause : List ℕ → Seen → Seen → Fault → Type 0
-FoldCause bytes before now Disk = Rose before.disk_faults now.disk_faults
-FoldCause bytes before now (Damaged place) = IsTrue before.told → LacksTable bytes place ⊎ LacksEntry bytes place
-FoldCause bytes before now Memory = Unit {0}
-FoldCause bytes before now Words = ⊥
-FoldCause bytes before now Source = ⊥
-FoldCause bytes before now TooLong = ⊥
-FoldCause bytes before now (Script place) = ⊥
-FoldCause bytes before now (Refused number id) = ⊥
-FoldCause bytes before now (Full end need) = ⊥
-FoldCause bytes before now Sink = ⊥
+abbrev pub FoldCause : Role → List ℕ → Seen → Seen → Fault → Type 0
+FoldCause role bytes before now Disk = Rose before.disk_faults now.disk_faults
+FoldCause role bytes before now (Damaged place) = IsTrue before.told → LacksEntry role bytes place
+FoldCause role bytes before now (Full end need) = ⊥
+FoldCause role bytes before now Memory = Unit {0}
+FoldCause role bytes before now Words = ⊥
+FoldCause role bytes before now Source = ⊥
+FoldCause role bytes before now TooLong = ⊥
+FoldCause role bytes before now (Script place) = ⊥
+FoldCause role bytes before now (Refused number id) = ⊥
+FoldCause role bytes before now Sink = ⊥
 
--- the table's record, 75 bytes behind the gate of an empty log, would pass the last offset
-pub record TableHasNoRoom (end need : ℕ) : Type 0 where
+-- the body of a statement's record
+abbrev pub statement_body : List ℕ → List ℕ
+statement_body text = 3 ∷ bytes_spelling text
+
+-- why a statement's record is not committed
+abbrev pub MakeCause : Log → List ℕ → Seen → Seen → Fault → Type 0
+MakeCause log text before now Disk = Rose before.disk_faults now.disk_faults
+MakeCause log text before now (Damaged place) = ⊥
+MakeCause log text before now (Full end need) = (end ≡ gate_of log + 1) × (need ≡ length (framed_of (statement_body text))) × IsFull log need 1006632960 × (now ≡ before)
+MakeCause log text before now Memory = Unit {0}
+MakeCause log text before now Words = ⊥
+MakeCause log text before now Source = ⊥
+MakeCause log text before now TooLong = ⊥
+MakeCause log text before now (Script place) = ⊥
+MakeCause log text before now (Refused number id) = ⊥
+MakeCause log text before now Sink = ⊥
+
+-- why the statements that are missing are not all committed
+abbrev pub CompleteCause : Role → Log → Standing → Seen → Seen → Fault → Type 0
+CompleteCause role log fold before now Disk = Rose before.disk_faults now.disk_faults
+CompleteCause role log fold before now (Damaged place) = ⊥
+CompleteCause role log fold before now (Full end need) = (es : List Entry) → Stands role es log fold before.told before.files → LacksRoomFor role log.base es end need before.told now.files.log0
+CompleteCause role log fold before now Memory = Unit {0}
+CompleteCause role log fold before now Words = ⊥
+CompleteCause role log fold before now Source = ⊥
+CompleteCause role log fold before now TooLong = ⊥
+CompleteCause role log fold before now (Script place) = ⊥
+CompleteCause role log fold before now (Refused number id) = ⊥
+CompleteCause role log fold before now Sink = ⊥
+
+-- the database that was found, and the statement that it had no room for
+pub record FoundNoRoom (role : Role) (before now : Seen) (end need : ℕ) : Type 0 where
   pub base : ℕ
-  pub end_is : end ≡ 17
-  pub need_is : need ≡ 75
-  pub past : 2 ^ 62 < base + 75
-
--- why the table's record is not committed
-abbrev pub MakeCause : Log → Seen → Seen → Fault → Type 0
-MakeCause log before now Disk = Rose before.disk_faults now.disk_faults
-MakeCause log before now (Full end need) = (end ≡ 17) × (need ≡ 75) × (2 ^ 62 < log.base + 75) × (now ≡ before)
-MakeCause log before now Memory = Unit {0}
-MakeCause log before now (Damaged place) = ⊥
-MakeCause log before now Words = ⊥
-MakeCause log before now Source = ⊥
-MakeCause log before now TooLong = ⊥
-MakeCause log before now (Script place) = ⊥
-MakeCause log before now (Refused number id) = ⊥
-MakeCause log before now Sink = ⊥
-
--- the file is a log without a record, whose base is so near the last offset that the table's record would pass it
-pub record IsBlankAtTheEnd (bytes : List ℕ) : Type 0 where
-  pub base : ℕ
-  pub spells : Spells base [] bytes
-  pub past : 2 ^ 62 < base + 75
+  pub es : List Entry
+  pub lawful : IsTrue (is_lawful role base es)
+  pub found : IsTrue before.told → HasHistory role base es before.files.log0
+  pub no_room : LacksRoomFor role base es end need before.told now.files.log0
 
 -- why the database is not opened
-abbrev pub OpenFault : Seen → Seen → Fault → Type 0
-OpenFault before now Disk = Rose before.disk_faults now.disk_faults
-OpenFault before now (Damaged place) = IsTrue before.told → IsDamagedDatabase before.files.log0 place × (now.files ≡ before.files)
-OpenFault before now (Full end need) = TableHasNoRoom end need × (IsTrue before.told → IsBlankAtTheEnd before.files.log0 × (now.files ≡ before.files))
-OpenFault before now Memory = Unit {0}
-OpenFault before now Words = ⊥
-OpenFault before now Source = ⊥
-OpenFault before now TooLong = ⊥
-OpenFault before now (Script place) = ⊥
-OpenFault before now (Refused number id) = ⊥
-OpenFault before now Sink = ⊥
+abbrev pub OpenFault : Role → Seen → Seen → Fault → Type 0
+OpenFault role before now Disk = Rose before.disk_faults now.disk_faults
+OpenFault role before now (Damaged place) = IsTrue before.told → IsDamagedDatabase role before.files.log0 place × (now.files ≡ before.files)
+OpenFault role before now (Full end need) = FoundNoRoom role before now end need
+OpenFault role before now Memory = Unit {0}
+OpenFault role before now Words = ⊥
+OpenFault role before now Source = ⊥
+OpenFault role before now TooLong = ⊥
+OpenFault role before now (Script place) = ⊥
+OpenFault role before now (Refused number id) = ⊥
+OpenFault role before now Sink = ⊥

@@ -1,23 +1,27 @@
-use Rattle.std.specs.Prelude.{◌≡◌, ◌≢◌, ◌⊎◌, ◌+◌, ◌-◌, ◌^◌, ◌<◌, ℕ, ℤ, Bool, true, IsTrue, None, List, [], ◌∷◌, ◌++◌, length}
+use Rattle.std.specs.Prelude.{◌≡◌, ◌≢◌, ◌⊎◌, ◌+◌, ◌-◌, ◌^◌, ◌<◌, ℕ, ℤ, Bool, true, IsTrue, None, List, [], ◌∷◌, ◌++◌, length, map}
 use Rattle.sr_site.specs.Causes.{Rose}
 use Rattle.sr_site.specs.Seen.{Seen}
 use Rattle.sr_logfile.specs.Records.{open_records, framed_of}
-use Rattle.dbremote.specs.declared.item.Item.{Item}
+use Rattle.sr_exchange.specs.declared.item.Item.{Item}
 use Rattle.dbremote.specs.declared.fault.Fault.{Fault}
 use Rattle.dbremote.specs.declared.fault.Fault.TheVariants.{Words, Memory, Disk, Damaged, Source, TooLong, Script, Refused, Full, Sink}
 use Rattle.dbremote.specs.declared.statement.Statement.{Statement}
 use Rattle.dbremote.specs.declared.statement.Statement.TheVariants.{Commit}
 use Rattle.dbremote.specs.declared.stream.TheConstants.{LONGEST_SCRIPT}
-use Rattle.dbremote.specs.Entries.{own}
+use Rattle.sr_exchange.specs.Entries.{own}
 use Rattle.dbremote.specs.Faults.{fault_line, status_of}
-use Rattle.dbremote.specs.Histories.{bodies_of, rows_of, HasHistory, StandsFor, IsDamagedDatabase}
+use Rattle.dbremote.specs.Histories.{HoldsSome}
 use Rattle.dbremote.specs.Lines.{script, AreStatements, IsRefusedAt}
-use Rattle.dbremote.specs.Openings.{TableHasNoRoom, IsBlankAtTheEnd}
+use Rattle.dbremote.specs.Openings.{FoundNoRoom}
 use Rattle.dbremote.specs.Sessions.{IsRefused}
 use Rattle.dbremote.specs.Streams.{TookFront}
-use Rattle.dbremote.specs.Tables.{Rows, are_free}
+use Rattle.sr_exchange.specs.declared.entry.Entry.{Entry}
+use Rattle.sr_exchange.specs.declared.entry.Entry.TheVariants.{Own}
+use Rattle.sr_exchange.specs.declared.role.Role.{Role}
+use Rattle.sr_exchange.specs.Exchange.{rows_of, waiting_of}
+use Rattle.sr_exchange.specs.Logs.{bodies_of, HasHistory, StandsFor, IsDamagedDatabase, completed}
+use Rattle.sr_exchange.specs.Tables.{Rows, are_free}
 use Rattle.dbremote.specs.Transactions.{items_of, open_after, committed, transactions, end_after, lines_of, last_line, lines_at}
-use Rattle.dbremote.specs.Words.{sql_name}
 
 -- what a source or a sink means: whether it tells its bytes, those that it has left or took, and its count of faults
 pub record Stream : Type 0 where
@@ -35,6 +39,10 @@ pub record Outside : Type 0 where
 abbrev pub stream : Bool → List ℕ → ℕ → Stream
 stream told bytes faults = record { told = told; bytes = bytes; faults = faults }
 
+-- all of it from its parts
+abbrev pub beside : Seen → Stream → Stream → Outside
+beside site input output = record { site = site; input = input; output = output }
+
 -- the same from its parts
 abbrev pub outside : Seen → Bool → List ℕ → ℕ → Bool → List ℕ → ℕ → Outside
 outside site input_told left input_faults output_told taken output_faults =
@@ -44,44 +52,40 @@ outside site input_told left input_faults output_told taken output_faults =
       output = stream output_told taken output_faults;
     }
 
--- the stream position behind the records of a database
-abbrev pub end_of : ℕ → List (List Item) → ℕ
-end_of base txs = base + length (open_records (bodies_of txs))
-
 -- all that a source had left was read, and it is this text
 pub record HasRead (old new : Stream) (text : List ℕ) : Type 0 where
   pub was : old.bytes ≡ text
   pub left : new.bytes ≡ []
 
--- the database that the run found: its base and transactions, and with them the rows of t and the log's end
-pub record Found (bytes : List ℕ) (rows : Rows) (end : ℕ) : Type 0 where
+-- the database that the run found: its base and entries, and with the statements that were missing the rows of t and the log's end
+pub record Found (role : Role) (bytes : List ℕ) (rows : Rows) (end : ℕ) : Type 0 where
   pub base : ℕ
-  pub txs : List (List Item)
-  pub stood : StandsFor base txs bytes
-  pub rows_are : rows ≡ rows_of txs
-  pub end_is : end ≡ end_of base txs
+  pub es : List Entry
+  pub stood : StandsFor role base es bytes
+  pub rows_are : rows ≡ rows_of role (completed role es)
+  pub end_is : end ≡ base + length (open_records (bodies_of (completed role es)))
 
--- the database that was found, and these transactions behind it
-pub record FoundAndGoesOn (old new : List ℕ) (rows : Rows) (end : ℕ) (more : List (List Item)) : Type 0 where
-  pub found : Found old rows end
-  pub stands : HasHistory found.base (found.txs ++ more) new
+-- the database that was found, the statements that were missing, and these transactions behind them
+pub record FoundAndGoesOn (role : Role) (old new : List ℕ) (rows : Rows) (end : ℕ) (more : List (List Item)) : Type 0 where
+  pub found : Found role old rows end
+  pub stands : HasHistory role found.base (completed role found.es ++ map Own more) new
 
--- the database that was found, and nothing behind it: where nothing was committed yet, the table's record alone
-pub record FoundAndLeft (old new : List ℕ) : Type 0 where
+-- the database that was found, and nothing behind it but the statements that were missing
+pub record FoundAndLeft (role : Role) (old new : List ℕ) : Type 0 where
   pub base : ℕ
-  pub txs : List (List Item)
-  pub stood : StandsFor base txs old
-  pub stands : HasHistory base txs new
+  pub es : List Entry
+  pub stood : StandsFor role base es old
+  pub stands : HasHistory role base (completed role es) new
 
 -- `sql` ran a script to its end: the script, the rows and the log's end before it, what was committed and what was said
-pub record RanScript (old new : Outside) : Type 0 where
+pub record RanScript (role : Role) (old new : Outside) : Type 0 where
   pub statements : List Statement
   pub rows : Rows
   pub end : ℕ
   pub are_statements : AreStatements statements
   pub read : IsTrue old.input.told → HasRead old.input new.input (script statements)
   pub free : are_free rows (items_of statements) ≡ true
-  pub database : IsTrue old.site.told → FoundAndGoesOn old.site.files.log0 new.site.files.log0 rows end (transactions [] statements)
+  pub database : IsTrue old.site.told → FoundAndGoesOn role old.site.files.log0 new.site.files.log0 rows end (transactions [] statements)
   pub said : IsTrue old.output.told → new.output.bytes ≡ old.output.bytes ++ lines_of end [] statements ++ last_line (open_after [] statements)
 
 -- the line of a fault
@@ -93,28 +97,35 @@ pub record SaidAll (old new : Outside) (text : List ℕ) : Type 0 where
   pub front : TookFront text old.output.bytes new.output.bytes
   pub whole : (new.output.bytes ≡ old.output.bytes ++ text) ⊎ Rose old.output.faults new.output.faults
 
--- a fault came before the first statement: a database that was there stands as it was, and nothing was said but the fault
-pub record StoppedEarly (old new : Outside) (fault : Fault) : Type 0 where
-  pub kept : IsTrue old.site.told → (base : ℕ) (txs : List (List Item)) → HasHistory base txs old.site.files.log0 → new.site.files ≡ old.site.files
+-- a fault came before the first statement: a database that was whole stands as it was, one that missed statements may have got some of them,
+-- and nothing was said but the fault
+pub record StoppedEarly (role : Role) (old new : Outside) (fault : Fault) : Type 0 where
+  pub kept : IsTrue old.site.told → (base : ℕ) (es : List Entry) → HasHistory role base es old.site.files.log0 → waiting_of role es ≡ [] → new.site.files ≡ old.site.files
+  pub left : IsTrue old.site.told → (base : ℕ) (es : List Entry) → HasHistory role base es old.site.files.log0 → HoldsSome role base es new.site.files.log0
   pub said : IsTrue old.output.told → SaidAll old new (line_of fault)
 
--- the database that was found, and behind it the transactions that were done; where the disk failed in a commit, or memory was wanting, perhaps
--- that one too
-abbrev pub HoldsDone : ℕ → List (List Item) → List Statement → List ℕ → Fault → Type 0
-HoldsDone base txs done bytes Disk = HasHistory base (txs ++ transactions [] done) bytes ⊎ HasHistory base ((txs ++ transactions [] done) ++ committed (open_after [] done)) bytes
-HoldsDone base txs done bytes Words = HasHistory base (txs ++ transactions [] done) bytes
-HoldsDone base txs done bytes Memory = HasHistory base (txs ++ transactions [] done) bytes ⊎ HasHistory base ((txs ++ transactions [] done) ++ committed (open_after [] done)) bytes
-HoldsDone base txs done bytes (Damaged place) = HasHistory base (txs ++ transactions [] done) bytes
-HoldsDone base txs done bytes Source = HasHistory base (txs ++ transactions [] done) bytes
-HoldsDone base txs done bytes TooLong = HasHistory base (txs ++ transactions [] done) bytes
-HoldsDone base txs done bytes (Script place) = HasHistory base (txs ++ transactions [] done) bytes
-HoldsDone base txs done bytes (Refused number id) = HasHistory base (txs ++ transactions [] done) bytes
-HoldsDone base txs done bytes (Full end need) = HasHistory base (txs ++ transactions [] done) bytes
-HoldsDone base txs done bytes Sink = HasHistory base (txs ++ transactions [] done) bytes
+-- other words: the site is as it was, and nothing was said but that they are refused
+pub record RefusedWords (old new : Outside) : Type 0 where
+  pub site : new.site ≡ old.site
+  pub said : IsTrue old.output.told → SaidAll old new (line_of Words)
 
-pub record FoundAndHolds (old new : List ℕ) (rows : Rows) (end : ℕ) (done : List Statement) (fault : Fault) : Type 0 where
-  pub found : Found old rows end
-  pub holds_done : HoldsDone found.base found.txs done new fault
+-- a history, and behind it the transactions that were done; where the disk failed in a commit, or memory was wanting, perhaps
+-- that one too
+abbrev pub HoldsDone : Role → ℕ → List Entry → List Statement → List ℕ → Fault → Type 0
+HoldsDone role base es done bytes Disk = HasHistory role base (es ++ map Own (transactions [] done)) bytes ⊎ HasHistory role base ((es ++ map Own (transactions [] done)) ++ map Own (committed (open_after [] done))) bytes
+HoldsDone role base es done bytes (Damaged place) = HasHistory role base (es ++ map Own (transactions [] done)) bytes
+HoldsDone role base es done bytes (Full end need) = HasHistory role base (es ++ map Own (transactions [] done)) bytes
+HoldsDone role base es done bytes Memory = HasHistory role base (es ++ map Own (transactions [] done)) bytes ⊎ HasHistory role base ((es ++ map Own (transactions [] done)) ++ map Own (committed (open_after [] done))) bytes
+HoldsDone role base es done bytes Words = HasHistory role base (es ++ map Own (transactions [] done)) bytes
+HoldsDone role base es done bytes Source = HasHistory role base (es ++ map Own (transactions [] done)) bytes
+HoldsDone role base es done bytes TooLong = HasHistory role base (es ++ map Own (transactions [] done)) bytes
+HoldsDone role base es done bytes (Script place) = HasHistory role base (es ++ map Own (transactions [] done)) bytes
+HoldsDone role base es done bytes (Refused number id) = HasHistory role base (es ++ map Own (transactions [] done)) bytes
+HoldsDone role base es done bytes Sink = HasHistory role base (es ++ map Own (transactions [] done)) bytes
+
+pub record FoundAndHolds (role : Role) (old new : List ℕ) (rows : Rows) (end : ℕ) (done : List Statement) (fault : Fault) : Type 0 where
+  pub found : Found role old rows end
+  pub holds_done : HoldsDone role found.base (completed role found.es) done new fault
 
 -- what was said: the lines of what was done and the fault's, or a front of them where the sink failed. After the sink's own fault, a front of
 -- the lines and then a front of the fault's
@@ -137,7 +148,7 @@ SaidDone old new said all (Full end need) = SaidAll old new (said ++ line_of (Fu
 
 -- a fault ended the statements: the script, those that were done before it and those that were not, what was found, what stands and what was
 -- said
-pub record StoppedLate (old new : Outside) (fault : Fault) : Type 0 where
+pub record StoppedLate (role : Role) (old new : Outside) (fault : Fault) : Type 0 where
   pub done : List Statement
   pub rest : List Statement
   pub rows : Rows
@@ -145,17 +156,17 @@ pub record StoppedLate (old new : Outside) (fault : Fault) : Type 0 where
   pub are_statements : AreStatements (done ++ rest)
   pub read : IsTrue old.input.told → HasRead old.input new.input (script (done ++ rest))
   pub free : are_free rows (items_of done) ≡ true
-  pub database : IsTrue old.site.told → FoundAndHolds old.site.files.log0 new.site.files.log0 rows end done fault
+  pub database : IsTrue old.site.told → FoundAndHolds role old.site.files.log0 new.site.files.log0 rows end done fault
   pub said : IsTrue old.output.told → SaidDone old new (lines_of end [] done) (lines_at end done rest) fault
 
 -- a statement was refused: it is the first whose key is held, by the rows before or by an INSERT before it
-pub record RefusedKey (old new : Outside) (number : ℕ) (id : ℤ) : Type 0 where
-  pub stopped : StoppedLate old new (Refused number id)
+pub record RefusedKey (role : Role) (old new : Outside) (number : ℕ) (id : ℤ) : Type 0 where
+  pub stopped : StoppedLate role old new (Refused number id)
   pub refused : IsRefused stopped.rows stopped.done stopped.rest number id
 
 -- a COMMIT found no room: the place past the first closed gate and the record's bytes, which pass 960 MiB, or the last offset 2^62
-pub record LacksRoomAt (old new : Outside) (end need : ℕ) : Type 0 where
-  pub stopped : StoppedLate old new (Full end need)
+pub record LacksRoomAt (role : Role) (old new : Outside) (end need : ℕ) : Type 0 where
+  pub stopped : StoppedLate role old new (Full end need)
   pub after : List Statement
   pub rest_is : stopped.rest ≡ Commit ∷ after
   pub base : ℕ
@@ -170,39 +181,33 @@ pub record HasWrongLine (old new : Stream) (place : ℕ) : Type 0 where
   pub read : IsTrue old.told → HasRead old new text
   pub refused : IsRefusedAt text place
 
--- an empty log had no room for the table's record in front of the last offset
-pub record FoundNoRoom (site : Seen) (end need : ℕ) : Type 0 where
-  pub no_room : TableHasNoRoom end need
-  pub blank : IsTrue site.told → IsBlankAtTheEnd site.files.log0
+-- what is true of a run of `sql` that a fault ended
+abbrev pub IsStopped : Role → Outside → Outside → Fault → Type 0
+IsStopped role old new Words = ⊥
+IsStopped role old new Memory = StoppedEarly role old new Memory ⊎ StoppedLate role old new Memory
+IsStopped role old new Disk = (StoppedEarly role old new Disk ⊎ StoppedLate role old new Disk) × Rose old.site.disk_faults new.site.disk_faults
+IsStopped role old new (Damaged place) = StoppedEarly role old new (Damaged place) × (IsTrue old.site.told → IsDamagedDatabase role old.site.files.log0 place)
+IsStopped role old new Source = StoppedEarly role old new Source × Rose old.input.faults new.input.faults × (IsTrue old.site.told → FoundAndLeft role old.site.files.log0 new.site.files.log0)
+IsStopped role old new TooLong = StoppedEarly role old new TooLong × (IsTrue old.input.told → LONGEST_SCRIPT < length old.input.bytes) × (IsTrue old.site.told → FoundAndLeft role old.site.files.log0 new.site.files.log0)
+IsStopped role old new (Script place) = StoppedEarly role old new (Script place) × HasWrongLine old.input new.input place × (IsTrue old.site.told → FoundAndLeft role old.site.files.log0 new.site.files.log0)
+IsStopped role old new (Refused number id) = RefusedKey role old new number id
+IsStopped role old new (Full end need) = (StoppedEarly role old new (Full end need) × FoundNoRoom role old.site new.site end need) ⊎ LacksRoomAt role old new end need
+IsStopped role old new Sink = StoppedLate role old new Sink × Rose old.output.faults new.output.faults
 
--- what is true of a run of these words that a fault ended
-abbrev pub IsStopped : List (List ℕ) → Outside → Outside → Fault → Type 0
-IsStopped words old new Words = (sql_name words ≡ None) × StoppedEarly old new Words
-IsStopped words old new Memory = StoppedEarly old new Memory ⊎ StoppedLate old new Memory
-IsStopped words old new Disk = (StoppedEarly old new Disk ⊎ StoppedLate old new Disk) × Rose old.site.disk_faults new.site.disk_faults
-IsStopped words old new (Damaged place) = StoppedEarly old new (Damaged place) × (IsTrue old.site.told → IsDamagedDatabase old.site.files.log0 place)
-IsStopped words old new Source = StoppedEarly old new Source × Rose old.input.faults new.input.faults × (IsTrue old.site.told → FoundAndLeft old.site.files.log0 new.site.files.log0)
-IsStopped words old new TooLong = StoppedEarly old new TooLong × (IsTrue old.input.told → LONGEST_SCRIPT < length old.input.bytes) × (IsTrue old.site.told → FoundAndLeft old.site.files.log0 new.site.files.log0)
-IsStopped words old new (Script place) = StoppedEarly old new (Script place) × HasWrongLine old.input new.input place × (IsTrue old.site.told → FoundAndLeft old.site.files.log0 new.site.files.log0)
-IsStopped words old new (Refused number id) = RefusedKey old new number id
-IsStopped words old new (Full end need) = (StoppedEarly old new (Full end need) × FoundNoRoom old.site end need) ⊎ LacksRoomAt old new end need
-IsStopped words old new Sink = StoppedLate old new Sink × Rose old.output.faults new.output.faults
-
--- a run of these words that a fault ended, with the status of that fault
-pub record StoppedBy (words : List (List ℕ)) (old new : Outside) (status : ℕ) : Type 0 where
+-- a run of `sql` that a fault ended, with the status of that fault
+pub record StoppedBy (role : Role) (old new : Outside) (status : ℕ) : Type 0 where
   pub fault : Fault
   pub status_is : status ≡ status_of fault
-  pub stopped : IsStopped words old new fault
+  pub stopped : IsStopped role old new fault
 
 -- a run of `sql` whose script was run to its end
-pub record RanToEnd (words : List (List ℕ)) (old new : Outside) (status : ℕ) : Type 0 where
-  pub is_sql : sql_name words ≢ None
+pub record RanToEnd (role : Role) (old new : Outside) (status : ℕ) : Type 0 where
   pub status_is : status ≡ 0
-  pub script_ran : RanScript old new
+  pub script_ran : RanScript role old new
 
--- what a run does: all that its words ask for, with status 0, or a fault ends it, with that fault's status
-abbrev pub RanOrStopped : List (List ℕ) → Outside → Outside → ℕ → Type 0
-RanOrStopped words old new status = RanToEnd words old new status ⊎ StoppedBy words old new status
+-- what a run of `sql` does: all that its script asks for, with status 0, or a fault ends it, with that fault's status
+abbrev pub RanOrStopped : Role → Outside → Outside → ℕ → Type 0
+RanOrStopped role old new status = RanToEnd role old new status ⊎ StoppedBy role old new status
 
 -- the statuses of a run whose database could not be opened, or whose words were refused before
 abbrev pub IsStatusOfOpening : ℕ → Type 0

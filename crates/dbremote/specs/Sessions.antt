@@ -5,15 +5,15 @@ use Rattle.sr_site.specs.Seen.{Seen}
 use Rattle.sr_logfile.specs.Log.{Log}
 use Rattle.sr_logfile.specs.Logs.{IsLog, IsFull, gate_of}
 use Rattle.sr_logfile.specs.Records.{Spells, framed_of}
-use Rattle.dbremote.specs.declared.item.Item.{Item}
+use Rattle.sr_exchange.specs.declared.item.Item.{Item}
 use Rattle.dbremote.specs.declared.fault.Fault.{Fault}
 use Rattle.dbremote.specs.declared.fault.Fault.TheVariants.{Words, Memory, Disk, Damaged, Source, TooLong, Script, Refused, Full, Sink}
 use Rattle.dbremote.specs.declared.session.Session.{Session}
 use Rattle.dbremote.specs.declared.statement.Statement.{Statement}
 use Rattle.dbremote.specs.declared.statement.Statement.TheVariants.{Insert, Commit}
-use Rattle.dbremote.specs.Entries.{own}
+use Rattle.sr_exchange.specs.Entries.{own}
 use Rattle.dbremote.specs.Streams.{TookFront, Said}
-use Rattle.dbremote.specs.Tables.{Rows, holds, all_inserted, are_free}
+use Rattle.sr_exchange.specs.Tables.{Rows, holds, all_inserted, are_free}
 use Rattle.dbremote.specs.Transactions.{items_of, open_after, committed, transactions, end_after, lines_of, lines_at}
 
 -- a log after its end moved

@@ -2,29 +2,34 @@ use Rattle.std.specs.Prelude.{◌≡◌, ◌⊎◌, ◌+◌, ◌-◌, ◌^◌, �
 use Rattle.sr_site.specs.Causes.{Rose}
 use Rattle.sr_site.specs.Seen.{Seen}
 use Rattle.sr_logfile.specs.Records.{framed_of}
-use Rattle.dbremote.specs.declared.item.Item.{Item}
+use Rattle.sr_exchange.specs.declared.item.Item.{Item}
 use Rattle.dbremote.specs.declared.fault.Fault.{Fault}
 use Rattle.dbremote.specs.declared.fault.Fault.TheVariants.{Words, Memory, Disk, Damaged, Source, TooLong, Script, Refused, Full, Sink}
 use Rattle.dbremote.specs.declared.statement.Statement.{Statement}
 use Rattle.dbremote.specs.declared.statement.Statement.TheVariants.{Commit}
 use Rattle.dbremote.specs.declared.stream.TheConstants.{LONGEST_SCRIPT}
-use Rattle.dbremote.specs.Entries.{own}
-use Rattle.dbremote.specs.Histories.{HasHistory, IsDamagedDatabase}
+use Rattle.sr_exchange.specs.Entries.{own}
+use Rattle.dbremote.specs.Histories.{HoldsSome}
 use Rattle.dbremote.specs.Lines.{script, AreStatements}
-use Rattle.dbremote.specs.Runs.{FoundNoRoom}
+use Rattle.dbremote.specs.Openings.{FoundNoRoom}
 use Rattle.dbremote.specs.Runs.{Stream, Outside, HasRead, FoundAndHolds, FoundAndLeft, HasWrongLine}
 use Rattle.dbremote.specs.Sessions.{IsRefused, SaidLines}
-use Rattle.dbremote.specs.Tables.{Rows, are_free}
+use Rattle.sr_exchange.specs.declared.entry.Entry.{Entry}
+use Rattle.sr_exchange.specs.declared.role.Role.{Role}
+use Rattle.sr_exchange.specs.Exchange.{waiting_of}
+use Rattle.sr_exchange.specs.Logs.{HasHistory, IsDamagedDatabase}
+use Rattle.sr_exchange.specs.Tables.{Rows, are_free}
 use Rattle.dbremote.specs.Transactions.{items_of, open_after, end_after, lines_of, lines_at}
 
 -- before the fault is told: it came before the first statement, and nothing was said
-pub record StopsEarly (old new : Outside) (kept : List ℕ) : Type 0 where
+pub record StopsEarly (role : Role) (old new : Outside) (kept : List ℕ) : Type 0 where
   pub kept_is : kept ≡ []
-  pub history : IsTrue old.site.told → (base : ℕ) (txs : List (List Item)) → HasHistory base txs old.site.files.log0 → new.site.files ≡ old.site.files
+  pub history : IsTrue old.site.told → (base : ℕ) (es : List Entry) → HasHistory role base es old.site.files.log0 → waiting_of role es ≡ [] → new.site.files ≡ old.site.files
+  pub left : IsTrue old.site.told → (base : ℕ) (es : List Entry) → HasHistory role base es old.site.files.log0 → HoldsSome role base es new.site.files.log0
   pub silent : new.output ≡ old.output
 
 -- before the fault is told: it ended the statements, and the lines kept are not said yet
-pub record StopsLate (old new : Outside) (kept : List ℕ) (fault : Fault) : Type 0 where
+pub record StopsLate (role : Role) (old new : Outside) (kept : List ℕ) (fault : Fault) : Type 0 where
   pub done : List Statement
   pub rest : List Statement
   pub rows : Rows
@@ -32,20 +37,20 @@ pub record StopsLate (old new : Outside) (kept : List ℕ) (fault : Fault) : Typ
   pub are_statements : AreStatements (done ++ rest)
   pub read : IsTrue old.input.told → HasRead old.input new.input (script (done ++ rest))
   pub free : are_free rows (items_of done) ≡ true
-  pub database : IsTrue old.site.told → FoundAndHolds old.site.files.log0 new.site.files.log0 rows end done fault
+  pub database : IsTrue old.site.told → FoundAndHolds role old.site.files.log0 new.site.files.log0 rows end done fault
   pub said : IsTrue old.output.told → SaidLines (lines_of end [] done) (lines_at end done rest) kept old.output.bytes new.output.bytes fault
   pub told : new.output.told ≡ old.output.told
   pub later : old.output.faults ≤ new.output.faults
 
 -- a statement was refused for its key
-pub record StopsAtKey (old new : Outside) (kept : List ℕ) (number : ℕ) (id : ℤ) : Type 0 where
-  pub stopped : StopsLate old new kept (Refused number id)
+pub record StopsAtKey (role : Role) (old new : Outside) (kept : List ℕ) (number : ℕ) (id : ℤ) : Type 0 where
+  pub stopped : StopsLate role old new kept (Refused number id)
   pub refused : IsRefused stopped.rows stopped.done stopped.rest number id
 
 -- a COMMIT found no room: `end` is the place in the file past its first closed gate, `need` the record's bytes; together they pass 960 MiB, or the
 -- offset passes 2^62
-pub record StopsAtRoom (old new : Outside) (kept : List ℕ) (end need : ℕ) : Type 0 where
-  pub stopped : StopsLate old new kept (Full end need)
+pub record StopsAtRoom (role : Role) (old new : Outside) (kept : List ℕ) (end need : ℕ) : Type 0 where
+  pub stopped : StopsLate role old new kept (Full end need)
   pub after : List Statement
   pub rest_is : stopped.rest ≡ Commit ∷ after
   pub base : ℕ
@@ -55,30 +60,30 @@ pub record StopsAtRoom (old new : Outside) (kept : List ℕ) (end need : ℕ) : 
   pub full : (1006632960 < end + need) ⊎ (2 ^ 62 < end_after stopped.end [] stopped.done + need)
 
 -- what is true of `sql` where a fault ended it, before the fault is told
-abbrev pub StopsSql : Outside → Outside → List ℕ → Fault → Type 0
-StopsSql old new kept Words = ⊥
-StopsSql old new kept Memory = StopsEarly old new kept ⊎ StopsLate old new kept Memory
-StopsSql old new kept Disk = (StopsEarly old new kept ⊎ StopsLate old new kept Disk) × Rose old.site.disk_faults new.site.disk_faults
-StopsSql old new kept (Damaged place) = StopsEarly old new kept × (IsTrue old.site.told → IsDamagedDatabase old.site.files.log0 place)
-StopsSql old new kept Source = StopsEarly old new kept × Rose old.input.faults new.input.faults × (IsTrue old.site.told → FoundAndLeft old.site.files.log0 new.site.files.log0)
-StopsSql old new kept TooLong = StopsEarly old new kept × (IsTrue old.input.told → LONGEST_SCRIPT < length old.input.bytes) × (IsTrue old.site.told → FoundAndLeft old.site.files.log0 new.site.files.log0)
-StopsSql old new kept (Script place) = StopsEarly old new kept × HasWrongLine old.input new.input place × (IsTrue old.site.told → FoundAndLeft old.site.files.log0 new.site.files.log0)
-StopsSql old new kept (Refused number id) = StopsAtKey old new kept number id
-StopsSql old new kept (Full end need) = (StopsEarly old new kept × FoundNoRoom old.site end need) ⊎ StopsAtRoom old new kept end need
-StopsSql old new kept Sink = StopsLate old new kept Sink × Rose old.output.faults new.output.faults
+abbrev pub StopsSql : Role → Outside → Outside → List ℕ → Fault → Type 0
+StopsSql role old new kept Words = ⊥
+StopsSql role old new kept Memory = StopsEarly role old new kept ⊎ StopsLate role old new kept Memory
+StopsSql role old new kept Disk = (StopsEarly role old new kept ⊎ StopsLate role old new kept Disk) × Rose old.site.disk_faults new.site.disk_faults
+StopsSql role old new kept (Damaged place) = StopsEarly role old new kept × (IsTrue old.site.told → IsDamagedDatabase role old.site.files.log0 place)
+StopsSql role old new kept Source = StopsEarly role old new kept × Rose old.input.faults new.input.faults × (IsTrue old.site.told → FoundAndLeft role old.site.files.log0 new.site.files.log0)
+StopsSql role old new kept TooLong = StopsEarly role old new kept × (IsTrue old.input.told → LONGEST_SCRIPT < length old.input.bytes) × (IsTrue old.site.told → FoundAndLeft role old.site.files.log0 new.site.files.log0)
+StopsSql role old new kept (Script place) = StopsEarly role old new kept × HasWrongLine old.input new.input place × (IsTrue old.site.told → FoundAndLeft role old.site.files.log0 new.site.files.log0)
+StopsSql role old new kept (Refused number id) = StopsAtKey role old new kept number id
+StopsSql role old new kept (Full end need) = (StopsEarly role old new kept × FoundNoRoom role old.site new.site end need) ⊎ StopsAtRoom role old new kept end need
+StopsSql role old new kept Sink = StopsLate role old new kept Sink × Rose old.output.faults new.output.faults
 
 -- why a script does not begin
-abbrev pub BeginCause : Seen → Seen → Stream → Stream → Fault → Type 0
-BeginCause before now old new Memory = Unit {0}
-BeginCause before now old new Disk = Rose before.disk_faults now.disk_faults
-BeginCause before now old new (Damaged place) = IsTrue before.told → IsDamagedDatabase before.files.log0 place
-BeginCause before now old new Source = Rose old.faults new.faults × (IsTrue before.told → FoundAndLeft before.files.log0 now.files.log0)
-BeginCause before now old new TooLong = (IsTrue old.told → LONGEST_SCRIPT < length old.bytes) × (IsTrue before.told → FoundAndLeft before.files.log0 now.files.log0)
-BeginCause before now old new (Script place) = HasWrongLine old new place × (IsTrue before.told → FoundAndLeft before.files.log0 now.files.log0)
-BeginCause before now old new (Full end need) = FoundNoRoom before end need
-BeginCause before now old new Words = ⊥
-BeginCause before now old new (Refused number id) = ⊥
-BeginCause before now old new Sink = ⊥
+abbrev pub BeginCause : Role → Seen → Seen → Stream → Stream → Fault → Type 0
+BeginCause role before now old new Memory = Unit {0}
+BeginCause role before now old new Disk = Rose before.disk_faults now.disk_faults
+BeginCause role before now old new (Damaged place) = IsTrue before.told → IsDamagedDatabase role before.files.log0 place
+BeginCause role before now old new Source = Rose old.faults new.faults × (IsTrue before.told → FoundAndLeft role before.files.log0 now.files.log0)
+BeginCause role before now old new TooLong = (IsTrue old.told → LONGEST_SCRIPT < length old.bytes) × (IsTrue before.told → FoundAndLeft role before.files.log0 now.files.log0)
+BeginCause role before now old new (Script place) = HasWrongLine old new place × (IsTrue before.told → FoundAndLeft role before.files.log0 now.files.log0)
+BeginCause role before now old new (Full end need) = FoundNoRoom role before now end need
+BeginCause role before now old new Words = ⊥
+BeginCause role before now old new (Refused number id) = ⊥
+BeginCause role before now old new Sink = ⊥
 
 -- why a database is not attached
 abbrev pub AttachCause : Seen → Seen → Fault → Type 0

@@ -1,13 +1,32 @@
 use Rattle.std.specs.Prelude.{ℕ, Bool, List, [], ◌∷◌, length, Option, Some, None, ◌&&◌, nat_le, if◌then◌else◌, codes}
 use Rattle.std.specs.Str.{bytes_eq}
+use Rattle.sr_exchange.specs.Roles.{cons}
+use Rattle.dbremote.specs.declared.words.Command.{Command}
+use Rattle.dbremote.specs.declared.words.Command.TheVariants.{Sql, Send}
 
 -- the name of a database or folder: 1 to 255 bytes
 abbrev pub is_place : List ℕ → Bool
 is_place name = nat_le 1 (length name) && nat_le (length name) 255
 
--- the name in `sql NAME`
-abbrev pub sql_name : List (List ℕ) → Option (List ℕ)
-sql_name [] = None
-sql_name (command ∷ []) = None
-sql_name (command ∷ name ∷ []) = if bytes_eq command (codes "sql") && is_place name then Some name else None
-sql_name (command ∷ name ∷ more ∷ words) = None
+-- `agent cons .. -s`
+abbrev pub agent_of : List ℕ → List ℕ → Option Command
+agent_of name flag =
+    if bytes_eq name cons && bytes_eq flag (codes "-s") then Some Send
+    else None
+
+-- the command that words give: `sql NAME` or `agent cons --mail FOLDER -s`
+abbrev pub command_of : List (List ℕ) → Option Command
+command_of [] = None
+command_of (command ∷ []) = None
+command_of (command ∷ name ∷ []) = if bytes_eq command (codes "sql") && is_place name then Some Sql else None
+command_of (command ∷ name ∷ option ∷ []) = None
+command_of (command ∷ name ∷ option ∷ folder ∷ []) = None
+command_of (command ∷ name ∷ option ∷ folder ∷ flag ∷ []) =
+    if bytes_eq command (codes "agent") && bytes_eq option (codes "--mail") && is_place folder then agent_of name flag else None
+command_of (command ∷ name ∷ option ∷ folder ∷ flag ∷ more ∷ words) = None
+
+-- the NAME among them
+abbrev pub name_of : List (List ℕ) → List ℕ
+name_of [] = []
+name_of (command ∷ []) = []
+name_of (command ∷ name ∷ words) = name

@@ -4,21 +4,25 @@
 //! given the host's: files, standard input and standard output.
 #![tactic(auto)]
 
+mod agent_fault;
 mod beginning;
 #[cfg(test)]
 mod damaged_log;
-mod entry;
 mod fault;
 mod history;
 mod host;
-mod item;
+mod opening;
 mod report;
+#[cfg(test)]
+mod role_logs;
+#[cfg(test)]
+mod role_tests;
 mod run;
 mod script_run;
+mod sending;
 mod session;
 mod statement;
 mod stream;
-mod table;
 #[cfg(test)]
 mod tests;
 mod words;

@@ -12,7 +12,7 @@ use sr_site::Sink;
 use std::alloc::Global;
 
 /// Writes the lines that were kept and then another; the second only where all of the first was taken.
-fn say_both<O: Sink>(output: &mut O, kept: &[u8], line: &[u8])
+pub fn say_both<O: Sink>(output: &mut O, kept: &[u8], line: &[u8])
     ensures wrote { IsTrue (O.told output.old) → Wrote (kept.now ++ line.now) (O.taken output.old) (O.taken output.new) (O.faults output.old) (O.faults output.new) }
     ensures told { O.told output.new ≡ O.told output.old }
     ensures later { O.faults output.old ≤ O.faults output.new }

@@ -1,40 +1,48 @@
 ghost use Rattle.std.specs.Prelude.{◌≡◌, ◌≢◌, ◌⊎◌, ◌↔◌, [], ℕ, List, length, None, IsTrue, IsErr, IfErr, OnOk};
-ghost use Rattle.sr_site.specs.Causes.{Rose};
+ghost use Rattle.sr_site.specs.Causes.{DiskStays, Rose};
 ghost use Rattle.dbremote.specs.declared.fault.Fault.{Fault as Cause};
+ghost use Rattle.dbremote.specs.Agents.{PutsTruth};
+ghost use Rattle.dbremote.specs.Commands.{RunsCommand};
 ghost use Rattle.dbremote.specs.Runs.{RanScript, RanOrStopped, IsStatusOfOpening, outside};
 ghost use Rattle.dbremote.specs.Stops.{StopsSql, IsOfOpening};
-ghost use Rattle.dbremote.specs.Histories.{IsDamagedDatabase};
-ghost use Rattle.dbremote.specs.Words.{sql_name};
+ghost use Rattle.dbremote.specs.Words.{command_of, name_of};
+ghost use Rattle.sr_exchange.specs.Logs.{IsDamagedDatabase};
+ghost use Rattle.sr_exchange.specs.Roles.{role_of};
 
 use crate::beginning::begin;
 use crate::fault::Fault;
 use crate::report::{refuse_words, report};
 use crate::script_run::run_script;
-use crate::words::named_database;
+use crate::sending::agent_sends;
+use crate::words::{Command, command_of, name_in};
 use sr_base::Text;
+use sr_exchange::{Role, role_of};
 use sr_site::{Sink, Site, Source};
 use std::alloc::Global;
 
-/// `sql NAME`: opens the database, reads the script and runs it. After a fault `kept` has the lines that were not written.
+/// `sql NAME`: opens the database of this role, reads the script and runs it. After a fault `kept` has the lines that were not written.
 fn sql<S: Site, I: Source, O: Sink>(
     alloc: Global,
     name: &Text,
+    role: Role,
     site: &mut S,
     input: &mut I,
     output: &mut O,
     kept: &mut Vec<u8>,
 ) -> Result<(), Fault>
     requires kept { kept.old.items ≡ [] }
-    ensures done { OnOk result (RanScript (outside (S.seen site.old) (I.told input.old) (I.left input.old) (I.faults input.old) (O.told output.old) (O.taken output.old) (O.faults output.old)) (outside (S.seen site.new) (I.told input.new) (I.left input.new) (I.faults input.new) (O.told output.new) (O.taken output.new) (O.faults output.new))) }
-    ensures stopped { IfErr result (StopsSql (outside (S.seen site.old) (I.told input.old) (I.left input.old) (I.faults input.old) (O.told output.old) (O.taken output.old) (O.faults output.old)) (outside (S.seen site.new) (I.told input.new) (I.left input.new) (I.faults input.new) (O.told output.new) (O.taken output.new) (O.faults output.new)) kept.new.items) }
-    ensures damaged { IsTrue (S.seen site.old).told → (place : ℕ) → IsDamagedDatabase (S.seen site.old).files.log0 place → IsErr result × IfErr result IsOfOpening }
+    ensures done { OnOk result (RanScript role (outside (S.seen site.old) (I.told input.old) (I.left input.old) (I.faults input.old) (O.told output.old) (O.taken output.old) (O.faults output.old)) (outside (S.seen site.new) (I.told input.new) (I.left input.new) (I.faults input.new) (O.told output.new) (O.taken output.new) (O.faults output.new))) }
+    ensures stopped { IfErr result (StopsSql role (outside (S.seen site.old) (I.told input.old) (I.left input.old) (I.faults input.old) (O.told output.old) (O.taken output.old) (O.faults output.old)) (outside (S.seen site.new) (I.told input.new) (I.left input.new) (I.faults input.new) (O.told output.new) (O.taken output.new) (O.faults output.new)) kept.new.items) }
+    ensures damaged { IsTrue (S.seen site.old).told → (place : ℕ) → IsDamagedDatabase role (S.seen site.old).files.log0 place → IsErr result × IfErr result IsOfOpening }
+    ensures stays { DiskStays (S.seen site.old) (S.seen site.new) }
 {
-    let beginning = begin(alloc, name, site, input)?;
+    let beginning = begin(alloc, name, role, site, input)?;
+    let (_, table, _) = beginning.fold.into_parts();
     run_script(
         alloc,
         site,
         output,
-        beginning.table,
+        table,
         beginning.log,
         beginning.statements.as_slice(),
         kept,
@@ -42,11 +50,35 @@ fn sql<S: Site, I: Source, O: Sink>(
     Ok(())
 }
 
+/// `sql NAME`, to the last line of its script or to that of the fault that ended it. Answers the exit status.
+fn run_sql<S: Site, I: Source, O: Sink>(
+    alloc: Global,
+    name: &Text,
+    site: &mut S,
+    input: &mut I,
+    output: &mut O,
+) -> u8
+    ensures ran { RanOrStopped (role_of name.now) (outside (S.seen site.old) (I.told input.old) (I.left input.old) (I.faults input.old) (O.told output.old) (O.taken output.old) (O.faults output.old)) (outside (S.seen site.new) (I.told input.new) (I.left input.new) (I.faults input.new) (O.told output.new) (O.taken output.new) (O.faults output.new)) result }
+    ensures damaged { IsTrue (S.seen site.old).told → (place : ℕ) → IsDamagedDatabase (role_of name.now) (S.seen site.old).files.log0 place → IsStatusOfOpening result }
+    ensures stays { DiskStays (S.seen site.old) (S.seen site.new) }
+    ensures disk { result ≡ 5 → Rose (S.seen site.old).disk_faults (S.seen site.new).disk_faults }
+    ensures streams { result ≡ 7 → Rose (I.faults input.old) (I.faults input.new) ⊎ Rose (O.faults output.old) (O.faults output.new) }
+    ensures never { (result ≢ 1) × (result ≢ 2) × (result ≢ 6) }
+{
+    let mut kept = Vec::new(alloc);
+    let role = role_of(name);
+    match sql(alloc, name, role, site, input, output, &mut kept) {
+        Ok(()) => 0,
+        Err(fault) => report(alloc, output, kept.as_slice(), fault).status(),
+    }
+}
+
 /// Does all that the program does, and answers its exit status.
 ///
-/// The words `sql NAME` run the script on `input`: each line is `INSERT INTO t VALUES (A, B);` or `COMMIT;`. All other words are refused. The
-/// status is 0, or that of the fault that ended the run: 2 for other words, 3 for a damaged database, 4 for a script or a statement that is
-/// refused, 5 for the disk, 7 for the source or the sink, 8 for want of memory, 9 for a limit.
+/// The words `sql NAME` run the script on `input`: each line is `INSERT INTO t VALUES (A, B);` or `COMMIT;`. The words
+/// `agent cons --mail FOLDER -s` put what cons has for r1 into r1's folder. All other words are refused. The status is 0, or that of the fault
+/// that ended the run: 2 for other words, 3 for a damaged database, 4 for a script or a statement that is refused, 5 for the disk, 6 for the
+/// mail, 7 for the source or the sink, 8 for want of memory, 9 for a limit.
 pub fn run<S: Site, I: Source, O: Sink>(
     alloc: Global,
     words: &[Text],
@@ -55,21 +87,23 @@ pub fn run<S: Site, I: Source, O: Sink>(
     output: &mut O,
     now: i64,
 ) -> u8
-    ensures ran { RanOrStopped words.now (outside (S.seen site.old) (I.told input.old) (I.left input.old) (I.faults input.old) (O.told output.old) (O.taken output.old) (O.faults output.old)) (outside (S.seen site.new) (I.told input.new) (I.left input.new) (I.faults input.new) (O.told output.new) (O.taken output.new) (O.faults output.new)) result }
-    ensures damaged { IsTrue (S.seen site.old).told → (place : ℕ) → IsDamagedDatabase (S.seen site.old).files.log0 place → IsStatusOfOpening result }
-    ensures words { (result ≡ 2) ↔ (sql_name words.now ≡ None) }
+    ensures ran { RunsCommand (command_of words.now) (name_of words.now) (outside (S.seen site.old) (I.told input.old) (I.left input.old) (I.faults input.old) (O.told output.old) (O.taken output.old) (O.faults output.old)) (outside (S.seen site.new) (I.told input.new) (I.left input.new) (I.faults input.new) (O.told output.new) (O.taken output.new) (O.faults output.new)) result }
+    ensures puts { IsTrue (S.seen site.old).told → PutsTruth (S.seen site.old) (S.seen site.new) }
+    ensures damaged { IsTrue (S.seen site.old).told → (place : ℕ) → IsDamagedDatabase (role_of (name_of words.now)) (S.seen site.old).files.log0 place → IsStatusOfOpening result }
+    ensures words { (result ≡ 2) ↔ (command_of words.now ≡ None) }
     ensures disk { result ≡ 5 → Rose (S.seen site.old).disk_faults (S.seen site.new).disk_faults }
+    ensures mail { result ≡ 6 → Rose (S.seen site.old).mail_faults (S.seen site.new).mail_faults }
     ensures streams { result ≡ 7 → Rose (I.faults input.old) (I.faults input.new) ⊎ Rose (O.faults output.old) (O.faults output.new) }
-    ensures never { (result ≢ 1) × (result ≢ 6) }
+    ensures never { result ≢ 1 }
 {
     let _now = now;
-    let Some(name) = named_database(words) else {
+    let Some(command) = command_of(words) else {
         refuse_words(output);
         return Fault::Words.status();
     };
-    let mut kept = Vec::new(alloc);
-    match sql(alloc, name, site, input, output, &mut kept) {
-        Ok(()) => 0,
-        Err(fault) => report(alloc, output, kept.as_slice(), fault).status(),
+    let name = name_in(words);
+    match command {
+        Command::Sql => run_sql(alloc, name, site, input, output),
+        Command::Send => agent_sends(alloc, name, &words[3], site, output),
     }
 }

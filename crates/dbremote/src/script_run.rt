@@ -5,13 +5,13 @@ ghost use Rattle.sr_site.specs.declared.file.File.TheVariants.{Log0 as log0};
 ghost use Rattle.sr_logfile.specs.Logs.{HasLog};
 ghost use Rattle.dbremote.specs.Lines.{script};
 ghost use Rattle.dbremote.specs.Sessions.{HoldsBeside, Stopped};
-ghost use Rattle.dbremote.specs.Tables.{are_free};
+ghost use Rattle.sr_exchange.specs.Tables.{are_free};
 ghost use Rattle.dbremote.specs.Transactions.{items_of, open_after, transactions, lines_of, last_line};
 
 use crate::fault::Fault;
 use crate::session::Session;
 use crate::statement::Statement;
-use crate::table::Table;
+use sr_exchange::Table;
 use sr_logfile::LogFile;
 use sr_site::{Disk, Sink};
 use std::alloc::Global;

@@ -6,16 +6,14 @@ ghost use Rattle.sr_logfile.specs.Logs.{HasLog};
 ghost use Rattle.dbremote.specs.Lines.{script};
 ghost use Rattle.dbremote.specs.Streams.{TookFront, Said};
 ghost use Rattle.dbremote.specs.declared.fault.Fault.TheVariants.{Sink as sink_fault, Memory as memory};
-ghost use Rattle.dbremote.specs.Tables.{holds, inserted, are_free};
+ghost use Rattle.sr_exchange.specs.Tables.{holds, inserted, are_free};
 ghost use Rattle.dbremote.specs.Transactions.{items_of, open_after, committed, end_committed, commit_line, transactions, lines_of, last_line};
 ghost use Rattle.dbremote.specs.Sessions.{Appended, InsertCause, CommitFault, StepCause, HasDone, HoldsBeside, Stopped, log_to};
 
-use crate::entry::own_body;
 use crate::fault::Fault;
-use crate::item::Item;
 use crate::statement::Statement;
 use crate::stream::say;
-use crate::table::Table;
+use sr_exchange::{Item, Table, own_body};
 use sr_logfile::{LogFault, LogFile, frame};
 use sr_site::{Disk, Sink};
 use std::alloc::Global;

@@ -7,7 +7,7 @@ ghost use Rattle.dbremote.specs.ScriptFaults.{IsScriptFault};
 ghost use Rattle.dbremote.specs.declared.statement.Statement.TheVariants.{Insert};
 ghost use Rattle.dbremote.specs.declared.statement.ScriptFault.TheVariants.{Memory as memory};
 
-use crate::item::Item;
+use sr_exchange::Item;
 use std::alloc::{AllocError, AllocFailed, Global};
 
 /// A statement of a script.

@@ -8,14 +8,25 @@ use std::test::Fail;
 
 /// What a run over memory devices left.
 #[derive(Drop)]
-struct Outcome {
-    status: u8,
-    printed: Vec<u8>,
-    log: Vec<u8>,
+pub struct Outcome {
+    pub status: u8,
+    pub printed: Vec<u8>,
+    pub log: Vec<u8>,
 }
 
 /// Runs `sql c1` on a log, with the calls of these numbers made to fail.
 fn ran(alloc: Global, log: &[u8], script: &[u8], failing: &[u64]) -> Result<Outcome, NoMemory> {
+    ran_as(alloc, "c1", log, script, failing)
+}
+
+/// Runs `sql` on the log of the database of this name, with the calls of these numbers made to fail.
+pub fn ran_as(
+    alloc: Global,
+    name: &str,
+    log: &[u8],
+    script: &[u8],
+    failing: &[u64],
+) -> Result<Outcome, NoMemory> {
     let mut disk = MemoryDisk::new(alloc);
     disk.set(File::Log0, Vec::from_slice(alloc, log)?);
     let mut site = MemorySite::with(disk, SharedMail::new(alloc));
@@ -24,7 +35,7 @@ fn ran(alloc: Global, log: &[u8], script: &[u8], failing: &[u64]) -> Result<Outc
     let mut output = MemorySink::new(alloc);
     let mut words = Vec::new(alloc);
     words.push(Text::from_str(alloc, "sql")?)?;
-    words.push(Text::from_str(alloc, "c1")?)?;
+    words.push(Text::from_str(alloc, name)?)?;
     let status = run(
         alloc,
         words.as_slice(),
@@ -103,7 +114,12 @@ fn refusal(alloc: Global, place: u64) -> Result<String, NoMemory> {
 
 /// Whether the run of an empty script on the log says that it stands, or that it is damaged at the place, and leaves it.
 fn is_found(alloc: Global, log: &[u8], place: u64) -> Result<bool, NoMemory> {
-    let run = ran(alloc, log, &[], &[])?;
+    is_found_as(alloc, "c1", log, place)
+}
+
+/// The same of the database of this name.
+pub fn is_found_as(alloc: Global, name: &str, log: &[u8], place: u64) -> Result<bool, NoMemory> {
+    let run = ran_as(alloc, name, log, &[], &[])?;
     let printed = refusal(alloc, place)?;
     let status = if place == STANDS { 0 } else { 3 };
     Ok(

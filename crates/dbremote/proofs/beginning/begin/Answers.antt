@@ -1,43 +1,44 @@
 use Rattle.std.proofs.Common.{Err, ap, sym, ◌∙◌}
 use Rattle.std.proofs.lemmas.Result.{err_from_is_err_and}
 use Rattle.dbremote.specs.Runs.{stream}
-use Rattle.dbremote.proofs.Finding.{kept_on, begin_open, undamaged, left_of, begin_read, begin_script}
+use Rattle.dbremote.proofs.Finding.{kept_on, left_on, begin_open, undamaged, left_of, begin_read, begin_script}
+use Rattle.dbremote.proofs.Opened.{holds_none}
 use Rattle.dbremote.proofs.beginning.begin.Goals as goal
 
-pub returns-in_err-table-clause-kept : goal.returns-in_err-table-clause-kept
-returns-in_err-table-clause-kept g c =
-    kept_on (g.S.Held.seen c.args.site.now) (g.S.Held.seen c.attach.new.site) (g.S.Held.seen c.open_database.new.site) c.in_ok-attach.ensures.files c.in_ok-attach.ensures.stays.told c.in_err-table.ensures.kept
+pub returns-in_err-fold-clause-kept : goal.returns-in_err-fold-clause-kept
+returns-in_err-fold-clause-kept g c =
+    kept_on c.args.role (g.S.Held.seen c.args.site.now) (g.S.Held.seen c.attach.new.site) (g.S.Held.seen c.open_database.new.site) c.in_ok-attach.ensures.files c.in_ok-attach.ensures.stays.told c.in_err-fold.ensures.kept
 
 pub returns-in_err-text-clause-kept : goal.returns-in_err-text-clause-kept
 returns-in_err-text-clause-kept g c =
-    kept_on (g.S.Held.seen c.args.site.now) (g.S.Held.seen c.attach.new.site) (g.S.Held.seen c.open_database.new.site) c.in_ok-attach.ensures.files c.in_ok-attach.ensures.stays.told c.in_ok-table.ensures.kept
+    kept_on c.args.role (g.S.Held.seen c.args.site.now) (g.S.Held.seen c.attach.new.site) (g.S.Held.seen c.open_database.new.site) c.in_ok-attach.ensures.files c.in_ok-attach.ensures.stays.told c.in_ok-fold.ensures.kept
 
 pub returns-in_err-statements-clause-kept : goal.returns-in_err-statements-clause-kept
 returns-in_err-statements-clause-kept g c =
-    kept_on (g.S.Held.seen c.args.site.now) (g.S.Held.seen c.attach.new.site) (g.S.Held.seen c.open_database.new.site) c.in_ok-attach.ensures.files c.in_ok-attach.ensures.stays.told c.in_ok-table.ensures.kept
+    kept_on c.args.role (g.S.Held.seen c.args.site.now) (g.S.Held.seen c.attach.new.site) (g.S.Held.seen c.open_database.new.site) c.in_ok-attach.ensures.files c.in_ok-attach.ensures.stays.told c.in_ok-fold.ensures.kept
 
 pub returns-clause-kept : goal.returns-clause-kept
 returns-clause-kept g c =
-    kept_on (g.S.Held.seen c.args.site.now) (g.S.Held.seen c.attach.new.site) (g.S.Held.seen c.open_database.new.site) c.in_ok-attach.ensures.files c.in_ok-attach.ensures.stays.told c.in_ok-table.ensures.kept
+    kept_on c.args.role (g.S.Held.seen c.args.site.now) (g.S.Held.seen c.attach.new.site) (g.S.Held.seen c.open_database.new.site) c.in_ok-attach.ensures.files c.in_ok-attach.ensures.stays.told c.in_ok-fold.ensures.kept
 
-pub returns-in_err-table-clause-cause : goal.returns-in_err-table-clause-cause
-returns-in_err-table-clause-cause g c =
+pub returns-in_err-fold-clause-cause : goal.returns-in_err-fold-clause-cause
+returns-in_err-fold-clause-cause g c =
     let input = stream (g.I.Source.told c.args.input.now) (g.I.Source.left c.args.input.now) (g.I.Source.faults c.args.input.now) in
-    let p = err_from_is_err_and c.from_residual-in_err-table.result c.from_residual-in_err-table.ensures.1 in
-    rw (p.1, p.2) (begin_open (g.S.Held.seen c.args.site.now) (g.S.Held.seen c.attach.new.site) (g.S.Held.seen c.open_database.new.site) input input _
-    c.in_ok-attach.ensures.files c.in_ok-attach.ensures.stays.told c.in_ok-attach.ensures.stays.later c.in_err-table.ensures.cause)
+    let p = err_from_is_err_and c.from_residual-in_err-fold.result c.from_residual-in_err-fold.ensures.1 in
+    rw (p.1, p.2) (begin_open c.args.role (g.S.Held.seen c.args.site.now) (g.S.Held.seen c.attach.new.site) (g.S.Held.seen c.open_database.new.site) input input _
+    c.in_ok-attach.ensures.files c.in_ok-attach.ensures.stays.told c.in_ok-attach.ensures.stays.later c.in_err-fold.ensures.cause)
 
 pub returns-in_err-text-clause-damaged : goal.returns-in_err-text-clause-damaged
 returns-in_err-text-clause-damaged g c = λ told place d.
-    absurd (undamaged (g.S.Held.seen c.args.site.now) (g.S.Held.seen c.attach.new.site) c.in_ok-attach.ensures.files c.in_ok-attach.ensures.stays.told c.in_ok-table.ensures.damaged told place d)
+    absurd (undamaged c.args.role (g.S.Held.seen c.args.site.now) (g.S.Held.seen c.attach.new.site) c.in_ok-attach.ensures.files c.in_ok-attach.ensures.stays.told c.in_ok-fold.ensures.damaged told place d)
 
 pub returns-in_err-statements-clause-damaged : goal.returns-in_err-statements-clause-damaged
 returns-in_err-statements-clause-damaged g c = λ told place d.
-    absurd (undamaged (g.S.Held.seen c.args.site.now) (g.S.Held.seen c.attach.new.site) c.in_ok-attach.ensures.files c.in_ok-attach.ensures.stays.told c.in_ok-table.ensures.damaged told place d)
+    absurd (undamaged c.args.role (g.S.Held.seen c.args.site.now) (g.S.Held.seen c.attach.new.site) c.in_ok-attach.ensures.files c.in_ok-attach.ensures.stays.told c.in_ok-fold.ensures.damaged told place d)
 
 pub returns-clause-damaged : goal.returns-clause-damaged
 returns-clause-damaged g c = λ told place d.
-    absurd (undamaged (g.S.Held.seen c.args.site.now) (g.S.Held.seen c.attach.new.site) c.in_ok-attach.ensures.files c.in_ok-attach.ensures.stays.told c.in_ok-table.ensures.damaged told place d)
+    absurd (undamaged c.args.role (g.S.Held.seen c.args.site.now) (g.S.Held.seen c.attach.new.site) c.in_ok-attach.ensures.files c.in_ok-attach.ensures.stays.told c.in_ok-fold.ensures.damaged told place d)
 
 pub returns-in_err-text-clause-cause : goal.returns-in_err-text-clause-cause
 returns-in_err-text-clause-cause g c =
@@ -45,9 +46,9 @@ returns-in_err-text-clause-cause g c =
     let input = stream (g.I.Source.told c.args.input.now) (g.I.Source.left c.args.input.now) (g.I.Source.faults c.args.input.now) in
     let input' = stream (g.I.Source.told c.read_all.new.source) (g.I.Source.left c.read_all.new.source) (g.I.Source.faults c.read_all.new.source) in
     let p = err_from_is_err_and c.from_residual-in_err-text.result c.from_residual-in_err-text.ensures.1 in
-    rw (p.1, p.2) (begin_read (seen c.args.site.now) (seen c.open_database.new.site) input input' _ c.in_err-text.ensures.cause
+    rw (p.1, p.2) (begin_read c.args.role (seen c.args.site.now) (seen c.open_database.new.site) input input' _ c.in_err-text.ensures.cause
     (λ e t. c.in_err-text.ensures.long t (ap Err e))
-    (left_of (seen c.args.site.now) (seen c.attach.new.site) (seen c.open_database.new.site) c.in_ok-table.table c.in_ok-table.log c.in_ok-attach.ensures.files c.in_ok-attach.ensures.stays.told c.in_ok-table.ensures.usable.1 c.in_ok-table.ensures.opened))
+    (left_of c.args.role (seen c.args.site.now) (seen c.attach.new.site) (seen c.open_database.new.site) c.in_ok-fold.fold c.in_ok-fold.log c.in_ok-attach.ensures.files c.in_ok-attach.ensures.stays.told c.in_ok-fold.ensures.usable.1 c.in_ok-fold.ensures.opened))
 
 pub returns-in_err-statements-clause-cause : goal.returns-in_err-statements-clause-cause
 returns-in_err-statements-clause-cause g c =
@@ -55,6 +56,25 @@ returns-in_err-statements-clause-cause g c =
     let input = stream (g.I.Source.told c.args.input.now) (g.I.Source.left c.args.input.now) (g.I.Source.faults c.args.input.now) in
     let input' = stream (g.I.Source.told c.read_all.new.source) (g.I.Source.left c.read_all.new.source) (g.I.Source.faults c.read_all.new.source) in
     let p = err_from_is_err_and c.from_residual-in_err-statements.result c.from_residual-in_err-statements.ensures.1 in
-    rw (p.1, p.2) (begin_script (seen c.args.site.now) (seen c.open_database.new.site) input input' c.as_slice.result.now _ c.in_err-statements.ensures.refused
+    rw (p.1, p.2) (begin_script c.args.role (seen c.args.site.now) (seen c.open_database.new.site) input input' c.as_slice.result.now _ c.in_err-statements.ensures.refused
     (λ t. let all = c.in_ok-text.ensures.all t in record { was = all.0 ∙ sym c.as_slice.ensures.value; left = all.1 })
-    (left_of (seen c.args.site.now) (seen c.attach.new.site) (seen c.open_database.new.site) c.in_ok-table.table c.in_ok-table.log c.in_ok-attach.ensures.files c.in_ok-attach.ensures.stays.told c.in_ok-table.ensures.usable.1 c.in_ok-table.ensures.opened))
+    (left_of c.args.role (seen c.args.site.now) (seen c.attach.new.site) (seen c.open_database.new.site) c.in_ok-fold.fold c.in_ok-fold.log c.in_ok-attach.ensures.files c.in_ok-attach.ensures.stays.told c.in_ok-fold.ensures.usable.1 c.in_ok-fold.ensures.opened))
+
+pub returns-in_err-fold-clause-left : goal.returns-in_err-fold-clause-left
+returns-in_err-fold-clause-left g c =
+    left_on c.args.role (g.S.Held.seen c.args.site.now) (g.S.Held.seen c.attach.new.site) (g.S.Held.seen c.open_database.new.site) c.in_ok-attach.ensures.files c.in_ok-attach.ensures.stays.told c.in_err-fold.ensures.left
+
+pub returns-in_err-text-clause-left : goal.returns-in_err-text-clause-left
+returns-in_err-text-clause-left g c =
+    left_on c.args.role (g.S.Held.seen c.args.site.now) (g.S.Held.seen c.attach.new.site) (g.S.Held.seen c.open_database.new.site) c.in_ok-attach.ensures.files c.in_ok-attach.ensures.stays.told c.in_ok-fold.ensures.left
+
+pub returns-in_err-statements-clause-left : goal.returns-in_err-statements-clause-left
+returns-in_err-statements-clause-left g c =
+    left_on c.args.role (g.S.Held.seen c.args.site.now) (g.S.Held.seen c.attach.new.site) (g.S.Held.seen c.open_database.new.site) c.in_ok-attach.ensures.files c.in_ok-attach.ensures.stays.told c.in_ok-fold.ensures.left
+
+pub returns-clause-left : goal.returns-clause-left
+returns-clause-left g c =
+    left_on c.args.role (g.S.Held.seen c.args.site.now) (g.S.Held.seen c.attach.new.site) (g.S.Held.seen c.open_database.new.site) c.in_ok-attach.ensures.files c.in_ok-attach.ensures.stays.told c.in_ok-fold.ensures.left
+
+pub returns-in_err-attach-clause-left : goal.returns-in_err-attach-clause-left
+returns-in_err-attach-clause-left g c = λ told base es h. holds_none c.args.role base es (g.S.Held.seen c.args.site.now).files (g.S.Held.seen c.attach.new.site).files h (c.in_err-attach.ensures.files told)

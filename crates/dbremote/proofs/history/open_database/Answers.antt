@@ -1,72 +1,140 @@
-use Rattle.std.proofs.Common.{◌∙◌, [], sym, subst, IsTrue}
+use Rattle.std.proofs.Common.{◌≡◌, ◌∙◌, [], ap, sym, subst, IsTrue, refl}
 use Rattle.std.proofs.lemmas.Result.{err_from_is_err_and}
+use Rattle.dbremote.specs.Openings.{IsPrepared}
 use Rattle.dbremote.proofs.Damages.{stands_undamaged}
-use Rattle.dbremote.proofs.Opened.{Prepared, prepared_made, prepared_found, open_fault, unmade, opened_made, opened_folded}
+use Rattle.dbremote.proofs.Opened.{Behind, told_on, disk_fault, open_fault, unfolded, uncompleted, opened_whole, none_missing, was_there, has_bytes, holds_none, holds_some, standing_for}
 use Rattle.dbremote.proofs.history.open_database.Goals as goal
-use Rattle.dbremote.proofs.history.open_database.Goals.{then-branch-eq0+in_ok-fresh, else-branch-eq0, then-end-base+in_ok-make_table, else-end-base+in_ok-fold_log}
+
+pub returns-in_err-prepare-clause-kept : goal.returns-in_err-prepare-clause-kept
+returns-in_err-prepare-clause-kept g c = λ told base es h none. c.in_err-prepare.ensures.kept told (has_bytes c.args.role base es (g.S.Held.seen c.args.site.now).files.log0 h)
+
+pub returns-in_err-prepare-clause-left : goal.returns-in_err-prepare-clause-left
+returns-in_err-prepare-clause-left g c = λ told base es h.
+    let before = (g.S.Held.seen c.args.site.now).files in
+    holds_none c.args.role base es before (g.S.Held.seen c.prepare.new.site).files h (c.in_err-prepare.ensures.kept told (has_bytes c.args.role base es before.log0 h))
+
+pub returns-in_err-prepare-clause-cause : goal.returns-in_err-prepare-clause-cause
+returns-in_err-prepare-clause-cause g c =
+    let p = err_from_is_err_and c.from_residual.result c.from_residual.ensures.1 in
+    rw (p.1, p.2) (disk_fault c.args.role (g.S.Held.seen c.args.site.now) (g.S.Held.seen c.prepare.new.site) _ c.in_err-prepare.ensures.cause.0 c.in_err-prepare.ensures.cause.1)
+
+pub returns-in_err-log-clause-kept : goal.returns-in_err-log-clause-kept
+returns-in_err-log-clause-kept g c = λ told base es h none.
+    let seen = g.S.Held.seen in
+    let prepared = c.in_ok-prepare.ensures.prepared in
+    c.in_err-log.ensures.files (told_on (seen c.args.site.now) (seen c.prepare.new.site) prepared.stays told)
+    ∙ was_there (seen c.args.site.now) (seen c.prepare.new.site) c.args.role base es prepared told h
+
+pub returns-in_err-log-clause-left : goal.returns-in_err-log-clause-left
+returns-in_err-log-clause-left g c = λ told base es h.
+    let seen = g.S.Held.seen in
+    let prepared = c.in_ok-prepare.ensures.prepared in
+    holds_none c.args.role base es (seen c.args.site.now).files (seen c.open.new.site).files h
+    (c.in_err-log.ensures.files (told_on (seen c.args.site.now) (seen c.prepare.new.site) prepared.stays told)
+    ∙ was_there (seen c.args.site.now) (seen c.prepare.new.site) c.args.role base es prepared told h)
 
 pub returns-in_err-log-clause-cause : goal.returns-in_err-log-clause-cause
 returns-in_err-log-clause-cause g c =
     let seen = g.S.Held.seen in
-    let before = seen c.args.site.now in
-    let mid = seen c.if-branch-eq0.site in
-    let prepared : Prepared before mid =
-    elim c.if-branch-eq0.branch [
-      | then-branch-eq0+in_ok-fresh w ↦
-          rw w.site-is (prepared_made before (seen c.length.new.self) (seen w.fresh.new.site) c.in_ok-length.field-0 c.in_ok-length.ensures.stays w.in_ok-fresh.ensures.stays c.in_ok-length.ensures.length w.if-branch-eq0.true w.in_ok-fresh.ensures.empty)
-      | else-branch-eq0 w ↦
-          rw w.site-is (prepared_found before (seen c.length.new.self) c.in_ok-length.field-0 c.in_ok-length.ensures.stays c.in_ok-length.ensures.length w.if-branch-eq0.false c.in_ok-length.ensures.files)
-    ] in
     let p = err_from_is_err_and c.from_residual-in_err-log.result c.from_residual-in_err-log.ensures.1 in
-    rw (p.1, p.2) (open_fault before mid (seen c.open.new.site) _ prepared c.in_err-log.ensures.files (λ inside spells. (c.in_err-log.ensures.spelled inside 0 [] spells).1) c.in_err-log.ensures.cause)
+    rw (p.1, p.2) (open_fault c.args.role (seen c.args.site.now) (seen c.prepare.new.site) (seen c.open.new.site) _ c.in_ok-prepare.ensures.prepared c.in_err-log.ensures.files
+    (λ inside spells. (c.in_err-log.ensures.spelled inside 0 [] spells).1) c.in_err-log.ensures.cause)
 
-pub returns-in_err-make_table-clause-cause : goal.returns-in_err-make_table-clause-cause
-returns-in_err-make_table-clause-cause g c =
+pub returns-in_err-fold-clause-kept : goal.returns-in_err-fold-clause-kept
+returns-in_err-fold-clause-kept g c = λ told base es h none.
     let seen = g.S.Held.seen in
-    let before = seen c.args.site.now in
-    let mid = seen c.if-branch-eq0.site in
-    let prepared : Prepared before mid =
-    elim c.if-branch-eq0.branch [
-      | then-branch-eq0+in_ok-fresh w ↦
-          rw w.site-is (prepared_made before (seen c.length.new.self) (seen w.fresh.new.site) c.in_ok-length.field-0 c.in_ok-length.ensures.stays w.in_ok-fresh.ensures.stays c.in_ok-length.ensures.length w.if-branch-eq0.true w.in_ok-fresh.ensures.empty)
-      | else-branch-eq0 w ↦
-          rw w.site-is (prepared_found before (seen c.length.new.self) c.in_ok-length.field-0 c.in_ok-length.ensures.stays c.in_ok-length.ensures.length w.if-branch-eq0.false c.in_ok-length.ensures.files)
-    ] in
-    let log = c.in_ok-log.log in
-    let p = err_from_is_err_and c.from_residual-in_err-make_table.result c.from_residual-in_err-make_table.ensures.1 in
-    rw (p.1, p.2) (unmade before mid (seen c.open.new.site) (seen c.make_table.new.site) log _ prepared c.in_ok-log.ensures.stays c.in_ok-log.ensures.usable.0 c.in_ok-log.ensures.log
-    (λ inside spells. (c.in_ok-log.ensures.spelled inside 0 [] spells).0.0) c.in_ok-log.ensures.files
-    (sym c.end.ensures.end ∙ c.if-end-base.true ∙ c.base.ensures.base) c.in_err-make_table.ensures.cause)
+    let prepared = c.in_ok-prepare.ensures.prepared in
+    let inside = told_on (seen c.args.site.now) (seen c.prepare.new.site) prepared.stays told in
+    c.in_err-fold.ensures.files (told_on (seen c.prepare.new.site) (seen c.open.new.site) c.in_ok-log.ensures.stays inside)
+    ∙ c.in_ok-log.ensures.files inside
+    ∙ was_there (seen c.args.site.now) (seen c.prepare.new.site) c.args.role base es prepared told h
+
+pub returns-in_err-fold-clause-left : goal.returns-in_err-fold-clause-left
+returns-in_err-fold-clause-left g c = λ told base es h.
+    let seen = g.S.Held.seen in
+    let prepared = c.in_ok-prepare.ensures.prepared in
+    let inside = told_on (seen c.args.site.now) (seen c.prepare.new.site) prepared.stays told in
+    holds_none c.args.role base es (seen c.args.site.now).files (seen c.fold_log.new.site).files h
+    (c.in_err-fold.ensures.files (told_on (seen c.prepare.new.site) (seen c.open.new.site) c.in_ok-log.ensures.stays inside)
+    ∙ c.in_ok-log.ensures.files inside
+    ∙ was_there (seen c.args.site.now) (seen c.prepare.new.site) c.args.role base es prepared told h)
+
+pub returns-in_err-fold-clause-cause : goal.returns-in_err-fold-clause-cause
+returns-in_err-fold-clause-cause g c =
+    let seen = g.S.Held.seen in
+    let behind : Behind (seen c.prepare.new.site) (seen c.open.new.site) c.in_ok-log.log =
+    record { stays = c.in_ok-log.ensures.stays; file = c.in_ok-log.ensures.usable.0; files = c.in_ok-log.ensures.files; spelled = λ inside base bodies spells. (c.in_ok-log.ensures.spelled inside base bodies spells).0 } in
+    let p = err_from_is_err_and c.from_residual-in_err-fold.result c.from_residual-in_err-fold.ensures.1 in
+    rw (p.1, p.2) (unfolded c.one_spelling_or_one_damage.ensures.one_spelling c.args.role (seen c.args.site.now) (seen c.prepare.new.site) (seen c.open.new.site) (seen c.fold_log.new.site) c.in_ok-log.log _
+    c.in_ok-prepare.ensures.prepared behind c.in_err-fold.ensures.files c.in_err-fold.ensures.cause)
+
+pub complete-requires-clause-folded : goal.complete-requires-clause-folded
+complete-requires-clause-folded g c =
+    let seen = g.S.Held.seen in
+    standing_for c.args.role c.in_ok-log.log c.in_ok-fold.fold (seen c.open.new.site).told (seen c.fold_log.new.site).told (seen c.open.new.site).files (seen c.fold_log.new.site).files
+    c.in_ok-fold.ensures.folded c.in_ok-fold.ensures.stays.told c.in_ok-fold.ensures.files
+
+pub returns-in_err-complete-clause-kept : goal.returns-in_err-complete-clause-kept
+returns-in_err-complete-clause-kept g c = λ told base es h none.
+    let seen = g.S.Held.seen in
+    let prepared = c.in_ok-prepare.ensures.prepared in
+    let behind : Behind (seen c.prepare.new.site) (seen c.open.new.site) c.in_ok-log.log =
+    record { stays = c.in_ok-log.ensures.stays; file = c.in_ok-log.ensures.usable.0; files = c.in_ok-log.ensures.files; spelled = λ inside base bodies spells. (c.in_ok-log.ensures.spelled inside base bodies spells).0 } in
+    let inside = told_on (seen c.args.site.now) (seen c.prepare.new.site) prepared.stays told in
+    c.in_err-complete.ensures.kept (none_missing c.one_spelling_or_one_damage.ensures.one_spelling c.args.role (seen c.args.site.now) (seen c.prepare.new.site) (seen c.open.new.site) c.in_ok-log.log c.in_ok-fold.fold base es
+    prepared behind told h c.in_ok-fold.ensures.folded none)
+    ∙ c.in_ok-fold.ensures.files (told_on (seen c.prepare.new.site) (seen c.open.new.site) c.in_ok-log.ensures.stays inside)
+    ∙ c.in_ok-log.ensures.files inside
+    ∙ was_there (seen c.args.site.now) (seen c.prepare.new.site) c.args.role base es prepared told h
+
+pub returns-in_err-complete-clause-left : goal.returns-in_err-complete-clause-left
+returns-in_err-complete-clause-left g c = λ told base es h.
+    let seen = g.S.Held.seen in
+    let behind : Behind (seen c.prepare.new.site) (seen c.open.new.site) c.in_ok-log.log =
+    record { stays = c.in_ok-log.ensures.stays; file = c.in_ok-log.ensures.usable.0; files = c.in_ok-log.ensures.files; spelled = λ inside base bodies spells. (c.in_ok-log.ensures.spelled inside base bodies spells).0 } in
+    holds_some c.one_spelling_or_one_damage.ensures.one_spelling c.args.role (seen c.args.site.now) (seen c.prepare.new.site) (seen c.open.new.site) (seen c.fold_log.new.site) (seen c.complete.new.site) c.in_ok-log.log c.in_ok-fold.fold base es
+    c.in_ok-prepare.ensures.prepared behind told c.in_ok-fold.ensures.stays c.in_ok-fold.ensures.files c.in_ok-fold.ensures.folded c.in_err-complete.ensures.left h
+
+pub returns-in_err-complete-clause-cause : goal.returns-in_err-complete-clause-cause
+returns-in_err-complete-clause-cause g c =
+    let seen = g.S.Held.seen in
+    let behind : Behind (seen c.prepare.new.site) (seen c.open.new.site) c.in_ok-log.log =
+    record { stays = c.in_ok-log.ensures.stays; file = c.in_ok-log.ensures.usable.0; files = c.in_ok-log.ensures.files; spelled = λ inside base bodies spells. (c.in_ok-log.ensures.spelled inside base bodies spells).0 } in
+    let p = err_from_is_err_and c.from_residual-in_err-complete.result c.from_residual-in_err-complete.ensures.1 in
+    rw (p.1, p.2) (uncompleted c.args.role (seen c.args.site.now) (seen c.prepare.new.site) (seen c.open.new.site) (seen c.fold_log.new.site) (seen c.complete.new.site) c.in_ok-log.log c.in_ok-fold.fold _
+    c.in_ok-prepare.ensures.prepared behind c.in_ok-fold.ensures.stays c.in_ok-fold.ensures.files c.in_ok-fold.ensures.folded c.in_err-complete.ensures.cause)
 
 pub returns-clause-opened : goal.returns-clause-opened
 returns-clause-opened g c = λ told.
     let seen = g.S.Held.seen in
-    let before = seen c.args.site.now in
-    let mid = seen c.if-branch-eq0.site in
-    let prepared : Prepared before mid =
-    elim c.if-branch-eq0.branch [
-      | then-branch-eq0+in_ok-fresh w ↦
-          rw w.site-is (prepared_made before (seen c.length.new.self) (seen w.fresh.new.site) c.in_ok-length.field-0 c.in_ok-length.ensures.stays w.in_ok-fresh.ensures.stays c.in_ok-length.ensures.length w.if-branch-eq0.true w.in_ok-fresh.ensures.empty)
-      | else-branch-eq0 w ↦
-          rw w.site-is (prepared_found before (seen c.length.new.self) c.in_ok-length.field-0 c.in_ok-length.ensures.stays c.in_ok-length.ensures.length w.if-branch-eq0.false c.in_ok-length.ensures.files)
-    ] in
-    let log = c.in_ok-log.log in
-    let inside : IsTrue mid.told = subst IsTrue (sym prepared.stays.told) told in
-    let after : IsTrue (seen c.open.new.site).told = subst IsTrue (sym c.in_ok-log.ensures.stays.told) inside in
-    let spelled = c.in_ok-log.ensures.spelled inside 0 [] in
-    elim c.if-end-base.branch [
-      | then-end-base+in_ok-make_table w ↦
-          rw (w.site-is, w.table-is, w.log-is) (opened_made before mid (seen w.make_table.new.site) (seen c.open.new.site).files log w.make_table.new.log c.new-table.result told prepared
-          c.in_ok-log.ensures.usable.0 (c.in_ok-log.ensures.log inside) (λ spells. (spelled spells).0.0) (c.in_ok-log.ensures.files inside)
-          (sym c.end.ensures.end ∙ w.if-end-base.true ∙ c.base.ensures.base) w.in_ok-make_table.ensures.log.0 (w.in_ok-make_table.ensures.made after) c.new-table.ensures.empty)
-      | else-end-base+in_ok-fold_log w ↦
-          rw (w.site-is, w.table-is, w.log-is) (opened_folded before mid (seen w.fold_log.new.site) (seen c.open.new.site).files log w.fold_log.new.table told prepared
-          c.in_ok-log.ensures.usable.0 (λ spells. (spelled spells).0.1) (c.in_ok-log.ensures.files inside)
-          (λ e. w.if-end-base.false (c.end.ensures.end ∙ e ∙ sym c.base.ensures.base)) (w.in_ok-fold_log.ensures.folded after) (w.in_ok-fold_log.ensures.files after))
-    ]
+    let behind : Behind (seen c.prepare.new.site) (seen c.open.new.site) c.in_ok-log.log =
+    record { stays = c.in_ok-log.ensures.stays; file = c.in_ok-log.ensures.usable.0; files = c.in_ok-log.ensures.files; spelled = λ inside base bodies spells. (c.in_ok-log.ensures.spelled inside base bodies spells).0 } in
+    opened_whole c.args.role (seen c.args.site.now) (seen c.prepare.new.site) (seen c.open.new.site) (seen c.fold_log.new.site) (seen c.complete.new.site) c.in_ok-log.log c.complete.new.log c.in_ok-fold.fold c.complete.new.fold
+    told c.in_ok-prepare.ensures.prepared behind c.in_ok-fold.ensures.stays c.in_ok-fold.ensures.files c.in_ok-fold.ensures.folded c.in_ok-complete.ensures.log.0 c.in_ok-complete.ensures.done
 
 pub returns-clause-damaged : goal.returns-clause-damaged
 returns-clause-damaged g c = λ told place damage.
     let opened = returns-clause-opened g c told in
     let law = c.one_spelling_or_one_damage.ensures in
-    absurd (stands_undamaged law.one_spelling law.never_both opened.base place opened.txs (g.S.Held.seen c.args.site.now).files.log0 opened.stood damage)
+    absurd (stands_undamaged law.one_spelling law.never_both c.args.role opened.base place opened.es (g.S.Held.seen c.args.site.now).files.log0 opened.stood damage)
+
+pub returns-clause-kept : goal.returns-clause-kept
+returns-clause-kept g c = λ told base es h none.
+    let seen = g.S.Held.seen in
+    let prepared = c.in_ok-prepare.ensures.prepared in
+    let behind : Behind (seen c.prepare.new.site) (seen c.open.new.site) c.in_ok-log.log =
+    record { stays = c.in_ok-log.ensures.stays; file = c.in_ok-log.ensures.usable.0; files = c.in_ok-log.ensures.files; spelled = λ inside base bodies spells. (c.in_ok-log.ensures.spelled inside base bodies spells).0 } in
+    let inside = told_on (seen c.args.site.now) (seen c.prepare.new.site) prepared.stays told in
+    c.in_ok-complete.ensures.kept (none_missing c.one_spelling_or_one_damage.ensures.one_spelling c.args.role (seen c.args.site.now) (seen c.prepare.new.site) (seen c.open.new.site) c.in_ok-log.log c.in_ok-fold.fold base es
+    prepared behind told h c.in_ok-fold.ensures.folded none)
+    ∙ c.in_ok-fold.ensures.files (told_on (seen c.prepare.new.site) (seen c.open.new.site) c.in_ok-log.ensures.stays inside)
+    ∙ c.in_ok-log.ensures.files inside
+    ∙ was_there (seen c.args.site.now) (seen c.prepare.new.site) c.args.role base es prepared told h
+
+pub returns-clause-left : goal.returns-clause-left
+returns-clause-left g c = λ told base es h.
+    let seen = g.S.Held.seen in
+    let behind : Behind (seen c.prepare.new.site) (seen c.open.new.site) c.in_ok-log.log =
+    record { stays = c.in_ok-log.ensures.stays; file = c.in_ok-log.ensures.usable.0; files = c.in_ok-log.ensures.files; spelled = λ inside base bodies spells. (c.in_ok-log.ensures.spelled inside base bodies spells).0 } in
+    holds_some c.one_spelling_or_one_damage.ensures.one_spelling c.args.role (seen c.args.site.now) (seen c.prepare.new.site) (seen c.open.new.site) (seen c.fold_log.new.site) (seen c.complete.new.site) c.in_ok-log.log c.in_ok-fold.fold base es
+    c.in_ok-prepare.ensures.prepared behind told c.in_ok-fold.ensures.stays c.in_ok-fold.ensures.files c.in_ok-fold.ensures.folded c.in_ok-complete.ensures.left h

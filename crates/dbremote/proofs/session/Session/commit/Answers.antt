@@ -1,7 +1,7 @@
 use Rattle.std.proofs.Common.{◌≡◌, ◌<◌, length, arith, ap, sym, ◌∙◌, subst}
 use Rattle.std.proofs.lemmas.Grind.{common_steps}
 use Rattle.sr_logfile.specs.Records.{body_of, IsFramed}
-use Rattle.dbremote.specs.Entries.{own}
+use Rattle.sr_exchange.specs.Entries.{own}
 use Rattle.dbremote.specs.Sessions.{CommitFault}
 use Rattle.dbremote.proofs.Committing.{appended_some, stands_some, length_framed, commit_fault}
 use Rattle.dbremote.proofs.session.Session.commit.Goals as goal
