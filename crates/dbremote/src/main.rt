@@ -12,6 +12,7 @@ mod fault;
 mod history;
 mod host;
 mod opening;
+mod receiving;
 mod report;
 #[cfg(test)]
 mod role_logs;

@@ -1,0 +1,4 @@
+pub mod Places
+pub mod Printings
+pub mod Refusals
+pub mod Sizes
