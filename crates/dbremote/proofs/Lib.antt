@@ -4,9 +4,7 @@ pub mod Completing
 pub mod Damages
 pub mod Ending
 pub mod Finding
-pub mod Finishes
 pub mod Folding
-pub mod Fronts
 pub mod Legal
 pub mod Making
 pub mod Lawful
@@ -15,7 +13,6 @@ pub mod Opened
 pub mod Parts
 pub mod Pieces
 pub mod Reached
-pub mod Receipts
 pub mod Scripts
 pub mod SendingRuns
 pub mod SendingTold

@@ -12,7 +12,6 @@ mod fault;
 mod history;
 mod host;
 mod opening;
-mod receiving;
 mod report;
 #[cfg(test)]
 mod role_logs;

@@ -1,4 +1,0 @@
-pub mod Places
-pub mod Printings
-pub mod Refusals
-pub mod Sizes

@@ -1,9 +1,0 @@
-pub mod Classed
-pub mod Differing
-pub mod Fates
-pub mod Fitted
-pub mod Fixed
-pub mod Folding
-pub mod Keeping
-pub mod Outcomes
-pub mod Putting
