@@ -1,4 +1,4 @@
-ghost use Rattle.std.specs.Prelude.{◌≡◌, ◌^◌, ◌≤◌, [], ◌∷◌, IsTrue, OnOk, IfErr};
+ghost use Rattle.std.specs.Prelude.{◌≡◌, ◌^◌, ◌≤◌, ◌⊎◌, [], ◌∷◌, length, IsTrue, OnOk, OnErr, IfErr};
 ghost use Rattle.sr_site.specs.Calls.{wrote, cut_to, synced};
 ghost use Rattle.sr_site.specs.Causes.{DiskStays};
 ghost use Rattle.sr_site.specs.Files.{bytes_of, with_bytes, OthersStay};
@@ -11,11 +11,13 @@ use sr_site::{Disk, File};
 
 /// Makes the file a log without records: the 17 bytes of a header with this base, at most 2^62, and a closed gate.
 ///
-/// It cuts the file to nothing, writes the 17 bytes and syncs. After `Disk` the file may hold anything.
+/// It cuts the file to nothing, writes the 17 bytes and syncs. After `Disk` the file is no longer than it was, or has no more than
+/// these 17 bytes; nothing is said of which they are.
 pub fn fresh<S: Disk>(site: &mut S, file: File, base: Offset) -> Result<(), LogFault>
     requires base { base.0 ≤ 2 ^ 62 }
     ensures bytes { IsTrue (S.seen site.old).told → OnOk result ((S.seen site.new).files ≡ with_bytes (S.seen site.old).files file (fresh_bytes base.0)) }
     ensures empty { IsTrue (S.seen site.old).told → OnOk result (Spells base.0 [] (bytes_of (S.seen site.new).files file)) }
+    ensures left { IsTrue (S.seen site.old).told → OnErr result ((length (bytes_of (S.seen site.new).files file) ≤ length (bytes_of (S.seen site.old).files file)) ⊎ (length (bytes_of (S.seen site.new).files file) ≤ 17)) }
     ensures others { IsTrue (S.seen site.old).told → OthersStay file (S.seen site.old).files (S.seen site.new).files }
     ensures calls { IsTrue (S.seen site.old).told → OnOk result ((S.seen site.new).calls ≡ synced file ∷ wrote file 0 (fresh_bytes base.0) ∷ cut_to file 0 ∷ (S.seen site.old).calls) }
     ensures stays { DiskStays (S.seen site.old) (S.seen site.new) }

@@ -39,3 +39,9 @@ pub record IsTorn (place count : ℕ) (old new : List ℕ) : Type 0 where
   pub before : take place new ≡ take place old
   pub behind : drop (place + count) new ≡ drop (place + count) old
   pub longer : length old ≤ length new
+
+-- a cut that failed may have happened in part: the bytes that were to stay stand, and the file is no longer than it was
+pub record IsCutInPart (to : ℕ) (old new : List ℕ) : Type 0 where
+  pub before : take to new ≡ take to old
+  pub least : to ≤ length new
+  pub most : length new ≤ length old

@@ -1,6 +1,6 @@
 ghost use Rattle.std.specs.Prelude.{◌≡◌, ◌≤◌, ◌∷◌, length, take, IsTrue, IfOk, OnOk, OnErr};
 ghost use Rattle.sr_site.specs.Calls.{wrote, cut_to, synced};
-ghost use Rattle.sr_site.specs.Files.{bytes_of, with_bytes, overwritten, IsTorn, OthersStay};
+ghost use Rattle.sr_site.specs.Files.{bytes_of, with_bytes, overwritten, IsTorn, IsCutInPart, OthersStay};
 ghost use Rattle.sr_site.specs.Causes.{DiskStays, Rose};
 ghost use Rattle.sr_site.specs.Reads.{HasRead};
 
@@ -10,7 +10,9 @@ use crate::held::{Failed, Held};
 /// Five files, each a run of bytes; a file that is not there has none.
 ///
 /// Each call answers `Failed` only where the count of disk faults rose in it. After `Failed` a write or cut may have happened in part;
-/// the other files stand as they were, and so do the bytes before the place and behind the range that was to be written. What a write or cut left is durable once a later `sync` of that file has succeeded.
+/// the other files stand as they were. So do, after a write, the bytes before the place and behind the range that was to be written, and after a
+/// cut the bytes that were to stay: the file is then no longer than it was. What a write or cut left is durable once a later `sync` of that file
+/// has succeeded.
 pub trait Disk: Held {
     /// The file's length in bytes.
     fn length(&mut self, file: File) -> Result<u64, Failed>
@@ -44,6 +46,7 @@ pub trait Disk: Held {
     fn cut(&mut self, file: File, to: u64) -> Result<(), Failed>
         requires { IsTrue (Self.seen self.old).told → to ≤ length (bytes_of (Self.seen self.old).files file) }
         ensures cut { IsTrue (Self.seen self.old).told → OnOk result ((Self.seen self.new).files ≡ with_bytes (Self.seen self.old).files file (take to (bytes_of (Self.seen self.old).files file))) }
+        ensures torn { IsTrue (Self.seen self.old).told → OnErr result (IsCutInPart to (bytes_of (Self.seen self.old).files file) (bytes_of (Self.seen self.new).files file)) }
         ensures others { IsTrue (Self.seen self.old).told → OthersStay file (Self.seen self.old).files (Self.seen self.new).files }
         ensures calls { IsTrue (Self.seen self.old).told → (Self.seen self.new).calls ≡ cut_to file to ∷ (Self.seen self.old).calls }
         ensures stays { DiskStays (Self.seen self.old) (Self.seen self.new) }
