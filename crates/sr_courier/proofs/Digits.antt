@@ -1,5 +1,5 @@
 -- Hexadecimal digits, the last one apart.
-use Rattle.std.proofs.Common.{◌≡◌, ℕ, zero, suc, ◌-◌, ◌/◌, ◌%◌, ◌<◌, List, [], ◌∷◌, ◌++◌, refl, ap, arith}
+use Rattle.std.proofs.Common.{◌≡◌, ℕ, zero, suc, ◌-◌, ◌/◌, ◌%◌, ◌<◌, [], ◌∷◌, ◌++◌, refl, arith}
 use Rattle.sr_exchange.specs.Letters.{hexadecimal, hexadecimal_digit}
 
 pub digits_none : (number : ℕ) → hexadecimal 0 number ≡ []

@@ -1,14 +1,12 @@
 -- The listing before the files, and the removals after them.
-use Rattle.std.proofs.Common.{◌≡◌, ◌⊎◌, ◌≤◌, ℕ, Bool, true, false, cond, nat_le, IsTrue, List, [], ◌∷◌, ◌++◌, length, map, filter, inl, inr, refl, sym, ap, subst, ◌∙◌, append_assoc, arith}
+use Rattle.std.proofs.Common.{◌≡◌, ℕ, Bool, IsTrue, List, [], ◌∷◌, ◌++◌, inl, refl, sym, ap, subst, ◌∙◌, append_assoc, arith}
 use Rattle.std.proofs.lemmas.List.{append-nil}
-use Rattle.sr_base.specs.declared.offset.Offset.{Offset}
 use Rattle.sr_site.specs.declared.mail.MailFault.{MailFault}
 use Rattle.sr_site.specs.declared.mail.MailFault.TheVariants as mail_fault
 use Rattle.sr_site.specs.Causes.{MailStays, Rose}
-use Rattle.sr_site.specs.Mails.{Event, listed, removed}
+use Rattle.sr_site.specs.Mails.{Event, listed}
 use Rattle.sr_site.specs.Seen.{Seen}
 use Rattle.sr_logfile.specs.Log.{Log}
-use Rattle.sr_exchange.specs.AgentLines.{dead_names}
 use Rattle.sr_exchange.specs.Bodies.{Transaction}
 use Rattle.sr_exchange.specs.Findings.{taken_in, entries_of}
 use Rattle.sr_exchange.specs.Roles.{r1}
@@ -17,7 +15,7 @@ use Rattle.sr_courier.specs.declared.fault.Fault.TheVariants.{Memory}
 use Rattle.sr_courier.specs.declared.receiver.Receiver.{Receiver}
 use Rattle.sr_courier.specs.FaultsBelow.{fault_of_mail}
 use Rattle.sr_courier.specs.Passes.{GoesOnWith, HoldsOneOf}
-use Rattle.sr_courier.specs.ReceivePass.{fetches, ReceivedInto, ReceivedFolder, StoppedPass, StoppedFolder, PassCause, perhaps_taken, removals}
+use Rattle.sr_courier.specs.ReceivePass.{fetches, ReceivedInto, ReceivedFolder, StoppedPass, StoppedFolder, PassCause, perhaps_taken}
 use Rattle.sr_courier.proofs.TakingAll.{goes_on_none}
 use Rattle.sr_courier.proofs.Receives.{later_none}
 use Rattle.sr_courier.proofs.Stops.{holds_there, mail_cause, mail_same}
@@ -86,14 +84,3 @@ folder_received old new log new_log names more before between now mail list into
       into.mail_is (subst IsTrue (sym mail.told) told) ∙ ap (λ (es : List Event). es ++ fetches names into.files) (list told)
       ∙ append_assoc before.mail (listed r1 names more ∷ []) (fetches names into.files);
 }
-
--- ---- removals
-
-removals_if : (dead : Bool) (letter : List ℕ × Offset) (rest : List (List ℕ × Offset))
-    → removals (map (λ l. l.0) (cond dead (letter ∷ rest) rest)) ≡ removals (map (λ l. l.0) (cond dead (letter ∷ []) [])) ++ removals (map (λ l. l.0) rest)
-removals_if true letter rest = refl
-removals_if false letter rest = refl
-
-pub removals_first : (received : ℕ) (letter : List ℕ × Offset) (rest : List (List ℕ × Offset))
-    → removals (dead_names received (letter ∷ rest)) ≡ removals (dead_names received (letter ∷ [])) ++ removals (dead_names received rest)
-removals_first received letter rest = removals_if (nat_le letter.1.0 received) letter (filter (λ l. nat_le l.1.0 received) rest)

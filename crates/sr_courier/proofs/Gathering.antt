@@ -1,17 +1,16 @@
 -- What a log gives r1 past an offset, gathered one record at a time.
-use Rattle.std.proofs.Common.{◌≡◌, ℕ, ◌+◌, ◌*◌, ◌<◌, ◌≤◌, Bool, true, false, ◌&&◌, IsTrue, List, [], ◌∷◌, ◌++◌, length, take, refl, sym, ap, subst, ◌∙◌, append_assoc, arith, map, nat_lt, cond, ◌⊎◌, inl, inr}
+use Rattle.std.proofs.Common.{◌≡◌, ℕ, ◌+◌, ◌*◌, ◌<◌, ◌≤◌, ◌&&◌, IsTrue, List, [], ◌∷◌, ◌++◌, length, take, refl, sym, ap, subst, ◌∙◌, append_assoc, arith, nat_lt, inl, inr}
 use Rattle.std.proofs.lemmas.List.{append-nil, map-append, length-append}
 use Rattle.std.proofs.lemmas.List.Elements.{filter-append}
 use Rattle.sr_book.specs.Rising.{top, offsets}
-use Rattle.sr_model.specs.Machines.{lawful_from, parts_of}
-use Rattle.sr_model.specs.Parts.{end_from}
+use Rattle.sr_model.specs.Machines.{lawful_from}
 use Rattle.sr_model.specs.Windows.{past}
 use Rattle.sr_model.proofs.Offsets.{le_or_lt, past_test, not_past_test}
 use Rattle.sr_site.specs.Causes.{DiskStays}
-use Rattle.sr_site.specs.Files.{Files, bytes_of}
+use Rattle.sr_site.specs.Files.{Files}
 use Rattle.sr_site.specs.Seen.{Seen}
 use Rattle.sr_logfile.specs.Log.{Log}
-use Rattle.sr_logfile.specs.Logs.{IsLog, HasLog, IsAt}
+use Rattle.sr_logfile.specs.Logs.{IsAt}
 use Rattle.sr_logfile.specs.Records.{open_records}
 use Rattle.sr_logfile.specs.Steps.{IsNext}
 use Rattle.sr_exchange.specs.declared.item.Item.{Item}
@@ -19,8 +18,8 @@ use Rattle.sr_exchange.specs.declared.entry.Entry.{Entry}
 use Rattle.sr_exchange.specs.declared.entry.Entry.TheVariants.{Ddl, Own, Took, Sent}
 use Rattle.sr_exchange.specs.declared.role.Role.TheVariants.{Consolidated}
 use Rattle.sr_exchange.specs.Bodies.{Transaction, body_spelling, transaction_spelling}
-use Rattle.sr_exchange.specs.Entries.{body, own, IsEntry, is_transaction}
-use Rattle.sr_exchange.specs.Exchange.{State, exchange, fresh, next, fits, size, state_from, state_of, is_lawful, is_whole, given_by_cons}
+use Rattle.sr_exchange.specs.Entries.{body, IsEntry, is_transaction}
+use Rattle.sr_exchange.specs.Exchange.{State, exchange, fresh, next, fits, size, state_of, is_lawful, is_whole, given_by_cons}
 use Rattle.sr_exchange.specs.Letters.{end_of, given_at}
 use Rattle.sr_exchange.specs.Logs.{bodies_of, IsLogOf}
 use Rattle.sr_exchange.specs.Tables.{are_free}
@@ -32,7 +31,7 @@ use Rattle.sr_courier.specs.declared.fault.Fault.{Fault}
 use Rattle.sr_courier.specs.declared.fault.Fault.TheVariants.{Memory, Disk, Mail, Damaged, Full, Long}
 use Rattle.sr_courier.specs.declared.unsent.Unsent.{Unsent}
 use Rattle.sr_courier.specs.Reading.{ReadCause}
-use Rattle.sr_courier.specs.Unsent.{HasTaken, HasAdded, AddsEntry, IsWindowOf, IsUnsent, Agrees, GatherCause, longest_body}
+use Rattle.sr_courier.specs.Unsent.{HasTaken, HasAdded, IsWindowOf, Agrees, GatherCause, longest_body}
 use Rattle.sr_courier.proofs.Legal.{entry_of_lawful}
 use Rattle.sr_courier.proofs.Own.{own_once, alone_long, own_long}
 

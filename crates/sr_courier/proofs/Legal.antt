@@ -1,5 +1,5 @@
 -- Each entry of a lawful history has a body that is read.
-use Rattle.std.proofs.Common.{◌≡◌, ℕ, ◌<◌, ◌^◌, Bool, true, false, ◌&&◌, IsTrue, List, [], ◌∷◌, ◌++◌, length, refl, sym, subst, arith, nat_lt, bytes_eq, codes}
+use Rattle.std.proofs.Common.{ℕ, ◌<◌, ◌^◌, Bool, true, false, ◌&&◌, IsTrue, List, [], ◌∷◌, length, refl, sym, subst, arith, nat_lt, codes}
 use Rattle.std.proofs.lemmas.Slice.Eq.{bytes_eq-Decides}
 use Rattle.std.proofs.lemmas.Str.{IsUtf8-from_ascii}
 use Rattle.std.proofs.lemmas.Str.Ascii.{IsAscii-nil, IsAscii-cons}
@@ -11,7 +11,7 @@ use Rattle.sr_exchange.specs.declared.entry.Entry.TheVariants.{Ddl, Own, Took, S
 use Rattle.sr_exchange.specs.declared.role.Role.{Role}
 use Rattle.sr_exchange.specs.declared.role.Role.TheVariants.{Alone, Consolidated, Remote}
 use Rattle.sr_exchange.specs.Entries.{IsEntry, is_transaction, is_offset, is_text, items_in}
-use Rattle.sr_exchange.specs.Exchange.{State, fresh, next, fits, goes_on, size, state_from, state_of, is_lawful, is_whole, is_waited_for, is_consolidated, is_remote, others_of}
+use Rattle.sr_exchange.specs.Exchange.{State, fresh, next, fits, state_from, state_of, is_whole, is_waited_for, is_consolidated, is_remote, others_of}
 use Rattle.sr_exchange.specs.Roles.{table_statement, statements_of}
 use Rattle.sr_exchange.specs.Tables.{are_free, are_judged}
 use Rattle.sr_exchange.proofs.Fits.{both, all_three, lt_of_test}

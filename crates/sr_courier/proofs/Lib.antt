@@ -8,5 +8,6 @@ pub mod Taking
 pub mod TakingAll
 pub mod Looks
 pub mod Receives
+pub mod Removing
 pub mod Stops
 pub mod Folders

@@ -1,14 +1,13 @@
 -- Entries of cons's own: their lengths, and that a body is that of one.
-use Rattle.std.proofs.Common.{◌≡◌, ℕ, ℤ, pos, negsuc, ◌+◌, ◌*◌, ◌<◌, ◌≤◌, ◌^◌, List, [], ◌∷◌, ◌++◌, length, take, drop, refl, sym, ap, ◌∙◌, to_z, FitsSigned, IsTrue, arith}
+use Rattle.std.proofs.Common.{◌≡◌, ℕ, ℤ, pos, negsuc, ◌+◌, ◌*◌, ◌<◌, ◌≤◌, ◌^◌, List, [], ◌∷◌, ◌++◌, length, take, drop, refl, sym, ap, ◌∙◌, to_z, FitsSigned, arith}
 use Rattle.std.proofs.lemmas.List.{append-nil, length-append}
 use Rattle.std.specs.Int.{w32, to_be_bytes, from_be_bytes, cast_unsigned}
 use Rattle.std.proofs.lemmas.Int.{to_z-of_z}
 use Rattle.std.proofs.lemmas.Nat.{from_be_bytes-to_be_bytes_4}
 use Rattle.sr_exchange.specs.declared.item.Item.{Item}
-use Rattle.sr_exchange.specs.declared.entry.Entry.{Entry}
-use Rattle.sr_exchange.specs.declared.entry.Entry.TheVariants.{Ddl, Own, Took, Sent}
+use Rattle.sr_exchange.specs.declared.entry.Entry.TheVariants.{Own}
 use Rattle.sr_exchange.specs.Bodies.{inserts, body_spelling, transaction_spelling}
-use Rattle.sr_exchange.specs.Entries.{changes, insert, own, body, AreItems, IsTransaction}
+use Rattle.sr_exchange.specs.Entries.{changes, insert, own, AreItems}
 use Rattle.sr_courier.specs.declared.unsent.Unsent.{Unsent}
 use Rattle.sr_courier.specs.Unsent.{HasTaken, longest_body}
 

@@ -1,5 +1,5 @@
 -- The log's refusals of a read.
-use Rattle.std.proofs.Common.{◌≡◌, ℕ, IsTrue, List, sym, subst, arith}
+use Rattle.std.proofs.Common.{◌≡◌, ℕ, IsTrue, sym, subst, arith}
 use Rattle.sr_site.specs.Causes.{DiskStays}
 use Rattle.sr_site.specs.Files.{Files}
 use Rattle.sr_site.specs.Seen.{Seen}

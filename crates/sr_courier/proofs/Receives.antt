@@ -1,8 +1,8 @@
 -- Files that are looked at, one after the other.
-use Rattle.std.proofs.Common.{◌≡◌, ◌⊎◌, ◌+◌, ◌≤◌, ℕ, suc, true, IsTrue, List, [], ◌∷◌, ◌++◌, length, Option, inl, inr, refl, sym, ap, subst, ◌∙◌, append_assoc, arith}
+use Rattle.std.proofs.Common.{◌≡◌, ◌≤◌, ℕ, suc, true, IsTrue, List, [], ◌∷◌, ◌++◌, length, Option, refl, sym, ap, subst, ◌∙◌, append_assoc, arith}
 use Rattle.std.proofs.lemmas.List.{append-nil, length-append}
 use Rattle.sr_base.specs.declared.offset.Offset.{Offset}
-use Rattle.sr_site.specs.Causes.{DiskStays, MailStays, Rose}
+use Rattle.sr_site.specs.Causes.{DiskStays, MailStays}
 use Rattle.sr_site.specs.Files.{Files}
 use Rattle.sr_site.specs.Mails.{Event, fetched}
 use Rattle.sr_site.specs.Seen.{Seen}

@@ -1,29 +1,28 @@
 -- What the send pass leaves, by its steps.
-use Rattle.std.proofs.Common.{◌≡◌, ◌≢◌, ℕ, ◌+◌, ◌*◌, ◌%◌, ◌<◌, ◌≤◌, ◌^◌, ◌⊎◌, inl, inr, Bool, true, false, ◌&&◌, IsTrue, List, [], ◌∷◌, ◌++◌, length, refl, sym, ap, subst, ◌∙◌, arith, nat_lt, nat_le}
+use Rattle.std.proofs.Common.{◌≡◌, ◌≢◌, ℕ, ◌+◌, ◌%◌, ◌≤◌, ◌^◌, ◌⊎◌, inl, inr, true, IsTrue, List, [], ◌∷◌, ◌++◌, length, refl, sym, ap, subst, ◌∙◌, arith, nat_lt, nat_le}
 use Rattle.std.proofs.lemmas.List.{append-nil, length-append}
 use Rattle.sr_base.specs.declared.offset.Offset.{Offset}
 use Rattle.sr_base.specs.Values.{offset_from}
 use Rattle.sr_book.specs.declared.book.Book.{Book}
 use Rattle.sr_book.specs.Rising.{top, offsets}
 use Rattle.sr_msgform.specs.declared.message.Message.{Message}
-use Rattle.sr_msgform.specs.Messages.{IsMessage, message_length, message_spelling}
+use Rattle.sr_msgform.specs.Messages.{IsMessage, message_spelling}
 use Rattle.sr_model.specs.Windows.{past}
-use Rattle.sr_site.specs.Causes.{Stays, DiskStays, Rose}
 use Rattle.sr_site.specs.Files.{Files, bytes_of}
 use Rattle.sr_site.specs.Mails as mails
 use Rattle.sr_site.specs.Seen.{Seen}
 use Rattle.sr_logfile.specs.Log.{Log}
-use Rattle.sr_logfile.specs.Logs.{IsLog, HasLog, IsFull, gate_of, longer}
+use Rattle.sr_logfile.specs.Logs.{IsLog, HasLog, IsFull}
 use Rattle.sr_logfile.specs.Records.{IsFramed, Spells, open_records, body_of, framed_of}
 use Rattle.sr_exchange.specs.declared.entry.Entry.{Entry}
 use Rattle.sr_exchange.specs.declared.entry.Entry.TheVariants.{Sent}
 use Rattle.sr_exchange.specs.declared.role.Role.{Role}
 use Rattle.sr_exchange.specs.declared.role.Role.TheVariants.{Consolidated}
 use Rattle.sr_exchange.specs.Bodies.{Transaction, body_spelling, transaction_spelling}
-use Rattle.sr_exchange.specs.Entries.{body, is_offset}
-use Rattle.sr_exchange.specs.Exchange.{State, fresh, fits, goes_on, size, state_of, waiting_of, is_lawful, is_whole, is_consolidated, given_by_cons, book_of_r1}
+use Rattle.sr_exchange.specs.Entries.{body}
+use Rattle.sr_exchange.specs.Exchange.{fresh, fits, size, state_of, waiting_of, is_lawful, is_whole, is_consolidated, given_by_cons, book_of_r1}
 use Rattle.sr_exchange.specs.Letters.{end_of, letter, letter_name, note_of_letter, unsent, IsTrueLetter}
-use Rattle.sr_exchange.specs.Logs.{IsLogOf, HasHistory, Standing, standing_of, bodies_of}
+use Rattle.sr_exchange.specs.Logs.{HasHistory, Standing, bodies_of}
 use Rattle.sr_exchange.specs.Roles.{r1}
 use Rattle.sr_exchange.proofs.Histories.{role_from, lawful_more}
 use Rattle.sr_courier.specs.declared.fault.Fault.{Fault}
@@ -34,7 +33,7 @@ use Rattle.sr_courier.specs.declared.unsent.Unsent as gathered
 use Rattle.sr_courier.specs.AtHand.{HasAtHand, IsAtHand}
 use Rattle.sr_courier.specs.Parcels.{IsParcel, letter_over, name_of_number}
 use Rattle.sr_courier.specs.Posting.{PostCause, Unposted}
-use Rattle.sr_courier.specs.Sending.{HasPut, HasNothing, HasSent, Sends, LogStays, HoldsNote, SendStops, SendCause, note_length, notes_bound, longest_message}
+use Rattle.sr_courier.specs.Sending.{HasPut, HasNothing, HasSent, LogStays, SendStops, SendCause, notes_bound}
 use Rattle.sr_courier.specs.Unsent.{IsWindowOf, IsUnsent, GatherCause}
 use Rattle.sr_courier.proofs.Gathering.{bodies_of-append, end_is_records}
 use Rattle.sr_courier.proofs.Own.{transaction_long}

@@ -1,5 +1,5 @@
 -- A pass that a fault ended.
-use Rattle.std.proofs.Common.{◌≡◌, ◌⊎◌, ◌+◌, ◌≤◌, ℕ, true, IsTrue, List, [], ◌∷◌, ◌++◌, length, Option, inl, inr, refl, sym, ap, subst, ◌∙◌, append_assoc, arith}
+use Rattle.std.proofs.Common.{◌≡◌, ◌⊎◌, ◌≤◌, ℕ, IsTrue, List, [], ◌∷◌, ◌++◌, length, Option, inl, inr, refl, sym, ap, subst, ◌∙◌, append_assoc, arith}
 use Rattle.std.proofs.lemmas.List.{append-nil, length-append, map-append}
 use Rattle.sr_base.specs.declared.offset.Offset.{Offset}
 use Rattle.sr_site.specs.declared.file.File.{File}
@@ -10,7 +10,6 @@ use Rattle.sr_site.specs.Files.{Files, bytes_of}
 use Rattle.sr_site.specs.Mails.{Event, fetched}
 use Rattle.sr_site.specs.Seen.{Seen}
 use Rattle.sr_logfile.specs.Log.{Log}
-use Rattle.sr_logfile.specs.Logs.{IsLog}
 use Rattle.sr_logfile.specs.Records.{Spells}
 use Rattle.sr_exchange.specs.declared.entry.Entry.{Entry}
 use Rattle.sr_exchange.specs.AgentLines.{file_lines, torn_lines, clash_lines}
@@ -27,9 +26,9 @@ use Rattle.sr_courier.specs.FaultsBelow.{fault_of_mail}
 use Rattle.sr_courier.specs.Looking.{StoppedLooking, StoppedInWindow, FoundNoMemory}
 use Rattle.sr_courier.specs.Passes.{GoesOnWith, HoldsOneOf}
 use Rattle.sr_courier.specs.Receiving.{rows_after, LacksRoom, TakeFault}
-use Rattle.sr_courier.specs.ReceivePass.{fetches, StoppedPass, PassCause, perhaps_taken, FullBehind}
-use Rattle.sr_courier.proofs.TakingAll.{rows_after-append, goes_on_twice, entries_of-append, clash_lines-append}
-use Rattle.sr_courier.proofs.Receives.{Passed, received_step, entries_after, taken_more, findings_more, findings_long, later_mail, fetches_more, file_lines_more, torn_more}
+use Rattle.sr_courier.specs.ReceivePass.{fetches, StoppedPass, PassCause, perhaps_taken}
+use Rattle.sr_courier.proofs.TakingAll.{rows_after-append, goes_on_twice, clash_lines-append}
+use Rattle.sr_courier.proofs.Receives.{Passed, entries_after, taken_more, findings_more, findings_long, fetches_more, file_lines_more, torn_more}
 
 -- what a log holds that went on
 pub holds_there : (log new : Log) (entries : List Entry) (before now after : Files) → new.file ≡ log.file → new.base ≡ log.base → after ≡ now → GoesOnWith log new entries before now
@@ -144,14 +143,15 @@ fault_holds log mid rows now_rows taken tx rest before between after (Full end n
 fault_holds log mid rows now_rows taken tx rest before between after (Long size limit) file base same goes told cause = absurd cause
 
 fault_cause : (log mid : Log) (rows now_rows : Rows) (taken : List Transaction) (tx : Transaction) (rest : List Transaction) (before between after : Seen) (fault : Fault)
-    → now_rows ≡ rows_after rows taken → (IsTrue before.told → GoesOnWith log mid (entries_of rows taken) before.files between.files) → before.disk_faults ≤ between.disk_faults
+    → mid.base ≡ log.base → now_rows ≡ rows_after rows taken → (IsTrue before.told → GoesOnWith log mid (entries_of rows taken) before.files between.files) → before.disk_faults ≤ between.disk_faults
     → TakeFault mid now_rows tx between after fault → PassCause log rows taken (tx ∷ rest) before after fault
-fault_cause log mid rows now_rows taken tx rest before between after Memory same goes later cause = tt
-fault_cause log mid rows now_rows taken tx rest before between after Disk same goes later cause = omega (arith, later, cause.0)
-fault_cause log mid rows now_rows taken tx rest before between after Mail same goes later cause = absurd cause
-fault_cause log mid rows now_rows taken tx rest before between after (Damaged place) same goes later cause = absurd cause
-fault_cause log mid rows now_rows taken tx rest before between after (Full end need) same goes later cause = record {
+fault_cause log mid rows now_rows taken tx rest before between after Memory base same goes later cause = tt
+fault_cause log mid rows now_rows taken tx rest before between after Disk base same goes later cause = omega (arith, later, cause.0)
+fault_cause log mid rows now_rows taken tx rest before between after Mail base same goes later cause = absurd cause
+fault_cause log mid rows now_rows taken tx rest before between after (Damaged place) base same goes later cause = absurd cause
+fault_cause log mid rows now_rows taken tx rest before between after (Full end need) base same goes later cause = record {
   between_log = mid;
+  same_base = base;
   between = between.files;
   so_far = goes;
   tx = tx;
@@ -159,7 +159,7 @@ fault_cause log mid rows now_rows taken tx rest before between after (Full end n
   left_is = refl;
   lacks = subst (λ (r : Rows). LacksRoom mid r tx end need) same cause.0;
 }
-fault_cause log mid rows now_rows taken tx rest before between after (Long size limit) same goes later cause = absurd cause
+fault_cause log mid rows now_rows taken tx rest before between after (Long size limit) base same goes later cause = absurd cause
 
 -- in the window that was found
 stopped_inside : (old now next : Receiver) (log mid : Log) (names : List (List ℕ)) (name : List ℕ) (rest : List (List ℕ)) (before between at after : Seen) (file : Option (List ℕ)) (fault : Fault)
@@ -209,7 +209,7 @@ stopped_inside old now next log mid names name rest before between at after file
       holds = λ told.
           fault_holds log s.between_log old.table (rows_after now.table s.done) (all ++ s.done) s.tx s.rest before s.between after fault (s.same_log.0 ∙ p.file) (s.same_log.1 ∙ p.base) rows (goes told)
           (subst IsTrue (sym s.stays.told) (told_at told)) s.fault_is;
-      cause = fault_cause log s.between_log old.table (rows_after now.table s.done) (all ++ s.done) s.tx s.rest before s.between after fault rows goes
+      cause = fault_cause log s.between_log old.table (rows_after now.table s.done) (all ++ s.done) s.tx s.rest before s.between after fault (s.same_log.1 ∙ p.base) rows goes
           (omega (arith, p.later.disk, ap (λ n. n) mail.disk_faults, s.stays.later)) s.fault_is;
     }
 

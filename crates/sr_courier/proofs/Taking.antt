@@ -1,5 +1,5 @@
 -- A transaction that is taken, in the log.
-use Rattle.std.proofs.Common.{◌≡◌, ◌⊎◌, ◌+◌, ◌*◌, ◌^◌, ◌≤◌, ◌<◌, ℕ, suc, IsTrue, List, [], ◌∷◌, ◌++◌, length, inl, inr, refl, sym, ap, subst, ◌∙◌, arith}
+use Rattle.std.proofs.Common.{◌≡◌, ◌⊎◌, ℕ, suc, IsTrue, List, [], ◌∷◌, ◌++◌, length, inl, inr, refl, sym, ap, subst, ◌∙◌}
 use Rattle.std.proofs.lemmas.List.{append-nil}
 use Rattle.sr_site.specs.Files.{Files, bytes_of}
 use Rattle.sr_site.specs.Seen.{Seen}
@@ -13,7 +13,6 @@ use Rattle.sr_exchange.specs.declared.item.Item.{Item}
 use Rattle.sr_exchange.specs.declared.entry.Entry.{Entry}
 use Rattle.sr_exchange.specs.Bodies.{Transaction}
 use Rattle.sr_exchange.specs.Entries.{body}
-use Rattle.sr_exchange.specs.Findings.{entries_of}
 use Rattle.sr_exchange.specs.Tables.{Rows, judged, judge_all, with_judged}
 use Rattle.sr_courier.specs.FaultsBelow.{fault_of_log}
 use Rattle.sr_courier.specs.Passes.{GoesOnWith, HoldsOneOf}

@@ -1,4 +1,4 @@
-use Rattle.std.specs.Prelude.{◌≡◌, List, [], IsTrue, ℕ}
+use Rattle.std.specs.Prelude.{◌≡◌, List, []}
 use Rattle.sr_site.specs.Files.{Files}
 use Rattle.sr_logfile.specs.Log.{Log}
 use Rattle.sr_exchange.specs.declared.entry.Entry.{Entry}

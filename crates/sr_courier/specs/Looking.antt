@@ -1,8 +1,5 @@
 -- What r1's pass makes of one file, and of all.
-use Rattle.std.specs.Prelude.{◌≡◌, ◌⊎◌, ◌+◌, ℕ, Bool, IsTrue, List, [], ◌∷◌, ◌++◌, length, Option}
-use Rattle.sr_base.specs.declared.offset.Offset.{Offset}
-use Rattle.sr_site.specs.Causes.{DiskStays, Rose}
-use Rattle.sr_site.specs.Mails.{Event, listed, fetched}
+use Rattle.std.specs.Prelude.{◌≡◌, ◌⊎◌, ◌+◌, ℕ, IsTrue, List, [], ◌++◌, length, Option}
 use Rattle.sr_site.specs.Seen.{Seen}
 use Rattle.sr_logfile.specs.Log.{Log}
 use Rattle.sr_msgform.specs.declared.message.Message.{Message}
@@ -12,7 +9,7 @@ use Rattle.sr_exchange.specs.Findings.{Finding, gone, junk, stranger, other, tor
 use Rattle.sr_courier.specs.Passes.{GoesOnWith}
 use Rattle.sr_courier.specs.Receiving.{rows_after, StoppedTaking}
 use Rattle.sr_courier.specs.declared.fault.Fault.{Fault}
-use Rattle.sr_courier.specs.declared.fault.Fault.TheVariants.{Memory, Disk, Mail, Damaged, Full, Long}
+use Rattle.sr_courier.specs.declared.fault.Fault.TheVariants.{Memory}
 use Rattle.sr_courier.specs.declared.receiver.Receiver.{Receiver}
 
 -- the transactions that a finding takes

@@ -1,7 +1,6 @@
 -- What a log comes to by the entries that a pass commits.
-use Rattle.std.specs.Prelude.{◌⊎◌, ℕ, List, [], ◌∷◌, ◌++◌, map}
+use Rattle.std.specs.Prelude.{◌⊎◌, ℕ, List, ◌++◌}
 use Rattle.sr_site.specs.Files.{Files, bytes_of}
-use Rattle.sr_site.specs.Mails.{Event, fetched, removed}
 use Rattle.sr_logfile.specs.Log.{Log}
 use Rattle.sr_logfile.specs.Logs.{IsLog}
 use Rattle.sr_logfile.specs.Records.{Spells}

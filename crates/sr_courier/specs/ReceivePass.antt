@@ -70,6 +70,7 @@ perhaps_taken (Long size limit) taken left = taken
 -- the next transaction's record had no room, behind those that were taken
 pub record FullBehind (log : Log) (rows : Rows) (taken left : List Transaction) (before : Seen) (end need : ℕ) : Type 0 where
   pub between_log : Log
+  pub same_base : between_log.base ≡ log.base
   pub between : Files
   pub so_far : IsTrue before.told → GoesOnWith log between_log (entries_of rows taken) before.files between
   pub tx : Transaction
@@ -136,6 +137,13 @@ pub record StoppedFolder (old new : Receiver) (log : Log) (before now : Seen) (f
 abbrev pub removals : List (List ℕ) → List Event
 removals [] = []
 removals (name ∷ names) = removed r1 name ∷ removals names
+
+-- a fault ended the removals: of these names the first ones were removed, up to the one at which it came, and nothing else
+pub record RemovedSome (names : List (List ℕ)) (before now : Seen) : Type 0 where
+  pub front : List (List ℕ)
+  pub behind : List (List ℕ)
+  pub parts : names ≡ front ++ behind
+  pub mail : now.mail ≡ before.mail ++ removals front
 
 -- why files are not removed
 abbrev pub RemoveCause : Seen → Seen → Fault → Type 0

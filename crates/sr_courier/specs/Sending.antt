@@ -1,15 +1,13 @@
-use Rattle.std.specs.Prelude.{◌≡◌, ◌≢◌, ◌⊎◌, ◌+◌, ◌<◌, ◌≤◌, ◌^◌, ℕ, List, [], ◌∷◌, ◌++◌, length, IsTrue}
+use Rattle.std.specs.Prelude.{◌≡◌, ◌≢◌, ◌⊎◌, ◌+◌, ◌<◌, ℕ, List, [], ◌∷◌, ◌++◌, length, IsTrue}
 use Rattle.sr_msgform.specs.Messages.{IsMessage, message_length, message_spelling}
 use Rattle.sr_site.specs.Causes.{Rose}
 use Rattle.sr_site.specs.Files.{Files, bytes_of}
-use Rattle.sr_site.specs.Mails.{Event, sent}
+use Rattle.sr_site.specs.Mails.{sent}
 use Rattle.sr_site.specs.Seen.{Seen}
 use Rattle.sr_logfile.specs.Log.{Log}
-use Rattle.sr_logfile.specs.Logs.{IsLog, IsFull, gate_of, spent}
-use Rattle.sr_logfile.specs.Records.{Spells, framed_of}
+use Rattle.sr_logfile.specs.Logs.{IsFull, gate_of}
 use Rattle.sr_exchange.specs.declared.entry.Entry.{Entry}
 use Rattle.sr_exchange.specs.declared.role.Role.TheVariants.{Consolidated}
-use Rattle.sr_exchange.specs.Entries.{body}
 use Rattle.sr_exchange.specs.Exchange.{book_of_r1}
 use Rattle.sr_exchange.specs.Letters.{IsTrueLetter, letter, letter_name, note_of_letter, unsent}
 use Rattle.sr_exchange.specs.Logs.{IsLogOf, HasHistory}

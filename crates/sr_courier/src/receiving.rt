@@ -1,8 +1,8 @@
-ghost use Rattle.std.specs.Prelude.{◌≡◌, ◌+◌, ◌≤◌, [], ◌∷◌, ◌++◌, length, true, IsTrue, IfOk, IfErr, OnOk};
+ghost use Rattle.std.specs.Prelude.{◌≡◌, ◌+◌, ◌≤◌, [], ◌∷◌, ◌++◌, length, true, IsTrue, IfOk, IfErr, OnOk, OnErr};
 ghost use Rattle.sr_logfile.specs.Logs.{HasLog};
 ghost use Rattle.sr_exchange.specs.AgentLines.{dead_names};
 ghost use Rattle.sr_exchange.specs.Roles.{r1};
-ghost use Rattle.sr_courier.specs.ReceivePass.{ReceivedInto, ReceivedFolder, Later, StoppedPass, StoppedFolder, RemoveCause, removals};
+ghost use Rattle.sr_courier.specs.ReceivePass.{ReceivedInto, ReceivedFolder, Later, StoppedPass, StoppedFolder, RemoveCause, RemovedSome, removals};
 
 use crate::fault::Fault;
 use crate::receiver::Receiver;
@@ -29,6 +29,7 @@ fn receive_files<S: Site>(
     requires log { IsTrue (S.seen site.old).told → HasLog log.old (S.seen site.old).files }
     ensures received { OnOk result (ReceivedInto receiver.old receiver.new names.now log.old log.new (S.seen site.old) (S.seen site.new)) }
     ensures has_log { IsTrue (S.seen site.old).told → OnOk result (HasLog log.new (S.seen site.new).files) }
+    ensures usable { OnOk result ((log.new.usable ≡ true) × (log.new.file ≡ log.old.file) × (log.new.base ≡ log.old.base)) }
     ensures later { Later (S.seen site.old) (S.seen site.new) }
     ensures stopped { IfErr result (StoppedPass receiver.old receiver.new names.now log.old (S.seen site.old) (S.seen site.new)) }
 {
@@ -55,6 +56,7 @@ pub fn receive<S: Site>(
     requires log { IsTrue (S.seen site.old).told → HasLog log.old (S.seen site.old).files }
     ensures received { OnOk result (ReceivedFolder receiver.old receiver.new log.old log.new (S.seen site.old) (S.seen site.new)) }
     ensures has_log { IsTrue (S.seen site.old).told → OnOk result (HasLog log.new (S.seen site.new).files) }
+    ensures usable { OnOk result ((log.new.usable ≡ true) × (log.new.file ≡ log.old.file) × (log.new.base ≡ log.old.base)) }
     ensures later { Later (S.seen site.old) (S.seen site.new) }
     ensures stopped { IfErr result (StoppedFolder receiver.old receiver.new log.old (S.seen site.old) (S.seen site.new)) }
 {
@@ -91,6 +93,7 @@ fn remove_letter<S: Site>(
 ) -> Result<(), Fault>
     requires address { address.now ≡ r1 }
     ensures removed { IsTrue (S.seen site.old).told → OnOk result ((S.seen site.new).mail ≡ (S.seen site.old).mail ++ removals (dead_names received.0 (letter.now ∷ []))) }
+    ensures some { IsTrue (S.seen site.old).told → OnErr result (RemovedSome (dead_names received.0 (letter.now ∷ [])) (S.seen site.old) (S.seen site.new)) }
     ensures files { (S.seen site.new).files ≡ (S.seen site.old).files }
     ensures later { Later (S.seen site.old) (S.seen site.new) }
     ensures cause { IfErr result (RemoveCause (S.seen site.old) (S.seen site.new)) }
@@ -105,6 +108,7 @@ fn remove_letter<S: Site>(
 /// Removes the files of messages whose windows r1 has taken. That one is not there is no fault.
 pub fn remove_dead<S: Site>(alloc: Global, site: &mut S, receiver: &Receiver) -> Result<(), Fault>
     ensures removed { IsTrue (S.seen site.old).told → OnOk result ((S.seen site.new).mail ≡ (S.seen site.old).mail ++ removals (dead_names receiver.now.received.0 receiver.now.letters.items)) }
+    ensures some { IsTrue (S.seen site.old).told → OnErr result (RemovedSome (dead_names receiver.now.received.0 receiver.now.letters.items) (S.seen site.old) (S.seen site.new)) }
     ensures files { (S.seen site.new).files ≡ (S.seen site.old).files }
     ensures later { Later (S.seen site.old) (S.seen site.new) }
     ensures cause { IfErr result (RemoveCause (S.seen site.old) (S.seen site.new)) }

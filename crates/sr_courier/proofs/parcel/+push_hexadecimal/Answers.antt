@@ -1,4 +1,4 @@
-use Rattle.std.proofs.Common.{◌≡◌, ◌<◌, ◌-◌, ◌/◌, ◌∙◌, ◌++◌, List, ℕ, [], ◌∷◌, ap, sym, append_assoc, arith}
+use Rattle.std.proofs.Common.{◌<◌, ◌-◌, ◌/◌, ◌∙◌, ◌++◌, List, ℕ, [], ◌∷◌, ap, sym, append_assoc, arith}
 use Rattle.sr_exchange.specs.Letters.{hexadecimal}
 use Rattle.sr_courier.proofs.Digits.{digits_more}
 use Rattle.sr_courier.proofs.parcel.+push_hexadecimal.Goals as goal

@@ -1,8 +1,7 @@
-use Rattle.std.proofs.Common.{◌≡◌, ◌∷◌, [], ◌++◌, ℕ, IsTrue, List, Option, Err, ap, subst, sym, ◌∙◌}
+use Rattle.std.proofs.Common.{◌∷◌, [], ◌++◌, ℕ, List, Err, ap, subst, ◌∙◌}
 use Rattle.std.specs.Option.{option_map}
 use Rattle.std.proofs.lemmas.Result.{err_from_is_err_and}
-use Rattle.sr_site.specs.Mails.{Event, fetched}
-use Rattle.sr_exchange.specs.Roles.{r1}
+use Rattle.sr_site.specs.Mails.{fetched}
 use Rattle.sr_courier.proofs.Receives.{Passed, passed_start, passed_step}
 use Rattle.sr_courier.proofs.Stops.{stopped_fetch, stopped_look}
 use Rattle.sr_courier.proofs.receiving.receive_files.Goals as goal

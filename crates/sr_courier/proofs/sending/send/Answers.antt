@@ -1,4 +1,4 @@
-use Rattle.std.proofs.Common.{◌≡◌, ◌∙◌, ap, sym, subst, refl, IsTrue, inl, inr, ℕ, List, rules}
+use Rattle.std.proofs.Common.{ap, sym, subst, refl, IsTrue, inl, inr}
 use Rattle.std.proofs.lemmas.Result.{err_from_is_err_and}
 use Rattle.sr_logfile.specs.Log.{Log}
 use Rattle.sr_courier.proofs.Sendings.{packed, upto_of, sent_of, stops_of, gather_cause, nothing_of}

@@ -1,4 +1,4 @@
-use Rattle.std.proofs.Common.{◌≡◌, ◌+◌, ◌∙◌, ap, sym, subst, IsTrue, take, false, true, rules, arith}
+use Rattle.std.proofs.Common.{◌≡◌, ◌+◌, ◌∙◌, ap, sym, subst, IsTrue, take, false, rules, arith}
 use Rattle.std.proofs.lemmas.Result.{err_from_is_err_and}
 use Rattle.sr_courier.specs.Unsent.{AddsEntry, HasAdded}
 use Rattle.sr_courier.proofs.Gathering.{Reads, gather_fault, gathered_more, gathered_wrong, gathered_all, agrees_more, room_more}

@@ -1,8 +1,8 @@
-use Rattle.std.proofs.Common.{IsTrue, ℕ, List, Option, subst, ◌∙◌}
+use Rattle.std.proofs.Common.{List, subst}
 use Rattle.std.specs.Option.{option_map}
 use Rattle.std.proofs.lemmas.Result.{err_from_is_err_and}
 use Rattle.sr_exchange.specs.Bodies.{Transaction}
-use Rattle.sr_exchange.specs.Findings.{window, IsFinding, entries_of}
+use Rattle.sr_exchange.specs.Findings.{IsFinding, entries_of}
 use Rattle.sr_courier.specs.Finds.{finding_of}
 use Rattle.sr_courier.specs.Passes.{GoesOnWith}
 use Rattle.sr_courier.specs.Receiving.{TookAll, StoppedTaking}

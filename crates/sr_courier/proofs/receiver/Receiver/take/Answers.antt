@@ -1,4 +1,4 @@
-use Rattle.std.proofs.Common.{◌≡◌, ◌∙◌, ◌<◌, ◌*◌, ◌++◌, List, length, ap, sym, subst, arith}
+use Rattle.std.proofs.Common.{◌≡◌, ◌∙◌, ◌++◌, List, length, ap, sym, subst, arith}
 use Rattle.sr_base.specs.Values.{offset_from}
 use Rattle.sr_logfile.specs.Records.{body_of, IsFramed}
 use Rattle.sr_exchange.specs.declared.entry.Judged.{Judged}

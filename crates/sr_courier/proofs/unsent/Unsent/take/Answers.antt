@@ -1,6 +1,4 @@
-use Rattle.std.proofs.Common.{◌≡◌, ◌++◌, ◌≤◌, List, ℕ, subst, sym, ap, ◌∙◌}
-use Rattle.sr_exchange.specs.Bodies.{transaction_spelling}
-use Rattle.sr_courier.specs.Unsent.{HasTaken, longest_body}
+use Rattle.std.proofs.Common.{ap}
 use Rattle.sr_courier.proofs.Own.{taken_own}
 use Rattle.sr_courier.proofs.unsent.Unsent.take.Goals as goal
 
