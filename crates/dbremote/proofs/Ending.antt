@@ -5,7 +5,7 @@ use Rattle.dbremote.specs.declared.statement.Statement.{Statement}
 use Rattle.dbremote.specs.declared.fault.Fault.{Fault}
 use Rattle.dbremote.specs.declared.fault.Fault.TheVariants.{Words, Memory, Disk, Damaged, Source, TooLong, Script, Refused, Full, Sink}
 use Rattle.dbremote.specs.Faults.{status_of}
-use Rattle.dbremote.specs.Histories.{HoldsSome}
+use Rattle.dbremote.specs.Histories.{HoldsBeginning, HoldsSome}
 use Rattle.sr_exchange.specs.declared.role.Role.{Role}
 use Rattle.sr_exchange.specs.declared.entry.Entry.{Entry}
 use Rattle.sr_exchange.specs.Exchange.{waiting_of}
@@ -36,6 +36,7 @@ pub early_told : (role : Role) (old mid : Outside) (out : Stream) (kept : List �
 early_told role old mid out kept fault s w = record {
   kept = s.history;
   left = s.left;
+  begun = s.begun;
   said = λ told. early_said role old mid out kept fault s (w (subst (λ (o : Stream). IsTrue o.told) (sym s.silent) told));
 }
 
@@ -179,17 +180,18 @@ ends_unsaid role old mid out kept Sink other s later w = absurd (other refl)
 -- why a script does not begin, and what is true of `sql` then
 pub stops_begin : (role : Role) (old new : Outside) (fault : Fault) → BeginCause role old.site new.site old.input new.input fault → new.output ≡ old.output
     → (IsTrue old.site.told → (base : ℕ) (es : List Entry) → HasHistory role base es old.site.files.log0 → waiting_of role es ≡ [] → new.site.files ≡ old.site.files)
-    → (IsTrue old.site.told → (base : ℕ) (es : List Entry) → HasHistory role base es old.site.files.log0 → HoldsSome role base es new.site.files.log0) → StopsSql role old new [] fault
-stops_begin role old new Memory cause silent history left = inl (record { kept_is = refl; history = history; left = left; silent = silent })
-stops_begin role old new Disk cause silent history left = (inl (record { kept_is = refl; history = history; left = left; silent = silent }), cause)
-stops_begin role old new (Damaged place) cause silent history left = (record { kept_is = refl; history = history; left = left; silent = silent }, cause)
-stops_begin role old new Source cause silent history left = (record { kept_is = refl; history = history; left = left; silent = silent }, cause.0, cause.1)
-stops_begin role old new TooLong cause silent history left = (record { kept_is = refl; history = history; left = left; silent = silent }, cause.0, cause.1)
-stops_begin role old new (Script place) cause silent history left = (record { kept_is = refl; history = history; left = left; silent = silent }, cause.0, cause.1)
-stops_begin role old new (Full end need) cause silent history left = inl (record { kept_is = refl; history = history; left = left; silent = silent }, cause)
-stops_begin role old new Words cause silent history left = absurd cause
-stops_begin role old new (Refused number id) cause silent history left = absurd cause
-stops_begin role old new Sink cause silent history left = absurd cause
+    → (IsTrue old.site.told → (base : ℕ) (es : List Entry) → HasHistory role base es old.site.files.log0 → HoldsSome role base es new.site.files.log0)
+    → (IsTrue old.site.told → old.site.files.log0 ≡ [] → HoldsBeginning role new.site.files.log0) → StopsSql role old new [] fault
+stops_begin role old new Memory cause silent history left begun = inl (record { kept_is = refl; history = history; left = left; begun = begun; silent = silent })
+stops_begin role old new Disk cause silent history left begun = (inl (record { kept_is = refl; history = history; left = left; begun = begun; silent = silent }), cause)
+stops_begin role old new (Damaged place) cause silent history left begun = (record { kept_is = refl; history = history; left = left; begun = begun; silent = silent }, cause)
+stops_begin role old new Source cause silent history left begun = (record { kept_is = refl; history = history; left = left; begun = begun; silent = silent }, cause.0, cause.1)
+stops_begin role old new TooLong cause silent history left begun = (record { kept_is = refl; history = history; left = left; begun = begun; silent = silent }, cause.0, cause.1)
+stops_begin role old new (Script place) cause silent history left begun = (record { kept_is = refl; history = history; left = left; begun = begun; silent = silent }, cause.0, cause.1)
+stops_begin role old new (Full end need) cause silent history left begun = inl (record { kept_is = refl; history = history; left = left; begun = begun; silent = silent }, cause)
+stops_begin role old new Words cause silent history left begun = absurd cause
+stops_begin role old new (Refused number id) cause silent history left begun = absurd cause
+stops_begin role old new Sink cause silent history left begun = absurd cause
 
 -- `sql` was ended by a fault, and the one that was told is it, or the want of memory for its line
 pub ends : (role : Role) (old mid : Outside) (out : Stream) (kept written : List ℕ) (fault told : Fault) → written ≡ kept → (told ≡ fault) ⊎ ((told ≡ Memory) × (fault ≢ Sink)) → StopsSql role old mid kept fault

@@ -178,7 +178,29 @@ pub left_on : (role : Role) (old mid new : Seen) → (IsTrue old.told → mid.fi
     → IsTrue old.told → (base : ℕ) (es : List Entry) → HasHistory role base es old.files.log0 → HoldsSome role base es new.files.log0
 left_on role old mid new same told left t base es h = left (subst IsTrue (sym told) t) base es (subst (λ (f : Files). HasHistory role base es f.log0) (sym (same t)) h)
 
--- why a database was not opened, behind the attaching
+-- why a database was not opened, behind a call that left the files as they were
+pub open_on : (role : Role) (old mid new : Seen) (fault : Fault) → (IsTrue old.told → mid.files ≡ old.files) → mid.told ≡ old.told → old.disk_faults ≤ mid.disk_faults
+    → OpenFault role mid new fault → OpenFault role old new fault
+open_on role old mid new Disk same told later cause = omega (arith, cause, later)
+open_on role old mid new (Damaged place) same told later cause = λ t.
+    let damage = cause (subst IsTrue (sym told) t) in
+    (subst (λ (f : Files). IsDamagedDatabase role f.log0 place) (same t) damage.0, damage.1 ∙ same t)
+open_on role old mid new (Full end need) same told later cause = record {
+  base = cause.base;
+  es = cause.es;
+  lawful = cause.lawful;
+  found = λ t. subst (λ (f : Files). HasHistory role cause.base cause.es f.log0) (same t) (cause.found (subst IsTrue (sym told) t));
+  no_room = subst (λ (b : Bool). LacksRoomFor role cause.base cause.es end need b new.files.log0) told cause.no_room;
+}
+open_on role old mid new Memory same told later cause = tt
+open_on role old mid new Words same told later cause = cause
+open_on role old mid new Source same told later cause = cause
+open_on role old mid new TooLong same told later cause = cause
+open_on role old mid new (Script place) same told later cause = cause
+open_on role old mid new (Refused number id) same told later cause = cause
+open_on role old mid new Sink same told later cause = cause
+
+-- why a script did not begin then
 pub begin_open : (role : Role) (old mid new : Seen) (input input' : Stream) (fault : Fault) → (IsTrue old.told → mid.files ≡ old.files) → mid.told ≡ old.told → old.disk_faults ≤ mid.disk_faults
     → OpenFault role mid new fault → BeginCause role old new input input' fault
 begin_open role old mid new input input' Disk same told later cause = omega (arith, cause, later)

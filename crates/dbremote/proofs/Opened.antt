@@ -110,7 +110,7 @@ unfolded one role before mid opened now log (Full end need) prepared b same caus
 unfolded one role before mid opened now log Sink prepared b same cause = cause
 
 -- what the file stood for
-stood_for : (role : Role) (before mid opened : Seen) (log : Log) (fold : Standing) (es : List Entry) → IsPrepared before mid → Behind mid opened log → IsTrue before.told → Stands role es log fold opened.told opened.files
+pub stood_for : (role : Role) (before mid opened : Seen) (log : Log) (fold : Standing) (es : List Entry) → IsPrepared before mid → Behind mid opened log → IsTrue before.told → Stands role es log fold opened.told opened.files
     → StandsFor role log.base es before.files.log0
 stood_for role before mid opened log fold es prepared b told s =
     let inside = told_on before mid prepared.stays told in
@@ -127,7 +127,7 @@ stood_for role before mid opened log fold es prepared b told s =
     ]
 
 -- the fold has the role
-role_of_fold : (role : Role) (es : List Entry) (fold : Standing) → fold ≡ standing_of role es → fold.state.role ≡ role
+pub role_of_fold : (role : Role) (es : List Entry) (fold : Standing) → fold ≡ standing_of role es → fold.state.role ≡ role
 role_of_fold role es fold e = ap (λ (s : Standing). s.state.role) e ∙ role_from (fresh role) es
 
 -- what a fold and its log stand for, said with the fold's role and of the same files

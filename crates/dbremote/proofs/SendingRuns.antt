@@ -32,7 +32,7 @@ use Rattle.dbremote.specs.declared.agent_fault.AgentFault.{AgentFault}
 use Rattle.dbremote.specs.declared.agent_fault.AgentFault.TheVariants.{Run, Mail, Long}
 use Rattle.dbremote.specs.AgentFaults.{fault_of_pass}
 use Rattle.dbremote.specs.Agents.{StoppedOpening, FoundAndSent, HoldsSending, StoppedSending, PutUnnoted, NoteLacksRoom, LetterTooLong, SendFault, StopsSend, PutTrue, PutsTruth}
-use Rattle.dbremote.specs.Histories.{HoldsSome, IsOpened}
+use Rattle.dbremote.specs.Histories.{HoldsBeginning, HoldsSome, IsOpened}
 use Rattle.dbremote.specs.Openings.{OpenFault}
 use Rattle.dbremote.proofs.Completing.{waiting_behind}
 
@@ -119,9 +119,9 @@ opening_fault old new Sink cause = absurd cause
 pub stops_opening : (old new : Seen) (fault : Fault) → new.mail ≡ old.mail
     → (IsTrue old.told → (base : ℕ) (es : List Entry) → HasHistory Consolidated base es old.files.log0 → waiting_of Consolidated es ≡ [] → new.files ≡ old.files)
     → (IsTrue old.told → (base : ℕ) (es : List Entry) → HasHistory Consolidated base es old.files.log0 → HoldsSome Consolidated base es new.files.log0)
-    → OpenFault Consolidated old new fault → StopsSend old new (Run fault)
-stops_opening old new fault mail kept left cause = record {
-  left = λ t. inl (record { mail = mail; kept = kept t; left = left t });
+    → (IsTrue old.told → old.files.log0 ≡ [] → HoldsBeginning Consolidated new.files.log0) → OpenFault Consolidated old new fault → StopsSend old new (Run fault)
+stops_opening old new fault mail kept left begun cause = record {
+  left = λ t. inl (record { mail = mail; kept = kept t; left = left t; begun = begun t });
   cause = opening_fault old new fault cause;
 }
 

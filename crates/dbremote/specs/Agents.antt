@@ -22,16 +22,17 @@ use Rattle.dbremote.specs.declared.agent_fault.AgentFault.{AgentFault}
 use Rattle.dbremote.specs.declared.agent_fault.AgentFault.TheVariants.{Run, Mail, Long}
 use Rattle.dbremote.specs.AgentFaults.{agent_line_of, agent_status_of}
 use Rattle.dbremote.specs.Faults.{status_of}
-use Rattle.dbremote.specs.Histories.{HoldsSome}
+use Rattle.dbremote.specs.Histories.{HoldsBeginning, HoldsSome}
 use Rattle.dbremote.specs.Openings.{FoundNoRoom}
 use Rattle.dbremote.specs.Runs.{Outside, SaidAll, SaidFronts, line_of}
 
--- the run ended before the database was open: a whole one stands as it was, one that missed statements may have got some of them, and the
--- mail did nothing
+-- the run ended before the database was open: a whole one stands as it was, one that missed statements may have got some of them, a file without
+-- a byte may have become the beginning of one, and the mail did nothing
 pub record StoppedOpening (role : Role) (old new : Seen) : Type 0 where
   pub mail : new.mail ≡ old.mail
   pub kept : (base : ℕ) (es : List Entry) → HasHistory role base es old.files.log0 → waiting_of role es ≡ [] → new.files ≡ old.files
   pub left : (base : ℕ) (es : List Entry) → HasHistory role base es old.files.log0 → HoldsSome role base es new.files.log0
+  pub begun : old.files.log0 ≡ [] → HoldsBeginning role new.files.log0
 
 -- ---- the run of cons
 

@@ -1,4 +1,4 @@
-use Rattle.std.specs.Prelude.{◌≡◌, ◌+◌, ◌^◌, ◌<◌, ℕ, Bool, IsTrue, List, ◌∷◌, ◌++◌, length, map}
+use Rattle.std.specs.Prelude.{◌≡◌, ◌⊎◌, ◌+◌, ◌^◌, ◌<◌, ◌≤◌, ℕ, Bool, IsTrue, List, [], ◌∷◌, ◌++◌, length, map}
 use Rattle.sr_site.specs.Files.{Files}
 use Rattle.sr_logfile.specs.Log.{Log}
 use Rattle.sr_logfile.specs.Logs.{IsLog}
@@ -37,6 +37,11 @@ pub record HoldsSome (role : Role) (base : ℕ) (es : List Entry) (bytes : List 
   pub behind : List (List ℕ)
   pub missing : waiting_of role es ≡ front ++ behind
   pub stands : HasHistory role base (es ++ map Ddl front) bytes
+
+-- a file that had no byte may hold this now: no more bytes than the 17 of a log without records, or such a log, and behind it some of the
+-- role's statements, or none
+abbrev pub HoldsBeginning : Role → List ℕ → Type 0
+HoldsBeginning role bytes = (length bytes ≤ 17) ⊎ HoldsSome role 0 [] bytes
 
 -- a missing statement has no room in front of the last offset: those before it stand, `end` is the place in the file past the first closed
 -- gate, and `need` the record's bytes

@@ -10,7 +10,7 @@ use Rattle.dbremote.specs.declared.statement.Statement.TheVariants.{Commit}
 use Rattle.dbremote.specs.declared.stream.TheConstants.{LONGEST_SCRIPT}
 use Rattle.sr_exchange.specs.Entries.{own}
 use Rattle.dbremote.specs.Faults.{fault_line, status_of}
-use Rattle.dbremote.specs.Histories.{HoldsSome}
+use Rattle.dbremote.specs.Histories.{HoldsBeginning, HoldsSome}
 use Rattle.dbremote.specs.Lines.{script, AreStatements, IsRefusedAt}
 use Rattle.dbremote.specs.Openings.{FoundNoRoom}
 use Rattle.dbremote.specs.Sessions.{IsRefused}
@@ -97,11 +97,12 @@ pub record SaidAll (old new : Outside) (text : List ℕ) : Type 0 where
   pub front : TookFront text old.output.bytes new.output.bytes
   pub whole : (new.output.bytes ≡ old.output.bytes ++ text) ⊎ Rose old.output.faults new.output.faults
 
--- a fault came before the first statement: a database that was whole stands as it was, one that missed statements may have got some of them,
--- and nothing was said but the fault
+-- a fault came before the first statement: a database that was whole stands as it was, one that missed statements may have got some of them, a
+-- file without a byte may have become the beginning of one, and nothing was said but the fault
 pub record StoppedEarly (role : Role) (old new : Outside) (fault : Fault) : Type 0 where
   pub kept : IsTrue old.site.told → (base : ℕ) (es : List Entry) → HasHistory role base es old.site.files.log0 → waiting_of role es ≡ [] → new.site.files ≡ old.site.files
   pub left : IsTrue old.site.told → (base : ℕ) (es : List Entry) → HasHistory role base es old.site.files.log0 → HoldsSome role base es new.site.files.log0
+  pub begun : IsTrue old.site.told → old.site.files.log0 ≡ [] → HoldsBeginning role new.site.files.log0
   pub said : IsTrue old.output.told → SaidAll old new (line_of fault)
 
 -- other words: the site is as it was, and nothing was said but that they are refused

@@ -9,7 +9,7 @@ use Rattle.dbremote.specs.declared.statement.Statement.{Statement}
 use Rattle.dbremote.specs.declared.statement.Statement.TheVariants.{Commit}
 use Rattle.dbremote.specs.declared.stream.TheConstants.{LONGEST_SCRIPT}
 use Rattle.sr_exchange.specs.Entries.{own}
-use Rattle.dbremote.specs.Histories.{HoldsSome}
+use Rattle.dbremote.specs.Histories.{HoldsBeginning, HoldsSome}
 use Rattle.dbremote.specs.Lines.{script, AreStatements}
 use Rattle.dbremote.specs.Openings.{FoundNoRoom}
 use Rattle.dbremote.specs.Runs.{Stream, Outside, HasRead, FoundAndHolds, FoundAndLeft, HasWrongLine}
@@ -26,6 +26,7 @@ pub record StopsEarly (role : Role) (old new : Outside) (kept : List ℕ) : Type
   pub kept_is : kept ≡ []
   pub history : IsTrue old.site.told → (base : ℕ) (es : List Entry) → HasHistory role base es old.site.files.log0 → waiting_of role es ≡ [] → new.site.files ≡ old.site.files
   pub left : IsTrue old.site.told → (base : ℕ) (es : List Entry) → HasHistory role base es old.site.files.log0 → HoldsSome role base es new.site.files.log0
+  pub begun : IsTrue old.site.told → old.site.files.log0 ≡ [] → HoldsBeginning role new.site.files.log0
   pub silent : new.output ≡ old.output
 
 -- before the fault is told: it ended the statements, and the lines kept are not said yet

@@ -4,7 +4,7 @@ ghost use Rattle.sr_site.specs.declared.file.File.TheVariants.{Log0 as log0};
 ghost use Rattle.sr_exchange.specs.declared.entry.Entry.{Entry};
 ghost use Rattle.sr_exchange.specs.Exchange.{waiting_of};
 ghost use Rattle.sr_exchange.specs.Logs.{HasHistory, IsDamagedDatabase};
-ghost use Rattle.dbremote.specs.Histories.{HoldsSome, IsOpened};
+ghost use Rattle.dbremote.specs.Histories.{HoldsBeginning, HoldsSome, IsOpened};
 ghost use Rattle.dbremote.specs.Lines.{script, AreStatements};
 ghost use Rattle.dbremote.specs.Runs.{HasRead, stream};
 ghost use Rattle.dbremote.specs.Stops.{AttachCause, BeginCause, IsOfOpening};
@@ -54,6 +54,7 @@ pub fn begin<S: Site, I: Source>(
     ensures read { IsTrue (I.told input.old) → IfOk result (λ b. HasRead (stream (I.told input.old) (I.left input.old) (I.faults input.old)) (stream (I.told input.new) (I.left input.new) (I.faults input.new)) (script b.statements.items)) }
     ensures kept { IsTrue (S.seen site.old).told → (base : ℕ) (es : List Entry) → HasHistory role base es (S.seen site.old).files.log0 → waiting_of role es ≡ [] → (S.seen site.new).files ≡ (S.seen site.old).files }
     ensures left { IsTrue (S.seen site.old).told → (base : ℕ) (es : List Entry) → HasHistory role base es (S.seen site.old).files.log0 → HoldsSome role base es (S.seen site.new).files.log0 }
+    ensures begun { IsTrue (S.seen site.old).told → (S.seen site.old).files.log0 ≡ [] → HoldsBeginning role (S.seen site.new).files.log0 }
     ensures damaged { IsTrue (S.seen site.old).told → (place : ℕ) → IsDamagedDatabase role (S.seen site.old).files.log0 place → IsErr result × IfErr result IsOfOpening }
     ensures stays { DiskStays (S.seen site.old) (S.seen site.new) }
     ensures told { I.told input.new ≡ I.told input.old }

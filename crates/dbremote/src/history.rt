@@ -9,7 +9,7 @@ ghost use Rattle.sr_exchange.specs.declared.entry.Entry.{Entry};
 ghost use Rattle.sr_exchange.specs.Exchange.{waiting_of};
 ghost use Rattle.sr_exchange.specs.Logs.{HasHistory, IsDamagedDatabase, completed};
 ghost use Rattle.dbremote.specs.declared.fault.Fault.TheVariants.{Disk as disk};
-ghost use Rattle.dbremote.specs.Histories.{Stands, HasStanding, HoldsSome, IsOpened};
+ghost use Rattle.dbremote.specs.Histories.{Stands, HasStanding, HoldsBeginning, HoldsSome, IsOpened};
 ghost use Rattle.dbremote.specs.Openings.{ReadCause, MakeCause, FoldCause, CompleteCause, OpenFault, IsPrepared, TakesEntry, statement_body};
 
 use crate::fault::Fault;
@@ -152,6 +152,7 @@ fn complete<S: Disk>(
 /// Makes the log's file where there is none.
 fn prepare<S: Disk>(site: &mut S) -> Result<(), Fault>
     ensures prepared { OnOk result (IsPrepared (S.seen site.old) (S.seen site.new)) }
+    ensures begun { IsTrue (S.seen site.old).told → (S.seen site.old).files.log0 ≡ [] → OnErr result (length (S.seen site.new).files.log0 ≤ 17) }
     ensures kept { IsTrue (S.seen site.old).told → (S.seen site.old).files.log0 ≢ [] → (S.seen site.new).files ≡ (S.seen site.old).files }
     ensures others { IsTrue (S.seen site.old).told → OthersStay log0 (S.seen site.old).files (S.seen site.new).files }
     ensures stays { DiskStays (S.seen site.old) (S.seen site.new) }
@@ -166,7 +167,8 @@ fn prepare<S: Disk>(site: &mut S) -> Result<(), Fault>
 /// Opens the database of a role: makes its log where there is none, folds its entries, and commits the statements of the role that are missing.
 ///
 /// `Damaged` comes exactly where the file stands for no database of this role, with the place of the gate byte of the first record that does
-/// not fit, 0 for the header. A log that misses no statement is left as it is. A fault may leave some of those that were missing.
+/// not fit, 0 for the header. A log that misses no statement is left as it is. A fault may leave some of those that were missing, and
+/// of a file without a byte no more than the bytes of a log without records.
 pub fn open_database<S: Disk>(
     alloc: Global,
     site: &mut S,
@@ -177,6 +179,7 @@ pub fn open_database<S: Disk>(
     ensures damaged { IsTrue (S.seen site.old).told → (place : ℕ) → IsDamagedDatabase role (S.seen site.old).files.log0 place → IsErr result }
     ensures kept { IsTrue (S.seen site.old).told → (base : ℕ) (es : List Entry) → HasHistory role base es (S.seen site.old).files.log0 → waiting_of role es ≡ [] → (S.seen site.new).files ≡ (S.seen site.old).files }
     ensures left { IsTrue (S.seen site.old).told → (base : ℕ) (es : List Entry) → HasHistory role base es (S.seen site.old).files.log0 → HoldsSome role base es (S.seen site.new).files.log0 }
+    ensures begun { IsTrue (S.seen site.old).told → (S.seen site.old).files.log0 ≡ [] → HoldsBeginning role (S.seen site.new).files.log0 }
     ensures others { IsTrue (S.seen site.old).told → OthersStay log0 (S.seen site.old).files (S.seen site.new).files }
     ensures stays { DiskStays (S.seen site.old) (S.seen site.new) }
     ensures cause { IfErr result (OpenFault role (S.seen site.old) (S.seen site.new)) }

@@ -8,10 +8,15 @@ mod agent_fault;
 mod beginning;
 #[cfg(test)]
 mod damaged_log;
+#[cfg(test)]
+mod exchange_tests;
 mod fault;
 mod history;
 mod host;
+#[cfg(test)]
+mod letters;
 mod opening;
+mod receiving;
 mod report;
 #[cfg(test)]
 mod role_logs;

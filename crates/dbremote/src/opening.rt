@@ -5,7 +5,7 @@ ghost use Rattle.sr_site.specs.declared.file.File.TheVariants.{Log0 as log0};
 ghost use Rattle.sr_exchange.specs.declared.entry.Entry.{Entry};
 ghost use Rattle.sr_exchange.specs.Exchange.{waiting_of};
 ghost use Rattle.sr_exchange.specs.Logs.{HasHistory, IsDamagedDatabase};
-ghost use Rattle.dbremote.specs.Histories.{HoldsSome, IsOpened};
+ghost use Rattle.dbremote.specs.Histories.{HoldsBeginning, HoldsSome, IsOpened};
 ghost use Rattle.dbremote.specs.Openings.{OpenFault};
 ghost use Rattle.dbremote.specs.Stops.{AttachCause};
 
@@ -48,6 +48,7 @@ pub fn attach_and_open<S: Site>(
     ensures damaged { IsTrue (S.seen site.old).told → (place : ℕ) → IsDamagedDatabase role (S.seen site.old).files.log0 place → IsErr result }
     ensures kept { IsTrue (S.seen site.old).told → (base : ℕ) (es : List Entry) → HasHistory role base es (S.seen site.old).files.log0 → waiting_of role es ≡ [] → (S.seen site.new).files ≡ (S.seen site.old).files }
     ensures left { IsTrue (S.seen site.old).told → (base : ℕ) (es : List Entry) → HasHistory role base es (S.seen site.old).files.log0 → HoldsSome role base es (S.seen site.new).files.log0 }
+    ensures begun { IsTrue (S.seen site.old).told → (S.seen site.old).files.log0 ≡ [] → HoldsBeginning role (S.seen site.new).files.log0 }
     ensures stays { DiskStays (S.seen site.old) (S.seen site.new) }
     ensures cause { IfErr result (OpenFault role (S.seen site.old) (S.seen site.new)) }
 {

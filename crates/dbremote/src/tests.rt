@@ -222,5 +222,17 @@ fn other_words_are_refused(rt: HostRuntime) -> Result<(), Fail> {
     assert!(rt; are_refused(alloc, &["SQL", "c1"])?, "another case");
     assert!(rt; are_refused(alloc, &["sql", "c1", "c2"])?, "three words");
     assert!(rt; are_refused(alloc, &[])?, "no word");
+    for [name, flag] in [["r1", "-s"], ["cons", "-r"], ["r1", "-rs"], ["r2", "-r"]] {
+        let words = ["agent", name, "--mail", "mail", flag];
+        assert!(rt; are_refused(alloc, &words)?, "agent {name} {flag}");
+    }
+    assert!(rt;
+        are_refused(alloc, &["agent", "r1", "-r", "--mail", "mail"])?,
+        "another order"
+    );
+    assert!(rt;
+        are_refused(alloc, &["agent", "r1", "--mail", "", "-r"])?,
+        "no folder"
+    );
     Ok(())
 }

@@ -11,6 +11,8 @@ pub enum Command {
     Sql,
     /// `agent cons --mail FOLDER -s`
     Send,
+    /// `agent r1 --mail FOLDER -r`
+    Receive,
 }
 
 /// Whether a text can name a database or a folder: 1 to 255 bytes.
@@ -28,6 +30,9 @@ fn agent(name: &Text, flag: &Text) -> Option<Command>
 {
     if name.bytes() == b"cons".as_slice() && flag.bytes() == b"-s".as_slice() {
         return Some(Command::Send);
+    }
+    if name.bytes() == b"r1".as_slice() && flag.bytes() == b"-r".as_slice() {
+        return Some(Command::Receive);
     }
     None
 }

@@ -1,6 +1,7 @@
 use Rattle.std.proofs.Common.{Err, ap, sym, ◌∙◌}
 use Rattle.std.proofs.lemmas.Result.{err_from_is_err_and}
 use Rattle.dbremote.specs.Runs.{stream}
+use Rattle.dbremote.proofs.Beginnings.{begins_empty, begun_on}
 use Rattle.dbremote.proofs.Finding.{kept_on, left_on, begin_open, undamaged, left_of, begin_read, begin_script}
 use Rattle.dbremote.proofs.Opened.{holds_none}
 use Rattle.dbremote.proofs.beginning.begin.Goals as goal
@@ -78,3 +79,22 @@ returns-clause-left g c =
 
 pub returns-in_err-attach-clause-left : goal.returns-in_err-attach-clause-left
 returns-in_err-attach-clause-left g c = λ told base es h. holds_none c.args.role base es (g.S.Held.seen c.args.site.now).files (g.S.Held.seen c.attach.new.site).files h (c.in_err-attach.ensures.files told)
+
+pub returns-in_err-fold-clause-begun : goal.returns-in_err-fold-clause-begun
+returns-in_err-fold-clause-begun g c =
+    begun_on c.args.role (g.S.Held.seen c.args.site.now) (g.S.Held.seen c.attach.new.site) (g.S.Held.seen c.open_database.new.site) c.in_ok-attach.ensures.files c.in_ok-attach.ensures.stays.told c.in_err-fold.ensures.begun
+
+pub returns-in_err-text-clause-begun : goal.returns-in_err-text-clause-begun
+returns-in_err-text-clause-begun g c =
+    begun_on c.args.role (g.S.Held.seen c.args.site.now) (g.S.Held.seen c.attach.new.site) (g.S.Held.seen c.open_database.new.site) c.in_ok-attach.ensures.files c.in_ok-attach.ensures.stays.told c.in_ok-fold.ensures.begun
+
+pub returns-in_err-statements-clause-begun : goal.returns-in_err-statements-clause-begun
+returns-in_err-statements-clause-begun g c =
+    begun_on c.args.role (g.S.Held.seen c.args.site.now) (g.S.Held.seen c.attach.new.site) (g.S.Held.seen c.open_database.new.site) c.in_ok-attach.ensures.files c.in_ok-attach.ensures.stays.told c.in_ok-fold.ensures.begun
+
+pub returns-clause-begun : goal.returns-clause-begun
+returns-clause-begun g c =
+    begun_on c.args.role (g.S.Held.seen c.args.site.now) (g.S.Held.seen c.attach.new.site) (g.S.Held.seen c.open_database.new.site) c.in_ok-attach.ensures.files c.in_ok-attach.ensures.stays.told c.in_ok-fold.ensures.begun
+
+pub returns-in_err-attach-clause-begun : goal.returns-in_err-attach-clause-begun
+returns-in_err-attach-clause-begun g c = λ told none. begins_empty c.args.role (g.S.Held.seen c.args.site.now).files (g.S.Held.seen c.attach.new.site).files none (c.in_err-attach.ensures.files told)

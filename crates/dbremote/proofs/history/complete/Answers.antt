@@ -1,4 +1,3 @@
-use Rattle.std.proofs.Common.{◌≡◌, ◌∷◌, ◌∙◌, ap, sym, subst, length, List, ℕ, IsTrue, arith}
 use Rattle.std.proofs.lemmas.Result.{err_from_is_err_and}
 use Rattle.sr_exchange.specs.Exchange.{others_of}
 use Rattle.dbremote.proofs.Completing.{completing_start, completing_step, completed_whole, some_made, some_left, complete_fault, none_refused, waits_less}

@@ -1,4 +1,4 @@
-use Rattle.std.proofs.Common.{◌∙◌, ◌<◌, ◌≤◌, ◌≡◌, ◌+◌, ap, sym, subst, length, false, true, IsTrue, take, rules, arith}
+use Rattle.std.proofs.Common.{◌∙◌, ◌≤◌, ◌≡◌, ◌+◌, ap, subst, length, false, IsTrue, take, rules, arith}
 use Rattle.std.proofs.lemmas.Result.{err_from_is_err_and}
 use Rattle.dbremote.specs.Openings.{TookEntry, TakesEntry}
 use Rattle.dbremote.proofs.Folding.{Reads, folding_start, later_fault, never_none, folded_whole, folding_more, lacks_entry}

@@ -1,6 +1,6 @@
-use Rattle.std.proofs.Common.{◌≡◌, ◌∙◌, [], ap, sym, subst, IsTrue, refl}
+use Rattle.std.proofs.Common.{◌∙◌, [], inl}
 use Rattle.std.proofs.lemmas.Result.{err_from_is_err_and}
-use Rattle.dbremote.specs.Openings.{IsPrepared}
+use Rattle.dbremote.proofs.Beginnings.{begins_made, begins_some}
 use Rattle.dbremote.proofs.Damages.{stands_undamaged}
 use Rattle.dbremote.proofs.Opened.{Behind, told_on, disk_fault, open_fault, unfolded, uncompleted, opened_whole, none_missing, was_there, has_bytes, holds_none, holds_some, standing_for}
 use Rattle.dbremote.proofs.history.open_database.Goals as goal
@@ -138,3 +138,37 @@ returns-clause-left g c = λ told base es h.
     record { stays = c.in_ok-log.ensures.stays; file = c.in_ok-log.ensures.usable.0; files = c.in_ok-log.ensures.files; spelled = λ inside base bodies spells. (c.in_ok-log.ensures.spelled inside base bodies spells).0 } in
     holds_some c.one_spelling_or_one_damage.ensures.one_spelling c.args.role (seen c.args.site.now) (seen c.prepare.new.site) (seen c.open.new.site) (seen c.fold_log.new.site) (seen c.complete.new.site) c.in_ok-log.log c.in_ok-fold.fold base es
     c.in_ok-prepare.ensures.prepared behind told c.in_ok-fold.ensures.stays c.in_ok-fold.ensures.files c.in_ok-fold.ensures.folded c.in_ok-complete.ensures.left h
+
+pub returns-in_err-prepare-clause-begun : goal.returns-in_err-prepare-clause-begun
+returns-in_err-prepare-clause-begun g c = λ told none. inl (c.in_err-prepare.ensures.begun told none)
+
+pub returns-in_err-log-clause-begun : goal.returns-in_err-log-clause-begun
+returns-in_err-log-clause-begun g c = λ told none.
+    let seen = g.S.Held.seen in
+    let prepared = c.in_ok-prepare.ensures.prepared in
+    begins_made c.args.role (seen c.args.site.now) (seen c.prepare.new.site) (seen c.open.new.site).files prepared told
+    (c.in_err-log.ensures.files (told_on (seen c.args.site.now) (seen c.prepare.new.site) prepared.stays told)) none
+
+pub returns-in_err-fold-clause-begun : goal.returns-in_err-fold-clause-begun
+returns-in_err-fold-clause-begun g c = λ told none.
+    let seen = g.S.Held.seen in
+    let prepared = c.in_ok-prepare.ensures.prepared in
+    let inside = told_on (seen c.args.site.now) (seen c.prepare.new.site) prepared.stays told in
+    begins_made c.args.role (seen c.args.site.now) (seen c.prepare.new.site) (seen c.fold_log.new.site).files prepared told
+    (c.in_err-fold.ensures.files (told_on (seen c.prepare.new.site) (seen c.open.new.site) c.in_ok-log.ensures.stays inside) ∙ c.in_ok-log.ensures.files inside) none
+
+pub returns-in_err-complete-clause-begun : goal.returns-in_err-complete-clause-begun
+returns-in_err-complete-clause-begun g c = λ told none.
+    let seen = g.S.Held.seen in
+    let behind : Behind (seen c.prepare.new.site) (seen c.open.new.site) c.in_ok-log.log =
+    record { stays = c.in_ok-log.ensures.stays; file = c.in_ok-log.ensures.usable.0; files = c.in_ok-log.ensures.files; spelled = λ inside base bodies spells. (c.in_ok-log.ensures.spelled inside base bodies spells).0 } in
+    begins_some c.args.role (seen c.args.site.now) (seen c.prepare.new.site) (seen c.open.new.site) (seen c.fold_log.new.site) (seen c.complete.new.site) c.in_ok-log.log c.in_ok-fold.fold
+    c.in_ok-prepare.ensures.prepared behind told c.in_ok-fold.ensures.stays c.in_ok-fold.ensures.files c.in_ok-fold.ensures.folded c.in_err-complete.ensures.left none
+
+pub returns-clause-begun : goal.returns-clause-begun
+returns-clause-begun g c = λ told none.
+    let seen = g.S.Held.seen in
+    let behind : Behind (seen c.prepare.new.site) (seen c.open.new.site) c.in_ok-log.log =
+    record { stays = c.in_ok-log.ensures.stays; file = c.in_ok-log.ensures.usable.0; files = c.in_ok-log.ensures.files; spelled = λ inside base bodies spells. (c.in_ok-log.ensures.spelled inside base bodies spells).0 } in
+    begins_some c.args.role (seen c.args.site.now) (seen c.prepare.new.site) (seen c.open.new.site) (seen c.fold_log.new.site) (seen c.complete.new.site) c.in_ok-log.log c.in_ok-fold.fold
+    c.in_ok-prepare.ensures.prepared behind told c.in_ok-fold.ensures.stays c.in_ok-fold.ensures.files c.in_ok-fold.ensures.folded c.in_ok-complete.ensures.left none

@@ -58,4 +58,4 @@ returns-in_err-beginning-clause-stopped g c =
     let old : Outside = outside (seen c.args.site.now) (g.I.Source.told c.args.input.now) (g.I.Source.left c.args.input.now) (g.I.Source.faults c.args.input.now) (g.O.Sink.told c.args.output.now) (g.O.Sink.taken c.args.output.now) (g.O.Sink.faults c.args.output.now) in
     let new : Outside = outside (seen c.begin.new.site) (g.I.Source.told c.begin.new.input) (g.I.Source.left c.begin.new.input) (g.I.Source.faults c.begin.new.input) (g.O.Sink.told c.args.output.now) (g.O.Sink.taken c.args.output.now) (g.O.Sink.faults c.args.output.now) in
     let p = err_from_is_err_and c.from_residual.result c.from_residual.ensures.1 in
-    rw (p.1, p.2) (subst (λ (kept : List ℕ). StopsSql c.args.role old new kept c.in_err-beginning.field-0.0) (sym c.requires.kept) (stops_begin c.args.role old new c.in_err-beginning.field-0.0 c.in_err-beginning.ensures.cause refl c.in_err-beginning.ensures.kept c.in_err-beginning.ensures.left))
+    rw (p.1, p.2) (subst (λ (kept : List ℕ). StopsSql c.args.role old new kept c.in_err-beginning.field-0.0) (sym c.requires.kept) (stops_begin c.args.role old new c.in_err-beginning.field-0.0 c.in_err-beginning.ensures.cause refl c.in_err-beginning.ensures.kept c.in_err-beginning.ensures.left c.in_err-beginning.ensures.begun))

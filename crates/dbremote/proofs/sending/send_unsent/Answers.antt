@@ -9,7 +9,7 @@ returns-in_err-fold-clause-stopped g c =
     let seen = g.S.Held.seen in
     let err = c.in_err-fold.ensures in
     let p = err_from_is_err_and c.from_residual.result c.from_residual.ensures.1 in
-    rw (p.1, p.2) (stops_opening (seen c.args.site.now) (seen c.attach_and_open.new.site) c.in_err-fold.field-0.0 err.stays.mail err.kept err.left err.cause)
+    rw (p.1, p.2) (stops_opening (seen c.args.site.now) (seen c.attach_and_open.new.site) c.in_err-fold.field-0.0 err.stays.mail err.kept err.left err.begun err.cause)
 
 pub send-requires-clause-at_hand : goal.send-requires-clause-at_hand
 send-requires-clause-at_hand g c = λ told.
