@@ -12,7 +12,7 @@ use Rattle.sr_parse.specs.declared.keyword.Keyword.TheVariants as kw
 use Rattle.sr_parse.specs.declared.symbol.Sign.TheVariants as mark
 use Rattle.sr_parse.specs.Symbols.{Symbols, first, behind, word, IsWord, IsSign}
 use Rattle.sr_parse.specs.Expressions.{IsExpr}
-use Rattle.sr_parse.specs.Tables.{IsRules, IsColumns, IsColumnRule, bare}
+use Rattle.sr_parse.specs.Tables.{IsRules, IsColumns, IsColumnRule}
 use Rattle.sr_parse.specs.Tables.IsRules.{not_null, null, primary}
 use Rattle.sr_parse.specs.Tables.IsColumns.{one, more}
 use Rattle.sr_parse.specs.Triggers.{Acts, IsActions}
@@ -45,11 +45,6 @@ IsRules-null {before = b} {middle = m} {n = n} {primary = p} e h w = null (subst
 pub IsRules-primary : {before middle after : Symbols} {n u p : Bool} → p ≡ false → IsRules before n u p middle → middle ≡ word kw.Primary ∷ word kw.Key ∷ after → IsRules before n u true after
 IsRules-primary {before = b} {middle = m} {n = n} {u = u} e h w = primary (subst (λ p. IsRules b n u p m) e h) w
 
-pub set-bare : (xs : List ColumnRule) (i : ℕ) (y d : ColumnRule) → bare y ≡ bare (get_or xs i d) → i < length xs → map bare (set xs i y) ≡ map bare xs
-set-bare [] i y d e h = refl
-set-bare (x ∷ xs) zero y d e h = ap (λ c. c ∷ map bare xs) e
-set-bare (x ∷ xs) (suc i) y d e h = ap (λ cs. bare x ∷ cs) (set-bare xs i y d e (omega arith))
-
 pub Acts-none : {ifs : ℕ} {before : Symbols} {ys : List Action} → ys ≡ [] → Acts many ifs before ys before
 Acts-none {ifs = i} {before = b} e = subst (λ ys. Acts many i b ys b) (sym e) no_act
 
@@ -80,5 +75,3 @@ Pieces-piece {before = b} {after = a} xs ys h (inr (s, e, is)) = subst (λ ys. P
 pub Pieces-end : {before after left : Symbols} {ys : List Stmt} → Pieces closed before ys after → left ≡ after → length left ≤ 0 → Pieces closed before ys []
 Pieces-end {before = b} {after = a} {left = []} {ys = ys} h e n = subst (λ s. Pieces closed b ys s) (sym e) h
 Pieces-end {left = s ∷ left} h e n = absurd (omega arith)
-
-pub ruleset marking = (set-bare)

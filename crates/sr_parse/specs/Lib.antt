@@ -1,5 +1,6 @@
 pub mod Catalog
 pub mod Expressions
+pub mod Keys
 pub mod Levels
 pub mod Listing
 pub mod Literals
@@ -10,3 +11,5 @@ pub mod Symbols
 pub mod Tables
 pub mod Triggers
 pub mod Writing
+pub mod Normal
+pub mod NormalForms

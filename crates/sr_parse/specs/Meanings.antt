@@ -1,6 +1,7 @@
 -- What the tokens of a text mean to the grammar.
-use Rattle.std.specs.Prelude.{◌≡◌, ℕ, ◌≤◌, List, [], ◌∷◌, map, length, slice_range, codes}
+use Rattle.std.specs.Prelude.{◌≡◌, ℕ, ◌≤◌, List, [], ◌∷◌, map, length, slice_range, codes, IsTrue}
 use Rattle.std.specs.Char.{to_ascii_lowercase}
+use Rattle.sr_base.specs.Names.{is_name}
 use Rattle.sr_lex.specs.declared.token.Token.{Token}
 use Rattle.sr_lex.specs.declared.token.TokenKind.{TokenKind}
 use Rattle.sr_lex.specs.declared.token.TokenKind.TheVariants as token
@@ -112,20 +113,28 @@ lower word = map to_ascii_lowercase word
 abbrev pub IsKeyword : List ℕ → Keyword → Type 0
 IsKeyword word k = lower word ≡ lower (spelling k)
 
--- the symbol that a word is: a key word, or else a name in lower case
+-- a word is no key word
+abbrev pub IsNoKeyword : List ℕ → Type 0
+IsNoKeyword word = (k : Keyword) → IsKeyword word k → ⊥
+
+-- the symbol that a word is: a key word; or else a name, in lower case; or else `Other`, which stands in no production
 abbrev pub IsWordSymbol : List ℕ → Symbol → Type 0
 IsWordSymbol word (symbol.Keyword k) = IsKeyword word k
-IsWordSymbol word (symbol.Name n) = n ≡ lower word
-IsWordSymbol word symbol.Other = Unit {0}
+IsWordSymbol word (symbol.Name n) = IsNoKeyword word × IsTrue (is_name word) × (n ≡ lower word)
+IsWordSymbol word symbol.Other = IsNoKeyword word × (IsTrue (is_name word) → ⊥)
 IsWordSymbol word (symbol.Number n) = ⊥
 IsWordSymbol word symbol.TopNumber = ⊥
 IsWordSymbol word (symbol.Text t) = ⊥
 IsWordSymbol word (symbol.Sign s) = ⊥
 
--- the symbol that a sign is; `Other` stands in no production
+-- bytes are no sign of the grammar
+abbrev pub IsNoSign : List ℕ → Type 0
+IsNoSign bytes = (s : Sign) → bytes ≡ sign_text s → ⊥
+
+-- the symbol that a sign is; one that is none of the grammar is `Other`
 abbrev pub IsSignSymbol : List ℕ → Symbol → Type 0
 IsSignSymbol word (symbol.Sign s) = word ≡ sign_text s
-IsSignSymbol word symbol.Other = Unit {0}
+IsSignSymbol word symbol.Other = IsNoSign word
 IsSignSymbol word (symbol.Keyword k) = ⊥
 IsSignSymbol word (symbol.Name n) = ⊥
 IsSignSymbol word (symbol.Number n) = ⊥

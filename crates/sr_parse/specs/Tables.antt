@@ -1,5 +1,5 @@
 -- Tables, as they are written.
-use Rattle.std.specs.Prelude.{◌≡◌, ℕ, Bool, true, false, List, [], ◌∷◌, ◌++◌, ◌⊎◌, if◌then◌else◌, map}
+use Rattle.std.specs.Prelude.{◌≡◌, ℕ, Bool, true, false, List, [], ◌∷◌, ◌++◌, ◌⊎◌, if◌then◌else◌, ◌↔◌, IsTrue, Contains}
 use Rattle.sr_ast.specs.declared.create.CreateTable.{CreateTable}
 use Rattle.sr_ast.specs.declared.create.ColumnRule.{ColumnRule}
 use Rattle.sr_parse.specs.declared.keyword.Keyword.TheVariants as kw
@@ -52,9 +52,18 @@ pub record IsKeyed (before : Symbols) (columns : List ColumnRule) (key : List (L
   pub listed : IsColumns before columns held middle
   pub keyed : ((key ≡ held) × (middle ≡ after)) ⊎ ((held ≡ []) × IsKeyList middle key after)
 
--- a column without its NOT NULL, which the normal form also gives to the columns of the key
-abbrev pub bare : ColumnRule → ColumnRule
-bare c = record c { not_null = true }
+-- a column in the normal form: NOT NULL where it is written, and where it is of the key
+pub record IsNormal (key : List (List ℕ)) (written column : ColumnRule) : Type 0 where
+  pub name : column.name ≡ written.name
+  pub kind : column.kind ≡ written.kind
+  pub not_null : IsTrue column.not_null ↔ (IsTrue written.not_null ⊎ Contains key written.name)
+
+-- columns, each in the normal form
+abbrev pub AreNormal : List (List ℕ) → List ColumnRule → List ColumnRule → Type 0
+AreNormal key [] [] = Unit {0}
+AreNormal key [] (c ∷ columns) = ⊥
+AreNormal key (w ∷ written) [] = ⊥
+AreNormal key (w ∷ written) (c ∷ columns) = IsNormal key w c × AreNormal key written columns
 
 -- n ( column {, column} [, PRIMARY KEY ( n {, n} )] )
 pub record IsTable (before : Symbols) (c : CreateTable) (after : Symbols) : Type 0 where
@@ -66,4 +75,4 @@ pub record IsTable (before : Symbols) (c : CreateTable) (after : Symbols) : Type
   pub opened : IsSign open_ mark.Open inside
   pub columns : IsKeyed inside written c.key close
   pub closed : IsSign close mark.Close after
-  pub normal_form : map bare c.columns ≡ map bare written
+  pub normal_form : AreNormal c.key written c.columns

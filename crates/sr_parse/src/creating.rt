@@ -1,4 +1,4 @@
-ghost use Rattle.std.specs.Prelude.{◌≡◌, ◌+◌, ◌-◌, ◌*◌, ◌<◌, ◌≤◌, ◌↔◌, length, OnOk, IfOk, IsSome, IsTrue, OnSome, IfSome, ◌∷◌, [], map, true, vec_len};
+ghost use Rattle.std.specs.Prelude.{◌≡◌, ◌+◌, ◌-◌, ◌*◌, ◌<◌, ◌≤◌, ◌↔◌, length, OnOk, IfOk, IsSome, IsTrue, OnSome, IfSome, ◌∷◌, [], true};
 ghost use Rattle.std.specs.Option.{option_copied};
 ghost use Rattle.sr_parse.specs.Symbols.{word, first};
 ghost use Rattle.sr_parse.specs.Listing.{Listed, Row};
@@ -15,7 +15,7 @@ ghost use Rattle.sr_parse.specs.Catalog.{
   IsGiven,
   IsSubscription,
 };
-ghost use Rattle.sr_parse.specs.Tables.{IsTable, IsKeyed, IsKeyWords, IsColumnRule, IsRules, bare};
+ghost use Rattle.sr_parse.specs.Tables.{IsTable, IsKeyed, IsKeyWords, IsColumnRule, IsRules};
 ghost use Rattle.sr_parse.specs.Triggers.{IsOf, IsAlias, IsVariable, IsTrigger, image_word};
 ghost use Rattle.sr_parse.specs.Scripts.{IsStatement};
 ghost use Rattle.sr_parse.specs.declared.keyword.Keyword.TheVariants as key;
@@ -23,6 +23,7 @@ ghost use Rattle.sr_parse.specs.declared.keyword.Keyword.TheVariants as key;
 use crate::acting::{IFS, actions};
 use crate::exprs::{expr, literal, negative};
 use crate::keyword::Keyword;
+use crate::normal::normal;
 use crate::reader::{Broken, Reader};
 use crate::symbol::{Sign, Symbol};
 use sr_ast::{
@@ -31,7 +32,6 @@ use sr_ast::{
 };
 use sr_base::{Kind, Name, Seq, Text, Value};
 use std::alloc::Global;
-use std::collections::BTreeSet;
 
 /// Behind CREATE.
 pub fn create(reader: &mut Reader) -> Result<Stmt, Broken>
@@ -167,9 +167,9 @@ fn create_table(reader: &mut Reader) -> Result<CreateTable, Broken>
 {
     let name = reader.name()?;
     reader.sign(Sign::Open)?;
-    let (mut columns, key) = columns(reader)?;
+    let (written, key) = columns(reader)?;
     reader.sign(Sign::Close)?;
-    mark_key(reader.alloc(), &mut columns, key.as_slice())?;
+    let columns = normal(reader.alloc(), written, key.as_slice())?;
     Ok(CreateTable {
         name,
         columns: Seq::from_vec(columns),
@@ -211,33 +211,6 @@ fn key_list(reader: &mut Reader) -> Result<Vec<Name>, Broken>
     let names = reader.name_items()?;
     reader.sign(Sign::Close)?;
     Ok(names)
-}
-
-/// Each column of the key is NOT NULL.
-fn mark_key(alloc: Global, columns: &mut Vec<ColumnRule>, key: &[Name]) -> Result<(), Broken>
-    ensures kept { map bare columns.new.items ≡ map bare columns.old.items }
-{
-    let mut names = BTreeSet::new(alloc);
-    for name in key {
-        names.insert(Vec::from_slice(alloc, name.bytes())?)?;
-    }
-    'columns: for i in 0..columns.len() {
-        let bytes = Vec::from_slice(alloc, columns[i].name.bytes())?;
-        if names.contains(&bytes) {
-            mark(columns, i);
-        }
-    }
-    Ok(())
-}
-
-#[tactic(auto, using(crate::proofs::Tabling::marking))]
-fn mark(columns: &mut Vec<ColumnRule>, i: usize)
-    ensures kept { map bare columns.new.items ≡ map bare columns.old.items }
-    ensures length { vec_len columns.new ≡ vec_len columns.old }
-{
-    if i < columns.len() {
-        columns[i].not_null = true;
-    }
 }
 
 /// A column, and the key with it.

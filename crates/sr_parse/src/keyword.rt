@@ -1,5 +1,5 @@
-ghost use Rattle.std.specs.Prelude.{◌≡◌, ◌↔◌, IsTrue, IfSome};
-ghost use Rattle.sr_parse.specs.Meanings.{lower, IsKeyword};
+ghost use Rattle.std.specs.Prelude.{◌≡◌, ◌↔◌, IsTrue, IfSome, None};
+ghost use Rattle.sr_parse.specs.Meanings.{lower, spelling, IsKeyword, IsNoKeyword};
 
 /// A key word of the grammar.
 #[derive(Clone, Copy, PartialEq, Eq)]
@@ -75,23 +75,92 @@ pub enum Keyword {
     Is,
 }
 
+/// The key words.
+const KEYWORDS: [Keyword; 69] = [
+    Keyword::Create,
+    Keyword::Table,
+    Keyword::Primary,
+    Keyword::Key,
+    Keyword::Not,
+    Keyword::Null,
+    Keyword::Integer,
+    Keyword::Int,
+    Keyword::Bigint,
+    Keyword::Varchar,
+    Keyword::Date,
+    Keyword::Drop,
+    Keyword::Publication,
+    Keyword::Where,
+    Keyword::Subscribe,
+    Keyword::By,
+    Keyword::Grant,
+    Keyword::Remote,
+    Keyword::To,
+    Keyword::Type,
+    Keyword::File,
+    Keyword::Address,
+    Keyword::Consolidate,
+    Keyword::Start,
+    Keyword::Stop,
+    Keyword::Synchronize,
+    Keyword::Subscription,
+    Keyword::For,
+    Keyword::Trigger,
+    Keyword::Resolve,
+    Keyword::Update,
+    Keyword::Of,
+    Keyword::On,
+    Keyword::Referencing,
+    Keyword::Old,
+    Keyword::New,
+    Keyword::As,
+    Keyword::Each,
+    Keyword::Row,
+    Keyword::Begin,
+    Keyword::Declare,
+    Keyword::End,
+    Keyword::Set,
+    Keyword::Insert,
+    Keyword::Into,
+    Keyword::Values,
+    Keyword::If,
+    Keyword::Then,
+    Keyword::Else,
+    Keyword::Delete,
+    Keyword::From,
+    Keyword::Select,
+    Keyword::Count,
+    Keyword::Sum,
+    Keyword::Min,
+    Keyword::Max,
+    Keyword::Inner,
+    Keyword::Join,
+    Keyword::Order,
+    Keyword::Asc,
+    Keyword::Desc,
+    Keyword::Commit,
+    Keyword::Work,
+    Keyword::Rollback,
+    Keyword::Passthrough,
+    Keyword::Only,
+    Keyword::Or,
+    Keyword::And,
+    Keyword::Is,
+];
+
 /// The key word that a word is, without regard to the case of its letters.
 pub fn keyword_of(word: &[u8]) -> Option<Keyword>
     ensures found { IfSome result (λ keyword. IsKeyword word.now keyword) }
+    ensures none { result ≡ None → IsNoKeyword word.now }
 {
-    match word.len() {
-        2 => keyword_of_2(word),
-        3 => keyword_of_3(word),
-        4 => keyword_of_4(word),
-        5 => keyword_of_5(word),
-        6 => keyword_of_6(word),
-        7 => keyword_of_7(word),
-        8 => keyword_of_8(word),
-        9 => keyword_of_9(word),
-        11 => keyword_of_11(word),
-        12 => keyword_of_12(word),
-        _ => None,
+    let mut rest = KEYWORDS.as_slice();
+    'keywords: while let Some((keyword, after)) = rest.split_first() {
+        if is(word, spelled(*keyword)) {
+            return Some(*keyword);
+        }
+        rest = after;
     }
+    None
 }
 
 /// Whether a word is a key word, given in upper case.
@@ -101,220 +170,79 @@ fn is(word: &[u8], upper: &[u8]) -> bool
     word.eq_ignore_ascii_case(upper)
 }
 
-fn keyword_of_2(word: &[u8]) -> Option<Keyword>
-    ensures found { IfSome result (λ keyword. IsKeyword word.now keyword) }
+/// How a key word is spelled.
+fn spelled(keyword: Keyword) -> &'static [u8]
+    ensures spelling { result.now ≡ spelling keyword }
 {
-    if is(word, b"BY") {
-        Some(Keyword::By)
-    } else if is(word, b"TO") {
-        Some(Keyword::To)
-    } else if is(word, b"OF") {
-        Some(Keyword::Of)
-    } else if is(word, b"ON") {
-        Some(Keyword::On)
-    } else if is(word, b"AS") {
-        Some(Keyword::As)
-    } else if is(word, b"IF") {
-        Some(Keyword::If)
-    } else if is(word, b"OR") {
-        Some(Keyword::Or)
-    } else if is(word, b"IS") {
-        Some(Keyword::Is)
-    } else {
-        None
-    }
-}
-
-fn keyword_of_3(word: &[u8]) -> Option<Keyword>
-    ensures found { IfSome result (λ keyword. IsKeyword word.now keyword) }
-{
-    if is(word, b"KEY") {
-        Some(Keyword::Key)
-    } else if is(word, b"NOT") {
-        Some(Keyword::Not)
-    } else if is(word, b"INT") {
-        Some(Keyword::Int)
-    } else if is(word, b"FOR") {
-        Some(Keyword::For)
-    } else if is(word, b"OLD") {
-        Some(Keyword::Old)
-    } else if is(word, b"NEW") {
-        Some(Keyword::New)
-    } else if is(word, b"ROW") {
-        Some(Keyword::Row)
-    } else if is(word, b"END") {
-        Some(Keyword::End)
-    } else if is(word, b"SET") {
-        Some(Keyword::Set)
-    } else if is(word, b"SUM") {
-        Some(Keyword::Sum)
-    } else if is(word, b"MIN") {
-        Some(Keyword::Min)
-    } else if is(word, b"MAX") {
-        Some(Keyword::Max)
-    } else if is(word, b"ASC") {
-        Some(Keyword::Asc)
-    } else if is(word, b"AND") {
-        Some(Keyword::And)
-    } else {
-        None
-    }
-}
-
-fn keyword_of_4(word: &[u8]) -> Option<Keyword>
-    ensures found { IfSome result (λ keyword. IsKeyword word.now keyword) }
-{
-    if is(word, b"NULL") {
-        Some(Keyword::Null)
-    } else if is(word, b"DATE") {
-        Some(Keyword::Date)
-    } else if is(word, b"DROP") {
-        Some(Keyword::Drop)
-    } else if is(word, b"TYPE") {
-        Some(Keyword::Type)
-    } else if is(word, b"FILE") {
-        Some(Keyword::File)
-    } else if is(word, b"STOP") {
-        Some(Keyword::Stop)
-    } else if is(word, b"EACH") {
-        Some(Keyword::Each)
-    } else if is(word, b"INTO") {
-        Some(Keyword::Into)
-    } else if is(word, b"THEN") {
-        Some(Keyword::Then)
-    } else if is(word, b"ELSE") {
-        Some(Keyword::Else)
-    } else if is(word, b"FROM") {
-        Some(Keyword::From)
-    } else if is(word, b"JOIN") {
-        Some(Keyword::Join)
-    } else if is(word, b"DESC") {
-        Some(Keyword::Desc)
-    } else if is(word, b"WORK") {
-        Some(Keyword::Work)
-    } else if is(word, b"ONLY") {
-        Some(Keyword::Only)
-    } else {
-        None
-    }
-}
-
-fn keyword_of_5(word: &[u8]) -> Option<Keyword>
-    ensures found { IfSome result (λ keyword. IsKeyword word.now keyword) }
-{
-    if is(word, b"TABLE") {
-        Some(Keyword::Table)
-    } else if is(word, b"WHERE") {
-        Some(Keyword::Where)
-    } else if is(word, b"GRANT") {
-        Some(Keyword::Grant)
-    } else if is(word, b"START") {
-        Some(Keyword::Start)
-    } else if is(word, b"BEGIN") {
-        Some(Keyword::Begin)
-    } else if is(word, b"COUNT") {
-        Some(Keyword::Count)
-    } else if is(word, b"INNER") {
-        Some(Keyword::Inner)
-    } else if is(word, b"ORDER") {
-        Some(Keyword::Order)
-    } else {
-        None
-    }
-}
-
-fn keyword_of_6(word: &[u8]) -> Option<Keyword>
-    ensures found { IfSome result (λ keyword. IsKeyword word.now keyword) }
-{
-    if is(word, b"CREATE") {
-        Some(Keyword::Create)
-    } else if is(word, b"BIGINT") {
-        Some(Keyword::Bigint)
-    } else if is(word, b"REMOTE") {
-        Some(Keyword::Remote)
-    } else if is(word, b"UPDATE") {
-        Some(Keyword::Update)
-    } else if is(word, b"INSERT") {
-        Some(Keyword::Insert)
-    } else if is(word, b"VALUES") {
-        Some(Keyword::Values)
-    } else if is(word, b"DELETE") {
-        Some(Keyword::Delete)
-    } else if is(word, b"SELECT") {
-        Some(Keyword::Select)
-    } else if is(word, b"COMMIT") {
-        Some(Keyword::Commit)
-    } else {
-        None
-    }
-}
-
-fn keyword_of_7(word: &[u8]) -> Option<Keyword>
-    ensures found { IfSome result (λ keyword. IsKeyword word.now keyword) }
-{
-    if is(word, b"PRIMARY") {
-        Some(Keyword::Primary)
-    } else if is(word, b"INTEGER") {
-        Some(Keyword::Integer)
-    } else if is(word, b"VARCHAR") {
-        Some(Keyword::Varchar)
-    } else if is(word, b"ADDRESS") {
-        Some(Keyword::Address)
-    } else if is(word, b"TRIGGER") {
-        Some(Keyword::Trigger)
-    } else if is(word, b"RESOLVE") {
-        Some(Keyword::Resolve)
-    } else if is(word, b"DECLARE") {
-        Some(Keyword::Declare)
-    } else {
-        None
-    }
-}
-
-fn keyword_of_8(word: &[u8]) -> Option<Keyword>
-    ensures found { IfSome result (λ keyword. IsKeyword word.now keyword) }
-{
-    if is(word, b"ROLLBACK") {
-        Some(Keyword::Rollback)
-    } else {
-        None
-    }
-}
-
-fn keyword_of_9(word: &[u8]) -> Option<Keyword>
-    ensures found { IfSome result (λ keyword. IsKeyword word.now keyword) }
-{
-    if is(word, b"SUBSCRIBE") {
-        Some(Keyword::Subscribe)
-    } else {
-        None
-    }
-}
-
-fn keyword_of_11(word: &[u8]) -> Option<Keyword>
-    ensures found { IfSome result (λ keyword. IsKeyword word.now keyword) }
-{
-    if is(word, b"PUBLICATION") {
-        Some(Keyword::Publication)
-    } else if is(word, b"CONSOLIDATE") {
-        Some(Keyword::Consolidate)
-    } else if is(word, b"SYNCHRONIZE") {
-        Some(Keyword::Synchronize)
-    } else if is(word, b"REFERENCING") {
-        Some(Keyword::Referencing)
-    } else if is(word, b"PASSTHROUGH") {
-        Some(Keyword::Passthrough)
-    } else {
-        None
-    }
-}
-
-fn keyword_of_12(word: &[u8]) -> Option<Keyword>
-    ensures found { IfSome result (λ keyword. IsKeyword word.now keyword) }
-{
-    if is(word, b"SUBSCRIPTION") {
-        Some(Keyword::Subscription)
-    } else {
-        None
+    match keyword {
+        Keyword::Create => b"CREATE",
+        Keyword::Table => b"TABLE",
+        Keyword::Primary => b"PRIMARY",
+        Keyword::Key => b"KEY",
+        Keyword::Not => b"NOT",
+        Keyword::Null => b"NULL",
+        Keyword::Integer => b"INTEGER",
+        Keyword::Int => b"INT",
+        Keyword::Bigint => b"BIGINT",
+        Keyword::Varchar => b"VARCHAR",
+        Keyword::Date => b"DATE",
+        Keyword::Drop => b"DROP",
+        Keyword::Publication => b"PUBLICATION",
+        Keyword::Where => b"WHERE",
+        Keyword::Subscribe => b"SUBSCRIBE",
+        Keyword::By => b"BY",
+        Keyword::Grant => b"GRANT",
+        Keyword::Remote => b"REMOTE",
+        Keyword::To => b"TO",
+        Keyword::Type => b"TYPE",
+        Keyword::File => b"FILE",
+        Keyword::Address => b"ADDRESS",
+        Keyword::Consolidate => b"CONSOLIDATE",
+        Keyword::Start => b"START",
+        Keyword::Stop => b"STOP",
+        Keyword::Synchronize => b"SYNCHRONIZE",
+        Keyword::Subscription => b"SUBSCRIPTION",
+        Keyword::For => b"FOR",
+        Keyword::Trigger => b"TRIGGER",
+        Keyword::Resolve => b"RESOLVE",
+        Keyword::Update => b"UPDATE",
+        Keyword::Of => b"OF",
+        Keyword::On => b"ON",
+        Keyword::Referencing => b"REFERENCING",
+        Keyword::Old => b"OLD",
+        Keyword::New => b"NEW",
+        Keyword::As => b"AS",
+        Keyword::Each => b"EACH",
+        Keyword::Row => b"ROW",
+        Keyword::Begin => b"BEGIN",
+        Keyword::Declare => b"DECLARE",
+        Keyword::End => b"END",
+        Keyword::Set => b"SET",
+        Keyword::Insert => b"INSERT",
+        Keyword::Into => b"INTO",
+        Keyword::Values => b"VALUES",
+        Keyword::If => b"IF",
+        Keyword::Then => b"THEN",
+        Keyword::Else => b"ELSE",
+        Keyword::Delete => b"DELETE",
+        Keyword::From => b"FROM",
+        Keyword::Select => b"SELECT",
+        Keyword::Count => b"COUNT",
+        Keyword::Sum => b"SUM",
+        Keyword::Min => b"MIN",
+        Keyword::Max => b"MAX",
+        Keyword::Inner => b"INNER",
+        Keyword::Join => b"JOIN",
+        Keyword::Order => b"ORDER",
+        Keyword::Asc => b"ASC",
+        Keyword::Desc => b"DESC",
+        Keyword::Commit => b"COMMIT",
+        Keyword::Work => b"WORK",
+        Keyword::Rollback => b"ROLLBACK",
+        Keyword::Passthrough => b"PASSTHROUGH",
+        Keyword::Only => b"ONLY",
+        Keyword::Or => b"OR",
+        Keyword::And => b"AND",
+        Keyword::Is => b"IS",
     }
 }

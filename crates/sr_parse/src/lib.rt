@@ -1,7 +1,9 @@
 //! Scripts read as statements: tokens become symbols, and one function per production reads them.
 //!
 //! It stands on sr_lex and sr_ast. The contract that matters most is that of `parse`: the script that it answers is one that the
-//! text spells, by a grammar that is a relation between symbols and statements (`specs/Scripts.antt` and the files that it names).
+//! text spells, by a grammar that is a relation between symbols and statements (`specs/Scripts.antt` and the files that it names), and
+//! no other script is: the grammar is unambiguous (`a_text_spells_one_script`). The printed text of a statement in normal form
+//! spells it, and each statement of a script is in normal form (`what_prints_is_read_so`, `specs/NormalForms.antt`).
 //! It always returns, whatever the text and however deep it nests, and a refusal stands where no token begins, or at a token, or at
 //! the end. That every script of the grammar is read, and that a refusal stands at the first token with which no script goes on, is
 //! tested and not proved.
@@ -11,6 +13,8 @@ mod acting;
 mod creating;
 mod exprs;
 mod keyword;
+mod laws;
+mod normal;
 mod parsing;
 mod querying;
 mod reader;
@@ -18,4 +22,5 @@ mod symbol;
 #[cfg(test)]
 mod tests;
 
+pub use laws::{a_text_spells_one_script, what_prints_is_read_so};
 pub use parsing::{ParseFault, parse};

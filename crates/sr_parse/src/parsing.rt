@@ -1,4 +1,5 @@
-ghost use Rattle.std.specs.Prelude.{◌≡◌, ◌+◌, ◌-◌, ◌*◌, ◌<◌, ◌≤◌, ◌↔◌, length, OnOk, IfOk, IsSome, IsTrue, OnSome, ℕ, map, ◌⊎◌, Contains, reverse};
+ghost use Rattle.std.specs.Prelude.{◌≡◌, ◌+◌, ◌-◌, ◌*◌, ◌<◌, ◌≤◌, ◌↔◌, length, OnOk, IfOk, IsSome, IsTrue, OnSome, ℕ, List, map, ◌⊎◌, Contains, reverse};
+ghost use Rattle.sr_ast.specs.declared.stmt.Stmt.{Stmt as Statement};
 ghost use Rattle.sr_parse.specs.Places.{IsPlace, IsRefusedAt};
 ghost use Rattle.sr_parse.specs.Meanings.{AreSymbols, Spells, IsWritten};
 ghost use Rattle.sr_parse.specs.Scripts.{IsStatement, IsScript, IsPiece, IsWork};
@@ -51,6 +52,8 @@ impl<T: Drop> From<AllocFailed<T>> for ParseFault {
 pub fn parse(alloc: Global, text: &Text) -> Result<Script, ParseFault>
     // The text spells the script that is answered.
     ensures sound { IfOk result (λ script. IsWritten text.now script) }
+    // It spells no other script.
+    ensures only { IfOk result (λ script. (other : List Statement) → IsWritten text.now other → other ≡ script) }
     // A refusal stands where no token begins, or at a token, or at the end.
     ensures refused { (at : ℕ) → result ≡ Err (ParseFault.Refused at) → IsRefusedAt text.now at }
 {

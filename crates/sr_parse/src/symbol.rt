@@ -1,5 +1,5 @@
-ghost use Rattle.std.specs.Prelude.{◌≡◌, ◌≤◌, length, slice_range, IfOk, IfSome};
-ghost use Rattle.sr_parse.specs.Meanings.{sign_text, IsSpan, IsWordSymbol, IsSymbol};
+ghost use Rattle.std.specs.Prelude.{◌≡◌, ◌≤◌, length, slice_range, IfOk, IfSome, None};
+ghost use Rattle.sr_parse.specs.Meanings.{sign_text, IsNoSign, IsSpan, IsWordSymbol, IsSymbol};
 
 use crate::keyword::{Keyword, keyword_of};
 use crate::reader::Broken;
@@ -26,6 +26,24 @@ pub enum Sign {
     AtLeast,
 }
 
+/// The signs.
+const SIGNS: [Sign; 14] = [
+    Sign::Open,
+    Sign::Close,
+    Sign::Comma,
+    Sign::Semicolon,
+    Sign::Dot,
+    Sign::Plus,
+    Sign::Minus,
+    Sign::Times,
+    Sign::Equal,
+    Sign::Unequal,
+    Sign::Less,
+    Sign::AtMost,
+    Sign::Greater,
+    Sign::AtLeast,
+];
+
 /// What a token means to the grammar.
 #[derive(Drop)]
 pub enum Symbol {
@@ -35,7 +53,7 @@ pub enum Symbol {
     TopNumber,
     Text(Text),
     Sign(Sign),
-    /// What is none of these. No token is one.
+    /// A token that is none of these.
     Other,
 }
 
@@ -83,24 +101,39 @@ fn word_of(alloc: Global, word: &[u8]) -> Result<Symbol, Broken>
     }
 }
 
-fn sign_of(sign: &[u8]) -> Option<Sign>
-    ensures found { IfSome result (λ found. sign.now ≡ sign_text found) }
+/// The sign that bytes are.
+fn sign_of(bytes: &[u8]) -> Option<Sign>
+    ensures found { IfSome result (λ sign. bytes.now ≡ sign_text sign) }
+    ensures none { result ≡ None → IsNoSign bytes.now }
+{
+    let mut rest = SIGNS.as_slice();
+    'signs: while let Some((sign, after)) = rest.split_first() {
+        if bytes == written(*sign) {
+            return Some(*sign);
+        }
+        rest = after;
+    }
+    None
+}
+
+/// How a sign is spelled.
+fn written(sign: Sign) -> &'static [u8]
+    ensures text { result.now ≡ sign_text sign }
 {
     match sign {
-        b"(" => Some(Sign::Open),
-        b")" => Some(Sign::Close),
-        b"," => Some(Sign::Comma),
-        b";" => Some(Sign::Semicolon),
-        b"." => Some(Sign::Dot),
-        b"+" => Some(Sign::Plus),
-        b"-" => Some(Sign::Minus),
-        b"*" => Some(Sign::Times),
-        b"=" => Some(Sign::Equal),
-        b"<>" => Some(Sign::Unequal),
-        b"<" => Some(Sign::Less),
-        b"<=" => Some(Sign::AtMost),
-        b">" => Some(Sign::Greater),
-        b">=" => Some(Sign::AtLeast),
-        _ => None,
+        Sign::Open => b"(",
+        Sign::Close => b")",
+        Sign::Comma => b",",
+        Sign::Semicolon => b";",
+        Sign::Dot => b".",
+        Sign::Plus => b"+",
+        Sign::Minus => b"-",
+        Sign::Times => b"*",
+        Sign::Equal => b"=",
+        Sign::Unequal => b"<>",
+        Sign::Less => b"<",
+        Sign::AtMost => b"<=",
+        Sign::Greater => b">",
+        Sign::AtLeast => b">=",
     }
 }

@@ -17,4 +17,4 @@ pub returns-in-Some : goal.returns-in-Some
 returns-in-Some c = record { found = record { bytes = c.slice-bytes.result.now; span = c.slice-bytes.ensures.span; means = rw c.in-Sign.is c.in-Some.ensures.found } }
 
 pub returns-in-None : goal.returns-in-None
-returns-in-None c = record { found = record { bytes = c.slice-bytes.result.now; span = c.slice-bytes.ensures.span; means = rw c.in-Sign.is tt } }
+returns-in-None c = record { found = record { bytes = c.slice-bytes.result.now; span = c.slice-bytes.ensures.span; means = rw c.in-Sign.is (c.sign_of.ensures.none (search rules)) } }

@@ -1,0 +1,6 @@
+use Rattle.std.proofs.Common.{rules}
+use Rattle.sr_parse.proofs.Words.{MayBe-start, MayBe-more, MayBe-end}
+use Rattle.sr_parse.proofs.keyword.keyword_of.Goals as goal
+
+pub keywords-init : goal.keywords-init
+keywords-init c = MayBe-start _ _ (search rules)

@@ -1,0 +1,24 @@
+//! The laws of the grammar. These functions do nothing when they run: each carries a law as its clauses, which whoever calls it may use.
+
+ghost use Rattle.std.specs.Prelude.{◌≡◌, ℕ, List, [], ◌∷◌};
+ghost use Rattle.std.specs.List.{AllByRecursion};
+ghost use Rattle.sr_ast.specs.Layout.{printed};
+ghost use Rattle.sr_ast.specs.declared.stmt.Stmt.{Stmt as Statement};
+ghost use Rattle.sr_parse.specs.Symbols.{Symbols};
+ghost use Rattle.sr_parse.specs.Scripts.{IsScript};
+ghost use Rattle.sr_parse.specs.Meanings.{IsWritten};
+ghost use Rattle.sr_parse.specs.NormalForms.{IsNormal};
+
+/// The grammar is unambiguous: a text spells one script at most, and so do symbols.
+pub fn a_text_spells_one_script()
+    ensures once { (text : List ℕ) (s t : List Statement) → IsWritten text s → IsWritten text t → s ≡ t }
+    ensures symbols { (symbols : Symbols) (s t : List Statement) → IsScript symbols s → IsScript symbols t → s ≡ t }
+{}
+
+/// What is printed is read so: the printed text of a statement in normal form spells that statement, and each statement of a
+/// script is in normal form.
+pub fn what_prints_is_read_so()
+    ensures printed { (s : Statement) → IsNormal s → IsWritten (printed s) (s ∷ []) }
+    ensures normal { (text : List ℕ) (script : List Statement) → IsWritten text script → AllByRecursion IsNormal script }
+    ensures again { (text : List ℕ) (script : List Statement) → IsWritten text script → AllByRecursion (λ s. IsWritten (printed s) (s ∷ [])) script }
+{}
