@@ -1,0 +1,11 @@
+pub mod Catalogs
+pub mod Causes
+pub mod Changes
+pub mod Firsts
+pub mod Names
+pub mod Publications
+pub mod Scripts
+pub mod Subscriptions
+pub mod Tables
+pub mod Triggers
+pub mod Users

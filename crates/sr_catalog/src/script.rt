@@ -1,0 +1,240 @@
+//! The statements that make a catalog from a new one.
+
+ghost use Rattle.std.specs.Prelude.{◌≡◌, ◌∷◌, ◌++◌, [], map, filter, Some, IfOk, OnOk, bytes_eq};
+ghost use Rattle.sr_ast.specs.Layout.{printed};
+ghost use Rattle.sr_ast.specs.declared.stmt.Stmt.{Stmt};
+ghost use Rattle.sr_catalog.specs.Catalogs.{nothing_but};
+ghost use Rattle.sr_catalog.specs.Scripts.{
+  given_address,
+  grant_rule,
+  grant_of,
+  column_rule,
+  create_table_of,
+  article_rule,
+  create_publication_of,
+  subscription_rule,
+  create_subscription_of,
+  start_of,
+  trigger_stmt,
+  statements,
+  replayed,
+  IsMade,
+};
+
+use crate::catalog::Catalog;
+use crate::publication::{Article, Publication};
+use crate::publications::key_names;
+use crate::subscription::Subscription;
+use crate::table::{Column, Table};
+use crate::trigger::Trigger;
+use crate::user::User;
+use sr_ast::{
+    ArticleRule, ColumnRule, CreatePublication, CreateTable, Grant, Stmt, SubscriptionRule, print,
+};
+use sr_base::{Copied, NoMemory, Seq, Text, text_of};
+use std::alloc::{AllocError, Global};
+
+impl Catalog {
+    /// The statements that make this catalog from a new one, as they print: grants, tables, publications with their articles' columns
+    /// written out, triggers, subscriptions and starts, each kind in order of creation. A grant has no address where it is the user's
+    /// name. Where accepted statements have made this catalog of a new one, these are accepted too, and make it again.
+    #[tactic(auto, using(crate::proofs::Printings::joined, crate::proofs::Made::again))]
+    pub fn script(&self, alloc: Global) -> Result<Vec<Text>, NoMemory>
+        ensures texts { IfOk result (λ texts. texts.items ≡ map printed (statements self.now)) }
+        ensures makes { IsMade self.now → replayed (nothing_but self.now.publisher) (statements self.now) ≡ Some self.now }
+    {
+        let mut texts = Vec::new(alloc);
+        add_all(alloc, self.users(), &mut texts)?;
+        add_all(alloc, self.tables(), &mut texts)?;
+        add_all(alloc, self.publications(), &mut texts)?;
+        add_all(alloc, self.triggers(), &mut texts)?;
+        add_all(alloc, self.subscriptions(), &mut texts)?;
+        add_starts(alloc, self.subscriptions(), &mut texts)?;
+        Ok(texts)
+    }
+}
+
+/// What a statement makes.
+trait Made: Drop {
+    ghost stmt_of: { Self → Stmt };
+
+    /// The statement that makes it.
+    fn stmt(&self, alloc: Global) -> Result<Stmt, NoMemory>
+        ensures stmt { IfOk result (λ stmt. stmt ≡ stmt_of self.now) };
+}
+
+fn printed<T: Made>(alloc: Global, item: &T) -> Result<Text, NoMemory>
+    ensures { IfOk result (λ text. text ≡ printed (T.stmt_of item.now)) }
+{
+    let stmt = item.stmt(alloc)?;
+    print(alloc, &stmt)
+}
+
+fn add_all<T: Made>(alloc: Global, items: &[T], texts: &mut Vec<Text>) -> Result<(), NoMemory>
+    ensures { OnOk result (texts.new.items ≡ texts.old.items ++ map printed (map T.stmt_of items.now)) }
+{
+    let mut rest = items;
+    'items: while let Some((item, after)) = rest.split_first() {
+        texts.push(printed(alloc, item)?)?;
+        rest = after;
+    }
+    Ok(())
+}
+
+fn add_starts(
+    alloc: Global,
+    subscriptions: &[Subscription],
+    texts: &mut Vec<Text>,
+) -> Result<(), NoMemory>
+    ensures { OnOk result (texts.new.items ≡ texts.old.items ++ map printed (map start_of (filter (λ s. s.started) subscriptions.now))) }
+{
+    let mut rest = subscriptions;
+    'subscriptions: while let Some((subscription, after)) = rest.split_first() {
+        if subscription.started {
+            texts.push(start_text(alloc, subscription)?)?;
+        }
+        rest = after;
+    }
+    Ok(())
+}
+
+#[tactic(auto, unfolding(crate::specs::Scripts::start_of))]
+fn start_text(alloc: Global, subscription: &Subscription) -> Result<Text, NoMemory>
+    ensures { IfOk result (λ text. text ≡ printed (start_of subscription.now)) }
+{
+    let stmt = Stmt::StartSubscription(subscription_rule(alloc, subscription)?);
+    print(alloc, &stmt)
+}
+
+fn subscription_rule(
+    alloc: Global,
+    subscription: &Subscription,
+) -> Result<SubscriptionRule, NoMemory>
+    ensures { IfOk result (λ rule. rule ≡ subscription_rule subscription.now) }
+{
+    Ok(SubscriptionRule {
+        publication: subscription.publication.copy(alloc)?,
+        value: subscription.value.copy(alloc)?,
+        user: subscription.user.copy(alloc)?,
+    })
+}
+
+impl Made for Subscription {
+    ghost stmt_of = { create_subscription_of };
+
+    #[tactic(auto, unfolding(crate::specs::Scripts::create_subscription_of))]
+    fn stmt(&self, alloc: Global) -> Result<Stmt, NoMemory> {
+        Ok(Stmt::CreateSubscription(subscription_rule(alloc, self)?))
+    }
+}
+
+impl Made for Trigger {
+    ghost stmt_of = { trigger_stmt };
+
+    fn stmt(&self, alloc: Global) -> Result<Stmt, NoMemory> {
+        self.stmt.copy(alloc)
+    }
+}
+
+impl Made for User {
+    ghost stmt_of = { grant_of };
+
+    #[tactic(auto, unfolding(crate::specs::Scripts::grant_of))]
+    fn stmt(&self, alloc: Global) -> Result<Stmt, NoMemory> {
+        let rule = grant_rule(alloc, self)?;
+        if self.above {
+            Ok(Stmt::GrantConsolidate(rule))
+        } else {
+            Ok(Stmt::GrantRemote(rule))
+        }
+    }
+}
+
+fn grant_rule(alloc: Global, user: &User) -> Result<Grant, NoMemory>
+    ensures { IfOk result (λ rule. rule ≡ grant_rule user.now) }
+{
+    Ok(Grant {
+        user: user.name.copy(alloc)?,
+        address: given_address(alloc, user)?,
+    })
+}
+
+fn given_address(alloc: Global, user: &User) -> Result<Option<Text>, NoMemory>
+    ensures { IfOk result (λ address. address ≡ given_address user.now) }
+{
+    if user.address.bytes() == user.name.bytes() {
+        return Ok(None);
+    }
+    // A name is UTF-8, so only memory can lack.
+    match text_of(alloc, user.address.bytes()) {
+        Ok(address) => Ok(Some(address)),
+        Err(_) => Err(AllocError),
+    }
+}
+
+impl Made for Table {
+    ghost stmt_of = { create_table_of };
+
+    #[tactic(auto, unfolding(crate::specs::Scripts::create_table_of))]
+    fn stmt(&self, alloc: Global) -> Result<Stmt, NoMemory> {
+        let columns = column_rules(alloc, self.columns.as_slice())?;
+        let key = key_names(alloc, self)?;
+        Ok(Stmt::CreateTable(CreateTable {
+            name: self.name.copy(alloc)?,
+            columns,
+            key: Seq::from_vec(key),
+        }))
+    }
+}
+
+fn column_rules(alloc: Global, columns: &[Column]) -> Result<Seq<ColumnRule>, NoMemory>
+    ensures { IfOk result (λ rules. rules ≡ map column_rule columns.now) }
+{
+    let mut rules = Vec::new(alloc);
+    let mut rest = columns;
+    'columns: while let Some((column, after)) = rest.split_first() {
+        rules.push(ColumnRule {
+            name: column.name.copy(alloc)?,
+            kind: column.kind,
+            not_null: column.not_null,
+        })?;
+        rest = after;
+    }
+    Ok(Seq::from_vec(rules))
+}
+
+impl Made for Publication {
+    ghost stmt_of = { create_publication_of };
+
+    #[tactic(auto, unfolding(crate::specs::Scripts::create_publication_of))]
+    fn stmt(&self, alloc: Global) -> Result<Stmt, NoMemory> {
+        let articles = article_rules(alloc, self.articles.as_slice())?;
+        Ok(Stmt::CreatePublication(CreatePublication {
+            name: self.name.copy(alloc)?,
+            articles,
+        }))
+    }
+}
+
+fn article_rules(alloc: Global, articles: &[Article]) -> Result<Seq<ArticleRule>, NoMemory>
+    ensures { IfOk result (λ rules. rules ≡ map article_rule articles.now) }
+{
+    let mut rules = Vec::new(alloc);
+    let mut rest = articles;
+    'articles: while let Some((article, after)) = rest.split_first() {
+        rules.push(article_rule(alloc, article)?)?;
+        rest = after;
+    }
+    Ok(Seq::from_vec(rules))
+}
+
+fn article_rule(alloc: Global, article: &Article) -> Result<ArticleRule, NoMemory>
+    ensures { IfOk result (λ rule. rule ≡ article_rule article.now) }
+{
+    Ok(ArticleRule {
+        table: article.table.copy(alloc)?,
+        columns: article.columns.copy(alloc)?,
+        condition: article.condition.copy(alloc)?,
+        by: article.by.copy(alloc)?,
+    })
+}

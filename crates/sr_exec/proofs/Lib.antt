@@ -1,0 +1,11 @@
+pub mod Afterwards
+pub mod Applied
+pub mod Classed
+pub mod Differing
+pub mod Fates
+pub mod Fitted
+pub mod Fixed
+pub mod Folding
+pub mod Keeping
+pub mod Outcomes
+pub mod Putting

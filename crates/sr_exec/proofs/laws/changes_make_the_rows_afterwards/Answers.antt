@@ -1,0 +1,8 @@
+use Rattle.sr_exec.proofs.Afterwards.{rows_become, others_stay}
+use Rattle.sr_exec.proofs.laws.changes_make_the_rows_afterwards.Goals as goal
+
+pub returns : goal.returns
+returns c = record {
+  rows = rows_become;
+  others = others_stay;
+}

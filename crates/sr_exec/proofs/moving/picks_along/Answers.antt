@@ -1,0 +1,26 @@
+use Rattle.std.proofs.Common.{List, None, sym, ap, subst, ◌∙◌}
+use Rattle.std.specs.Option.{option_copied}
+use Rattle.sr_base.specs.declared.value.Value.{Value}
+use Rattle.sr_rows.specs.Walks.{table_rows, past}
+use Rattle.sr_rows.proofs.Listing.{past-None}
+use Rattle.sr_eval.specs.Bounds.{IsRowOf}
+use Rattle.sr_exec.specs.Checks.{Scope}
+use Rattle.sr_exec.specs.Edits.{picks_of, prefixed}
+use Rattle.sr_exec.proofs.Fitted.{row_of, prefixed-none}
+use Rattle.sr_exec.proofs.moving.picks_along.Goals as goal
+
+pub rows-init : goal.rows-init
+rows-init c =
+    let table = c.args.table.now in
+    let es = table_rows c.args.rows.now.rows table.name in
+    ap (λ xs. prefixed xs (picks_of table (option_copied c.args.sets) c.args.condition.now (past None es))) c.new-picks.ensures.items
+    ∙ prefixed-none (picks_of table (option_copied c.args.sets) c.args.condition.now (past None es))
+    ∙ ap (picks_of table (option_copied c.args.sets) c.args.condition.now) (past-None es)
+
+pub fate_of-requires-clause-fits : goal.fate_of-requires-clause-fits
+fate_of-requires-clause-fits c =
+    let table = c.args.table.now in
+    let key = c.in-Some.key.now in
+    let row = c.in-Some.row.now in
+    let fits = row_of table.name table.columns row (c.requires.rows key row c.in-Some.ensures.next.held).0 in
+    subst (λ (x : Scope × List Value). IsRowOf x.0 x.1) (λ i. (sym c.requires.scope i, sym c.values.ensures.values i)) fits

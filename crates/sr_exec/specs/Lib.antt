@@ -1,0 +1,10 @@
+pub mod Applying
+pub mod Checks
+pub mod Conditions
+pub mod Edits
+pub mod Fixing
+pub mod Holding
+pub mod Laws
+pub mod Sequences
+pub mod Statements
+pub mod Storing

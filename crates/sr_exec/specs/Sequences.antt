@@ -1,0 +1,28 @@
+-- First things, and lists of answers.
+use Rattle.std.specs.Prelude.{List, [], ◌∷◌, Option, Some, None, Result, Ok, Err}
+
+-- this one, or else the other one
+abbrev pub or_else : {A : Type 0} → Option A → Option A → Option A
+or_else None other = other
+or_else (Some x) other = Some x
+
+-- the first that the items of a list give
+abbrev pub first_in : {A B : Type 0} → (A → Option B) → List A → Option B
+first_in f [] = None
+first_in f (x ∷ xs) = or_else (f x) (first_in f xs)
+
+-- an answer before those of the rest: the first fault is the answer
+abbrev pub front : {A E : Type 0} → Result A E → Result (List A) E → Result (List A) E
+front (Err e) rest = Err e
+front (Ok x) (Err e) = Err e
+front (Ok x) (Ok xs) = Ok (x ∷ xs)
+
+-- the answers for the items of a list, or the first fault
+abbrev pub each : {A B E : Type 0} → (A → Result B E) → List A → Result (List B) E
+each f [] = Ok []
+each f (x ∷ xs) = front (f x) (each f xs)
+
+-- an answer, and what follows from it
+abbrev pub followed : {A B E : Type 0} → Result A E → (A → Result B E) → Result B E
+followed (Err e) next = Err e
+followed (Ok x) next = next x

@@ -1,0 +1,48 @@
+ghost use Rattle.std.specs.Prelude.{◌≡◌, IfOk};
+ghost use Rattle.sr_exec.specs.Conditions.{Answers, RowsFit};
+ghost use Rattle.sr_exec.specs.Statements.{done};
+
+use crate::changes::Changes;
+use crate::deleting::delete;
+use crate::inserting::insert;
+use crate::updating::update;
+use sr_ast::Dml;
+use sr_base::{Copied, Name, NoMemory};
+use sr_catalog::{Catalog, DmlFault};
+use sr_rows::Rows;
+use std::alloc::Global;
+
+/// What an INSERT, UPDATE or DELETE changes in these rows, each of which fits its table. It changes nothing by itself.
+///
+/// The refusals, of which the first in this order is answered: `NoTable`; `NoColumn` at the leftmost unknown column; `BadValue` at
+/// the leftmost column named twice, wrong class or wrong count of values; then the rows in order (as written for an INSERT, by
+/// their old keys otherwise), at each row the `Overflow` of its condition and then its columns in table order, each with `Overflow`,
+/// then `BadValue`, then `Null`; and `Duplicate` with the least key that two rows would hold. Columns that an INSERT does not name
+/// take NULL, and its values are constant. An UPDATE evaluates all rows on the old ones.
+pub fn exec(alloc: Global, catalog: &Catalog, rows: &Rows, stmt: &Dml) -> Result<Changes, DmlFault>
+    requires rows { RowsFit catalog.now rows.now.rows }
+    ensures answer { Answers result (done catalog.now rows.now.rows stmt.now) }
+{
+    match stmt {
+        Dml::Insert(statement) => match catalog.table(&statement.table) {
+            None => Err(no_table(alloc, &statement.table)?),
+            Some(table) => insert(alloc, table, rows, statement),
+        },
+        Dml::Update(statement) => match catalog.table(&statement.table) {
+            None => Err(no_table(alloc, &statement.table)?),
+            Some(table) => update(alloc, table, rows, statement),
+        },
+        Dml::Delete(statement) => match catalog.table(&statement.table) {
+            None => Err(no_table(alloc, &statement.table)?),
+            Some(table) => delete(alloc, table, rows, statement),
+        },
+    }
+}
+
+fn no_table(alloc: Global, name: &Name) -> Result<DmlFault, NoMemory>
+    ensures fault { IfOk result (λ fault. fault ≡ DmlFault.NoTable name.now) }
+{
+    Ok(DmlFault::NoTable {
+        name: name.copy(alloc)?,
+    })
+}

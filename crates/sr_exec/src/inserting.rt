@@ -1,0 +1,141 @@
+ghost use Rattle.std.specs.Prelude.{◌≡◌, ◌≢◌, [], IsTrue, IfSome, MatchResult};
+ghost use Rattle.std.specs.Option.{option_copied};
+ghost use Rattle.sr_ast.specs.Exprs.{term_of};
+ghost use Rattle.sr_ast.specs.Classes.{class_in};
+ghost use Rattle.sr_eval.specs.Bounds.{gives_value};
+ghost use Rattle.sr_exec.specs.Checks.{bad_row};
+ghost use Rattle.sr_exec.specs.Conditions.{Answers};
+ghost use Rattle.sr_exec.specs.Sequences.{first_in, each};
+ghost use Rattle.sr_exec.specs.Statements.{inserted};
+ghost use Rattle.sr_exec.specs.Storing.{constant, stored, value_for, inserted_row};
+ghost use Rattle.sr_rows.specs.Walks.{table_rows};
+
+use crate::changes::Changes;
+use crate::checks::{bad_in_insert, unknown_in_insert};
+use crate::edits::edits_of_rows;
+use crate::lists::push;
+use crate::names::{is_same, names_of};
+use crate::settling::settle;
+use crate::storing::{fitting, stored};
+use sr_ast::{Expr, Insert, Scope};
+use sr_base::{Name, Row, Seq, Value};
+use sr_catalog::{Column, DmlFault, Table};
+use sr_eval::Bound;
+use sr_rows::Rows;
+use std::alloc::Global;
+
+/// INSERT. Each row takes its columns times the columns that are named, and logarithmic time for its key.
+pub(crate) fn insert(
+    alloc: Global,
+    table: &Table,
+    rows: &Rows,
+    insert: &Insert,
+) -> Result<Changes, DmlFault>
+    ensures answer { Answers result (inserted table.now insert.now (table_rows rows.now.rows table.now.name)) }
+{
+    let constants = Seq::empty(alloc);
+    if let Some(name) = unknown_in_insert(alloc, table, insert, &constants)? {
+        return Err(DmlFault::NoColumn { name });
+    }
+    let names = names_of(alloc, table.columns.as_slice(), &insert.columns)?;
+    if let Some(name) = bad_in_insert(alloc, table, insert, names.as_slice(), &constants)? {
+        return Err(DmlFault::BadValue { name });
+    }
+    let added = inserted_rows(
+        alloc,
+        table,
+        names.as_slice(),
+        insert.rows.as_slice(),
+        &constants,
+    )?;
+    let count = added.len() as u64;
+    let edits = edits_of_rows(alloc, table, added)?;
+    let list = settle(alloc, &table.name, rows, edits)?;
+    Ok(Changes { list, count })
+}
+
+/// The rows as written. Each is made once.
+fn inserted_rows(
+    alloc: Global,
+    table: &Table,
+    names: &[Name],
+    rows: &[Seq<Expr>],
+    constants: &Scope,
+) -> Result<Vec<Row>, DmlFault>
+    requires constants { constants.now ≡ [] }
+    requires good { first_in (bad_row table.now.name names.now) rows.now ≡ None }
+    ensures answer { MatchResult result (λ added. each (λ es. inserted_row names.now es table.now.columns) rows.now ≡ Ok added.items) (λ fault. fault ≢ DmlFault.Memory → each (λ es. inserted_row names.now es table.now.columns) rows.now ≡ Err fault) }
+{
+    let mut added = Vec::new(alloc);
+    let mut left = rows;
+    'rows: while let Some((row, rest)) = left.split_first() {
+        let row = inserted_row(alloc, table, names, row.as_slice(), constants)?;
+        push(&mut added, row)?;
+        left = rest;
+    }
+    Ok(added)
+}
+
+/// One row. Each column of the table looks through the columns that are named.
+fn inserted_row(
+    alloc: Global,
+    table: &Table,
+    names: &[Name],
+    exprs: &[Expr],
+    constants: &Scope,
+) -> Result<Row, DmlFault>
+    requires constants { constants.now ≡ [] }
+    requires good { bad_row table.now.name names.now exprs.now ≡ None }
+    ensures answer { Answers result (inserted_row names.now exprs.now table.now.columns) }
+{
+    let mut values = Vec::new(alloc);
+    let mut left = table.columns.as_slice();
+    'columns: while let Some((column, rest)) = left.split_first() {
+        let expr = value_for(names, exprs, &column.name);
+        push(&mut values, inserted_value(alloc, constants, column, expr)?)?;
+        left = rest;
+    }
+    Ok(Row::new(Seq::from_vec(values)))
+}
+
+/// What a column takes of a constant, or of NULL where no value is given.
+fn inserted_value(
+    alloc: Global,
+    constants: &Scope,
+    column: &Column,
+    expr: Option<&Expr>,
+) -> Result<Value, DmlFault>
+    requires constants { constants.now ≡ [] }
+    requires typed { IfSome (option_copied expr) (λ e. IsTrue (gives_value (class_in [] (term_of e)))) }
+    ensures answer { Answers result (stored column.now (constant (option_copied expr.entry))) }
+{
+    match expr {
+        None => fitting(alloc, column, Value::Null),
+        Some(expr) => {
+            let row = Bound {
+                scope: constants,
+                values: &[],
+            };
+            stored(alloc, column, &row, expr)
+        }
+    }
+}
+
+/// The expression that stands for a column. It looks at each name up to the column's.
+fn value_for<'a>(names: &[Name], exprs: &'a [Expr], column: &Name) -> Option<&'a Expr>
+    ensures { option_copied result ≡ value_for names.now exprs.now column.now }
+{
+    let mut names_left = names;
+    let mut left = exprs;
+    'names: while let Some((name, names_rest)) = names_left.split_first() {
+        let Some((expr, rest)) = left.split_first() else {
+            return None;
+        };
+        if is_same(name, column) {
+            return Some(expr);
+        }
+        names_left = names_rest;
+        left = rest;
+    }
+    None
+}

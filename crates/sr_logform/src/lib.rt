@@ -1,0 +1,10 @@
+//! What a log records.
+//!
+//! It stands on sr_base and sr_book. The contract that matters most is that of `copy`: an equal value.
+#![tactic(auto)]
+
+mod change;
+#[cfg(test)]
+mod tests;
+
+pub use change::Change;
