@@ -1,24 +1,23 @@
 -- The tokens of a text, one after the other.
-use Rattle.std.proofs.Common.{◌≡◌, ◌≢◌, ℕ, suc, ◌+◌, ◌-◌, ◌<◌, ◌≤◌, Bool, true, false, List, [], ◌∷◌, ◌++◌, length, drop, Option, Some, None, refl, ap, sym, ◌∙◌, subst, length-append, append_assoc, append-nil, length-drop, le_trans, ◌==◌, true≢false, arith}
+use Rattle.std.proofs.Common.{◌≡◌, ◌≢◌, ℕ, suc, ◌+◌, ◌-◌, ◌<◌, ◌≤◌, Bool, true, false, List, [], ◌∷◌, ◌++◌, length, drop, Option, Some, None, Ok, Err, refl, ap, sym, ◌∙◌, subst, length-append, append_assoc, append-nil, length-drop, le_trans, ◌==◌, true≢false, arith}
 use Rattle.std.proofs.Math.Seq.{drop-append_seam}
 use Rattle.std.proofs.lemmas.Bool.{eqb-true}
 use Rattle.sr_lex.specs.declared.token.Token.{Token}
 use Rattle.sr_lex.specs.declared.token.TokenKind.{TokenKind}
-use Rattle.sr_lex.specs.Tokens.{Skips, IsToken, TakesToken, Takes, NoTokenAt}
+use Rattle.sr_lex.specs.Tokens.{Skips, IsToken, TakesToken, Takes, IsTokens, NoTokenAt}
 use Rattle.sr_lex.specs.Tokens.Skips.{none}
 use Rattle.sr_lex.specs.Reading.{token_at, after_gap}
+use Rattle.sr_lex.specs.Fronts.{Front, IsFront, AreAll, IsRefused, Goes}
+use Rattle.sr_lex.specs.declared.fault.LexFault.{LexFault}
+use Rattle.sr_lex.specs.declared.fault.LexFault.TheVariants.{NoToken, Memory}
 use Rattle.sr_lex.proofs.Gaps.{after_gap-skips, join, skips_gap, bare_skips, after_gap-le}
 use Rattle.sr_lex.proofs.Marks.{token_at-again, token_bare, token_at-stands, mark_same}
 
--- the tokens so far: whatever is taken behind them is taken behind them, and nothing else is
-pub record Front (text : List ℕ) (at : ℕ) (done : List Token) (rest : List ℕ) : Type 0 where
-  pub forth : (more : List Token) (left : List ℕ) → Takes at rest more left → Takes 0 text (done ++ more) left
-  pub back : (all : List Token) → Takes 0 text all [] → (more : List Token) × (all ≡ done ++ more) × Takes at rest more []
-  pub bare : after_gap rest ≡ rest
-  pub place : at + length rest ≡ length text
-
 after_gap-twice : (bytes : List ℕ) → after_gap (after_gap bytes) ≡ after_gap bytes
 after_gap-twice bytes = sym (after_gap-skips (skips_gap bytes))
+
+pub after_gap-again : (rest bytes : List ℕ) → rest ≡ after_gap bytes → after_gap rest ≡ rest
+after_gap-again rest bytes e = ap after_gap e ∙ (after_gap-twice bytes ∙ sym e)
 
 -- white space and comments before tokens may be taken first
 gap_forth : (at to : ℕ) (bytes : List ℕ) (more : List Token) (left : List ℕ) → to + length (after_gap bytes) ≡ at + length bytes → Takes to (after_gap bytes) more left → Takes at bytes more left
@@ -36,7 +35,7 @@ gap_back at to bytes (token ∷ more) e (after, t, ts) =
     (after, record { word = t.word; skips = subst (λ (b : List ℕ). Skips b (t.word ++ after)) (sym same) none; is = t.is; start = t.start ∙ sym e; end = t.end }, ts)
 
 -- before the first token
-pub front_start : (text : List ℕ) (at : ℕ) → at + length (after_gap text) ≡ length text → Front text at [] (after_gap text)
+front_start : (text : List ℕ) (at : ℕ) → at + length (after_gap text) ≡ length text → Front text at [] (after_gap text)
 front_start text at e = record {
   forth = λ more left s. gap_forth 0 at text more left (omega arith) s;
   back = λ all s. (all, refl, gap_back 0 at text all (omega arith) s);
@@ -95,7 +94,7 @@ back_more text at to n done rest kind all f found along (token ∷ more, e, (aft
     (more, e ∙ (ap (λ (z : Token). done ++ z ∷ more) is ∙ sym (append_assoc done (mark at n kind ∷ []) more)), gap_back (at + n) to (drop n rest) more along ts')
 
 -- one token more, and the white space and comments behind it
-pub front_more : (text : List ℕ) (at to n : ℕ) (done : List Token) (rest : List ℕ) (kind : TokenKind) →
+front_more : (text : List ℕ) (at to n : ℕ) (done : List Token) (rest : List ℕ) (kind : TokenKind) →
     Front text at done rest → token_at rest ≡ Some (kind, n) → to + length (after_gap (drop n rest)) ≡ length text → Front text to (done ++ mark at n kind ∷ []) (after_gap (drop n rest))
 front_more text at to n done rest kind f found place =
     let s = token_at-stands rest kind n f.bare found in
@@ -118,7 +117,7 @@ front_more text at to n done rest kind f found place =
     }
 
 -- at the text's end
-pub front_end : (text : List ℕ) (at : ℕ) (done : List Token) (rest : List ℕ) → Front text at done rest → rest ≡ [] → Takes 0 text done []
+front_end : (text : List ℕ) (at : ℕ) (done : List Token) (rest : List ℕ) → Front text at done rest → rest ≡ [] → Takes 0 text done []
 front_end text at done rest f e = subst (λ (l : List Token). Takes 0 text l []) (append-nil done) (f.forth [] [] (none_of rest e))
 
 only_end : (at : ℕ) (rest : List ℕ) (more : List Token) → after_gap rest ≡ rest → rest ≡ [] → Takes at rest more [] → more ≡ []
@@ -130,11 +129,15 @@ only_end at rest (token ∷ more) bare e (after, t, ts) =
     let here : token_at [] ≡ Some (token.kind, length t.word) = ap token_at none ∙ found in
     absurd (cc)
 
-pub front_only : (text : List ℕ) (at : ℕ) (done : List Token) (rest : List ℕ) (all : List Token) → Front text at done rest → rest ≡ [] → Takes 0 text all [] → done ≡ all
+front_only : (text : List ℕ) (at : ℕ) (done : List Token) (rest : List ℕ) (all : List Token) → Front text at done rest → rest ≡ [] → Takes 0 text all [] → done ≡ all
 front_only text at done rest all f e t =
     let b = f.back all t in
     let none = only_end at rest b.0 f.bare e b.2 in
     sym (b.1 ∙ (ap (λ l. done ++ l) none ∙ append-nil done))
+
+-- at the text's end these are its tokens
+pub front_all : (text : List ℕ) (at : ℕ) (done : List Token) (rest : List ℕ) → Front text at done rest → rest ≡ [] → AreAll text done
+front_all text at done rest f e = (front_end text at done rest f e, λ all t. front_only text at done rest all f e t)
 
 -- where no token begins
 no_more : (at : ℕ) (rest : List ℕ) (more : List Token) → after_gap rest ≡ rest → rest ≢ [] → token_at rest ≡ None → Takes at rest more [] → ⊥
@@ -145,7 +148,7 @@ no_more at rest (token ∷ more) bare some lacks (after, t, ts) =
     let here : token_at rest ≡ Some (token.kind, length t.word) = ap token_at same ∙ found in
     absurd (cc)
 
-pub front_none : (text : List ℕ) (at : ℕ) (done : List Token) (rest : List ℕ) (all : List Token) → Front text at done rest → rest ≢ [] → token_at rest ≡ None → Takes 0 text all [] → ⊥
+front_none : (text : List ℕ) (at : ℕ) (done : List Token) (rest : List ℕ) (all : List Token) → Front text at done rest → rest ≢ [] → token_at rest ≡ None → Takes 0 text all [] → ⊥
 front_none text at done rest all f some lacks t = let b = f.back all t in no_more at rest b.0 f.bare some lacks b.2
 
 none_is : (rest : List ℕ) (kind : TokenKind) (word after : List ℕ) → token_at rest ≡ None → rest ≡ word ++ after → IsToken kind word after → ⊥
@@ -154,7 +157,7 @@ none_is rest kind word after lacks e t =
     let here : token_at rest ≡ Some (kind, length word) = ap token_at e ∙ found in
     absurd (cc)
 
-pub front_fault : (text : List ℕ) (at : ℕ) (done : List Token) (rest : List ℕ) → Front text at done rest → rest ≢ [] → token_at rest ≡ None → NoTokenAt text at
+front_fault : (text : List ℕ) (at : ℕ) (done : List Token) (rest : List ℕ) → Front text at done rest → rest ≢ [] → token_at rest ≡ None → NoTokenAt text at
 front_fault text at done rest f some lacks =
     let takes : Takes at rest [] rest = none in
     record {
@@ -164,6 +167,10 @@ front_fault text at done rest f some lacks =
       place = f.place;
       nothing = record { more = some; no_gap = λ r s. bare_skips f.bare s; no_token = λ kind word after e t. none_is rest kind word after lacks e t };
     }
+
+-- there the text is refused
+pub front_refused : (text : List ℕ) (at : ℕ) (done : List Token) (rest : List ℕ) → Front text at done rest → rest ≢ [] → token_at rest ≡ None → IsRefused text at
+front_refused text at done rest f some lacks = (front_fault text at done rest f some lacks, λ all t. front_none text at done rest all f some lacks t)
 
 -- how the code's loop begins and goes on
 pub begins_with : (text rest : List ℕ) → rest ≡ after_gap text → Front text (length text - length rest) [] rest
@@ -180,9 +187,10 @@ goes_on text rest after next at n done kind f found e g =
     subst (λ (r : List ℕ). Front text (length text - length next) (done ++ mark at n kind ∷ []) r) same
     (front_more text at (length text - length next) n done rest kind f found (omega arith))
 
-pub token_fits : (text rest : List ℕ) (at n : ℕ) (done : List Token) (kind : TokenKind) → Front text at done rest → token_at rest ≡ Some (kind, n) → (0 < n) × (n ≤ length rest)
-token_fits text rest at n done kind f found =
-    let s = token_at-stands rest kind n f.bare found in
+-- a token takes a byte at least, and no more than there are
+pub token_fits : (rest : List ℕ) (n : ℕ) (kind : TokenKind) → after_gap rest ≡ rest → token_at rest ≡ Some (kind, n) → (0 < n) × (n ≤ length rest)
+token_fits rest n kind bare found =
+    let s = token_at-stands rest kind n bare found in
     let size : length rest ≡ length s.word + length s.rest = ap length s.is ∙ length-append s.word s.rest in
     let c = s.count in
     (s.some, omega arith)
@@ -195,3 +203,22 @@ nothing_left r (x ∷ xs) e h = let n : suc (length xs) ≡ 0 = eqb-true (suc (l
 pub something_left : (r : Bool) (xs : List ℕ) → r ≡ (length xs == 0) → r ≡ false → xs ≢ []
 something_left r [] e h = λ none. true≢false (sym e ∙ h)
 something_left r (x ∷ xs) e h = λ none. cc
+
+-- what a refusal behind these tokens says of the text
+pub refused_memory : (text : List ℕ) (done : List Token) (lexer : List ℕ × List ℕ) (e : LexFault) → Goes done lexer (Err e) → lexer.0 ≡ text → (all : List Token) → IsTokens text all → e ≡ Memory
+refused_memory text done lexer Memory g same all t = refl
+refused_memory text done lexer (NoToken at) g same all t = absurd (g.1 all (subst (λ (b : List ℕ). IsTokens b all) (sym same) t))
+
+pub refused_at : (text : List ℕ) (done : List Token) (lexer : List ℕ × List ℕ) (e : LexFault) → Goes done lexer (Err e) → lexer.0 ≡ text → (at : ℕ) → e ≡ NoToken at → NoTokenAt text at
+refused_at text done lexer e g same at is =
+    let there : Goes done lexer (Err (NoToken at)) = subst (λ (x : LexFault). Goes done lexer (Err x)) is g in
+    subst (λ (b : List ℕ). NoTokenAt b at) same there.0
+
+-- a token was taken, or there is none
+pub taken : (done : List Token) (lexer : List ℕ × List ℕ) (found : Option Token) (t : Token) → Goes done lexer (Ok found) → found ≡ Some t → IsFront lexer (done ++ t ∷ [])
+taken done lexer found t g e = subst (λ (o : Option Token). Goes done lexer (Ok o)) e g
+
+pub ended : (text : List ℕ) (done : List Token) (lexer : List ℕ × List ℕ) (found : Option Token) → Goes done lexer (Ok found) → found ≡ None → lexer.0 ≡ text → AreAll text done
+ended text done lexer found g e same =
+    let all : AreAll lexer.0 done = subst (λ (o : Option Token). Goes done lexer (Ok o)) e g in
+    subst (λ (b : List ℕ). AreAll b done) same all

@@ -3,42 +3,11 @@ ghost use Rattle.sr_lex.specs.declared.token.Token.{Token};
 ghost use Rattle.sr_lex.specs.Tokens.{IsTokens, NoTokenAt};
 ghost use Rattle.sr_lex.specs.Faults.{IsLexed};
 
-use crate::gap::after_gap;
-use crate::kind::token_at;
+use crate::fault::LexFault;
+use crate::lexer::Lexer;
 use crate::token::Token;
 use sr_base::Text;
-use std::alloc::{AllocError, AllocFailed, Global};
-
-/// Why a text is no list of tokens.
-#[derive(Drop)]
-pub enum LexFault {
-    /// No token begins at this byte of the text, which is neither white space nor in a comment.
-    NoToken { at: usize },
-    /// There is no memory for the tokens.
-    Memory,
-}
-
-impl From<AllocError> for LexFault {
-    ghost use Rattle.std.specs.Prelude.{◌≡◌};
-    ghost use Rattle.sr_lex.specs.declared.lexing.LexFault.TheVariants.{Memory};
-
-    ghost from_gives = { λ _ e. e ≡ Memory };
-
-    fn from(_refused: AllocError) -> LexFault {
-        LexFault::Memory
-    }
-}
-
-impl<T: Drop> From<AllocFailed<T>> for LexFault {
-    ghost use Rattle.std.specs.Prelude.{◌≡◌};
-    ghost use Rattle.sr_lex.specs.declared.lexing.LexFault.TheVariants.{Memory};
-
-    ghost from_gives = { λ _ e. e ≡ Memory };
-
-    fn from(_refused: AllocFailed<T>) -> LexFault {
-        LexFault::Memory
-    }
-}
+use std::alloc::Global;
 
 /// The tokens of `text`, in order.
 ///
@@ -54,18 +23,10 @@ pub fn lex(alloc: Global, text: &Text) -> Result<Vec<Token>, LexFault>
     // The other refusal comes where no token begins.
     ensures fault { (at : ℕ) → result ≡ Err (LexFault.NoToken at) → NoTokenAt text.now at }
 {
-    let bytes = text.bytes();
+    let mut lexer = Lexer::new(text.bytes());
     let mut tokens = Vec::new(alloc);
-    let mut rest = after_gap(bytes);
-    'tokens: while !rest.is_empty() {
-        let start = bytes.len() - rest.len();
-        let Some((kind, length)) = token_at(alloc, rest)? else {
-            return Err(LexFault::NoToken { at: start });
-        };
-        let end = start + length;
-        tokens.push(Token { kind, start, end })?;
-        let (_word, after) = rest.split_at(length);
-        rest = after_gap(after);
+    'tokens: while let Some(token) = lexer.next(alloc)? {
+        tokens.push(token)?;
     }
     Ok(tokens)
 }

@@ -5,8 +5,10 @@
 #![tactic(auto)]
 
 mod bytes;
+mod fault;
 mod gap;
 mod kind;
+mod lexer;
 mod lexing;
 mod number;
 mod quoted;
@@ -14,5 +16,7 @@ mod quoted;
 mod tests;
 mod token;
 
-pub use lexing::{LexFault, lex};
+pub use fault::LexFault;
+pub use lexer::Lexer;
+pub use lexing::lex;
 pub use token::{Token, TokenKind};

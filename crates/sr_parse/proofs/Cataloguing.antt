@@ -1,5 +1,5 @@
 -- Statements on publications, users and subscriptions: symbols spell one at most.
-use Rattle.std.proofs.Common.{◌≡◌, ℕ, pos, Bool, true, false, List, [], ◌∷◌, Option, Some, None, refl, sym, subst, ap, ◌∙◌, inl, inr}
+use Rattle.std.proofs.Common.{◌≡◌, ℕ, Bool, true, false, List, Option, Some, None, refl, sym, subst, ap, ◌∙◌, inl, inr}
 use Rattle.sr_base.specs.declared.value.Value.{Value}
 use Rattle.sr_base.specs.declared.value.Kind.{Kind}
 use Rattle.sr_base.specs.declared.value.Kind.TheVariants as kind
@@ -12,19 +12,17 @@ use Rattle.sr_parse.specs.declared.keyword.Keyword.TheVariants as key
 use Rattle.sr_parse.specs.declared.symbol.Sign.TheVariants as mark
 use Rattle.sr_parse.specs.declared.symbol.Symbol.{Symbol}
 use Rattle.sr_parse.specs.declared.symbol.Symbol.TheVariants as symbol
-use Rattle.sr_parse.specs.Symbols.{Symbols, word, sign, IsName, IsWord, IsSign}
-use Rattle.sr_parse.specs.Listing.{Listed, IsNames}
-use Rattle.sr_parse.specs.Literals.{IsLiteral, IsNegative, literal_meant}
+use Rattle.sr_parse.specs.Symbols.{Symbols, IsSign}
+use Rattle.sr_parse.specs.Literals.{IsLiteral, literal_meant}
 use Rattle.sr_parse.specs.Expressions.{IsExpr}
-use Rattle.sr_parse.specs.Writing.{IsCondition}
 use Rattle.sr_parse.specs.Catalog.{IsLength, IsVarchar, IsKind, IsSubscribed, IsArticle, IsPublication, IsAddress, IsGrant, IsSigned, IsGiven, IsSubscription}
-use Rattle.sr_parse.proofs.Steps.{Stop, Begins, Stop-at, Begins-at, Stop-begins, Begins-not, Stop-fewer, IsName-once, Once, onward, two_parts, three_parts, four_parts}
-use Rattle.sr_parse.proofs.Following.{expression_goes}
+use Rattle.sr_parse.specs.Going.{Stop, expression_goes, is_open, Ends, is_where, Closes}
+use Rattle.sr_parse.proofs.Steps.{Stop-at, Stop-begins, IsName-once, Once, two_parts, three_parts, four_parts}
 use Rattle.sr_parse.proofs.Expressing.{IsExpr-once, literal_once, negative_once}
-use Rattle.sr_parse.proofs.Lists.{Last, Listed-once, is_comma, is_open, Any, last, Ends, Ends-stop, Closes, Closes-stop, closing, IsNames-once, IsNames-stops}
-use Rattle.sr_parse.proofs.Selecting.{is_where, led_stops, condition_once}
+use Rattle.sr_parse.proofs.Lists.{Listed-once, Ends-stop, Closes-stop, closing, IsNames-once}
+use Rattle.sr_parse.proofs.Selecting.{led_stops, condition_once}
 
-abbrev is_subscribe : Symbol → Bool
+abbrev pub is_subscribe : Symbol → Bool
 is_subscribe (symbol.Keyword key.Subscribe) = true
 is_subscribe s = false
 
@@ -71,20 +69,20 @@ subscribed_once before here (Some x) after (Some y) rest e (next, w, h) (next', 
     let same : next ≡ next' = cc in
     let t = IsExpr-once same h k (Closes-stop expression_goes after refl refl p) (Closes-stop expression_goes rest refl refl q) in (ap Some t.0, t.1)
 
-subscribed_stops : (test : Symbol → Bool) (before : Symbols) (x : Option Expr) (after : Symbols) → test (symbol.Keyword key.Subscribe) ≡ false → test (symbol.Sign mark.Comma) ≡ false → test (symbol.Sign mark.Close) ≡ false
+pub subscribed_stops : (test : Symbol → Bool) (before : Symbols) (x : Option Expr) (after : Symbols) → test (symbol.Keyword key.Subscribe) ≡ false → test (symbol.Sign mark.Comma) ≡ false → test (symbol.Sign mark.Close) ≡ false
     → IsSubscribed before x after → Closes after → Stop test before
 subscribed_stops test before None after t u v h p = subst (λ (s : Symbols). Stop test s) (sym h) (Closes-stop test after u v p)
 subscribed_stops test before (Some x) after t u v (next, w, h) p = Stop-at test w t
 
-article_same : (s t : ArticleRule) → s.table ≡ t.table → s.columns ≡ t.columns → s.condition ≡ t.condition → s.by ≡ t.by → s ≡ t
+pub article_same : (s t : ArticleRule) → s.table ≡ t.table → s.columns ≡ t.columns → s.condition ≡ t.condition → s.by ≡ t.by → s ≡ t
 article_same s t a b c d =
     four_parts (λ (n : List ℕ) (cs : List (List ℕ)) (o : Option Expr) (u : Option Expr). let x : ArticleRule = record { table = n; columns = cs; condition = o; by = u } in x) a b c d
 
-columns_stop : {before after : Symbols} {a : ArticleRule} → (h : IsArticle before a after) → Closes after → Stop is_open h.where_
+pub columns_stop : {before after : Symbols} {a : ArticleRule} → (h : IsArticle before a after) → Closes after → Stop is_open h.where_
 columns_stop {after = after} {a = a} h p =
     led_stops key.Where IsExpr is_open h.where_ a.condition h.subscribed refl h.condition (subscribed_stops is_open h.subscribed a.by after refl refl refl h.by p)
 
-article_once : Once IsArticle Closes
+pub article_once : Once IsArticle Closes
 article_once before x after y rest h k p q =
     let ho = h.opening in let ko = k.opening in let named : h.named ≡ k.named = cc in
     let table = IsName-once named h.table k.table in
@@ -95,7 +93,7 @@ article_once before x after y rest h k p q =
     let by = subscribed_once h.subscribed k.subscribed x.by after y.by rest condition.1 h.by k.by p q in
     (article_same x y table.0 columns.0 condition.0 by.0, by.1)
 
-publication_same : (s t : CreatePublication) → s.name ≡ t.name → s.articles ≡ t.articles → s ≡ t
+pub publication_same : (s t : CreatePublication) → s.name ≡ t.name → s.articles ≡ t.articles → s ≡ t
 publication_same s t a b = two_parts (λ (n : List ℕ) (rs : List ArticleRule). let x : CreatePublication = record { name = n; articles = rs } in x) a b
 
 pub publication_once : {before here after rest : Symbols} {s t : CreatePublication} → before ≡ here → IsPublication before s after → IsPublication here t rest → (s ≡ t) × (after ≡ rest)

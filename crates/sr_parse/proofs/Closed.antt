@@ -1,5 +1,5 @@
 -- What a text spells is in normal form: triggers, and all of a script.
-use Rattle.std.proofs.Common.{ℕ, ◌+◌, ◌-◌, ◌<◌, ◌≤◌, max, List, [], ◌∷◌, ◌++◌, map, sym, subst, inl, inr, arith}
+use Rattle.std.proofs.Common.{ℕ, ◌+◌, ◌-◌, ◌<◌, ◌≤◌, max, List, [], ◌∷◌, ◌++◌, map, Result, sym, subst, inl, inr, arith}
 use Rattle.std.specs.List.{AllByRecursion}
 use Rattle.sr_ast.specs.Exprs.{term_of}
 use Rattle.sr_ast.specs.Chains.{Chain}
@@ -16,6 +16,8 @@ use Rattle.sr_parse.specs.Triggers.Acts.{none as no_act, then as and_then, set a
 use Rattle.sr_parse.specs.Scripts.{IsStatement, Pieces, Stage}
 use Rattle.sr_parse.specs.Scripts.Pieces.{start, again, empty, stated}
 use Rattle.sr_parse.specs.Meanings.{IsWritten}
+use Rattle.sr_parse.specs.Faults.{IsRead, Answers}
+use Rattle.sr_parse.specs.declared.parsing.ParseFault.{ParseFault}
 use Rattle.sr_parse.specs.Normal.{IsPlain, IsSomeOf, IsNormalDeep, IsNormalExpr}
 use Rattle.sr_parse.specs.NormalForms.{IsNormalAlias, IsNormalVariable, IsNormalChain, ifs, IsNormalTrigger, IsNormal}
 use Rattle.sr_parse.proofs.Listed.{all_of}
@@ -116,10 +118,10 @@ trigger_gives before after c x h =
     let n = name_gives before x.resolve_ c.name x.name h in
     let o = of_gives x.of_ x.on_ c.columns x.columns (past_two x.resolve n.1) in
     let t = name_gives x.table_ x.referencing_ c.table x.table (past x.on o.1).1 in
-    let a = row_gives IsAlias IsNormalAlias alias_gives x.aliases_ x.for_ c.aliases x.aliases (past x.referencing t.1).1 in
+    let a = row_gives IsAlias IsNormalAlias alias_gives x.aliases_ x.for_ c.aliases x.aliases.listed (past x.referencing t.1).1 in
     let v = row_gives IsVariable IsNormalVariable variable_gives x.variables_ x.actions_ c.variables x.variables (subst AreSound x.each a.1).1.1.1.1 in
     let d = actions_give 200 c.actions x.actions v.1 in
-    (record { name = n.0; columns = o.0; table = t.0; aliases = a.0; variables = v.0; actions = d.normal; few = d.few }, (past x.end d.sound).1)
+    (record { name = n.0; columns = o.0; table = t.0; aliases = a.0; apart = x.aliases.apart; variables = v.0; actions = d.normal; few = d.few }, (past x.end d.sound).1)
 
 -- ---- statements and scripts
 
@@ -164,3 +166,11 @@ all_printed (s ∷ script) h = (printed-is_written s h.0, all_printed script h.1
 -- each statement of a script is spelled by its printed text
 pub written-printed : (text : List ℕ) (script : List Stmt) → IsWritten text script → AllByRecursion (λ s. IsWritten (printed s) (s ∷ [])) script
 written-printed text script h = all_printed script (written-normal text script h)
+
+all_parsed : (script : List Stmt) → AllByRecursion (λ s. IsWritten (printed s) (s ∷ [])) script → AllByRecursion (λ s. (answer : Result (List Stmt) ParseFault) → IsRead (printed s) answer → Answers answer (s ∷ [])) script
+all_parsed [] h = tt
+all_parsed (s ∷ script) h = (λ answer read. read (s ∷ []) h.0, all_parsed script h.1)
+
+-- what is answered of the printed text of a statement of a script
+pub written-parsed : (text : List ℕ) (script : List Stmt) → IsWritten text script → AllByRecursion (λ s. (answer : Result (List Stmt) ParseFault) → IsRead (printed s) answer → Answers answer (s ∷ [])) script
+written-parsed text script w = all_parsed script (written-printed text script w)

@@ -6,9 +6,7 @@ use Rattle.sr_ast.specs.declared.create.ColumnRule.{ColumnRule}
 use Rattle.sr_base.specs.declared.value.Kind.{Kind}
 use Rattle.sr_parse.specs.declared.keyword.Keyword.TheVariants as kw
 use Rattle.sr_parse.specs.declared.symbol.Sign.TheVariants as mark
-use Rattle.sr_parse.specs.declared.symbol.Symbol.{Symbol}
-use Rattle.sr_parse.specs.declared.symbol.Symbol.TheVariants as symbol
-use Rattle.sr_parse.specs.Symbols.{Symbols, word, sign, IsName, IsWord, IsSign}
+use Rattle.sr_parse.specs.Symbols.{Symbols, word, IsName, IsSign}
 use Rattle.sr_parse.specs.Listing.{Listed, Row}
 use Rattle.sr_parse.specs.Listing.Listed.{one as first_item, more as next_item}
 use Rattle.sr_parse.specs.Listing.Row.{none as no_item, then as appended}
@@ -16,9 +14,10 @@ use Rattle.sr_parse.specs.Catalog.{IsKind}
 use Rattle.sr_parse.specs.Tables.{IsRules, IsColumns, IsColumnRule, IsKeyWords, IsKeyList, IsKeyed, IsNormal, AreNormal, IsTable}
 use Rattle.sr_parse.specs.Tables.IsRules.{none, not_null, null, primary}
 use Rattle.sr_parse.specs.Tables.IsColumns.{one, more}
-use Rattle.sr_parse.proofs.Steps.{Stop, Stop-at, Begins, Begins-at, Stop-begins, IsName-once, Once, two_parts, three_parts}
+use Rattle.sr_parse.specs.Going.{Stop, is_comma, rule_starts, Closes}
+use Rattle.sr_parse.proofs.Steps.{Stop-at, Stop-begins, IsName-once, Once, two_parts, three_parts}
 use Rattle.sr_parse.proofs.Expressing.{no_key_name}
-use Rattle.sr_parse.proofs.Lists.{Last, End, Listed-once, Row-once, Any, is_comma, NamesListed-once, Closes, Closes-stop, closing}
+use Rattle.sr_parse.proofs.Lists.{Last, Listed-once, Row-once, Any, NamesListed-once, Closes-stop, closing}
 use Rattle.sr_parse.proofs.Cataloguing.{kind_once}
 
 -- one rule of a column
@@ -32,12 +31,6 @@ IsRule before bars_null after = before ≡ word kw.Not ∷ word kw.Null ∷ afte
 IsRule before lets_null after = before ≡ word kw.Null ∷ after
 IsRule before is_key after = before ≡ word kw.Primary ∷ word kw.Key ∷ after
 
-abbrev is_rule : Symbol → Bool
-is_rule (symbol.Keyword kw.Not) = true
-is_rule (symbol.Keyword kw.Null) = true
-is_rule (symbol.Keyword kw.Primary) = true
-is_rule s = false
-
 rule_once : Once IsRule Any
 rule_once before bars_null after bars_null rest h k p q = (refl, cc)
 rule_once before bars_null after lets_null rest h k p q = absurd (cc)
@@ -49,10 +42,10 @@ rule_once before is_key after bars_null rest h k p q = absurd (cc)
 rule_once before is_key after lets_null rest h k p q = absurd (cc)
 rule_once before is_key after is_key rest h k p q = (refl, cc)
 
-no_rule : (before : Symbols) (r : Rule) (after : Symbols) → Stop is_rule before → IsRule before r after → ⊥
-no_rule before bars_null after p h = Stop-begins is_rule h refl p
-no_rule before lets_null after p h = Stop-begins is_rule h refl p
-no_rule before is_key after p h = Stop-begins is_rule h refl p
+no_rule : (before : Symbols) (r : Rule) (after : Symbols) → Stop rule_starts before → IsRule before r after → ⊥
+no_rule before bars_null after p h = Stop-begins rule_starts h refl p
+no_rule before lets_null after p h = Stop-begins rule_starts h refl p
+no_rule before is_key after p h = Stop-begins rule_starts h refl p
 
 abbrev bars : Rule → Bool
 bars bars_null = true
@@ -118,7 +111,7 @@ ruled (primary h e) =
       keys_is = sym (flag-more keys r.rules is_key ∙ or_true (flag keys r.rules));
     }
 
-rules_once : {before here after rest : Symbols} {n u p m v q : Bool} → before ≡ here → IsRules before n u p after → IsRules here m v q rest → Stop is_rule after → Stop is_rule rest → (n ≡ m) × (p ≡ q) × (after ≡ rest)
+rules_once : {before here after rest : Symbols} {n u p m v q : Bool} → before ≡ here → IsRules before n u p after → IsRules here m v q rest → Stop rule_starts after → Stop rule_starts rest → (n ≡ m) × (p ≡ q) × (after ≡ rest)
 rules_once {after = after} {rest = rest} e h k s t =
     let x = ruled h in let y = ruled k in
     let same = Row-once IsRule Any rule_once (λ b r a i. tt) e x.row y.row
@@ -144,7 +137,7 @@ marked_once : Once IsMarked Closes
 marked_once before x after y rest h k p q =
     let name = IsName-once refl h.name k.name in
     let kind = kind_once h.typed k.typed x.0.kind h.ruled_ y.0.kind k.ruled_ name.1 h.kind k.kind in
-    let rules = rules_once kind.1 h.rules k.rules (Closes-stop is_rule after refl refl p) (Closes-stop is_rule rest refl refl q) in
+    let rules = rules_once kind.1 h.rules k.rules (Closes-stop rule_starts after refl refl p) (Closes-stop rule_starts rest refl refl q) in
     (two_parts (λ (c : ColumnRule) (b : Bool). let m : Marked = (c, b) in m) (column_same x.0 y.0 name.0 kind.0 rules.0) rules.1, rules.2)
 
 abbrev key_with : List (List ℕ) → Marked → List (List ℕ)
@@ -203,7 +196,7 @@ key_words_once e h k =
 key_last : {after next : Symbols} {key : List (List ℕ)} {rest : Symbols} → IsSign after mark.Comma next → IsKeyWords next key rest → Last IsMarked Closes after
 key_last {next = next} c h = record { stops = inl (next, c); ends = λ n y r d m. let w = h.words in let e : n ≡ next = cc in no_key_name (e ∙ w) refl m.name }
 
-abbrev Keyed : Symbols → List (List ℕ) → List (List ℕ) → Symbols → Type 0
+abbrev pub Keyed : Symbols → List (List ℕ) → List (List ℕ) → Symbols → Type 0
 Keyed middle held key after = ((key ≡ held) × (middle ≡ after)) ⊎ ((held ≡ []) × IsKeyList middle key after)
 
 keyed_end : (middle : Symbols) (held key : List (List ℕ)) (after close : Symbols) → Keyed middle held key after → IsSign after mark.Close close → Last IsMarked Closes middle
@@ -225,7 +218,7 @@ keyed_once {after = after} {rest = rest} {close = close} {other = other} {key = 
     let ends = keyed_ends_once h.middle k.middle h.held k.held key lock after rest close other columns.2 columns.1 h.keyed k.keyed c d in
     (columns.0, ends.0, ends.1)
 
-table_same : (s t : CreateTable) → s.name ≡ t.name → s.columns ≡ t.columns → s.key ≡ t.key → s ≡ t
+pub table_same : (s t : CreateTable) → s.name ≡ t.name → s.columns ≡ t.columns → s.key ≡ t.key → s ≡ t
 table_same s t a b c = three_parts (λ (n : List ℕ) (cs : List ColumnRule) (k : List (List ℕ)). let x : CreateTable = record { name = n; columns = cs; key = k } in x) a b c
 
 true_same : (a b : Bool) (P : Type 0) → (IsTrue a ↔ P) → (IsTrue b ↔ P) → a ≡ b
@@ -246,7 +239,7 @@ normal_once key (w ∷ ws) [] ds h k = absurd h
 normal_once key (w ∷ ws) (c ∷ cs) [] h k = absurd k
 normal_once key (w ∷ ws) (c ∷ cs) (d ∷ ds) h k = two_parts (λ (x : ColumnRule) (xs : List ColumnRule). x ∷ xs) (normal_same key w c d h.0 k.0) (normal_once key ws cs ds h.1 k.1)
 
-normals_once : (key lock : List (List ℕ)) (written other cs ds : List ColumnRule) → key ≡ lock → written ≡ other → AreNormal key written cs → AreNormal lock other ds → cs ≡ ds
+pub normals_once : (key lock : List (List ℕ)) (written other cs ds : List ColumnRule) → key ≡ lock → written ≡ other → AreNormal key written cs → AreNormal lock other ds → cs ≡ ds
 normals_once key lock written other cs ds e f h k =
     normal_once key written cs ds h (subst (λ (l : List (List ℕ)). AreNormal l written ds) (sym e) (subst (λ (ws : List ColumnRule). AreNormal lock ws ds) (sym f) k))
 

@@ -1,7 +1,7 @@
 -- Symbols spell one expression at most.
-use Rattle.std.proofs.Common.{◌≡◌, ℕ, Bool, true, false, List, [], ◌∷◌, Option, Some, None, refl, sym, subst, ap, ◌∙◌, inl, inr}
+use Rattle.std.proofs.Common.{◌≡◌, ℕ, List, ◌∷◌, Option, Some, None, refl, sym, subst, ap, ◌∙◌, inl, inr}
 use Rattle.sr_ast.specs.Terms.{Term}
-use Rattle.sr_ast.specs.Terms.Term.{literal, column, unary, binary}
+use Rattle.sr_ast.specs.Terms.Term.{literal, unary, binary}
 use Rattle.sr_ast.specs.Exprs.{term_of}
 use Rattle.sr_ast.specs.declared.expr.Expr.{Expr}
 use Rattle.sr_ast.specs.declared.expr.Expr.TheVariants.{Literal, Column, Unary as UnaryExpr, Binary as BinaryExpr}
@@ -17,13 +17,14 @@ use Rattle.sr_parse.specs.declared.symbol.Symbol.TheVariants as symbol
 use Rattle.sr_parse.specs.Symbols.{Symbols, name_meant, IsName, IsWord, IsSign}
 use Rattle.sr_parse.specs.Literals.{IsLiteral, IsNegative, IsSingle, IsDate, literal_meant, negative_meant, begins_number}
 use Rattle.sr_parse.specs.Expressions.{Operator, IsNullTest, IsColumn, IsExpr, joins, compares}
-use Rattle.sr_parse.specs.Expressions.Tightness.{disjunction, operand}
-use Rattle.sr_parse.proofs.Steps.{Stop, Begins, Stop-at, Begins-at, Stop-begins, Begins-not, Stop-fewer, IsName-once, Once}
-use Rattle.sr_parse.proofs.Turning.{Joint, level_of, Spot, beneath, Turn, turned_round}
-use Rattle.sr_parse.proofs.Turning.Joint.{alternatives, conjuncts, terms, factors}
-use Rattle.sr_parse.proofs.Turning.Spot.{whole, behind, denial, relation, tail, signing, atom}
+use Rattle.sr_parse.specs.Going.{Stop, Begins, sum_goes, is_dot, expression_goes, relation_goes}
+use Rattle.sr_parse.proofs.Steps.{Stop-at, Stop-begins, Begins-not, Stop-fewer, IsName-once}
+use Rattle.sr_parse.specs.Levels.{tightness}
+use Rattle.sr_parse.specs.declared.exprs.Level.{Level}
+use Rattle.sr_parse.proofs.Turning.{Spot, beneath, Turn, turned_round}
+use Rattle.sr_parse.proofs.Turning.Spot.{behind, tail}
 use Rattle.sr_parse.proofs.Turning.Turn.{chain, stop, step, refused, affirmed, measured, alone, against, tested, below, turned, plain, value, called, within}
-use Rattle.sr_parse.proofs.Following.{goes, joint_goes, sum_goes, is_dot, expression_goes, relation_goes, expression_starts, signed_starts, atom_starts, turn_starts, beneath_fewer, sum_fewer, joint_joins, relation_compares, joint_stops, compare_stops, literal_no_name}
+use Rattle.sr_parse.proofs.Following.{goes, joint_goes, expression_starts, signed_starts, atom_starts, turn_starts, beneath_fewer, sum_fewer, joint_joins, relation_compares, joint_stops, compare_stops, literal_no_name}
 
 -- what an operator is
 operator_once : (meant : Symbol → Option Binary) {before after rest : Symbols} {x y : Binary} → Operator meant before x after → Operator meant before y rest → (x ≡ y) × (after ≡ rest)
@@ -80,7 +81,7 @@ negative_once {w = w} e l k =
     let meant : negative_meant l.number ≡ Some w = subst (λ (s : Symbol). negative_meant s ≡ Some w) (sym same) k.means in
     let m = l.means in (cc, cc)
 
-negative_begins : {before next here after : Symbols} {v : Value} → IsSign before sign.Minus next → IsSign before sign.Minus here → IsNegative next v after → begins_number here ≡ None → ⊥
+pub negative_begins : {before next here after : Symbols} {v : Value} → IsSign before sign.Minus next → IsSign before sign.Minus here → IsNegative next v after → begins_number here ≡ None → ⊥
 negative_begins {next = b} {here = here} {v = v} e f n none =
     let one_place : here ≡ b = cc in
     let same : begins_number b ≡ None = subst (λ (s : Symbols). begins_number s ≡ None) one_place none in
@@ -101,12 +102,12 @@ no_key_name {s = s} {n = n} e none c =
     let cs = c.stands in let same : c.word ≡ s = cc in
     let m : name_meant s ≡ Some n = subst (λ (w : Symbol). name_meant w ≡ Some n) same c.means in cc
 
-word_no_operator : {before next after : Symbols} {op : Binary} → Operator compares before op next → IsWord before key.Is after → ⊥
+pub word_no_operator : {before next after : Symbols} {op : Binary} → Operator compares before op next → IsWord before key.Is after → ⊥
 word_no_operator {op = op} o w =
     let os = o.stands in let same : o.written ≡ symbol.Keyword key.Is = cc in
     let m : compares (symbol.Keyword key.Is) ≡ Some op = subst (λ (s : Symbol). compares s ≡ Some op) same o.means in cc
 
-literal_no_column : (before after rest : Symbols) (v : Value) (t : Option (List ℕ)) (n : List ℕ) → IsLiteral before v after → IsColumn before t n rest → ⊥
+pub literal_no_column : (before after rest : Symbols) (v : Value) (t : Option (List ℕ)) (n : List ℕ) → IsLiteral before v after → IsColumn before t n rest → ⊥
 literal_no_column before after rest v None n (inl l) c =
     let ls = l.stands in let cs = c.stands in let e : l.written ≡ c.word = cc in
     literal_no_name c.word v n (subst (λ (s : Symbol). literal_meant s ≡ Some v) e l.means) c.means
@@ -116,30 +117,30 @@ literal_no_column before after rest v (Some t) n (inl l) (dot, next, c, d, m) =
 literal_no_column before after rest v None n (inr l) c = no_key_name l.date refl c
 literal_no_column before after rest v (Some t) n (inr l) (dot, next, c, d, m) = no_key_name l.date refl c
 
-literal_no_sign : (before after next : Symbols) (v : Value) → IsLiteral before v after → IsSign before sign.Open next → ⊥
+pub literal_no_sign : (before after next : Symbols) (v : Value) → IsLiteral before v after → IsSign before sign.Open next → ⊥
 literal_no_sign before after next v (inl l) o =
     let ls = l.stands in let e : l.written ≡ symbol.Sign sign.Open = cc in
     let m : literal_meant (symbol.Sign sign.Open) ≡ Some v = subst (λ (s : Symbol). literal_meant s ≡ Some v) e l.means in cc
 literal_no_sign before after next v (inr l) o = let d = l.date in cc
 
-column_no_sign : (before after next : Symbols) (t : Option (List ℕ)) (n : List ℕ) → IsColumn before t n after → IsSign before sign.Open next → ⊥
+pub column_no_sign : (before after next : Symbols) (t : Option (List ℕ)) (n : List ℕ) → IsColumn before t n after → IsSign before sign.Open next → ⊥
 column_no_sign before after next None n c o = no_key_name o refl c
 column_no_sign before after next (Some t) n (dot, then_, c, d, m) o = no_key_name o refl c
 
 -- the end of what follows an operand
-behind_stops : {j : Joint} {a t : Term} {before after : Symbols} → Turn (behind j a) before t after → Stop (joint_goes j) after → Stop (goes (beneath j)) before
+pub behind_stops : {room : ℕ} {j : Level} {a t : Term} {before after : Symbols} → Turn (behind j a) room before t after → Stop (joint_goes j) after → Stop (goes (beneath j)) before
 behind_stops {after = after} (stop {j = j}) p = Stop-fewer (joint_goes j) (goes (beneath j)) after (beneath_fewer j) p
 behind_stops (step {j = j} {op = op} o y more) p = Stop-at (goes (beneath j)) o.stands (joint_stops j o.written op o.means)
 
-tail_stops : {a t : Term} {before after : Symbols} → Turn (tail a) before t after → Stop relation_goes after → Stop sum_goes before
+pub tail_stops : {room : ℕ} {a t : Term} {before after : Symbols} → Turn (tail a) room before t after → Stop relation_goes after → Stop sum_goes before
 tail_stops {after = after} alone p = Stop-fewer relation_goes sum_goes after sum_fewer p
 tail_stops (against {op = op} o y) p = Stop-at sum_goes o.stands (compare_stops o.written op o.means)
 tail_stops (tested w n) p = Stop-at sum_goes w refl
 
-moved : {p q : Spot} {before here after : Symbols} {t : Term} → q ≡ p → here ≡ before → Turn q here t after → Turn p before t after
-moved {p = p} {here = here} {after = after} {t = t} e f h = subst (λ (s : Symbols). Turn p s t after) f (subst (λ (r : Spot). Turn r here t after) e h)
+moved : {room : ℕ} {p q : Spot} {before here after : Symbols} {t : Term} → q ≡ p → here ≡ before → Turn q room here t after → Turn p room before t after
+moved {room = room} {p = p} {here = here} {after = after} {t = t} e f h = subst (λ (s : Symbols). Turn p room s t after) f (subst (λ (r : Spot). Turn r room here t after) e h)
 
-pub turn_once : {p : Spot} {before after rest : Symbols} {t u : Term} → Turn p before t after → Turn p before u rest → Stop (goes p) after → Stop (goes p) rest → (t ≡ u) × (after ≡ rest)
+pub turn_once : {room : ℕ} {p : Spot} {before after rest : Symbols} {t u : Term} → Turn p room before t after → Turn p room before u rest → Stop (goes p) after → Stop (goes p) rest → (t ≡ u) × (after ≡ rest)
 turn_once (chain {j = j} h more) (chain h' more') p q =
     let s = turn_once h h' (behind_stops more p) (behind_stops more' q) in
     turn_once more (moved (ap (λ (a : Term). behind j a) (sym s.0)) (sym s.1) more') p q
@@ -147,7 +148,7 @@ turn_once stop stop p q = (refl, refl)
 turn_once (stop {j = j}) (step {op = op} o y more) p q = absurd (Stop-begins (joint_goes j) o.stands (joint_joins j o.written op o.means) p)
 turn_once (step {op = op} o y more) (stop {j = j}) p q = absurd (Stop-begins (joint_goes j) o.stands (joint_joins j o.written op o.means) q)
 turn_once (step {j = j} {op = op} {a = a} {b = b} o y more) (step {op = op'} {b = b'} o' y' more') p q =
-    let s = operator_once (joins (level_of j)) o o' in
+    let s = operator_once (joins (tightness j)) o o' in
     let r = turn_once y (moved refl (sym s.1) y') (behind_stops more p) (behind_stops more' q) in
     let e = s.0 in let f = r.0 in let same : behind j (binary op' a b') ≡ behind j (binary op a b) = cc in
     turn_once more (moved same (sym r.1) more') p q
@@ -184,14 +185,14 @@ turn_once (plain h) (turned m n x) p q = absurd (Begins-not atom_starts m refl (
 turn_once (plain h) (plain h') p q = turn_once h h' p q
 turn_once (value {before = before} {after = after} {v = v} l) (value {after = rest} {v = w} l') p q = let s = literal_once before v after w rest l l' in (ap literal s.0, s.1)
 turn_once (value {before = before} {after = after} {v = v} l) (called {after = rest} {table = t} {name = n} c) p q = absurd (literal_no_column before after rest v t n l c)
-turn_once (value {before = before} {after = after} {v = v} l) (within {next = next} o x c) p q = absurd (literal_no_sign before after next v l o)
+turn_once (value {before = before} {after = after} {v = v} l) (within {next = next} z o x c) p q = absurd (literal_no_sign before after next v l o)
 turn_once (called {after = rest} {table = t} {name = n} c) (value {before = before} {after = after} {v = v} l) p q = absurd (literal_no_column before after rest v t n l c)
 turn_once (called {before = before} {after = after} {table = t} {name = n} c) (called {after = rest} {table = u} {name = m} c') p q =
     let s = column_once before t n after u m rest c c' p q in let e = s.0 in let f = s.1 in (cc, s.2)
-turn_once (called {before = before} {after = after} {table = t} {name = n} c) (within {next = next} o x d) p q = absurd (column_no_sign before after next t n c o)
-turn_once (within {next = next} o x c) (value {before = before} {after = after} {v = v} l) p q = absurd (literal_no_sign before after next v l o)
-turn_once (within {next = next} o x d) (called {before = before} {after = after} {table = t} {name = n} c) p q = absurd (column_no_sign before after next t n c o)
-turn_once (within o x c) (within o' x' c') p q =
+turn_once (called {before = before} {after = after} {table = t} {name = n} c) (within {next = next} z o x d) p q = absurd (column_no_sign before after next t n c o)
+turn_once (within {next = next} z o x c) (value {before = before} {after = after} {v = v} l) p q = absurd (literal_no_sign before after next v l o)
+turn_once (within {next = next} z o x d) (called {before = before} {after = after} {table = t} {name = n} c) p q = absurd (column_no_sign before after next t n c o)
+turn_once (within z o x c) (within z' o' x' c') p q =
     let s = turn_once x (moved refl (cc) x') (Stop-at expression_goes c refl) (Stop-at expression_goes c' refl) in let e = s.1 in (s.0, cc)
 
 term_of_once : (a b : Expr) → term_of a ≡ term_of b → a ≡ b

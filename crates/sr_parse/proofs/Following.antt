@@ -1,27 +1,24 @@
 -- With what an expression begins, and with what it goes on.
-use Rattle.std.proofs.Common.{◌≡◌, ℕ, Bool, true, false, ◌||◌, List, [], ◌∷◌, Option, Some, None, refl, sym, subst, inl, inr}
+use Rattle.std.proofs.Common.{◌≡◌, ℕ, Bool, true, false, ◌||◌, List, Option, Some, None, refl, sym, subst, inl, inr}
 use Rattle.sr_ast.specs.Terms.{Term}
 use Rattle.sr_ast.specs.declared.operator.Binary.{Binary}
 use Rattle.sr_base.specs.declared.value.Value.{Value}
-use Rattle.sr_parse.specs.declared.keyword.Keyword.{Keyword}
 use Rattle.sr_parse.specs.declared.keyword.Keyword.TheVariants as key
-use Rattle.sr_parse.specs.declared.symbol.Sign.{Sign}
 use Rattle.sr_parse.specs.declared.symbol.Sign.TheVariants as sign
 use Rattle.sr_parse.specs.declared.symbol.Symbol.{Symbol}
 use Rattle.sr_parse.specs.declared.symbol.Symbol.TheVariants as symbol
-use Rattle.sr_parse.specs.Symbols.{Symbols, named, name_meant, IsName, IsWord, IsSign}
+use Rattle.sr_parse.specs.Symbols.{Symbols, name_meant, IsName}
 use Rattle.sr_parse.specs.Literals.{IsLiteral, literal_meant}
-use Rattle.sr_parse.specs.Expressions.{Tightness, joins, compares, IsColumn}
-use Rattle.sr_parse.specs.Expressions.Tightness.{disjunction, conjunction, negation, comparison, sum, product, signed, operand}
-use Rattle.sr_parse.proofs.Steps.{Stop, Begins, Stop-at, Begins-at, Stop-fewer, Begins-more}
-use Rattle.sr_parse.proofs.Turning.{Joint, level_of, Spot, beneath, Turn}
-use Rattle.sr_parse.proofs.Turning.Joint.{alternatives, conjuncts, terms, factors}
+use Rattle.sr_parse.specs.Expressions.{joins, compares, IsColumn}
+use Rattle.sr_parse.specs.Expressions.Tightness.{disjunction, conjunction, sum, product}
+use Rattle.sr_parse.specs.Going.{Begins, is_there, is_dot, factor_goes, sum_goes, relation_goes, and_goes, goes_on}
+use Rattle.sr_parse.proofs.Steps.{Begins-at, Begins-more}
+use Rattle.sr_parse.specs.Levels.{tightness}
+use Rattle.sr_parse.specs.declared.exprs.Level.{Level}
+use Rattle.sr_parse.specs.declared.exprs.Level.TheVariants.{Or, And, Sum, Product}
+use Rattle.sr_parse.proofs.Turning.{Spot, beneath, Turn}
 use Rattle.sr_parse.proofs.Turning.Spot.{whole, behind, denial, relation, tail, signing, atom}
 use Rattle.sr_parse.proofs.Turning.Turn.{chain, stop, step, refused, affirmed, measured, alone, against, tested, below, turned, plain, value, called, within}
-
-abbrev pub is_there : {A : Type 0} → Option A → Bool
-is_there None = false
-is_there (Some x) = true
 
 pub is_there-Some : {A : Type 0} (o : Option A) (x : A) → o ≡ Some x → is_there o ≡ true
 is_there-Some o x e = subst (λ o. is_there o ≡ true) (sym e) refl
@@ -42,38 +39,8 @@ or_first : (a b : Bool) → a ≡ true → (a || b) ≡ true
 or_first true b h = refl
 or_first false b h = absurd (cc)
 
-abbrev pub is_dot : Symbol → Bool
-is_dot (symbol.Sign sign.Dot) = true
-is_dot s = false
-
-abbrev pub is_is : Symbol → Bool
-is_is (symbol.Keyword key.Is) = true
-is_is s = false
-
--- the symbols with which an expression of a level goes on
-abbrev pub factor_goes : Symbol → Bool
-factor_goes s = is_there (joins product s) || is_dot s
-
-abbrev pub sum_goes : Symbol → Bool
-sum_goes s = is_there (joins sum s) || factor_goes s
-
-abbrev pub compare_goes : Symbol → Bool
-compare_goes s = is_there (compares s) || is_is s
-
-abbrev pub relation_goes : Symbol → Bool
-relation_goes s = compare_goes s || sum_goes s
-
-abbrev pub and_goes : Symbol → Bool
-and_goes s = is_there (joins conjunction s) || relation_goes s
-
-abbrev pub expression_goes : Symbol → Bool
-expression_goes s = is_there (joins disjunction s) || and_goes s
-
-abbrev pub joint_goes : Joint → Symbol → Bool
-joint_goes alternatives = expression_goes
-joint_goes conjuncts = and_goes
-joint_goes terms = sum_goes
-joint_goes factors = factor_goes
+abbrev pub joint_goes : Level → Symbol → Bool
+joint_goes j = goes_on (tightness j)
 
 abbrev pub goes : Spot → Symbol → Bool
 goes (whole j) = joint_goes j
@@ -85,20 +52,20 @@ goes signing = is_dot
 goes atom = is_dot
 
 -- what stops a level stops the tighter one
-pub beneath_fewer : (j : Joint) (s : Symbol) → joint_goes j s ≡ false → goes (beneath j) s ≡ false
-beneath_fewer alternatives s h = or_right _ _ h
-beneath_fewer conjuncts s h = or_right _ _ h
-beneath_fewer terms s h = or_right _ _ h
-beneath_fewer factors s h = or_right _ _ h
+pub beneath_fewer : (j : Level) (s : Symbol) → joint_goes j s ≡ false → goes (beneath j) s ≡ false
+beneath_fewer Or s h = or_right _ _ h
+beneath_fewer And s h = or_right _ _ h
+beneath_fewer Sum s h = or_right _ _ h
+beneath_fewer Product s h = or_right _ _ h
 
 pub sum_fewer : (s : Symbol) → relation_goes s ≡ false → sum_goes s ≡ false
 sum_fewer s h = or_right _ _ h
 
-pub joint_joins : (j : Joint) (s : Symbol) (op : Binary) → joins (level_of j) s ≡ Some op → joint_goes j s ≡ true
-joint_joins alternatives s op e = or_first _ _ (is_there-Some _ _ e)
-joint_joins conjuncts s op e = or_first _ _ (is_there-Some _ _ e)
-joint_joins terms s op e = or_first _ _ (is_there-Some _ _ e)
-joint_joins factors s op e = or_first _ _ (is_there-Some _ _ e)
+pub joint_joins : (j : Level) (s : Symbol) (op : Binary) → joins (tightness j) s ≡ Some op → joint_goes j s ≡ true
+joint_joins Or s op e = or_first _ _ (is_there-Some _ _ e)
+joint_joins And s op e = or_first _ _ (is_there-Some _ _ e)
+joint_joins Sum s op e = or_first _ _ (is_there-Some _ _ e)
+joint_joins Product s op e = or_first _ _ (is_there-Some _ _ e)
 
 pub relation_compares : (s : Symbol) (op : Binary) → compares s ≡ Some op → relation_goes s ≡ true
 relation_compares s op e = or_first _ _ (or_first _ _ (is_there-Some _ _ e))
@@ -121,11 +88,11 @@ product_stops : (s : Symbol) (op : Binary) → joins product s ≡ Some op → i
 product_stops (symbol.Sign sign.Times) op e = refl
 product_stops s op e = absurd (cc)
 
-pub joint_stops : (j : Joint) (s : Symbol) (op : Binary) → joins (level_of j) s ≡ Some op → goes (beneath j) s ≡ false
-joint_stops alternatives s op e = or_stops s op e
-joint_stops conjuncts s op e = and_stops s op e
-joint_stops terms s op e = sum_stops s op e
-joint_stops factors s op e = product_stops s op e
+pub joint_stops : (j : Level) (s : Symbol) (op : Binary) → joins (tightness j) s ≡ Some op → goes (beneath j) s ≡ false
+joint_stops Or s op e = or_stops s op e
+joint_stops And s op e = and_stops s op e
+joint_stops Sum s op e = sum_stops s op e
+joint_stops Product s op e = product_stops s op e
 
 pub compare_stops : (s : Symbol) (op : Binary) → compares s ≡ Some op → sum_goes s ≡ false
 compare_stops (symbol.Sign sign.Equal) op e = refl
@@ -159,11 +126,11 @@ signed_starts s = is_minus s || atom_starts s
 abbrev pub expression_starts : Symbol → Bool
 expression_starts s = is_not s || signed_starts s
 
-abbrev pub joint_starts : Joint → Symbol → Bool
-joint_starts alternatives = expression_starts
-joint_starts conjuncts = expression_starts
-joint_starts terms = signed_starts
-joint_starts factors = signed_starts
+abbrev pub joint_starts : Level → Symbol → Bool
+joint_starts Or = expression_starts
+joint_starts And = expression_starts
+joint_starts Sum = signed_starts
+joint_starts Product = signed_starts
 
 abbrev pub Starts : Spot → Symbols → Type 0
 Starts (whole j) before = Begins (joint_starts j) before
@@ -174,11 +141,11 @@ Starts (tail a) before = Unit {0}
 Starts signing before = Begins signed_starts before
 Starts atom before = Begins atom_starts before
 
-beneath_starts : (j : Joint) (before : Symbols) → Starts (beneath j) before → Starts (whole j) before
-beneath_starts alternatives before h = h
-beneath_starts conjuncts before h = h
-beneath_starts terms before h = h
-beneath_starts factors before h = h
+beneath_starts : (j : Level) (before : Symbols) → Starts (beneath j) before → Starts (whole j) before
+beneath_starts Or before h = h
+beneath_starts And before h = h
+beneath_starts Sum before h = h
+beneath_starts Product before h = h
 
 literal_starts : (before after : Symbols) (v : Value) → IsLiteral before v after → Begins atom_starts before
 literal_starts before after v (inl l) = Begins-at atom_starts l.stands (or_first _ _ (is_there-Some _ _ l.means))
@@ -191,7 +158,7 @@ column_starts : (before after : Symbols) (table : Option (List ℕ)) (name : Lis
 column_starts before after None name h = name_starts h
 column_starts before after (Some table) name (dot, next, n, d, m) = name_starts n
 
-pub turn_starts : {p : Spot} {before after : Symbols} {t : Term} → Turn p before t after → Starts p before
+pub turn_starts : {room : ℕ} {p : Spot} {before after : Symbols} {t : Term} → Turn p room before t after → Starts p before
 turn_starts (chain {j = j} {before = before} h more) = beneath_starts j before (turn_starts h)
 turn_starts stop = tt
 turn_starts (step o y more) = tt
@@ -206,7 +173,7 @@ turn_starts (turned s n x) = Begins-at signed_starts s refl
 turn_starts (plain {before = before} h) = Begins-more atom_starts signed_starts before (λ s e. or_true _ _ e) (turn_starts h)
 turn_starts (value {before = before} {after = after} {v = v} l) = literal_starts before after v l
 turn_starts (called {before = before} {after = after} {table = table} {name = name} c) = column_starts before after table name c
-turn_starts (within o x c) = Begins-at atom_starts o refl
+turn_starts (within p o x c) = Begins-at atom_starts o refl
 
 -- no name is a literal
 pub literal_no_name : (s : Symbol) (v : Value) (n : List ℕ) → literal_meant s ≡ Some v → name_meant s ≡ Some n → ⊥

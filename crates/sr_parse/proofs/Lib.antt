@@ -2,11 +2,20 @@ pub mod Steps
 pub mod Turning
 pub mod Following
 pub mod Expressing
+pub mod Finding
+pub mod Nexts
+pub mod Doing
 pub mod Lists
+pub mod Lines
 pub mod Selecting
+pub mod Missing
 pub mod Cataloguing
 pub mod Columns
+pub mod Ruling
+pub mod Keying
 pub mod Triggering
+pub mod Kinded
+pub mod Aliased
 pub mod Statements
 pub mod Words
 pub mod Spellings
@@ -31,3 +40,5 @@ pub mod Sound
 pub mod Settled
 pub mod Ended
 pub mod Closed
+pub mod Forms
+pub mod Granting

@@ -1,5 +1,5 @@
 -- Lists from left to right: symbols spell one at most.
-use Rattle.std.proofs.Common.{◌≡◌, ℕ, Bool, true, false, ◌||◌, List, [], ◌∷◌, ◌++◌, refl, sym, subst, ap, ◌∙◌, append_assoc, inl, inr, ◌⊎◌}
+use Rattle.std.proofs.Common.{◌≡◌, ℕ, Bool, false, List, [], ◌∷◌, ◌++◌, refl, sym, subst, ◌∙◌, append_assoc, inl, inr}
 use Rattle.std.proofs.lemmas.List.{append-nil}
 use Rattle.sr_parse.specs.declared.symbol.Sign.TheVariants as sign
 use Rattle.sr_parse.specs.declared.symbol.Symbol.{Symbol}
@@ -8,27 +8,28 @@ use Rattle.sr_parse.specs.Symbols.{Symbols, IsName, IsSign}
 use Rattle.sr_parse.specs.Listing.{Listed, Row, IsNameList, IsNames}
 use Rattle.sr_parse.specs.Listing.Listed.{one, more}
 use Rattle.sr_parse.specs.Listing.Row.{none, then}
-use Rattle.sr_parse.proofs.Steps.{Stop, Begins, Stop-at, Stop-begins, IsName-once, Once, onward}
+use Rattle.sr_parse.specs.Going.{Stop, is_comma, is_open, Ends, Closes}
+use Rattle.sr_parse.proofs.Steps.{Stop-at, Stop-begins, IsName-once, Once, onward}
 
 -- what a list has behind its first item, with commas, and the whole of it
 pub data Behind {A : Type 0} (X : Symbols → A → Symbols → Type 0) : Symbols → List A → Symbols → Type 0 where
   no_more : {after : Symbols} → Behind X after [] after
   one_more : {before next middle after : Symbols} {x : A} {xs : List A} → IsSign before sign.Comma next → X next x middle → Behind X middle xs after → Behind X before (x ∷ xs) after
 
-data Whole {A : Type 0} (X : Symbols → A → Symbols → Type 0) : Symbols → List A → Symbols → Type 0 where
+pub data Whole {A : Type 0} (X : Symbols → A → Symbols → Type 0) : Symbols → List A → Symbols → Type 0 where
   items : {before middle after : Symbols} {x : A} {xs : List A} → X before x middle → Behind X middle xs after → Whole X before (x ∷ xs) after
 
 -- items, one behind the other
-data File {A : Type 0} (X : Symbols → A → Symbols → Type 0) : Symbols → List A → Symbols → Type 0 where
+pub data File {A : Type 0} (X : Symbols → A → Symbols → Type 0) : Symbols → List A → Symbols → Type 0 where
   empty : {after : Symbols} → File X after [] after
   first : {before middle after : Symbols} {x : A} {xs : List A} → X before x middle → File X middle xs after → File X before (x ∷ xs) after
 
-whole : {A : Type 0} {X : Symbols → A → Symbols → Type 0} {before middle after : Symbols} {xs ys : List A} → Listed X before xs middle → Behind X middle ys after → Whole X before (xs ++ ys) after
+pub whole : {A : Type 0} {X : Symbols → A → Symbols → Type 0} {before middle after : Symbols} {xs ys : List A} → Listed X before xs middle → Behind X middle ys after → Whole X before (xs ++ ys) after
 whole (one h) b = items h b
 whole {X = X} {before = before} {after = after} {ys = ys} (more {xs = xs} {x = x} hs c h) b =
     subst (λ l. Whole X before l after) (sym (append_assoc xs (x ∷ []) ys)) (whole hs (one_more c h b))
 
-filed : {A : Type 0} {X : Symbols → A → Symbols → Type 0} {before middle after : Symbols} {xs ys : List A} → Row X before xs middle → File X middle ys after → File X before (xs ++ ys) after
+pub filed : {A : Type 0} {X : Symbols → A → Symbols → Type 0} {before middle after : Symbols} {xs ys : List A} → Row X before xs middle → File X middle ys after → File X before (xs ++ ys) after
 filed none b = b
 filed {X = X} {before = before} {after = after} {ys = ys} (then {xs = xs} {x = x} hs h) b =
     subst (λ l. File X before l after) (sym (append_assoc xs (x ∷ []) ys)) (filed hs (first h b))
@@ -42,7 +43,7 @@ pub record End {A : Type 0} (X : Symbols → A → Symbols → Type 0) (P : Symb
   pub stops : P after
   pub ends : (y : A) (rest : Symbols) → X after y rest → ⊥
 
-behind_stops : {A : Type 0} {X : Symbols → A → Symbols → Type 0} (P : Symbols → Type 0) → ((b n : Symbols) → IsSign b sign.Comma n → P b)
+pub behind_stops : {A : Type 0} {X : Symbols → A → Symbols → Type 0} (P : Symbols → Type 0) → ((b n : Symbols) → IsSign b sign.Comma n → P b)
     → {before after : Symbols} {xs : List A} → Behind X before xs after → P after → P before
 behind_stops P comma no_more p = p
 behind_stops P comma (one_more {before = b} {next = n} c h others) p = comma b n c
@@ -82,7 +83,7 @@ pub Row-begins : {A : Type 0} {X : Symbols → A → Symbols → Type 0} (P : Sy
 Row-begins P begins none p = p
 Row-begins P begins (then {middle = b} {after = a} {x = x} hs h) p = Row-begins P begins hs (begins b x a h)
 
-file_begins : {A : Type 0} {X : Symbols → A → Symbols → Type 0} (P : Symbols → Type 0) → ((b : Symbols) (x : A) (a : Symbols) → X b x a → P b)
+pub file_begins : {A : Type 0} {X : Symbols → A → Symbols → Type 0} (P : Symbols → Type 0) → ((b : Symbols) (x : A) (a : Symbols) → X b x a → P b)
     → {before after : Symbols} {xs : List A} → File X before xs after → P after → P before
 file_begins P begins empty p = p
 file_begins P begins (first {before = b} {middle = a} {x = x} h others) p = begins b x a h
@@ -104,25 +105,12 @@ Row-once X P once begins {before = before} {after = after} {rest = rest} {xs = x
     file_once P once begins
     (subst (λ l. File X before l after) (append-nil xs) (filed h empty)) (subst (λ l. File X before l rest) (append-nil ys) (filed k' empty)) p q
 
--- commas, parentheses and ends
-abbrev pub is_comma : Symbol → Bool
-is_comma (symbol.Sign sign.Comma) = true
-is_comma s = false
-
-abbrev pub is_open : Symbol → Bool
-is_open (symbol.Sign sign.Open) = true
-is_open s = false
-
 -- anything may follow
 abbrev pub Any : Symbols → Type 0
 Any after = Unit {0}
 
 pub last : {A : Type 0} (X : Symbols → A → Symbols → Type 0) (P : Symbols → Type 0) {after : Symbols} → P after → Stop is_comma after → Last X P after
 last X P p s = record { stops = p; ends = λ next y rest c h. Stop-begins is_comma c refl s }
-
--- the end of a statement: the end of the symbols, or a `;`
-abbrev pub Ends : Symbols → Type 0
-Ends after = (after ≡ []) ⊎ ((next : Symbols) × IsSign after sign.Semicolon next)
 
 pub Ends-stop : (test : Symbol → Bool) (after : Symbols) → test (symbol.Sign sign.Semicolon) ≡ false → Ends after → Stop test after
 Ends-stop test after e (inl n) = subst (λ (s : Symbols). Stop test s) (sym n) tt
@@ -149,10 +137,6 @@ IsNames-once before here xs after ys rest e (inr h) (inr k) p q = IsNameList-onc
 pub IsNames-stops : (test : Symbol → Bool) (before : Symbols) (xs : List (List ℕ)) (after : Symbols) → test (symbol.Sign sign.Open) ≡ false → IsNames before xs after → Stop test after → Stop test before
 IsNames-stops test before xs after t (inl (n, a)) p = subst (λ (s : Symbols). Stop test s) (sym a) p
 IsNames-stops test before xs after t (inr h) p = Stop-at test h.opened t
-
--- a comma, or the end of the parentheses
-abbrev pub Closes : Symbols → Type 0
-Closes after = ((next : Symbols) × IsSign after sign.Comma next) ⊎ ((next : Symbols) × IsSign after sign.Close next)
 
 pub Closes-stop : (test : Symbol → Bool) (after : Symbols) → test (symbol.Sign sign.Comma) ≡ false → test (symbol.Sign sign.Close) ≡ false → Closes after → Stop test after
 Closes-stop test after t u (inl (next, c)) = Stop-at test c t

@@ -1,19 +1,18 @@
 -- The tokens of a text are one list, they mean one list of symbols, and these spell one script.
-use Rattle.std.proofs.Common.{◌≡◌, ℕ, suc, ◌+◌, ◌≤◌, List, [], ◌∷◌, ◌++◌, length, IsTrue, slice_range, Option, Some, None, Result, Ok, Err, IfOk, refl, sym, subst, ap, ◌∙◌, arith, length-append}
+use Rattle.std.proofs.Common.{◌≡◌, ℕ, ◌+◌, ◌≤◌, List, [], ◌∷◌, ◌++◌, length, slice_range, Option, Some, None, refl, sym, subst, ap, ◌∙◌, arith, length-append}
 use Rattle.sr_lex.specs.declared.token.Token.{Token}
 use Rattle.sr_lex.specs.declared.token.TokenKind.{TokenKind}
 use Rattle.sr_lex.specs.declared.token.TokenKind.TheVariants as token
 use Rattle.sr_lex.specs.Tokens.{Skips, IsToken, TakesToken, Takes, IsTokens}
 use Rattle.sr_lex.specs.Reading.{token_at, after_gap}
-use Rattle.sr_lex.proofs.Gaps.{after_gap-skips, skips-shorter}
+use Rattle.sr_lex.proofs.Gaps.{after_gap-skips}
 use Rattle.sr_lex.proofs.Marks.{token_at-again, token_bare}
 use Rattle.sr_ast.specs.declared.stmt.Stmt.{Stmt}
-use Rattle.sr_parse.specs.declared.parsing.ParseFault.{ParseFault}
 use Rattle.sr_parse.specs.declared.symbol.Symbol.{Symbol}
 use Rattle.sr_parse.specs.declared.symbol.Symbol.TheVariants as symbol
 use Rattle.sr_parse.specs.Symbols.{Symbols}
 use Rattle.sr_parse.specs.Scripts.{IsScript}
-use Rattle.sr_parse.specs.Meanings.{IsWordSymbol, IsSignSymbol, IsSymbolOf, IsSpan, IsSymbol, AreSymbols, Spells, IsWritten}
+use Rattle.sr_parse.specs.Meanings.{IsWordSymbol, IsSignSymbol, IsSymbolOf, IsSymbol, AreSymbols, IsWritten}
 use Rattle.sr_parse.proofs.Spellings.{keyword_once, sign_once}
 use Rattle.sr_parse.proofs.Statements.{script_once}
 use Rattle.sr_parse.proofs.Steps.{two_parts, three_parts}
@@ -166,8 +165,19 @@ written_once text s t (tokens, is, (symbols, mean, spell)) (tokens', is', (symbo
     let two : symbols' ≡ symbols = symbols_once text tokens symbols' symbols (all_within text 0 text tokens (omega arith) is) mean'' mean in
     script_once symbols s t spell (subst (λ (l : Symbols). IsScript l t) two spell')
 
--- so where a text is read as a script that its tokens spell, it spells no other
-pub read_once : (text : List ℕ) (tokens : List Token) (result : Result (List Stmt) ParseFault) → IsTokens text tokens → IfOk result (Spells text tokens)
-    → IfOk result (λ script. (other : List Stmt) → IsWritten text other → other ≡ script)
-read_once text tokens (Ok script) is spells = λ other written. written_once text other script written (tokens, is, spells)
-read_once text tokens (Err fault) is spells = tt
+-- the symbols of the tokens of a text spell each script that the text spells
+pub spelled_by : (text : List ℕ) (tokens : List Token) (symbols : Symbols) (script : List Stmt) → IsTokens text tokens → AreSymbols text tokens symbols → IsWritten text script → IsScript symbols script
+spelled_by text tokens symbols script is mean (tokens', is', (symbols', mean', spell)) =
+    let one : tokens' ≡ tokens = tokens_once 0 text tokens' tokens is' is in
+    let mean'' : AreSymbols text tokens symbols' = subst (λ (l : List Token). AreSymbols text l symbols') one mean' in
+    let two : symbols' ≡ symbols = symbols_once text tokens symbols' symbols (all_within text 0 text tokens (omega arith) is) mean'' mean in
+    subst (λ (l : Symbols). IsScript l script) two spell
+
+-- the same, where the bytes are the text's, and the reader begins at the symbols
+pub read_whole : (text bytes : List ℕ) (symbols here : Symbols) (script : List Stmt) → bytes ≡ text → here ≡ symbols → ((tokens : List Token) × IsTokens bytes tokens × AreSymbols bytes tokens symbols) → IsWritten text script → IsScript here script
+read_whole text bytes symbols here script e same (tokens, is, mean) w =
+    subst (λ (s : Symbols). IsScript s script) (sym same) (spelled_by bytes tokens symbols script is mean (subst (λ (b : List ℕ). IsWritten b script) (sym e) w))
+
+pub written_by : (text bytes : List ℕ) (symbols here : Symbols) (script : List Stmt) → bytes ≡ text → here ≡ symbols → ((tokens : List Token) × IsTokens bytes tokens × AreSymbols bytes tokens symbols) → IsScript here script → IsWritten text script
+written_by text bytes symbols here script e same (tokens, is, mean) spells =
+    subst (λ (b : List ℕ). IsWritten b script) e (tokens, is, (symbols, mean, subst (λ (s : Symbols). IsScript s script) same spells))

@@ -1,5 +1,5 @@
 -- Statements on rows: symbols spell one at most.
-use Rattle.std.proofs.Common.{◌≡◌, ℕ, Bool, true, false, ◌||◌, List, [], ◌∷◌, Option, Some, None, refl, sym, subst, ap, ◌∙◌, inl, inr}
+use Rattle.std.proofs.Common.{◌≡◌, ℕ, Bool, true, false, List, [], ◌∷◌, Option, Some, None, refl, sym, subst, ap, ◌∙◌, inl, inr}
 use Rattle.sr_ast.specs.declared.expr.Expr.{Expr}
 use Rattle.sr_ast.specs.declared.query.Insert.{Insert}
 use Rattle.sr_ast.specs.declared.query.Update.{Update}
@@ -18,37 +18,14 @@ use Rattle.sr_parse.specs.declared.symbol.Sign.TheVariants as mark
 use Rattle.sr_parse.specs.declared.symbol.Symbol.{Symbol}
 use Rattle.sr_parse.specs.declared.symbol.Symbol.TheVariants as symbol
 use Rattle.sr_parse.specs.Symbols.{Symbols, word, sign, IsName, IsWord, IsSign}
-use Rattle.sr_parse.specs.Listing.{Listed, Row}
-use Rattle.sr_parse.specs.Expressions.{IsExpr, IsColumn}
-use Rattle.sr_parse.specs.Writing.{IsLed, IsCondition, IsRow, IsInsert, IsSet, IsUpdate, IsDelete, IsAggregated, IsAggregate, IsItem, IsItems, IsSource, IsJoinWord, IsJoin, IsDirection, IsOrder, IsOrderList, IsOrdering, IsSelect}
-use Rattle.sr_parse.proofs.Steps.{Stop, Begins, Stop-at, Begins-at, Stop-begins, Begins-not, Stop-fewer, Begins-more, IsName-once, Once, onward, two_parts, three_parts, four_parts, five_parts}
-use Rattle.sr_parse.proofs.Following.{is_dot, expression_goes, expression_starts, or_left, or_right}
+use Rattle.sr_parse.specs.Listing.{Listed}
+use Rattle.sr_parse.specs.Expressions.{IsExpr}
+use Rattle.sr_parse.specs.Writing.{IsLed, IsCondition, IsRow, IsInsert, IsSet, IsUpdate, IsDelete, IsAggregated, IsAggregate, IsItem, IsItems, IsSource, IsJoinWord, IsJoin, IsDirection, IsOrder, IsOrdering, IsSelect}
+use Rattle.sr_parse.specs.Going.{Stop, Begins, is_dot, expression_goes, is_comma, is_open, is_where, is_as, is_join, is_order, is_direction, Ends}
+use Rattle.sr_parse.proofs.Steps.{Stop-at, Begins-at, Stop-begins, Begins-not, Stop-fewer, IsName-once, Once, two_parts, three_parts, five_parts}
+use Rattle.sr_parse.proofs.Following.{expression_starts}
 use Rattle.sr_parse.proofs.Expressing.{IsExpr-once, IsExpr-starts, column_once}
-use Rattle.sr_parse.proofs.Lists.{Last, End, Listed-once, Listed-begins, Row-once, Row-begins, is_comma, is_open, Any, last, Ends, Ends-stop, IsNames-once, IsNames-stops}
-
-abbrev pub is_where : Symbol → Bool
-is_where (symbol.Keyword key.Where) = true
-is_where s = false
-
-abbrev pub is_as : Symbol → Bool
-is_as (symbol.Keyword key.As) = true
-is_as s = false
-
-abbrev pub is_join : Symbol → Bool
-is_join (symbol.Keyword key.Join) = true
-is_join (symbol.Keyword key.Inner) = true
-is_join s = false
-
-abbrev pub is_order : Symbol → Bool
-is_order (symbol.Keyword key.Order) = true
-is_order s = false
-
--- with what a column that orders goes on
-abbrev pub is_direction : Symbol → Bool
-is_direction (symbol.Sign mark.Dot) = true
-is_direction (symbol.Keyword key.Asc) = true
-is_direction (symbol.Keyword key.Desc) = true
-is_direction s = false
+use Rattle.sr_parse.proofs.Lists.{Last, End, Listed-once, Listed-begins, Row-once, Row-begins, Any, last, Ends-stop, IsNames-once}
 
 pub expr_once : Once IsExpr (Stop expression_goes)
 expr_once before x after y rest h k p q = IsExpr-once refl h k p q
@@ -77,7 +54,7 @@ row_once e h k =
     (last IsExpr (Stop expression_goes) (Stop-at expression_goes kc refl) (Stop-at is_comma kc refl)) in
     let f = s.1 in (s.0, cc)
 
-insert_same : (i j : Insert) → i.table ≡ j.table → i.columns ≡ j.columns → i.rows ≡ j.rows → i ≡ j
+pub insert_same : (i j : Insert) → i.table ≡ j.table → i.columns ≡ j.columns → i.rows ≡ j.rows → i ≡ j
 insert_same i j a b c = three_parts (λ (t : List ℕ) (cs : List (List ℕ)) (rs : List (List Expr)). let x : Insert = record { table = t; columns = cs; rows = rs } in x) a b c
 
 pub insert_once : {before here after rest : Symbols} {i j : Insert} → before ≡ here → IsInsert before i after → IsInsert here j rest → Ends after → Ends rest → (i ≡ j) × (after ≡ rest)
@@ -188,7 +165,7 @@ item_begins before (item.Sum e) after h next t = aggregate_no_times key.Sum befo
 item_begins before (item.Min e) after h next t = aggregate_no_times key.Min before e after next h t
 item_begins before (item.Max e) after h next t = aggregate_no_times key.Max before e after next h t
 
-items_no_times : (before next : Symbols) (xs : List Item) (after : Symbols) → Listed IsItem before xs after → IsSign before mark.Times next → ⊥
+pub items_no_times : (before next : Symbols) (xs : List Item) (after : Symbols) → Listed IsItem before xs after → IsSign before mark.Times next → ⊥
 unfolding not_times
 items_no_times before next xs after h t = Listed-begins not_times item_begins h next t
 
@@ -224,11 +201,11 @@ join_word_once before here after rest e (inl h) (inr k) = absurd (cc)
 join_word_once before here after rest e (inr h) (inl k) = absurd (cc)
 join_word_once before here after rest e (inr h) (inr k) = cc
 
-join_word_begins : (test : Symbol → Bool) (before after : Symbols) → test (symbol.Keyword key.Join) ≡ false → test (symbol.Keyword key.Inner) ≡ false → IsJoinWord before after → Stop test before
+pub join_word_begins : (test : Symbol → Bool) (before after : Symbols) → test (symbol.Keyword key.Join) ≡ false → test (symbol.Keyword key.Inner) ≡ false → IsJoinWord before after → Stop test before
 join_word_begins test before after t u (inl h) = Stop-at test h t
 join_word_begins test before after t u (inr h) = Stop-at test h u
 
-join_word_is : (before after : Symbols) → IsJoinWord before after → Begins is_join before
+pub join_word_is : (before after : Symbols) → IsJoinWord before after → Begins is_join before
 join_word_is before after (inl h) = Begins-at is_join h refl
 join_word_is before after (inr h) = Begins-at is_join h refl
 
@@ -243,7 +220,7 @@ join_once before x after y rest h k p q =
     let on = source.1 in let condition : h.condition ≡ k.condition = cc in
     let test = IsExpr-once condition h.test k.test p q in (join_same x y source.0 test.0, test.1)
 
-clash : (test : Symbol → Bool) (before : Symbols) → Begins test before → Stop test before → ⊥
+pub clash : (test : Symbol → Bool) (before : Symbols) → Begins test before → Stop test before → ⊥
 clash test [] b s = b
 clash test (x ∷ before) b s = let e : true ≡ false = cc in cc
 
@@ -265,7 +242,7 @@ undotted : (s : Symbol) → is_direction s ≡ false → is_dot s ≡ false
 undotted (symbol.Sign mark.Dot) h = h
 undotted s h = refl
 
-direction_stops : (before : Symbols) (x : Bool) (after : Symbols) → IsDirection before x after → Stop is_direction after → Stop is_dot before
+pub direction_stops : (before : Symbols) (x : Bool) (after : Symbols) → IsDirection before x after → Stop is_direction after → Stop is_dot before
 direction_stops before true after h p = Stop-at is_dot h refl
 direction_stops before false after (inl h) p = subst (λ (s : Symbols). Stop is_dot s) (sym h) (Stop-fewer is_direction is_dot after undotted p)
 direction_stops before false after (inr h) p = Stop-at is_dot h refl
@@ -291,21 +268,21 @@ ordering_once before here x after y rest e (inr h) (inr k) p q =
     let ho = h.order_by in let ko = k.order_by in let next : h.next ≡ k.next = cc in
     Listed-once IsOrder (Stop is_direction) order_once (λ b n c. Stop-at is_direction c refl) next h.listed k.listed (order_last after p) (order_last rest q)
 
-ordering_stops : (test : Symbol → Bool) (before : Symbols) (x : List OrderBy) (after : Symbols) → test (symbol.Keyword key.Order) ≡ false → test (symbol.Sign mark.Semicolon) ≡ false → IsOrdering before x after → Ends after → Stop test before
+pub ordering_stops : (test : Symbol → Bool) (before : Symbols) (x : List OrderBy) (after : Symbols) → test (symbol.Keyword key.Order) ≡ false → test (symbol.Sign mark.Semicolon) ≡ false → IsOrdering before x after → Ends after → Stop test before
 ordering_stops test before x after t u (inl (n, a)) p = subst (λ (s : Symbols). Stop test s) (sym a) (Ends-stop test after u p)
 ordering_stops test before x after t u (inr h) p = Stop-at test h.order_by t
 
-select_same : (s t : Select) → s.items ≡ t.items → s.source ≡ t.source → s.joins ≡ t.joins → s.condition ≡ t.condition → s.order ≡ t.order → s ≡ t
+pub select_same : (s t : Select) → s.items ≡ t.items → s.source ≡ t.source → s.joins ≡ t.joins → s.condition ≡ t.condition → s.order ≡ t.order → s ≡ t
 select_same s t a b c d e =
     five_parts (λ (i : Items) (f : Source) (js : List Join) (o : Option Expr) (os : List OrderBy). let x : Select = record { items = i; source = f; joins = js; condition = o; order = os } in x) a b c d e
 
 -- what stands before the condition and the order of a SELECT
-select_stops : (test : Symbol → Bool) {before after : Symbols} {s : Select} → test (symbol.Keyword key.Where) ≡ false → test (symbol.Keyword key.Order) ≡ false → test (symbol.Sign mark.Semicolon) ≡ false
+pub select_stops : (test : Symbol → Bool) {before after : Symbols} {s : Select} → test (symbol.Keyword key.Where) ≡ false → test (symbol.Keyword key.Order) ≡ false → test (symbol.Sign mark.Semicolon) ≡ false
     → (h : IsSelect before s after) → Ends after → Stop test h.where_
 select_stops test {after = after} {s = s} t u v h p =
     led_stops key.Where IsExpr test h.where_ s.condition h.ordered t h.condition (ordering_stops test h.ordered s.order after u v h.order p)
 
-joins_stop : {before after : Symbols} {s : Select} → (h : IsSelect before s after) → Ends after → Stop is_as h.joins
+pub joins_stop : {before after : Symbols} {s : Select} → (h : IsSelect before s after) → Ends after → Stop is_as h.joins
 joins_stop h p = Row-begins (Stop is_as) (λ b x a j. join_word_begins is_as b j.joined refl refl j.join) h.joined (select_stops is_as refl refl refl h p)
 
 pub select_once : {before here after rest : Symbols} {s t : Select} → before ≡ here → IsSelect before s after → IsSelect here t rest → Ends after → Ends rest → (s ≡ t) × (after ≡ rest)

@@ -17,14 +17,14 @@ use Rattle.sr_parse.specs.declared.keyword.Keyword.TheVariants as key
 use Rattle.sr_parse.specs.declared.symbol.Sign.TheVariants as mark
 use Rattle.sr_parse.specs.declared.symbol.Symbol.{Symbol}
 use Rattle.sr_parse.specs.declared.symbol.Symbol.TheVariants as symbol
-use Rattle.sr_parse.specs.Symbols.{Symbols, word, IsName, IsWord, IsSign}
-use Rattle.sr_parse.specs.Listing.{Listed}
+use Rattle.sr_parse.specs.Symbols.{Symbols, IsName, IsWord, IsSign}
 use Rattle.sr_parse.specs.Catalog.{IsSubscription}
 use Rattle.sr_parse.specs.Scripts.{IsBehind, IsBehindTwo, IsWork, IsOnly, IsPassthrough, IsDml, IsStatement, Stage, Pieces, IsScript}
 use Rattle.sr_parse.specs.Scripts.Stage.{opened, closed}
 use Rattle.sr_parse.specs.Scripts.Pieces.{start, again, empty, stated}
-use Rattle.sr_parse.proofs.Steps.{Stop, Stop-at, Stop-begins, IsName-once, Once, two_parts}
-use Rattle.sr_parse.proofs.Lists.{is_comma, Ends, Ends-stop, NamesListed-once}
+use Rattle.sr_parse.specs.Going.{is_comma, Ends}
+use Rattle.sr_parse.proofs.Steps.{Stop-begins, IsName-once, two_parts}
+use Rattle.sr_parse.proofs.Lists.{Ends-stop, NamesListed-once}
 use Rattle.sr_parse.proofs.Selecting.{insert_once, update_once, delete_once, select_once}
 use Rattle.sr_parse.proofs.Cataloguing.{publication_once, grant_once, subscription_once}
 use Rattle.sr_parse.proofs.Columns.{table_once}
@@ -68,7 +68,7 @@ dml_once before (dml.Delete i) after (dml.Update j) rest (next, w, h) (next', w'
 dml_once before (dml.Delete i) after (dml.Delete j) rest (next, w, h) (next', w', k) p q = let e : next ≡ next' = cc in let s = delete_once e h k p q in (ap dml.Delete s.0, s.1)
 
 -- which statement it is
-data Form : Type 0 where
+pub data Form : Type 0 where
   creates_table : Form
   drops_table : Form
   creates_publication : Form
@@ -89,7 +89,7 @@ data Form : Type 0 where
   passes_through : Form
   stops_passing : Form
 
-abbrev Content : Form → Type 0
+abbrev pub Content : Form → Type 0
 Content creates_table = CreateTable
 Content drops_table = List ℕ
 Content creates_publication = CreatePublication
@@ -110,7 +110,7 @@ Content rolls_back = Unit {0}
 Content passes_through = Passthrough
 Content stops_passing = Unit {0}
 
-abbrev stmt_of : (f : Form) → Content f → Stmt
+abbrev pub stmt_of : (f : Form) → Content f → Stmt
 stmt_of creates_table c = stmt.CreateTable c
 stmt_of drops_table c = stmt.DropTable c
 stmt_of creates_publication c = stmt.CreatePublication c
@@ -132,32 +132,32 @@ stmt_of passes_through c = stmt.Passthrough c
 stmt_of stops_passing c = stmt.PassthroughStop
 
 -- the form that the first two symbols tell
-abbrev created : Symbols → Option Form
+abbrev pub created : Symbols → Option Form
 created (symbol.Keyword key.Table ∷ after) = Some creates_table
 created (symbol.Keyword key.Publication ∷ after) = Some creates_publication
 created (symbol.Keyword key.Subscription ∷ after) = Some creates_subscription
 created (symbol.Keyword key.Trigger ∷ after) = Some creates_trigger
 created s = None
 
-abbrev dropped : Symbols → Option Form
+abbrev pub dropped : Symbols → Option Form
 dropped (symbol.Keyword key.Table ∷ after) = Some drops_table
 dropped (symbol.Keyword key.Publication ∷ after) = Some drops_publication
 dropped (symbol.Keyword key.Subscription ∷ after) = Some drops_subscription
 dropped (symbol.Keyword key.Trigger ∷ after) = Some drops_trigger
 dropped s = None
 
-abbrev granted : Symbols → Option Form
+abbrev pub granted : Symbols → Option Form
 granted (symbol.Keyword key.Remote ∷ after) = Some grants_remote
 granted (symbol.Keyword key.Consolidate ∷ after) = Some grants_consolidate
 granted s = None
 
-abbrev passed : Symbols → Option Form
+abbrev pub passed : Symbols → Option Form
 passed (symbol.Keyword key.Stop ∷ after) = Some stops_passing
 passed (symbol.Keyword key.Only ∷ after) = Some passes_through
 passed (symbol.Keyword key.For ∷ after) = Some passes_through
 passed s = None
 
-abbrev form_behind : Keyword → Symbols → Option Form
+abbrev pub form_behind : Keyword → Symbols → Option Form
 form_behind key.Create after = created after
 form_behind key.Drop after = dropped after
 form_behind key.Grant after = granted after
@@ -173,23 +173,23 @@ form_behind key.Rollback after = Some rolls_back
 form_behind key.Passthrough after = passed after
 form_behind k after = None
 
-abbrev form_at : Symbols → Option Form
+abbrev pub form_at : Symbols → Option Form
 form_at (symbol.Keyword k ∷ after) = form_behind k after
 form_at s = None
 
 -- a statement's form and content
-record Formed (before : Symbols) (s : Stmt) (after : Symbols) : Type 0 where
-  form : Form
-  content : Content form
-  is : s ≡ stmt_of form content
-  stands : IsStatement before (stmt_of form content) after
-  told : form_at before ≡ Some form
+pub record Formed (before : Symbols) (s : Stmt) (after : Symbols) : Type 0 where
+  pub form : Form
+  pub content : Content form
+  pub is : s ≡ stmt_of form content
+  pub stands : IsStatement before (stmt_of form content) after
+  pub told : form_at before ≡ Some form
 
 passed_told : (before : Symbols) (x : Bool) (after next : Symbols) → IsOnly before x after → IsWord after key.For next → passed before ≡ Some passes_through
 passed_told before true after next o w = ap passed o
 passed_told before false after next o w = ap passed (o ∙ w)
 
-formed : (before : Symbols) (s : Stmt) (after : Symbols) → IsStatement before s after → Formed before s after
+pub formed : (before : Symbols) (s : Stmt) (after : Symbols) → IsStatement before s after → Formed before s after
 formed before (stmt.CreateTable c) after (next, w, h) = record { form = creates_table; content = c; is = refl; stands = (next, w, h); told = ap form_at w }
 formed before (stmt.DropTable c) after (next, w, h) = record { form = drops_table; content = c; is = refl; stands = (next, w, h); told = ap form_at w }
 formed before (stmt.CreatePublication c) after (next, w, h) = record { form = creates_publication; content = c; is = refl; stands = (next, w, h); told = ap form_at w }
@@ -255,25 +255,25 @@ statement_once before s after t rest h k p q =
     (x.is ∙ (r.0 ∙ sym y.is), r.1)
 
 -- no statement begins where one ends
-no_statement : (before : Symbols) (s : Stmt) (after : Symbols) → IsStatement before s after → Ends before → ⊥
+pub no_statement : (before : Symbols) (s : Stmt) (after : Symbols) → IsStatement before s after → Ends before → ⊥
 no_statement before s after h (inl e) = let x = formed before s after h in let t = sym (ap form_at e) ∙ x.told in cc
 no_statement before s after h (inr (next, e)) = let x = formed before s after h in let t = sym (ap form_at e) ∙ x.told in cc
 
 -- the rest of a script from left to right
-data Left : Stage → Symbols → List Stmt → Type 0 where
+pub data Left : Stage → Symbols → List Stmt → Type 0 where
   over : Left closed [] []
   parted : {before after : Symbols} {xs : List Stmt} → IsSign before mark.Semicolon after → Left opened after xs → Left closed before xs
   passed_over : {before : Symbols} {xs : List Stmt} → Left closed before xs → Left opened before xs
   said : {before after : Symbols} {s : Stmt} {xs : List Stmt} → IsStatement before s after → Left closed after xs → Left opened before (s ∷ xs)
 
-from_left : {g : Stage} {before middle : Symbols} {xs ys : List Stmt} → Pieces g before xs middle → Left g middle ys → Left opened before (xs ++ ys)
+pub from_left : {g : Stage} {before middle : Symbols} {xs ys : List Stmt} → Pieces g before xs middle → Left g middle ys → Left opened before (xs ++ ys)
 from_left start more = more
 from_left (again h s) more = from_left h (parted s more)
 from_left (empty h) more = from_left h (passed_over more)
 from_left {before = before} {ys = ys} (stated {xs = xs} s h is) more =
     subst (λ (l : List Stmt). Left opened before l) (sym (append_assoc xs (s ∷ []) ys)) (from_left h (said is more))
 
-left_ends : {before : Symbols} {xs : List Stmt} → Left closed before xs → Ends before
+pub left_ends : {before : Symbols} {xs : List Stmt} → Left closed before xs → Ends before
 left_ends over = inl refl
 left_ends (parted {after = after} s more) = inr (after, s)
 

@@ -1,17 +1,8 @@
 -- What may follow a production, and readings that are the same.
-use Rattle.std.proofs.Common.{◌≡◌, ℕ, Bool, true, false, List, [], ◌∷◌, Option, Some, None, sym, subst}
+use Rattle.std.proofs.Common.{◌≡◌, ℕ, Bool, true, false, List, [], ◌∷◌, Some, sym, subst}
 use Rattle.sr_parse.specs.declared.symbol.Symbol.{Symbol}
 use Rattle.sr_parse.specs.Symbols.{Symbols, name_meant, IsName}
-
--- the symbols do not begin with one that passes the test
-abbrev pub Stop : (Symbol → Bool) → Symbols → Type 0
-Stop test [] = Unit {0}
-Stop test (s ∷ after) = test s ≡ false
-
--- they begin with one that passes it
-abbrev pub Begins : (Symbol → Bool) → Symbols → Type 0
-Begins test [] = ⊥
-Begins test (s ∷ after) = test s ≡ true
+use Rattle.sr_parse.specs.Going.{Stop, Begins}
 
 pub Stop-at : (test : Symbol → Bool) {before after : Symbols} {s : Symbol} → before ≡ s ∷ after → test s ≡ false → Stop test before
 Stop-at test e h = subst (λ (b : Symbols). Stop test b) (sym e) h

@@ -267,7 +267,7 @@ trigger_spelt c p ps after h =
           on = refl;
           table = t.2;
           referencing = refl;
-          aliases = l.2;
+          aliases = record { listed = l.2; apart = p.apart };
           each = refl;
           variables = v.2;
           actions = a.2;

@@ -13,18 +13,15 @@ use Rattle.sr_parse.specs.declared.keyword.Keyword.TheVariants as key
 use Rattle.sr_parse.specs.declared.symbol.Sign.TheVariants as mark
 use Rattle.sr_parse.specs.declared.symbol.Symbol.{Symbol}
 use Rattle.sr_parse.specs.declared.symbol.Symbol.TheVariants as symbol
-use Rattle.sr_parse.specs.Symbols.{Symbols, word, IsName, IsWord, IsSign}
-use Rattle.sr_parse.specs.Listing.{Listed, Row, IsNames}
+use Rattle.sr_parse.specs.Symbols.{Symbols, word, IsWord, IsSign}
 use Rattle.sr_parse.specs.Expressions.{IsExpr, IsColumn}
-use Rattle.sr_parse.specs.Writing.{IsRow}
-use Rattle.sr_parse.specs.Catalog.{IsKind}
-use Rattle.sr_parse.specs.Triggers.{IsAssigned, IsInserted, Amount, Acts, IsActions, IsOfList, IsOf, image_word, IsAlias, IsVariable, IsTrigger}
+use Rattle.sr_parse.specs.Triggers.{IsAssigned, IsInserted, Amount, Acts, IsActions, IsOf, image_word, IsAlias, IsVariable, IsTrigger}
 use Rattle.sr_parse.specs.Triggers.Amount.{one, many}
 use Rattle.sr_parse.specs.Triggers.Acts.{none as no_act, then as appended, set, insert, when, choose}
-use Rattle.sr_parse.proofs.Steps.{Stop, Begins, Stop-at, Begins-at, Stop-begins, Begins-not, IsName-once, Once, two_parts, three_parts, six_parts}
-use Rattle.sr_parse.proofs.Following.{is_dot, expression_goes}
+use Rattle.sr_parse.specs.Going.{Stop, Begins, is_dot, expression_goes, is_comma, is_open, is_image, is_declare}
+use Rattle.sr_parse.proofs.Steps.{Stop-at, Begins-at, Stop-begins, IsName-once, Once, two_parts, six_parts}
 use Rattle.sr_parse.proofs.Expressing.{IsExpr-once, column_once}
-use Rattle.sr_parse.proofs.Lists.{Last, End, Row-once, Row-begins, Any, is_comma, is_open, NamesListed-once, IsNames-once}
+use Rattle.sr_parse.proofs.Lists.{End, Row-once, Any, NamesListed-once, IsNames-once}
 use Rattle.sr_parse.proofs.Selecting.{row_once}
 use Rattle.sr_parse.proofs.Cataloguing.{kind_once}
 
@@ -170,7 +167,7 @@ of_once before here xs after ys rest next other e (inr h) (inr k) p q =
     let ho = h.of in let ko = k.of in let same : h.next ≡ k.next = cc in
     NamesListed-once same h.listed k.listed (Stop-at is_comma p refl) (Stop-at is_comma q refl)
 
-image_once : (x y : Image) → symbol.Keyword (image_word x) ≡ symbol.Keyword (image_word y) → x ≡ y
+pub image_once : (x y : Image) → symbol.Keyword (image_word x) ≡ symbol.Keyword (image_word y) → x ≡ y
 image_once Old Old e = refl
 image_once New New e = refl
 image_once Remote Remote e = refl
@@ -181,13 +178,7 @@ image_once New Remote e = absurd (cc)
 image_once Remote Old e = absurd (cc)
 image_once Remote New e = absurd (cc)
 
-abbrev is_image : Symbol → Bool
-is_image (symbol.Keyword key.Old) = true
-is_image (symbol.Keyword key.New) = true
-is_image (symbol.Keyword key.Remote) = true
-is_image s = false
-
-image_is : (x : Image) → is_image (symbol.Keyword (image_word x)) ≡ true
+pub image_is : (x : Image) → is_image (symbol.Keyword (image_word x)) ≡ true
 image_is Old = refl
 image_is New = refl
 image_is Remote = refl
@@ -199,10 +190,6 @@ alias_once before x after y rest h k p q =
     let next : h.next ≡ k.next = cc in
     let name = IsName-once next h.name k.name in
     (two_parts (λ (i : Image) (n : List ℕ). let a : Image × List ℕ = (i, n) in a) (image_once x.0 y.0 same) name.0, name.1)
-
-abbrev is_declare : Symbol → Bool
-is_declare (symbol.Keyword key.Declare) = true
-is_declare s = false
 
 variable_once : Once IsVariable Any
 variable_once before x after y rest h k p q =
@@ -223,12 +210,12 @@ alias_end w = record { stops = tt; ends = λ y rest h. no_alias y w h.image }
 variable_end : (after : Symbols) → Stop is_declare after → End IsVariable Any after
 variable_end after p = record { stops = tt; ends = λ y rest h. Stop-begins is_declare h.declare refl p }
 
-trigger_same : (s t : CreateTrigger) → s.name ≡ t.name → s.columns ≡ t.columns → s.table ≡ t.table → s.aliases ≡ t.aliases → s.variables ≡ t.variables → s.actions ≡ t.actions → s ≡ t
+pub trigger_same : (s t : CreateTrigger) → s.name ≡ t.name → s.columns ≡ t.columns → s.table ≡ t.table → s.aliases ≡ t.aliases → s.variables ≡ t.variables → s.actions ≡ t.actions → s ≡ t
 trigger_same s t a b c d e f =
     six_parts (λ (n : List ℕ) (cs : List (List ℕ)) (u : List ℕ) (as_ : List (Image × List ℕ)) (vs : List (List ℕ × Kind)) (x : Chain).
     let r : CreateTrigger = record { name = n; columns = cs; table = u; aliases = as_; variables = vs; actions = x } in r) a b c d e f
 
-no_declare : {before after : Symbols} {c : CreateTrigger} → (h : IsTrigger before c after) → Stop is_declare h.actions_
+pub no_declare : {before after : Symbols} {c : CreateTrigger} → (h : IsTrigger before c after) → Stop is_declare h.actions_
 no_declare h = deeds_stop is_declare refl refl refl (deeds h.actions.acts) (Stop-at is_declare h.end refl)
 
 pub trigger_once : {before here after rest : Symbols} {s t : CreateTrigger} → before ≡ here → IsTrigger before s after → IsTrigger here t rest → (s ≡ t) × (after ≡ rest)
@@ -239,7 +226,7 @@ trigger_once {s = s} {t = t} e h k =
     let ho = h.on in let ko = k.on in let on_ = columns.1 in let table_ : h.table_ ≡ k.table_ = cc in
     let table = IsName-once table_ h.table k.table in
     let hf = h.referencing in let kf = k.referencing in let f = table.1 in let aliases_ : h.aliases_ ≡ k.aliases_ = cc in
-    let aliases = Row-once IsAlias Any alias_once (λ b x a i. tt) aliases_ h.aliases k.aliases (alias_end h.each) (alias_end k.each) in
+    let aliases = Row-once IsAlias Any alias_once (λ b x a i. tt) aliases_ h.aliases.listed k.aliases.listed (alias_end h.each) (alias_end k.each) in
     let he = h.each in let ke = k.each in let for_ = aliases.1 in let variables_ : h.variables_ ≡ k.variables_ = cc in
     let variables = Row-once IsVariable Any variable_once (λ b x a i. tt) variables_ h.variables k.variables (variable_end h.actions_ (no_declare h)) (variable_end k.actions_ (no_declare k)) in
     let actions = actions_once variables.1 h.actions k.actions (Stop-at is_act h.end refl) (Stop-at is_act k.end refl) in

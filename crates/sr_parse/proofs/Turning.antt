@@ -1,5 +1,5 @@
 -- Expressions from left to right: the first operand, and then what follows it.
-use Rattle.std.proofs.Common.{◌≡◌, ℕ, List, [], ◌∷◌, Option, Some, None}
+use Rattle.std.proofs.Common.{◌≡◌, ℕ, ◌-◌, ◌<◌, List, Option, None}
 use Rattle.sr_ast.specs.Terms.{Term}
 use Rattle.sr_ast.specs.Terms.Term.{literal, column, unary, binary}
 use Rattle.sr_ast.specs.declared.operator.Unary.{Unary}
@@ -10,27 +10,17 @@ use Rattle.sr_parse.specs.declared.keyword.Keyword.TheVariants as key
 use Rattle.sr_parse.specs.declared.symbol.Sign.TheVariants as sign
 use Rattle.sr_parse.specs.Symbols.{Symbols, IsWord, IsSign}
 use Rattle.sr_parse.specs.Literals.{IsLiteral, IsNegative, begins_number}
+use Rattle.sr_parse.specs.Levels.{tightness}
+use Rattle.sr_parse.specs.declared.exprs.Level.{Level}
+use Rattle.sr_parse.specs.declared.exprs.Level.TheVariants.{Or, And, Sum, Product}
 use Rattle.sr_parse.specs.Expressions.{Tightness, Operator, IsNullTest, IsColumn, Reads, tighter, joins, compares}
 use Rattle.sr_parse.specs.Expressions.Tightness.{disjunction, conjunction, negation, comparison, sum, product, signed, operand}
 use Rattle.sr_parse.specs.Expressions.Reads.{loose, joined, not, compared, null_test, negative, minus, single, named, inside}
 
--- the levels whose operators are read from left to right
-pub data Joint : Type 0 where
-  alternatives : Joint
-  conjuncts : Joint
-  terms : Joint
-  factors : Joint
-
-abbrev pub level_of : Joint → Tightness
-level_of alternatives = disjunction
-level_of conjuncts = conjunction
-level_of terms = sum
-level_of factors = product
-
 -- what is read: a whole expression of a level, or what follows a left operand
 pub data Spot : Type 0 where
-  whole : Joint → Spot
-  behind : Joint → Term → Spot
+  whole : Level → Spot
+  behind : Level → Term → Spot
   denial : Spot
   relation : Spot
   tail : Term → Spot
@@ -38,51 +28,51 @@ pub data Spot : Type 0 where
   atom : Spot
 
 -- what stands between the operators of a level
-abbrev pub beneath : Joint → Spot
-beneath alternatives = whole conjuncts
-beneath conjuncts = denial
-beneath terms = whole factors
-beneath factors = signing
+abbrev pub beneath : Level → Spot
+beneath Or = whole And
+beneath And = denial
+beneath Sum = whole Product
+beneath Product = signing
 
-pub data Turn : Spot → Symbols → Term → Symbols → Type 0 where
-  chain : {j : Joint} {before middle after : Symbols} {a t : Term} → Turn (beneath j) before a middle → Turn (behind j a) middle t after → Turn (whole j) before t after
-  stop : {j : Joint} {after : Symbols} {t : Term} → Turn (behind j t) after t after
-  step : {j : Joint} {before next middle after : Symbols} {op : Binary} {a b t : Term}
-      → Operator (joins (level_of j)) before op next → Turn (beneath j) next b middle → Turn (behind j (binary op a b)) middle t after → Turn (behind j a) before t after
-  refused : {before next after : Symbols} {a : Term} → IsWord before key.Not next → Turn denial next a after → Turn denial before (unary one.Not a) after
-  affirmed : {before after : Symbols} {t : Term} → Turn relation before t after → Turn denial before t after
-  measured : {before middle after : Symbols} {a t : Term} → Turn (whole terms) before a middle → Turn (tail a) middle t after → Turn relation before t after
-  alone : {after : Symbols} {t : Term} → Turn (tail t) after t after
-  against : {before next after : Symbols} {op : Binary} {a b : Term} → Operator compares before op next → Turn (whole terms) next b after → Turn (tail a) before (binary op a b) after
-  tested : {before next after : Symbols} {op : Unary} {a : Term} → IsWord before key.Is next → IsNullTest next op after → Turn (tail a) before (unary op a) after
-  below : {before next after : Symbols} {v : Value} → IsSign before sign.Minus next → IsNegative next v after → Turn signing before (literal v) after
-  turned : {before next after : Symbols} {a : Term} → IsSign before sign.Minus next → begins_number next ≡ None → Turn signing next a after → Turn signing before (unary one.Negate a) after
-  plain : {before after : Symbols} {t : Term} → Turn atom before t after → Turn signing before t after
-  value : {before after : Symbols} {v : Value} → IsLiteral before v after → Turn atom before (literal v) after
-  called : {before after : Symbols} {table : Option (List ℕ)} {name : List ℕ} → IsColumn before table name after → Turn atom before (column table name) after
-  within : {before next middle after : Symbols} {t : Term} → IsSign before sign.Open next → Turn (whole alternatives) next t middle → IsSign middle sign.Close after → Turn atom before t after
+pub data Turn : Spot → ℕ → Symbols → Term → Symbols → Type 0 where
+  chain : {room : ℕ} {j : Level} {before middle after : Symbols} {a t : Term} → Turn (beneath j) room before a middle → Turn (behind j a) room middle t after → Turn (whole j) room before t after
+  stop : {room : ℕ} {j : Level} {after : Symbols} {t : Term} → Turn (behind j t) room after t after
+  step : {room : ℕ} {j : Level} {before next middle after : Symbols} {op : Binary} {a b t : Term}
+      → Operator (joins (tightness j)) before op next → Turn (beneath j) room next b middle → Turn (behind j (binary op a b)) room middle t after → Turn (behind j a) room before t after
+  refused : {room : ℕ} {before next after : Symbols} {a : Term} → IsWord before key.Not next → Turn denial room next a after → Turn denial room before (unary one.Not a) after
+  affirmed : {room : ℕ} {before after : Symbols} {t : Term} → Turn relation room before t after → Turn denial room before t after
+  measured : {room : ℕ} {before middle after : Symbols} {a t : Term} → Turn (whole Sum) room before a middle → Turn (tail a) room middle t after → Turn relation room before t after
+  alone : {room : ℕ} {after : Symbols} {t : Term} → Turn (tail t) room after t after
+  against : {room : ℕ} {before next after : Symbols} {op : Binary} {a b : Term} → Operator compares before op next → Turn (whole Sum) room next b after → Turn (tail a) room before (binary op a b) after
+  tested : {room : ℕ} {before next after : Symbols} {op : Unary} {a : Term} → IsWord before key.Is next → IsNullTest next op after → Turn (tail a) room before (unary op a) after
+  below : {room : ℕ} {before next after : Symbols} {v : Value} → IsSign before sign.Minus next → IsNegative next v after → Turn signing room before (literal v) after
+  turned : {room : ℕ} {before next after : Symbols} {a : Term} → IsSign before sign.Minus next → begins_number next ≡ None → Turn signing room next a after → Turn signing room before (unary one.Negate a) after
+  plain : {room : ℕ} {before after : Symbols} {t : Term} → Turn atom room before t after → Turn signing room before t after
+  value : {room : ℕ} {before after : Symbols} {v : Value} → IsLiteral before v after → Turn atom room before (literal v) after
+  called : {room : ℕ} {before after : Symbols} {table : Option (List ℕ)} {name : List ℕ} → IsColumn before table name after → Turn atom room before (column table name) after
+  within : {room : ℕ} {before next middle after : Symbols} {t : Term} → 0 < room → IsSign before sign.Open next → Turn (whole Or) (room - 1) next t middle → IsSign middle sign.Close after → Turn atom room before t after
 
 abbrev pub spot_of : Tightness → Spot
-spot_of disjunction = whole alternatives
-spot_of conjunction = whole conjuncts
+spot_of disjunction = whole Or
+spot_of conjunction = whole And
 spot_of negation = denial
 spot_of comparison = relation
-spot_of sum = whole terms
-spot_of product = whole factors
+spot_of sum = whole Sum
+spot_of product = whole Product
 spot_of signed = signing
 spot_of operand = atom
 
 -- one operand more
-further : {j : Joint} {before middle next after : Symbols} {op : Binary} {a t b : Term}
-    → Turn (behind j a) before t middle → Operator (joins (level_of j)) middle op next → Turn (beneath j) next b after → Turn (behind j a) before (binary op t b) after
+further : {room : ℕ} {j : Level} {before middle next after : Symbols} {op : Binary} {a t b : Term}
+    → Turn (behind j a) room before t middle → Operator (joins (tightness j)) middle op next → Turn (beneath j) room next b after → Turn (behind j a) room before (binary op t b) after
 further stop o y = step o y stop
 further (step p x more) o y = step p x (further more o y)
 
-longer : {j : Joint} {before middle next after : Symbols} {op : Binary} {t b : Term}
-    → Turn (whole j) before t middle → Operator (joins (level_of j)) middle op next → Turn (beneath j) next b after → Turn (whole j) before (binary op t b) after
+longer : {room : ℕ} {j : Level} {before middle next after : Symbols} {op : Binary} {t b : Term}
+    → Turn (whole j) room before t middle → Operator (joins (tightness j)) middle op next → Turn (beneath j) room next b after → Turn (whole j) room before (binary op t b) after
 longer (chain h more) o y = chain h (further more o y)
 
-loosened : (k : Tightness) {before after : Symbols} {t : Term} → Turn (spot_of (tighter k)) before t after → Turn (spot_of k) before t after
+loosened : (k : Tightness) {room : ℕ} {before after : Symbols} {t : Term} → Turn (spot_of (tighter k)) room before t after → Turn (spot_of k) room before t after
 loosened disjunction h = chain h stop
 loosened conjunction h = chain h stop
 loosened negation h = affirmed h
@@ -92,8 +82,8 @@ loosened product h = chain h stop
 loosened signed h = plain h
 loosened operand h = h
 
-lengthened : (k : Tightness) {before middle next after : Symbols} {op : Binary} {a b : Term}
-    → Turn (spot_of k) before a middle → Operator (joins k) middle op next → Turn (spot_of (tighter k)) next b after → Turn (spot_of k) before (binary op a b) after
+lengthened : (k : Tightness) {room : ℕ} {before middle next after : Symbols} {op : Binary} {a b : Term}
+    → Turn (spot_of k) room before a middle → Operator (joins k) middle op next → Turn (spot_of (tighter k)) room next b after → Turn (spot_of k) room before (binary op a b) after
 lengthened disjunction h o y = longer h o y
 lengthened conjunction h o y = longer h o y
 lengthened negation h o y = absurd (let m = o.means in cc)
@@ -103,7 +93,7 @@ lengthened product h o y = longer h o y
 lengthened signed h o y = absurd (let m = o.means in cc)
 lengthened operand h o y = absurd (let m = o.means in cc)
 
-pub turned_round : {k : Tightness} {room : ℕ} {before after : Symbols} {t : Term} → Reads k room before t after → Turn (spot_of k) before t after
+pub turned_round : {k : Tightness} {room : ℕ} {before after : Symbols} {t : Term} → Reads k room before t after → Turn (spot_of k) room before t after
 turned_round (loose {k = k} h) = loosened k (turned_round h)
 turned_round (joined {k = k} x o y) = lengthened k (turned_round x) o (turned_round y)
 turned_round (not w x) = refused w (turned_round x)
@@ -113,4 +103,4 @@ turned_round (negative s n) = below s n
 turned_round (minus s n x) = turned s n (turned_round x)
 turned_round (single l) = value l
 turned_round (named c) = called c
-turned_round (inside p o x c) = within o (turned_round x) c
+turned_round (inside p o x c) = within p o (turned_round x) c

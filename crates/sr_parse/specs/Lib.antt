@@ -1,5 +1,7 @@
 pub mod Catalog
 pub mod Expressions
+pub mod Faults
+pub mod Going
 pub mod Keys
 pub mod Levels
 pub mod Listing

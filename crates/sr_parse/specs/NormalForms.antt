@@ -1,5 +1,5 @@
 -- Statements in normal form: each statement that a script spells is one, and its printed text spells it.
-use Rattle.std.specs.Prelude.{ℕ, ◌+◌, ◌≤◌, max, ⊤, IsUtf8, List, length, Contains, IsTrue}
+use Rattle.std.specs.Prelude.{ℕ, ◌+◌, ◌≤◌, max, ⊤, IsUtf8, List, length, Contains, IsTrue, AllPairs}
 use Rattle.std.specs.List.{AllByRecursion}
 use Rattle.sr_ast.specs.Chains.{Chain}
 use Rattle.sr_ast.specs.Chains.Chain.{done, set, insert, when, choose}
@@ -29,6 +29,7 @@ use Rattle.sr_base.specs.declared.value.Kind.{Kind}
 use Rattle.sr_ast.specs.declared.stmt.Passthrough.{Passthrough}
 use Rattle.sr_ast.specs.declared.stmt.Stmt.{Stmt}
 use Rattle.sr_ast.specs.declared.stmt.Stmt.TheVariants as stmt
+use Rattle.sr_parse.specs.Triggers.{Differ}
 use Rattle.sr_parse.specs.Normal.{IsPlain, IsNoneOr, IsSomeOf, IsNormalValue, IsNormalKind, IsPlainColumn, IsNormalDeep, IsNormalExpr}
 
 -- ---- rows
@@ -143,6 +144,7 @@ pub record IsNormalTrigger (c : CreateTrigger) : Type 0 where
   pub columns : AllByRecursion IsPlain c.columns
   pub table : IsPlain c.table
   pub aliases : AllByRecursion IsNormalAlias c.aliases
+  pub apart : AllPairs Differ c.aliases
   pub variables : AllByRecursion IsNormalVariable c.variables
   pub actions : IsNormalChain c.actions
   pub few : ifs c.actions ≤ 200

@@ -68,6 +68,16 @@ IsStatement before stmt.Rollback after = (next : Symbols) × IsWord before key.R
 IsStatement before (stmt.Passthrough p) after = IsBehind key.Passthrough IsPassthrough before p after
 IsStatement before stmt.PassthroughStop after = before ≡ word key.Passthrough ∷ word key.Stop ∷ after
 
+-- a statement on tables, publications, users, subscriptions or triggers
+abbrev pub IsDefinition : Stmt → Type 0
+IsDefinition (stmt.Dml d) = ⊥
+IsDefinition (stmt.Select s) = ⊥
+IsDefinition stmt.Commit = ⊥
+IsDefinition stmt.Rollback = ⊥
+IsDefinition (stmt.Passthrough p) = ⊥
+IsDefinition stmt.PassthroughStop = ⊥
+IsDefinition s = Unit {0}
+
 -- what a script has read: at the begin or behind a `;` a statement may follow, elsewhere a `;`
 pub data Stage : Type 0 where
   opened : Stage

@@ -1,5 +1,5 @@
 -- Triggers, as they are written.
-use Rattle.std.specs.Prelude.{◌≡◌, ℕ, ◌-◌, ◌<◌, List, [], ◌∷◌, ◌++◌, Option, ◌⊎◌}
+use Rattle.std.specs.Prelude.{◌≡◌, ◌≢◌, ℕ, ◌-◌, ◌<◌, List, [], ◌∷◌, ◌++◌, Option, ◌⊎◌, AllPairs}
 use Rattle.sr_base.specs.declared.value.Kind.{Kind}
 use Rattle.sr_ast.specs.Chains.{Chain}
 use Rattle.sr_ast.specs.Actions.{chain_of}
@@ -86,6 +86,15 @@ pub record IsAlias (before : Symbols) (a : Image × List ℕ) (after : Symbols) 
   pub image : before ≡ word (image_word a.0) ∷ word key.As ∷ next
   pub name : IsName next a.1 after
 
+-- two aliases have a row and a name of their own each
+abbrev pub Differ : Image × List ℕ → Image × List ℕ → Type 0
+Differ a b = (a.0 ≢ b.0) × (a.1 ≢ b.1)
+
+-- {(OLD | NEW | REMOTE) AS n}, each row and each name at most once
+pub record AreAliases (before : Symbols) (aliases : List (Image × List ℕ)) (after : Symbols) : Type 0 where
+  pub listed : Row IsAlias before aliases after
+  pub apart : AllPairs Differ aliases
+
 -- DECLARE n type ;
 pub record IsVariable (before : Symbols) (v : List ℕ × Kind) (after : Symbols) : Type 0 where
   pub named : Symbols
@@ -114,7 +123,7 @@ pub record IsTrigger (before : Symbols) (c : CreateTrigger) (after : Symbols) : 
   pub on : IsWord on_ key.On table_
   pub table : IsName table_ c.table referencing_
   pub referencing : IsWord referencing_ key.Referencing aliases_
-  pub aliases : Row IsAlias aliases_ c.aliases for_
+  pub aliases : AreAliases aliases_ c.aliases for_
   pub each : for_ ≡ word key.For ∷ word key.Each ∷ word key.Row ∷ word key.Begin ∷ variables_
   pub variables : Row IsVariable variables_ c.variables actions_
   pub actions : IsActions 200 actions_ c.actions end_

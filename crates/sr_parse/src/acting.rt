@@ -1,5 +1,9 @@
-ghost use Rattle.std.specs.Prelude.{◌≡◌, ◌+◌, ◌-◌, ◌*◌, ◌<◌, ◌≤◌, ◌↔◌, length, OnOk, IfOk, IsSome, IsTrue, OnSome, IfSome, ◌∷◌, [], map};
-ghost use Rattle.sr_parse.specs.Symbols.{word};
+ghost use Rattle.std.specs.Prelude.{◌≡◌, ◌+◌, ◌-◌, ◌*◌, ◌<◌, ◌≤◌, ◌↔◌, length, OnOk, IfOk, IsSome, IsTrue, IsFalse, OnSome, IfSome, ◌∷◌, [], map, ℕ, List, Option};
+ghost use Rattle.sr_ast.specs.Chains.{Chain};
+ghost use Rattle.sr_ast.specs.declared.action.Action.{Action};
+ghost use Rattle.sr_ast.specs.declared.expr.Expr.{Expr};
+ghost use Rattle.sr_parse.specs.Symbols.{Symbols, word};
+ghost use Rattle.sr_parse.specs.Going.{Stop, Begins, Gives, expression_goes, action_starts};
 ghost use Rattle.sr_parse.specs.Triggers.{IsActions, Acts, IsAssigned, IsInserted};
 ghost use Rattle.sr_parse.specs.Triggers.Amount.{one};
 ghost use Rattle.sr_parse.specs.declared.keyword.Keyword.TheVariants as key;
@@ -19,13 +23,11 @@ pub const IFS: usize = 200;
 #[cycle(acting)]
 pub fn actions(reader: &mut Reader, ifs: usize) -> Result<Actions, Broken>
     ensures found { IfOk result (λ actions. IsActions ifs reader.old actions reader.new) }
+    ensures finds { (x : Chain) (rest : Symbols) → IsActions ifs reader.old x rest → Stop action_starts rest → Gives result (λ actions. (actions ≡ x) × (reader.new ≡ rest)) }
     ensures shorter { length reader.new ≤ length reader.old }
 {
     let mut actions = Vec::new(reader.alloc());
-    'more: while reader.is_keyword(Keyword::Set)
-        || reader.is_keyword(Keyword::Insert)
-        || reader.is_keyword(Keyword::If)
-    {
+    'more: while is_action(reader) {
         let item = action(reader, ifs)?;
         reader.sign(Sign::Semicolon)?;
         actions.push(item)?;
@@ -33,9 +35,20 @@ pub fn actions(reader: &mut Reader, ifs: usize) -> Result<Actions, Broken>
     Ok(Actions::from_vec(actions))
 }
 
+/// Whether an action is next.
+fn is_action(reader: &Reader) -> bool
+    ensures starts { IsTrue result → Begins action_starts reader.now }
+    ensures stops { IsFalse result → Stop action_starts reader.now }
+{
+    reader.is_keyword(Keyword::Set)
+        || reader.is_keyword(Keyword::Insert)
+        || reader.is_keyword(Keyword::If)
+}
+
 #[cycle(acting)]
 fn action(reader: &mut Reader, ifs: usize) -> Result<Action, Broken>
     ensures found { IfOk result (λ action. Acts one ifs reader.old (action ∷ []) reader.new) }
+    ensures finds { (x : Action) (rest : Symbols) → Acts one ifs reader.old (x ∷ []) rest → Stop expression_goes rest → Gives result (λ action. (action ≡ x) × (reader.new ≡ rest)) }
     ensures shorter { length reader.new ≤ length reader.old }
     ensures progress { OnOk result (length reader.new < length reader.old) }
 {
@@ -65,6 +78,7 @@ fn action(reader: &mut Reader, ifs: usize) -> Result<Action, Broken>
 
 fn end_if(reader: &mut Reader) -> Result<(), Broken>
     ensures found { OnOk result (reader.old ≡ word key.End ∷ word key.If ∷ reader.new) }
+    ensures finds { (rest : Symbols) → reader.old ≡ word key.End ∷ word key.If ∷ rest → Gives result (λ _. reader.new ≡ rest) }
     ensures shorter { length reader.new ≤ length reader.old }
 {
     reader.keyword(Keyword::End)?;
@@ -75,6 +89,7 @@ fn end_if(reader: &mut Reader) -> Result<(), Broken>
 /// Behind SET.
 fn assigned(reader: &mut Reader) -> Result<(Option<Name>, Name, Expr), Broken>
     ensures found { IfOk result (λ set. IsAssigned reader.old set.0 set.1 set.2 reader.new) }
+    ensures finds { (alias : Option (List ℕ)) (name : List ℕ) (e : Expr) (rest : Symbols) → IsAssigned reader.old alias name e rest → Stop expression_goes rest → Gives result (λ set. (set.0 ≡ alias) × (set.1 ≡ name) × (set.2 ≡ e) × (reader.new ≡ rest)) }
     ensures shorter { length reader.new ≤ length reader.old }
 {
     let (alias, name) = reader.reference()?;
@@ -86,6 +101,7 @@ fn assigned(reader: &mut Reader) -> Result<(Option<Name>, Name, Expr), Broken>
 /// Behind INSERT.
 fn inserted(reader: &mut Reader) -> Result<(Name, Seq<Name>, Seq<Expr>), Broken>
     ensures found { IfOk result (λ insert. IsInserted reader.old insert.0 insert.1 insert.2 reader.new) }
+    ensures finds { (t : List ℕ) (names : List (List ℕ)) (given : List Expr) (rest : Symbols) → IsInserted reader.old t names given rest → Gives result (λ insert. (insert.0 ≡ t) × (insert.1 ≡ names) × (insert.2 ≡ given) × (reader.new ≡ rest)) }
     ensures shorter { length reader.new ≤ length reader.old }
 {
     reader.keyword(Keyword::Into)?;

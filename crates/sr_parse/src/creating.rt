@@ -1,6 +1,19 @@
-ghost use Rattle.std.specs.Prelude.{◌≡◌, ◌+◌, ◌-◌, ◌*◌, ◌<◌, ◌≤◌, ◌↔◌, length, OnOk, IfOk, IsSome, IsTrue, OnSome, IfSome, ◌∷◌, [], true};
+ghost use Rattle.std.specs.Prelude.{◌≡◌, ◌+◌, ◌-◌, ◌*◌, ◌<◌, ◌≤◌, ◌↔◌, length, OnOk, IfOk, IsSome, IsTrue, OnSome, IfSome, ◌∷◌, [], true, Option, ℕ, Bool, List, All, Any, IsFalse, ◌≢◌};
 ghost use Rattle.std.specs.Option.{option_copied};
-ghost use Rattle.sr_parse.specs.Symbols.{word, first};
+ghost use Rattle.sr_base.specs.declared.value.Kind.{Kind};
+ghost use Rattle.sr_ast.specs.declared.expr.Expr.{Expr};
+ghost use Rattle.sr_ast.specs.declared.stmt.Stmt.{Stmt as Statement};
+ghost use Rattle.sr_ast.specs.declared.create.ColumnRule.{ColumnRule};
+ghost use Rattle.sr_ast.specs.declared.create.CreateTable.{CreateTable};
+ghost use Rattle.sr_ast.specs.declared.create.CreatePublication.{CreatePublication as Publication};
+ghost use Rattle.sr_ast.specs.declared.create.ArticleRule.{ArticleRule as Article};
+ghost use Rattle.sr_ast.specs.declared.create.Grant.{Grant as GrantRule};
+ghost use Rattle.sr_ast.specs.declared.create.SubscriptionRule.{SubscriptionRule as Subscription};
+ghost use Rattle.sr_base.specs.declared.value.Value.{Value as Literal};
+ghost use Rattle.sr_ast.specs.declared.create.CreateTrigger.{CreateTrigger};
+ghost use Rattle.sr_ast.specs.declared.create.Image.{Image};
+ghost use Rattle.sr_parse.specs.Symbols.{Symbols, word, first, IsName, IsWord, IsSign};
+ghost use Rattle.sr_parse.specs.Going.{Gives, Stop, Ends, Closes, is_open, condition_goes, is_image, is_declare, rule_starts};
 ghost use Rattle.sr_parse.specs.Listing.{Listed, Row};
 ghost use Rattle.sr_parse.specs.Writing.{IsCondition};
 ghost use Rattle.sr_parse.specs.Catalog.{
@@ -16,9 +29,10 @@ ghost use Rattle.sr_parse.specs.Catalog.{
   IsSubscription,
 };
 ghost use Rattle.sr_parse.specs.Tables.{IsTable, IsKeyed, IsKeyWords, IsColumnRule, IsRules};
-ghost use Rattle.sr_parse.specs.Triggers.{IsOf, IsAlias, IsVariable, IsTrigger, image_word};
+ghost use Rattle.sr_parse.specs.Triggers.{IsOf, AreAliases, IsVariable, IsTrigger, image_word};
 ghost use Rattle.sr_parse.specs.Scripts.{IsStatement};
 ghost use Rattle.sr_parse.specs.declared.keyword.Keyword.TheVariants as key;
+ghost use Rattle.sr_parse.specs.declared.symbol.Sign.TheVariants as mark;
 
 use crate::acting::{IFS, actions};
 use crate::exprs::{expr, literal, negative};
@@ -36,6 +50,7 @@ use std::alloc::Global;
 /// Behind CREATE.
 pub fn create(reader: &mut Reader) -> Result<Stmt, Broken>
     ensures found { IfOk result (λ stmt. IsStatement (word key.Create ∷ reader.old) stmt reader.new) }
+    ensures finds { (x : Statement) (rest : Symbols) → IsStatement (word key.Create ∷ reader.old) x rest → Ends rest → Gives result (λ stmt. (stmt ≡ x) × (reader.new ≡ rest)) }
     ensures shorter { length reader.new ≤ length reader.old }
 {
     if reader.takes(Keyword::Table) {
@@ -57,6 +72,7 @@ pub fn create(reader: &mut Reader) -> Result<Stmt, Broken>
 /// Behind DROP.
 pub fn drop_statement(reader: &mut Reader) -> Result<Stmt, Broken>
     ensures found { IfOk result (λ stmt. IsStatement (word key.Drop ∷ reader.old) stmt reader.new) }
+    ensures finds { (x : Statement) (rest : Symbols) → IsStatement (word key.Drop ∷ reader.old) x rest → Ends rest → Gives result (λ stmt. (stmt ≡ x) × (reader.new ≡ rest)) }
     ensures shorter { length reader.new ≤ length reader.old }
 {
     if reader.takes(Keyword::Table) {
@@ -78,6 +94,7 @@ pub fn drop_statement(reader: &mut Reader) -> Result<Stmt, Broken>
 /// Behind GRANT.
 pub fn grant(reader: &mut Reader) -> Result<Stmt, Broken>
     ensures found { IfOk result (λ stmt. IsStatement (word key.Grant ∷ reader.old) stmt reader.new) }
+    ensures finds { (x : Statement) (rest : Symbols) → IsStatement (word key.Grant ∷ reader.old) x rest → Ends rest → Gives result (λ stmt. (stmt ≡ x) × (reader.new ≡ rest)) }
     ensures shorter { length reader.new ≤ length reader.old }
 {
     if reader.takes(Keyword::Remote) {
@@ -91,6 +108,7 @@ pub fn grant(reader: &mut Reader) -> Result<Stmt, Broken>
 
 fn granted(reader: &mut Reader) -> Result<Grant, Broken>
     ensures found { IfOk result (λ grant. IsGrant reader.old grant reader.new) }
+    ensures finds { (x : GrantRule) (rest : Symbols) → IsGrant reader.old x rest → Ends rest → Gives result (λ grant. (grant ≡ x) × (reader.new ≡ rest)) }
     ensures shorter { length reader.new ≤ length reader.old }
 {
     reader.keyword(Keyword::To)?;
@@ -101,6 +119,7 @@ fn granted(reader: &mut Reader) -> Result<Grant, Broken>
 
 fn address(reader: &mut Reader) -> Result<Option<Text>, Broken>
     ensures found { IfOk result (λ address. IsAddress reader.old address reader.new) }
+    ensures finds { (x : Option (List ℕ)) (rest : Symbols) → IsAddress reader.old x rest → Ends rest → Gives result (λ address. (address ≡ x) × (reader.new ≡ rest)) }
     ensures shorter { length reader.new ≤ length reader.old }
 {
     if !reader.takes(Keyword::Type) {
@@ -115,6 +134,7 @@ fn address(reader: &mut Reader) -> Result<Option<Text>, Broken>
 /// From SUBSCRIPTION on.
 pub fn subscription(reader: &mut Reader) -> Result<SubscriptionRule, Broken>
     ensures found { IfOk result (λ rule. IsSubscription reader.old rule reader.new) }
+    ensures finds { (x : Subscription) (rest : Symbols) → IsSubscription reader.old x rest → Gives result (λ rule. (rule ≡ x) × (reader.new ≡ rest)) }
     ensures shorter { length reader.new ≤ length reader.old }
     ensures progress { OnOk result (length reader.new < length reader.old) }
 {
@@ -133,6 +153,7 @@ pub fn subscription(reader: &mut Reader) -> Result<SubscriptionRule, Broken>
 
 fn given_value(reader: &mut Reader) -> Result<Option<Value>, Broken>
     ensures found { IfOk result (λ value. IsGiven reader.old value reader.new) }
+    ensures finds { (x : Option Literal) (rest : Symbols) → IsGiven reader.old x rest → Stop is_open rest → Gives result (λ value. (value ≡ x) × (reader.new ≡ rest)) }
     ensures shorter { length reader.new ≤ length reader.old }
 {
     if !reader.takes_sign(Sign::Open) {
@@ -145,6 +166,7 @@ fn given_value(reader: &mut Reader) -> Result<Option<Value>, Broken>
 
 fn signed_literal(reader: &mut Reader) -> Result<Value, Broken>
     ensures found { IfOk result (λ value. IsSigned reader.old value reader.new) }
+    ensures finds { (x : Literal) (rest : Symbols) → IsSigned reader.old x rest → Gives result (λ value. (value ≡ x) × (reader.new ≡ rest)) }
     ensures shorter { length reader.new ≤ length reader.old }
 {
     if !reader.takes_sign(Sign::Minus) {
@@ -163,6 +185,7 @@ fn signed_literal(reader: &mut Reader) -> Result<Value, Broken>
 /// Behind CREATE TABLE.
 fn create_table(reader: &mut Reader) -> Result<CreateTable, Broken>
     ensures found { IfOk result (λ create. IsTable reader.old create reader.new) }
+    ensures finds { (x : CreateTable) (rest : Symbols) → IsTable reader.old x rest → Gives result (λ create. (create ≡ x) × (reader.new ≡ rest)) }
     ensures shorter { length reader.new ≤ length reader.old }
 {
     let name = reader.name()?;
@@ -180,6 +203,7 @@ fn create_table(reader: &mut Reader) -> Result<CreateTable, Broken>
 /// The columns as they are written, and the key.
 fn columns(reader: &mut Reader) -> Result<(Vec<ColumnRule>, Vec<Name>), Broken>
     ensures found { IfOk result (λ read. IsKeyed reader.old read.0.items read.1.items reader.new) }
+    ensures finds { (xs : List ColumnRule) (key : List (List ℕ)) (rest after : Symbols) → IsKeyed reader.old xs key rest → IsSign rest mark.Close after → Gives result (λ read. (read.0.items ≡ xs) × (read.1.items ≡ key) × (reader.new ≡ rest)) }
     ensures shorter { length reader.new ≤ length reader.old }
 {
     let mut columns = Vec::new(reader.alloc());
@@ -203,6 +227,7 @@ fn columns(reader: &mut Reader) -> Result<(Vec<ColumnRule>, Vec<Name>), Broken>
 /// `PRIMARY KEY ( n {, n} )`
 fn key_list(reader: &mut Reader) -> Result<Vec<Name>, Broken>
     ensures found { IfOk result (λ key. IsKeyWords reader.old key.items reader.new) }
+    ensures finds { (key : List (List ℕ)) (rest : Symbols) → IsKeyWords reader.old key rest → Gives result (λ names. (names.items ≡ key) × (reader.new ≡ rest)) }
     ensures shorter { length reader.new ≤ length reader.old }
 {
     reader.keyword(Keyword::Primary)?;
@@ -216,6 +241,7 @@ fn key_list(reader: &mut Reader) -> Result<Vec<Name>, Broken>
 /// A column, and the key with it.
 fn column_rule(reader: &mut Reader, held: Vec<Name>) -> Result<(ColumnRule, Vec<Name>), Broken>
     ensures found { IfOk result (λ read. IsColumnRule reader.old read.0 held.items read.1.items reader.new) }
+    ensures finds { (x : ColumnRule) (key : List (List ℕ)) (rest : Symbols) → IsColumnRule reader.old x held.items key rest → Stop rule_starts rest → Gives result (λ read. (read.0 ≡ x) × (read.1.items ≡ key) × (reader.new ≡ rest)) }
     ensures shorter { length reader.new ≤ length reader.old }
     ensures progress { OnOk result (length reader.new < length reader.old) }
 {
@@ -242,7 +268,7 @@ fn column_rule(reader: &mut Reader, held: Vec<Name>) -> Result<(ColumnRule, Vec<
 
 /// A list of this name.
 fn alone(alloc: Global, name: &Name) -> Result<Vec<Name>, Broken>
-    ensures items { IfOk result (λ names. names.items ≡ name.now ∷ []) }
+    ensures items { Gives result (λ names. names.items ≡ name.now ∷ []) }
 {
     let copy = sr_base::Copied::copy(name, alloc)?;
     let mut names = Vec::new(alloc);
@@ -262,6 +288,7 @@ struct Written {
 fn rules(reader: &mut Reader, may_be_key: bool) -> Result<Written, Broken>
     ensures found { IfOk result (λ rules. IsRules reader.old rules.not_null rules.null rules.primary reader.new) }
     ensures single { IfOk result (λ rules. rules.primary ≡ true → may_be_key ≡ true) }
+    ensures finds { (n u p : Bool) (rest : Symbols) → IsRules reader.old n u p rest → (p ≡ true → may_be_key ≡ true) → Stop rule_starts rest → Gives result (λ rules. (rules.not_null ≡ n) × (rules.null ≡ u) × (rules.primary ≡ p) × (reader.new ≡ rest)) }
     ensures shorter { length reader.new ≤ length reader.old }
 {
     let mut not_null = false;
@@ -291,6 +318,7 @@ fn rules(reader: &mut Reader, may_be_key: bool) -> Result<Written, Broken>
 
 fn kind(reader: &mut Reader) -> Result<Kind, Broken>
     ensures found { IfOk result (λ kind. IsKind reader.old kind reader.new) }
+    ensures finds { (x : Kind) (rest : Symbols) → IsKind reader.old x rest → Gives result (λ kind. (kind ≡ x) × (reader.new ≡ rest)) }
     ensures shorter { length reader.new ≤ length reader.old }
     ensures progress { OnOk result (length reader.new < length reader.old) }
 {
@@ -315,6 +343,7 @@ fn kind(reader: &mut Reader) -> Result<Kind, Broken>
 
 fn length(reader: &mut Reader) -> Result<u16, Broken>
     ensures found { IfOk result (λ n. IsLength reader.old n reader.new) }
+    ensures finds { (x : ℕ) (rest : Symbols) → IsLength reader.old x rest → Gives result (λ n. (n ≡ x) × (reader.new ≡ rest)) }
     ensures shorter { length reader.new ≤ length reader.old }
     ensures progress { OnOk result (length reader.new < length reader.old) }
 {
@@ -334,6 +363,7 @@ fn length(reader: &mut Reader) -> Result<u16, Broken>
 /// Behind CREATE PUBLICATION.
 fn create_publication(reader: &mut Reader) -> Result<CreatePublication, Broken>
     ensures found { IfOk result (λ create. IsPublication reader.old create reader.new) }
+    ensures finds { (x : Publication) (rest : Symbols) → IsPublication reader.old x rest → Gives result (λ create. (create ≡ x) × (reader.new ≡ rest)) }
     ensures shorter { length reader.new ≤ length reader.old }
 {
     let name = reader.name()?;
@@ -346,6 +376,7 @@ fn create_publication(reader: &mut Reader) -> Result<CreatePublication, Broken>
 /// Articles with commas between them.
 fn articles(reader: &mut Reader) -> Result<Seq<ArticleRule>, Broken>
     ensures found { IfOk result (λ articles. Listed IsArticle reader.old articles reader.new) }
+    ensures finds { (x : List Article) (rest next : Symbols) → Listed IsArticle reader.old x rest → IsSign rest mark.Close next → Gives result (λ articles. (articles ≡ x) × (reader.new ≡ rest)) }
     ensures shorter { length reader.new ≤ length reader.old }
 {
     let mut items = Vec::new(reader.alloc());
@@ -360,6 +391,7 @@ fn articles(reader: &mut Reader) -> Result<Seq<ArticleRule>, Broken>
 
 fn article(reader: &mut Reader) -> Result<ArticleRule, Broken>
     ensures found { IfOk result (λ article. IsArticle reader.old article reader.new) }
+    ensures finds { (x : Article) (rest : Symbols) → IsArticle reader.old x rest → Closes rest → Gives result (λ article. (article ≡ x) × (reader.new ≡ rest)) }
     ensures shorter { length reader.new ≤ length reader.old }
     ensures progress { OnOk result (length reader.new < length reader.old) }
 {
@@ -379,6 +411,7 @@ fn article(reader: &mut Reader) -> Result<ArticleRule, Broken>
 /// A WHERE, or nothing.
 pub fn condition(reader: &mut Reader) -> Result<Option<Expr>, Broken>
     ensures found { IfOk result (λ condition. IsCondition reader.old condition reader.new) }
+    ensures finds { (x : Option Expr) (rest : Symbols) → IsCondition reader.old x rest → Stop condition_goes rest → Gives result (λ condition. (condition ≡ x) × (reader.new ≡ rest)) }
     ensures shorter { length reader.new ≤ length reader.old }
 {
     if reader.takes(Keyword::Where) {
@@ -390,6 +423,7 @@ pub fn condition(reader: &mut Reader) -> Result<Option<Expr>, Broken>
 
 fn subscribed_by(reader: &mut Reader) -> Result<Option<Expr>, Broken>
     ensures found { IfOk result (λ by. IsSubscribed reader.old by reader.new) }
+    ensures finds { (x : Option Expr) (rest : Symbols) → IsSubscribed reader.old x rest → Closes rest → Gives result (λ by. (by ≡ x) × (reader.new ≡ rest)) }
     ensures shorter { length reader.new ≤ length reader.old }
 {
     if !reader.takes(Keyword::Subscribe) {
@@ -403,20 +437,17 @@ fn subscribed_by(reader: &mut Reader) -> Result<Option<Expr>, Broken>
 /// Behind CREATE TRIGGER.
 fn create_trigger(reader: &mut Reader) -> Result<CreateTrigger, Broken>
     ensures found { IfOk result (λ create. IsTrigger reader.old create reader.new) }
+    ensures finds { (x : CreateTrigger) (rest : Symbols) → IsTrigger reader.old x rest → Gives result (λ create. (create ≡ x) × (reader.new ≡ rest)) }
     ensures shorter { length reader.new ≤ length reader.old }
 {
     let name = reader.name()?;
-    reader.keyword(Keyword::Resolve)?;
-    reader.keyword(Keyword::Update)?;
+    resolve_update(reader)?;
     let columns = of_columns(reader)?;
     reader.keyword(Keyword::On)?;
     let table = reader.name()?;
     reader.keyword(Keyword::Referencing)?;
     let aliases = aliases(reader)?;
-    reader.keyword(Keyword::For)?;
-    reader.keyword(Keyword::Each)?;
-    reader.keyword(Keyword::Row)?;
-    reader.keyword(Keyword::Begin)?;
+    for_each_row(reader)?;
     let variables = variables(reader)?;
     let actions = actions(reader, IFS)?;
     reader.keyword(Keyword::End)?;
@@ -430,8 +461,33 @@ fn create_trigger(reader: &mut Reader) -> Result<CreateTrigger, Broken>
     })
 }
 
+/// `RESOLVE UPDATE`
+fn resolve_update(reader: &mut Reader) -> Result<(), Broken>
+    ensures found { OnOk result (reader.old ≡ word key.Resolve ∷ word key.Update ∷ reader.new) }
+    ensures finds { (rest : Symbols) → reader.old ≡ word key.Resolve ∷ word key.Update ∷ rest → Gives result (λ _. reader.new ≡ rest) }
+    ensures shorter { length reader.new ≤ length reader.old }
+{
+    reader.keyword(Keyword::Resolve)?;
+    reader.keyword(Keyword::Update)?;
+    Ok(())
+}
+
+/// `FOR EACH ROW BEGIN`
+fn for_each_row(reader: &mut Reader) -> Result<(), Broken>
+    ensures found { OnOk result (reader.old ≡ word key.For ∷ word key.Each ∷ word key.Row ∷ word key.Begin ∷ reader.new) }
+    ensures finds { (rest : Symbols) → reader.old ≡ word key.For ∷ word key.Each ∷ word key.Row ∷ word key.Begin ∷ rest → Gives result (λ _. reader.new ≡ rest) }
+    ensures shorter { length reader.new ≤ length reader.old }
+{
+    reader.keyword(Keyword::For)?;
+    reader.keyword(Keyword::Each)?;
+    reader.keyword(Keyword::Row)?;
+    reader.keyword(Keyword::Begin)?;
+    Ok(())
+}
+
 fn of_columns(reader: &mut Reader) -> Result<Seq<Name>, Broken>
     ensures found { IfOk result (λ columns. IsOf reader.old columns reader.new) }
+    ensures finds { (x : List (List ℕ)) (rest next : Symbols) → IsOf reader.old x rest → IsWord rest key.On next → Gives result (λ columns. (columns ≡ x) × (reader.new ≡ rest)) }
     ensures shorter { length reader.new ≤ length reader.old }
 {
     if reader.takes(Keyword::Of) {
@@ -442,7 +498,8 @@ fn of_columns(reader: &mut Reader) -> Result<Seq<Name>, Broken>
 }
 
 fn image_at(symbol: Option<&Symbol>) -> Option<Image>
-    ensures { IfSome result (λ image. option_copied symbol.entry ≡ Some (word (image_word image))) }
+    ensures found { IfSome result (λ image. option_copied symbol.entry ≡ Some (word (image_word image))) }
+    ensures absent { result ≡ None → (image : Image) → option_copied symbol.entry ≡ Some (word (image_word image)) → ⊥ }
 {
     match symbol {
         Some(Symbol::Keyword(Keyword::Old)) => Some(Image::Old),
@@ -454,12 +511,13 @@ fn image_at(symbol: Option<&Symbol>) -> Option<Image>
 
 /// Aliases, each row and each name once.
 fn aliases(reader: &mut Reader) -> Result<Seq<(Image, Name)>, Broken>
-    ensures found { IfOk result (λ aliases. Row IsAlias reader.old aliases reader.new) }
+    ensures found { IfOk result (λ aliases. AreAliases reader.old aliases reader.new) }
+    ensures finds { (x : List (Image × List ℕ)) (rest : Symbols) → AreAliases reader.old x rest → Stop is_image rest → Gives result (λ aliases. (aliases ≡ x) × (reader.new ≡ rest)) }
     ensures shorter { length reader.new ≤ length reader.old }
 {
     let mut aliases: Vec<(Image, Name)> = Vec::new(reader.alloc());
     'more: while let Some(image) = image_at(reader.peek()) {
-        if aliases.iter().any(|alias| alias.0 == image) {
+        if has_image(aliases.as_slice(), image) {
             return Err(Broken::Refused);
         }
         reader.skip();
@@ -473,16 +531,36 @@ fn aliases(reader: &mut Reader) -> Result<Seq<(Image, Name)>, Broken>
     Ok(Seq::from_vec(aliases))
 }
 
+/// Whether the row has an alias already.
+fn has_image(aliases: &[(Image, Name)], image: Image) -> bool
+    ensures found { IsTrue result → Any (λ alias. alias.0 ≡ image) aliases.now }
+    ensures absent { IsFalse result → All (λ alias. alias.0 ≢ image) aliases.now }
+{
+    aliases.iter().any(|alias| alias.0 == image)
+}
+
 /// Whether the next name is an alias already.
-fn is_taken(reader: &Reader, aliases: &[(Image, Name)]) -> bool {
+fn is_taken(reader: &Reader, aliases: &[(Image, Name)]) -> bool
+    ensures found { IsTrue result → (name : List ℕ) (rest : Symbols) → IsName reader.now name rest → Any (λ alias. alias.1 ≡ name) aliases.now }
+    ensures absent { IsFalse result → (name : List ℕ) (rest : Symbols) → IsName reader.now name rest → All (λ alias. alias.1 ≢ name) aliases.now }
+{
     match reader.next_name() {
-        Some(bytes) => aliases.iter().any(|alias| alias.1.bytes() == bytes),
+        Some(bytes) => has_name(aliases, bytes),
         None => false,
     }
 }
 
+/// Whether the name is an alias already.
+fn has_name(aliases: &[(Image, Name)], name: &[u8]) -> bool
+    ensures found { IsTrue result → Any (λ alias. alias.1 ≡ name.now) aliases.now }
+    ensures absent { IsFalse result → All (λ alias. alias.1 ≢ name.now) aliases.now }
+{
+    aliases.iter().any(|alias| alias.1.bytes() == name)
+}
+
 fn variables(reader: &mut Reader) -> Result<Seq<(Name, Kind)>, Broken>
     ensures found { IfOk result (λ variables. Row IsVariable reader.old variables reader.new) }
+    ensures finds { (x : List (List ℕ × Kind)) (rest : Symbols) → Row IsVariable reader.old x rest → Stop is_declare rest → Gives result (λ variables. (variables ≡ x) × (reader.new ≡ rest)) }
     ensures shorter { length reader.new ≤ length reader.old }
 {
     let mut variables = Vec::new(reader.alloc());
@@ -496,6 +574,7 @@ fn variables(reader: &mut Reader) -> Result<Seq<(Name, Kind)>, Broken>
 /// `DECLARE n type ;`
 fn variable(reader: &mut Reader) -> Result<(Name, Kind), Broken>
     ensures found { IfOk result (λ variable. IsVariable reader.old variable reader.new) }
+    ensures finds { (x : List ℕ × Kind) (rest : Symbols) → IsVariable reader.old x rest → Gives result (λ variable. (variable ≡ x) × (reader.new ≡ rest)) }
     ensures shorter { length reader.new ≤ length reader.old }
     ensures progress { OnOk result (length reader.new < length reader.old) }
 {

@@ -1,13 +1,20 @@
-ghost use Rattle.std.specs.Prelude.{◌≡◌, ◌+◌, ◌-◌, ◌*◌, ◌<◌, ◌≤◌, ◌↔◌, length, max, neg_ℤ, OnOk, IfOk, IsSome, IsTrue, OnSome, ℕ};
+ghost use Rattle.std.specs.Prelude.{◌≡◌, ◌+◌, ◌-◌, ◌*◌, ◌<◌, ◌≤◌, ◌↔◌, length, max, neg_ℤ, OnOk, IfOk, IfErr, IsSome, IsTrue, OnSome, ℕ, List, Option};
 ghost use Rattle.std.specs.Option.{option_copied, option_and_then};
-ghost use Rattle.sr_ast.specs.Terms.Term.{unary, binary};
+ghost use Rattle.sr_ast.specs.Terms.Term.{column, unary, binary};
 ghost use Rattle.sr_ast.specs.Exprs.{term_of};
+ghost use Rattle.sr_ast.specs.declared.expr.Expr.{Expr};
+ghost use Rattle.sr_ast.specs.declared.operator.Unary.{Unary};
+ghost use Rattle.sr_base.specs.declared.value.Value.{Value};
+ghost use Rattle.sr_parse.specs.declared.reader.Broken.TheVariants.{Memory};
+ghost use Rattle.sr_parse.specs.Symbols.{Symbols};
 ghost use Rattle.sr_parse.specs.Levels.{tightness};
+ghost use Rattle.sr_parse.specs.Going.{Stop, Gives, Finds, expression_goes, is_dot};
 ghost use Rattle.sr_parse.specs.Literals.{IsLiteral, IsDateText, number_value, negated, negative_meant};
 ghost use Rattle.sr_parse.specs.Expressions.{
   Reads,
   IsExpr,
   IsDeep,
+  IsColumn,
   IsNullTest,
   tighter,
   joins,
@@ -53,6 +60,7 @@ enum Level {
 
 pub fn expr(reader: &mut Reader) -> Result<Expr, Broken>
     ensures found { IfOk result (λ expr. IsExpr reader.old expr reader.new) }
+    ensures finds { (x : Expr) (rest : Symbols) → IsExpr reader.old x rest → Stop expression_goes rest → Gives result (λ expr. (expr ≡ x) × (reader.new ≡ rest)) }
     ensures shorter { length reader.new ≤ length reader.old }
     ensures progress { OnOk result (length reader.new < length reader.old) }
 {
@@ -104,6 +112,7 @@ fn joined(reader: &Reader, operator: Binary, left: Sized, right: Sized) -> Resul
     requires small { (left.depth ≤ 200) × (right.depth ≤ 200) }
     ensures term { IfOk result (λ sized. term_of sized.expr ≡ binary operator (term_of left.expr) (term_of right.expr)) }
     ensures depth { IfOk result (λ sized. sized.depth ≡ max left.depth right.depth + 1) }
+    ensures memory { IfErr result (λ e. e ≡ Memory) }
 {
     let depth = left.depth.max(right.depth) + 1;
     let left = Operand::new(reader.alloc(), left.expr)?;
@@ -118,6 +127,7 @@ fn over(reader: &Reader, operator: Unary, operand: Sized) -> Result<Sized, Broke
     requires small { operand.depth ≤ 200 }
     ensures term { IfOk result (λ sized. term_of sized.expr ≡ unary operator (term_of operand.expr)) }
     ensures depth { IfOk result (λ sized. sized.depth ≡ operand.depth + 1) }
+    ensures memory { IfErr result (λ e. e ≡ Memory) }
 {
     let depth = operand.depth + 1;
     let operand = Operand::new(reader.alloc(), operand.expr)?;
@@ -131,6 +141,7 @@ fn over(reader: &Reader, operator: Unary, operand: Sized) -> Result<Sized, Broke
 fn chain(reader: &mut Reader, level: Level, room: Room) -> Result<Sized, Broken>
     requires room { (0 < room.depth) × (room.depth ≤ 200) }
     ensures found { IfOk result (λ sized. Reads (tightness level) room.parentheses reader.old (term_of sized.expr) reader.new) }
+    ensures finds { Finds (tightness level) room reader.old reader.new result }
     ensures deep { IfOk result (λ sized. IsDeep (term_of sized.expr) sized.depth room.depth) }
     ensures shorter { length reader.new ≤ length reader.old }
     ensures progress { OnOk result (length reader.new < length reader.old) }
@@ -151,6 +162,7 @@ fn chain(reader: &mut Reader, level: Level, room: Room) -> Result<Sized, Broken>
 fn part(reader: &mut Reader, level: Level, room: Room) -> Result<Sized, Broken>
     requires room { (0 < room.depth) × (room.depth ≤ 200) }
     ensures found { IfOk result (λ sized. Reads (tighter (tightness level)) room.parentheses reader.old (term_of sized.expr) reader.new) }
+    ensures finds { Finds (tighter (tightness level)) room reader.old reader.new result }
     ensures deep { IfOk result (λ sized. IsDeep (term_of sized.expr) sized.depth room.depth) }
     ensures shorter { length reader.new ≤ length reader.old }
     ensures progress { OnOk result (length reader.new < length reader.old) }
@@ -167,6 +179,7 @@ fn part(reader: &mut Reader, level: Level, room: Room) -> Result<Sized, Broken>
 fn negation(reader: &mut Reader, room: Room) -> Result<Sized, Broken>
     requires room { (0 < room.depth) × (room.depth ≤ 200) }
     ensures found { IfOk result (λ sized. Reads negation room.parentheses reader.old (term_of sized.expr) reader.new) }
+    ensures finds { Finds negation room reader.old reader.new result }
     ensures deep { IfOk result (λ sized. IsDeep (term_of sized.expr) sized.depth room.depth) }
     ensures shorter { length reader.new ≤ length reader.old }
     ensures progress { OnOk result (length reader.new < length reader.old) }
@@ -202,6 +215,7 @@ fn comparison_at(symbol: Option<&Symbol>) -> Option<Binary>
 fn comparison(reader: &mut Reader, room: Room) -> Result<Sized, Broken>
     requires room { (0 < room.depth) × (room.depth ≤ 200) }
     ensures found { IfOk result (λ sized. Reads comparison room.parentheses reader.old (term_of sized.expr) reader.new) }
+    ensures finds { Finds comparison room reader.old reader.new result }
     ensures deep { IfOk result (λ sized. IsDeep (term_of sized.expr) sized.depth room.depth) }
     ensures shorter { length reader.new ≤ length reader.old }
     ensures progress { OnOk result (length reader.new < length reader.old) }
@@ -230,6 +244,7 @@ fn comparison(reader: &mut Reader, room: Room) -> Result<Sized, Broken>
 
 fn null_test(reader: &mut Reader) -> Result<Unary, Broken>
     ensures found { IfOk result (λ operator. IsNullTest reader.old operator reader.new) }
+    ensures finds { (x : Unary) (rest : Symbols) → IsNullTest reader.old x rest → Gives result (λ operator. (operator ≡ x) × (reader.new ≡ rest)) }
     ensures shorter { length reader.new ≤ length reader.old }
     ensures progress { OnOk result (length reader.new < length reader.old) }
 {
@@ -246,6 +261,7 @@ fn null_test(reader: &mut Reader) -> Result<Unary, Broken>
 fn signed(reader: &mut Reader, room: Room) -> Result<Sized, Broken>
     requires room { (0 < room.depth) × (room.depth ≤ 200) }
     ensures found { IfOk result (λ sized. Reads signed room.parentheses reader.old (term_of sized.expr) reader.new) }
+    ensures finds { Finds signed room reader.old reader.new result }
     ensures deep { IfOk result (λ sized. IsDeep (term_of sized.expr) sized.depth room.depth) }
     ensures shorter { length reader.new ≤ length reader.old }
     ensures progress { OnOk result (length reader.new < length reader.old) }
@@ -307,6 +323,7 @@ pub fn value_of(number: i64) -> Value
 fn primary(reader: &mut Reader, room: Room) -> Result<Sized, Broken>
     requires room { (0 < room.depth) × (room.depth ≤ 200) }
     ensures found { IfOk result (λ sized. Reads operand room.parentheses reader.old (term_of sized.expr) reader.new) }
+    ensures finds { Finds operand room reader.old reader.new result }
     ensures deep { IfOk result (λ sized. IsDeep (term_of sized.expr) sized.depth room.depth) }
     ensures shorter { length reader.new ≤ length reader.old }
     ensures progress { OnOk result (length reader.new < length reader.old) }
@@ -334,21 +351,19 @@ fn primary(reader: &mut Reader, room: Room) -> Result<Sized, Broken>
 
 fn column(reader: &mut Reader) -> Result<Sized, Broken>
     ensures found { (room : ℕ) → IfOk result (λ sized. Reads operand room reader.old (term_of sized.expr) reader.new) }
+    ensures finds { (table : Option (List ℕ)) (name : List ℕ) (rest : Symbols) → IsColumn reader.old table name rest → Stop is_dot rest → Gives result (λ sized. (term_of sized.expr ≡ column table name) × (reader.new ≡ rest)) }
     ensures deep { IfOk result (λ sized. IsDeep (term_of sized.expr) sized.depth 1) }
     ensures shorter { length reader.new ≤ length reader.old }
     ensures progress { OnOk result (length reader.new < length reader.old) }
 {
-    let first = reader.name()?;
-    if reader.takes_sign(Sign::Dot) {
-        let name = reader.name()?;
-        return Ok(leaf(Expr::Column(Some(first), name)));
-    }
-    Ok(leaf(Expr::Column(None, first)))
+    let (table, name) = reader.reference()?;
+    Ok(leaf(Expr::Column(table, name)))
 }
 
 /// A number, a text, NULL, or DATE and the text of a date.
 pub fn literal(reader: &mut Reader) -> Result<Value, Broken>
     ensures found { IfOk result (λ value. IsLiteral reader.old value reader.new) }
+    ensures finds { (x : Value) (rest : Symbols) → IsLiteral reader.old x rest → Gives result (λ value. (value ≡ x) × (reader.new ≡ rest)) }
     ensures shorter { length reader.new ≤ length reader.old }
     ensures progress { OnOk result (length reader.new < length reader.old) }
 {
@@ -361,13 +376,15 @@ pub fn literal(reader: &mut Reader) -> Result<Value, Broken>
         return Ok(Value::Null);
     }
     if reader.takes(Keyword::Date) {
-        return date(reader);
+        let day = date(reader)?;
+        return Ok(day);
     }
     Ok(Value::Str(reader.text()?))
 }
 
 fn date(reader: &mut Reader) -> Result<Value, Broken>
     ensures found { IfOk result (λ value. IsDateText reader.old value reader.new) }
+    ensures finds { (x : Value) (rest : Symbols) → IsDateText reader.old x rest → Gives result (λ value. (value ≡ x) × (reader.new ≡ rest)) }
     ensures shorter { length reader.new ≤ length reader.old }
     ensures progress { OnOk result (length reader.new < length reader.old) }
 {

@@ -1,12 +1,13 @@
 //! Scripts read as statements: tokens become symbols, and one function per production reads them.
 //!
-//! It stands on sr_lex and sr_ast. The contract that matters most is that of `parse`: the script that it answers is one that the
-//! text spells, by a grammar that is a relation between symbols and statements (`specs/Scripts.antt` and the files that it names), and
-//! no other script is: the grammar is unambiguous (`a_text_spells_one_script`). The printed text of a statement in normal form
-//! spells it, and each statement of a script is in normal form (`what_prints_is_read_so`, `specs/NormalForms.antt`).
-//! It always returns, whatever the text and however deep it nests, and a refusal stands where no token begins, or at a token, or at
-//! the end. That every script of the grammar is read, and that a refusal stands at the first token with which no script goes on, is
-//! tested and not proved.
+//! It stands on sr_lex and sr_ast. The contract that matters most is that of `parse`: a text that spells a script, by a grammar that is
+//! a relation between symbols and statements (`specs/Scripts.antt` and the files that it names), is answered with that script, and every
+//! other text is refused. A text spells one script at most: the grammar is unambiguous (`a_text_spells_one_script`). The printed text of
+//! a statement in normal form spells it, and each statement of a script is in normal form (`what_prints_is_read_so`,
+//! `specs/NormalForms.antt`). It always returns, whatever the text and however deep it nests, and a refusal stands where no token begins,
+//! or at a token, or at the end. That it stands at the first token with which no script goes on is tested and not proved.
+//!
+//! No token is kept: symbols are made of a text as its tokens are taken, and given up as statements are read (`symbols`, `reader`).
 #![tactic(auto)]
 
 mod acting;
@@ -19,6 +20,7 @@ mod parsing;
 mod querying;
 mod reader;
 mod symbol;
+mod symbols;
 #[cfg(test)]
 mod tests;
 

@@ -1,7 +1,8 @@
 //! The normal form of columns: those of the key are NOT NULL.
-ghost use Rattle.std.specs.Prelude.{◌≡◌, ◌||◌, IfOk};
+ghost use Rattle.std.specs.Prelude.{◌≡◌, ◌||◌};
 ghost use Rattle.std.specs.BTreeSet.{contains as has};
 ghost use Rattle.sr_base.specs.Order.{name_cmp};
+ghost use Rattle.sr_parse.specs.Going.{Gives};
 ghost use Rattle.sr_parse.specs.Tables.{AreNormal};
 ghost use Rattle.sr_parse.specs.Keys.{IsSetOf};
 
@@ -17,7 +18,7 @@ pub fn normal(
     written: Vec<ColumnRule>,
     key: &[Name],
 ) -> Result<Vec<ColumnRule>, Broken>
-    ensures normal { IfOk result (λ columns. AreNormal key.now written.items columns.items) }
+    ensures normal { Gives result (λ columns. AreNormal key.now written.items columns.items) }
 {
     let names = set_of(alloc, key)?;
     let mut left = written;
@@ -46,7 +47,7 @@ fn marked(column: ColumnRule, names: &BTreeSet<Name>) -> ColumnRule
 
 /// The names as a set, so that each is found in few steps.
 fn set_of(alloc: Global, names: &[Name]) -> Result<BTreeSet<Name>, Broken>
-    ensures set { IfOk result (λ set. IsSetOf set names.now) }
+    ensures set { Gives result (λ set. IsSetOf set names.now) }
 {
     let mut set = BTreeSet::new(alloc);
     let mut rest = names;

@@ -1,17 +1,21 @@
-ghost use Rattle.std.specs.Prelude.{◌≡◌, ◌+◌, ◌-◌, ◌*◌, ◌<◌, ◌≤◌, ◌↔◌, length, OnOk, IfOk, IsSome, IsTrue, OnSome, ℕ, List, map, ◌⊎◌, Contains, reverse};
+ghost use Rattle.std.specs.Prelude.{◌≡◌, ◌+◌, ◌-◌, ◌*◌, ◌<◌, ◌≤◌, ◌↔◌, length, OnOk, IfOk, IsSome, IsTrue, OnSome, ℕ, List, map, ◌⊎◌, Contains, reverse, [], ◌∷◌, ◌++◌, Ok, Err};
 ghost use Rattle.sr_ast.specs.declared.stmt.Stmt.{Stmt as Statement};
+ghost use Rattle.sr_parse.specs.Going.{Gives, Ends};
+ghost use Rattle.sr_parse.specs.Faults.{IsRead};
 ghost use Rattle.sr_parse.specs.Places.{IsPlace, IsRefusedAt};
-ghost use Rattle.sr_parse.specs.Meanings.{AreSymbols, Spells, IsWritten};
-ghost use Rattle.sr_parse.specs.Scripts.{IsStatement, IsScript, IsPiece, IsWork};
+ghost use Rattle.sr_parse.specs.Symbols.{Symbols};
+ghost use Rattle.sr_parse.specs.Meanings.{AreSymbols, IsWritten};
+ghost use Rattle.sr_parse.specs.Scripts.{IsStatement, IsDefinition, IsScript, IsPiece, IsWork};
 
 use crate::creating::{create, drop_statement, grant, subscription};
 use crate::keyword::Keyword;
 use crate::querying::{delete, insert, passthrough, select, update};
 use crate::reader::{Broken, Reader};
-use crate::symbol::{Sign, Symbol, symbol_of};
+use crate::symbol::Sign;
+use crate::symbols::{start_behind, symbols};
 use sr_ast::{Dml, Script, Stmt};
 use sr_base::{Seq, Text};
-use sr_lex::{LexFault, Token, lex};
+use sr_lex::LexFault;
 use std::alloc::{AllocError, AllocFailed, Global};
 
 /// Why a text is no script.
@@ -21,6 +25,21 @@ pub enum ParseFault {
     Refused { at: usize },
     /// There is no memory for the statements.
     Memory,
+}
+
+/// A fault of the tokens is one of the script, at the same byte.
+impl From<LexFault> for ParseFault {
+    ghost use Rattle.std.specs.Prelude.{◌≡◌};
+    ghost use Rattle.sr_parse.specs.Faults.{fault_of};
+
+    ghost from_gives = { λ fault e. e ≡ fault_of fault };
+
+    fn from(fault: LexFault) -> ParseFault {
+        match fault {
+            LexFault::NoToken { at } => ParseFault::Refused { at },
+            LexFault::Memory => ParseFault::Memory,
+        }
+    }
 }
 
 impl From<AllocError> for ParseFault {
@@ -54,66 +73,30 @@ pub fn parse(alloc: Global, text: &Text) -> Result<Script, ParseFault>
     ensures sound { IfOk result (λ script. IsWritten text.now script) }
     // It spells no other script.
     ensures only { IfOk result (λ script. (other : List Statement) → IsWritten text.now other → other ≡ script) }
+    // A text that spells a script is answered with it, and refused for want of memory alone.
+    ensures read { IsRead text.now result }
     // A refusal stands where no token begins, or at a token, or at the end.
     ensures refused { (at : ℕ) → result ≡ Err (ParseFault.Refused at) → IsRefusedAt text.now at }
 {
-    match lex(alloc, text) {
-        Ok(tokens) => parse_tokens(alloc, text, tokens),
-        Err(LexFault::NoToken { at }) => Err(ParseFault::Refused { at }),
-        Err(LexFault::Memory) => Err(ParseFault::Memory),
-    }
-}
-
-fn parse_tokens(alloc: Global, text: &Text, tokens: Vec<Token>) -> Result<Script, ParseFault>
-    ensures sound { IfOk result (λ script. Spells text.now tokens.items script) }
-    ensures refused { (at : ℕ) → result ≡ Err (ParseFault.Refused at) → IsPlace text.now tokens.items at }
-{
-    let starts = starts(alloc, tokens.as_slice())?;
-    let symbols = match symbols(alloc, text.bytes(), tokens) {
-        Ok(symbols) => symbols,
-        Err(_) => return Err(ParseFault::Memory),
-    };
+    let symbols = symbols(alloc, text.bytes())?;
+    let count = symbols.len();
     let mut reader = Reader::new(alloc, symbols);
     match script(&mut reader) {
         Ok(script) => Ok(script),
         Err(Broken::Memory) => Err(ParseFault::Memory),
-        Err(Broken::Refused) => Err(ParseFault::Refused {
-            at: place(starts.as_slice(), reader.left(), text.bytes().len()),
-        }),
-    }
-}
-
-/// What the tokens mean, the last one first.
-fn symbols(alloc: Global, text: &[u8], tokens: Vec<Token>) -> Result<Vec<Symbol>, Broken>
-    ensures found { IfOk result (λ symbols. AreSymbols text.now tokens.items (reverse symbols.items)) }
-{
-    let mut left = tokens;
-    let mut symbols = Vec::new(alloc);
-    'tokens: while let Some(token) = left.pop() {
-        let symbol = symbol_of(alloc, text, token)?;
-        symbols.push(symbol)?;
-    }
-    Ok(symbols)
-}
-
-fn starts(alloc: Global, tokens: &[Token]) -> Result<Vec<usize>, AllocError>
-    ensures starts { IfOk result (λ starts. starts.items ≡ map (λ t. t.start) tokens.now) }
-{
-    tokens.iter().map(|token| token.start).collect(alloc)
-}
-
-/// The first byte of the token with which so many are left, or the end.
-fn place(starts: &[usize], left: usize, end: usize) -> usize
-    ensures place { (result ≡ end) ⊎ Contains starts.now result }
-{
-    match starts.get(starts.len().saturating_sub(left)) {
-        Some(start) => *start,
-        None => end,
+        Err(Broken::Refused) => {
+            let behind = count.saturating_sub(reader.left());
+            match start_behind(alloc, text.bytes(), behind) {
+                Ok(at) => Err(ParseFault::Refused { at }),
+                Err(_) => Err(ParseFault::Memory),
+            }
+        }
     }
 }
 
 fn script(reader: &mut Reader) -> Result<Script, Broken>
     ensures found { IfOk result (λ script. IsScript reader.old script) }
+    ensures finds { (x : List Statement) → IsScript reader.old x → Gives result (λ script. script ≡ x) }
     ensures shorter { length reader.new ≤ length reader.old }
 {
     let mut script = Vec::new(reader.alloc());
@@ -131,6 +114,8 @@ fn script(reader: &mut Reader) -> Result<Script, Broken>
 /// A statement, or nothing before a `;` and at the end.
 fn piece(reader: &mut Reader, script: &mut Vec<Stmt>) -> Result<(), Broken>
     ensures found { OnOk result (IsPiece reader.old script.old.items script.new.items reader.new) }
+    ensures none { Ends reader.old → Gives result (λ _. (script.new.items ≡ script.old.items) × (reader.new ≡ reader.old)) }
+    ensures one { (x : Statement) (rest : Symbols) → IsStatement reader.old x rest → Ends rest → Gives result (λ _. (script.new.items ≡ script.old.items ++ x ∷ []) × (reader.new ≡ rest)) }
     ensures shorter { length reader.new ≤ length reader.old }
 {
     if reader.left() == 0 || reader.is_sign(Sign::Semicolon) {
@@ -143,6 +128,7 @@ fn piece(reader: &mut Reader, script: &mut Vec<Stmt>) -> Result<(), Broken>
 
 fn statement(reader: &mut Reader) -> Result<Stmt, Broken>
     ensures found { IfOk result (λ stmt. IsStatement reader.old stmt reader.new) }
+    ensures finds { (x : Statement) (rest : Symbols) → IsStatement reader.old x rest → Ends rest → Gives result (λ stmt. (stmt ≡ x) × (reader.new ≡ rest)) }
     ensures shorter { length reader.new ≤ length reader.old }
     ensures progress { OnOk result (length reader.new < length reader.old) }
 {
@@ -181,13 +167,16 @@ fn statement(reader: &mut Reader) -> Result<Stmt, Broken>
 /// `[WORK]`
 fn work(reader: &mut Reader)
     ensures found { IsWork reader.old reader.new }
+    ensures finds { (rest : Symbols) → IsWork reader.old rest → Ends rest → reader.new ≡ rest }
     ensures shorter { length reader.new ≤ length reader.old }
 {
     let _ = reader.takes(Keyword::Work);
 }
 
+/// A statement on tables, publications, users, subscriptions or triggers.
 fn definition(reader: &mut Reader) -> Result<Stmt, Broken>
     ensures found { IfOk result (λ stmt. IsStatement reader.old stmt reader.new) }
+    ensures finds { (x : Statement) (rest : Symbols) → IsStatement reader.old x rest → IsDefinition x → Ends rest → Gives result (λ stmt. (stmt ≡ x) × (reader.new ≡ rest)) }
     ensures shorter { length reader.new ≤ length reader.old }
     ensures progress { OnOk result (length reader.new < length reader.old) }
 {

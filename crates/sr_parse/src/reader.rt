@@ -1,8 +1,9 @@
-ghost use Rattle.std.specs.Prelude.{◌≡◌, ◌+◌, ◌<◌, ◌≤◌, ◌↔◌, length, OnOk, IfOk, IsSome, IfSome, IsTrue, IsFalse, reverse, [], ◌∷◌};
+ghost use Rattle.std.specs.Prelude.{◌≡◌, ◌+◌, ◌<◌, ◌≤◌, ◌↔◌, ℕ, List, Option, length, OnOk, IfOk, IsSome, IfSome, IsTrue, IsFalse, reverse, [], ◌∷◌};
 ghost use Rattle.std.specs.Option.{option_copied};
-ghost use Rattle.sr_parse.specs.Symbols.{first, behind, named, name_meant, IsName, IsSign, IsWord, IsTextAt};
+ghost use Rattle.sr_parse.specs.Symbols.{Symbols, first, behind, named, name_meant, IsName, IsSign, IsWord, IsTextAt};
 ghost use Rattle.sr_parse.specs.Listing.{Listed, IsNames};
 ghost use Rattle.sr_parse.specs.Expressions.{IsColumn};
+ghost use Rattle.sr_parse.specs.Going.{Gives, Stop, is_dot, is_comma, is_open};
 
 use crate::keyword::Keyword;
 use crate::symbol::{Sign, Symbol};
@@ -37,6 +38,24 @@ impl<T: Drop> From<AllocFailed<T>> for Broken {
     fn from(_refused: AllocFailed<T>) -> Broken {
         Broken::Memory
     }
+}
+
+/// Gives memory back where more than half of it is free. While a whole list is taken, this moves no more than the list's length.
+fn give_back(left: &mut Vec<Symbol>)
+    ensures same { left.new.items ≡ left.old.items }
+{
+    if left.len() < left.capacity() / 2 {
+        left.shrink_to_fit();
+    }
+}
+
+/// A list that grows no more, in as much memory as it needs.
+pub fn sealed<T>(items: Vec<T>) -> Seq<T>
+    ensures items { result ≡ items.items }
+{
+    let mut items = items;
+    items.shrink_to_fit();
+    Seq::from_vec(items)
 }
 
 /// The symbols that are left. They lie with the next one last; contracts see them in the order in which they are read.
@@ -85,10 +104,12 @@ impl Reader {
         ensures rest { self.new ≡ behind self.old }
     {
         let _ = self.left.pop();
+        give_back(&mut self.left);
     }
 
     pub fn is_keyword(&self, wanted: Keyword) -> bool
         ensures found { IsTrue result → IsWord self.now wanted (behind self.now) }
+        ensures absent { IsFalse result → (rest : Symbols) → IsWord self.now wanted rest → ⊥ }
     {
         match self.peek() {
             Some(Symbol::Keyword(keyword)) => *keyword == wanted,
@@ -98,6 +119,7 @@ impl Reader {
 
     pub fn is_sign(&self, wanted: Sign) -> bool
         ensures found { IsTrue result → IsSign self.now wanted (behind self.now) }
+        ensures absent { IsFalse result → (rest : Symbols) → IsSign self.now wanted rest → ⊥ }
     {
         match self.peek() {
             Some(Symbol::Sign(sign)) => *sign == wanted,
@@ -108,6 +130,7 @@ impl Reader {
     /// Takes the key word where it is next.
     pub fn takes(&mut self, wanted: Keyword) -> bool
         ensures found { IsTrue result → IsWord self.old wanted self.new }
+        ensures absent { IsFalse result → (rest : Symbols) → IsWord self.old wanted rest → ⊥ }
         ensures kept { IsFalse result → self.new ≡ self.old }
         ensures shorter { length self.new ≤ length self.old }
         ensures taken { IsTrue result → length self.new < length self.old }
@@ -122,6 +145,7 @@ impl Reader {
     /// Takes the sign where it is next.
     pub fn takes_sign(&mut self, wanted: Sign) -> bool
         ensures found { IsTrue result → IsSign self.old wanted self.new }
+        ensures absent { IsFalse result → (rest : Symbols) → IsSign self.old wanted rest → ⊥ }
         ensures kept { IsFalse result → self.new ≡ self.old }
         ensures shorter { length self.new ≤ length self.old }
         ensures taken { IsTrue result → length self.new < length self.old }
@@ -135,6 +159,7 @@ impl Reader {
 
     pub fn keyword(&mut self, wanted: Keyword) -> Result<(), Broken>
         ensures found { OnOk result (IsWord self.old wanted self.new) }
+        ensures finds { (rest : Symbols) → IsWord self.old wanted rest → Gives result (λ _. self.new ≡ rest) }
         ensures shorter { length self.new ≤ length self.old }
         ensures progress { OnOk result (length self.new < length self.old) }
     {
@@ -147,6 +172,7 @@ impl Reader {
 
     pub fn sign(&mut self, wanted: Sign) -> Result<(), Broken>
         ensures found { OnOk result (IsSign self.old wanted self.new) }
+        ensures finds { (rest : Symbols) → IsSign self.old wanted rest → Gives result (λ _. self.new ≡ rest) }
         ensures shorter { length self.new ≤ length self.old }
         ensures progress { OnOk result (length self.new < length self.old) }
     {
@@ -158,7 +184,10 @@ impl Reader {
     }
 
     /// Whether a name is next: a word that is no key word, or one of the key words that are also names.
-    pub fn is_name(&self) -> bool {
+    pub fn is_name(&self) -> bool
+        ensures found { IsTrue result → (x : List ℕ) × IsName self.now x (behind self.now) }
+        ensures absent { IsFalse result → (x : List ℕ) (rest : Symbols) → IsName self.now x rest → ⊥ }
+    {
         match self.peek() {
             Some(Symbol::Name(_)) => true,
             Some(Symbol::Keyword(keyword)) => named(*keyword).is_some(),
@@ -167,7 +196,10 @@ impl Reader {
     }
 
     /// The bytes of the name that is next.
-    pub fn next_name(&self) -> Option<&[u8]> {
+    pub fn next_name(&self) -> Option<&[u8]>
+        ensures found { IfSome result (λ name. IsName self.now name.now (behind self.now)) }
+        ensures absent { result ≡ None → (name : List ℕ) (rest : Symbols) → IsName self.now name rest → ⊥ }
+    {
         match self.peek() {
             Some(Symbol::Name(name)) => Some(name.bytes()),
             Some(Symbol::Keyword(keyword)) => named(*keyword),
@@ -177,6 +209,7 @@ impl Reader {
 
     pub fn name(&mut self) -> Result<Name, Broken>
         ensures found { IfOk result (λ name. IsName self.old name self.new) }
+        ensures finds { (x : List ℕ) (rest : Symbols) → IsName self.old x rest → Gives result (λ name. (name ≡ x) × (self.new ≡ rest)) }
         ensures shorter { length self.new ≤ length self.old }
         ensures progress { OnOk result (length self.new < length self.old) }
     {
@@ -203,6 +236,7 @@ impl Reader {
     /// One name or more, with commas between them.
     pub fn names(&mut self) -> Result<Seq<Name>, Broken>
         ensures found { IfOk result (λ names. Listed IsName self.old names self.new) }
+        ensures finds { (xs : List (List ℕ)) (rest : Symbols) → Listed IsName self.old xs rest → Stop is_comma rest → Gives result (λ names. (names ≡ xs) × (self.new ≡ rest)) }
         ensures shorter { length self.new ≤ length self.old }
         ensures progress { OnOk result (length self.new < length self.old) }
     {
@@ -214,6 +248,7 @@ impl Reader {
     #[tactic(auto, using(crate::proofs::Listings::steps))]
     pub fn name_items(&mut self) -> Result<Vec<Name>, Broken>
         ensures found { IfOk result (λ names. Listed IsName self.old names.items self.new) }
+        ensures finds { (xs : List (List ℕ)) (rest : Symbols) → Listed IsName self.old xs rest → Stop is_comma rest → Gives result (λ names. (names.items ≡ xs) × (self.new ≡ rest)) }
         ensures shorter { length self.new ≤ length self.old }
         ensures progress { OnOk result (length self.new < length self.old) }
     {
@@ -228,6 +263,7 @@ impl Reader {
     /// Names in parentheses, or none where no `(` is next.
     pub fn optional_names(&mut self) -> Result<Seq<Name>, Broken>
         ensures found { IfOk result (λ names. IsNames self.old names self.new) }
+        ensures finds { (xs : List (List ℕ)) (rest : Symbols) → IsNames self.old xs rest → Stop is_open rest → Gives result (λ names. (names ≡ xs) × (self.new ≡ rest)) }
         ensures shorter { length self.new ≤ length self.old }
     {
         if !self.takes_sign(Sign::Open) {
@@ -241,6 +277,7 @@ impl Reader {
     /// A name, or two with a dot between them.
     pub fn reference(&mut self) -> Result<(Option<Name>, Name), Broken>
         ensures found { IfOk result (λ reference. IsColumn self.old reference.0 reference.1 self.new) }
+        ensures finds { (table : Option (List ℕ)) (name : List ℕ) (rest : Symbols) → IsColumn self.old table name rest → Stop is_dot rest → Gives result (λ reference. (reference.0 ≡ table) × (reference.1 ≡ name) × (self.new ≡ rest)) }
         ensures shorter { length self.new ≤ length self.old }
         ensures progress { OnOk result (length self.new < length self.old) }
     {
@@ -254,6 +291,7 @@ impl Reader {
 
     pub fn text(&mut self) -> Result<Text, Broken>
         ensures found { IfOk result (λ text. IsTextAt self.old text self.new) }
+        ensures finds { (x : List ℕ) (rest : Symbols) → IsTextAt self.old x rest → Gives result (λ text. (text ≡ x) × (self.new ≡ rest)) }
         ensures shorter { length self.new ≤ length self.old }
         ensures progress { OnOk result (length self.new < length self.old) }
     {

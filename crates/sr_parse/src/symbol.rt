@@ -2,10 +2,9 @@ ghost use Rattle.std.specs.Prelude.{◌≡◌, ◌≤◌, length, slice_range, I
 ghost use Rattle.sr_parse.specs.Meanings.{sign_text, IsNoSign, IsSpan, IsWordSymbol, IsSymbol};
 
 use crate::keyword::{Keyword, keyword_of};
-use crate::reader::Broken;
-use sr_base::{BadName, Name, Text, name_of};
+use sr_base::{BadName, Name, NoMemory, Text, name_of};
 use sr_lex::{Token, TokenKind};
-use std::alloc::Global;
+use std::alloc::{AllocError, Global};
 
 /// A sign of the grammar.
 #[derive(Clone, Copy, PartialEq, Eq)]
@@ -58,7 +57,7 @@ pub enum Symbol {
 }
 
 /// What a token of the text means.
-pub fn symbol_of(alloc: Global, text: &[u8], token: Token) -> Result<Symbol, Broken>
+pub fn symbol_of(alloc: Global, text: &[u8], token: Token) -> Result<Symbol, NoMemory>
     ensures found { IfOk result (λ symbol. IsSymbol text.now token symbol) }
 {
     let Token { kind, start, end } = token;
@@ -88,7 +87,7 @@ fn slice(text: &[u8], start: usize, end: usize) -> &[u8]
     }
 }
 
-fn word_of(alloc: Global, word: &[u8]) -> Result<Symbol, Broken>
+fn word_of(alloc: Global, word: &[u8]) -> Result<Symbol, NoMemory>
     ensures found { IfOk result (λ symbol. IsWordSymbol word.now symbol) }
 {
     match keyword_of(word) {
@@ -96,7 +95,7 @@ fn word_of(alloc: Global, word: &[u8]) -> Result<Symbol, Broken>
         None => match name_of(alloc, word) {
             Ok(name) => Ok(Symbol::Name(name)),
             Err(BadName::NotAName) => Ok(Symbol::Other),
-            Err(BadName::Memory) => Err(Broken::Memory),
+            Err(BadName::Memory) => Err(AllocError),
         },
     }
 }

@@ -1,9 +1,12 @@
-use Rattle.std.proofs.Common.{◌-◌, length}
-use Rattle.sr_lex.proofs.Walk.{Front}
+use Rattle.std.proofs.Common.{◌≡◌, ℕ, List, length}
+use Rattle.sr_lex.specs.Fronts.{IsFront}
 use Rattle.sr_lex.proofs.lexing.lex.Given as goal
 
 abbrev pub invariant-tokens : goal.invariant-tokens
-invariant-tokens l = Front l.bytes (length l.bytes - length l.rest) l.tokens.items l.rest
+invariant-tokens l = record {
+  front : IsFront l.lexer l.tokens.items;
+  text : l.lexer.0 ≡ l.fn.text;
+}
 
 abbrev pub decreases-tokens : goal.decreases-tokens
-decreases-tokens l = length l.rest
+decreases-tokens l = length l.lexer.1

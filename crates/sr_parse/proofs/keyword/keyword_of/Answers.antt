@@ -1,5 +1,5 @@
 use Rattle.std.proofs.Common.{rules}
-use Rattle.sr_parse.proofs.Words.{MayBe-start, MayBe-more, MayBe-end}
+use Rattle.sr_parse.proofs.Words.{MayBe-start}
 use Rattle.sr_parse.proofs.keyword.keyword_of.Goals as goal
 
 pub keywords-init : goal.keywords-init

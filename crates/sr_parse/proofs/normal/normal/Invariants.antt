@@ -1,5 +1,4 @@
 use Rattle.std.proofs.Common.{vec_len}
-use Rattle.sr_parse.specs.Keys.{IsSetOf}
 use Rattle.sr_parse.proofs.Normals.{NormalSoFar}
 use Rattle.sr_parse.proofs.normal.normal.Given as goal
 
