@@ -1,0 +1,118 @@
+ghost use Rattle.std.specs.Prelude.{OnOk};
+ghost use Rattle.sr_exec.specs.Conditions.{RowsFit};
+
+use sr_ast::{Dml, Stmt};
+use sr_base::name_of;
+use sr_catalog::{Catalog, DdlFault, DmlFault};
+use sr_exec::{apply, exec, rows_stay_fitting};
+use sr_rows::Rows;
+use std::alloc::{AllocError, AllocFailed, Global};
+
+/// Why a script did not run to its end.
+#[derive(Drop)]
+pub enum Stopped {
+    /// A statement was refused.
+    Refused,
+    Memory,
+}
+
+impl From<AllocError> for Stopped {
+    fn from(_refused: AllocError) -> Stopped {
+        Stopped::Memory
+    }
+}
+
+impl<T: Drop> From<AllocFailed<T>> for Stopped {
+    fn from(_refused: AllocFailed<T>) -> Stopped {
+        Stopped::Memory
+    }
+}
+
+/// How many rows the statements of a script insert, update and delete. All tables are made first; a COMMIT keeps what was done.
+pub fn changed_rows(alloc: Global, script: &[Stmt]) -> Result<u64, Stopped> {
+    let catalogs = catalogs(alloc, script)?;
+    match catalogs.last() {
+        Some(catalog) => counted(alloc, catalog, script),
+        None => Err(Stopped::Memory),
+    }
+}
+
+/// An empty catalog, and the one after each table that the script creates.
+fn catalogs(alloc: Global, script: &[Stmt]) -> Result<Vec<Catalog>, Stopped> {
+    let Ok(publisher) = name_of(alloc, b"cons") else {
+        return Err(Stopped::Memory);
+    };
+    let mut catalogs = Vec::new(alloc);
+    catalogs.push(Catalog::new(alloc, publisher))?;
+    for statement in script {
+        if let Stmt::CreateTable(_) = statement {
+            go_on(alloc, &mut catalogs, statement)?;
+        }
+    }
+    Ok(catalogs)
+}
+
+fn go_on(alloc: Global, catalogs: &mut Vec<Catalog>, statement: &Stmt) -> Result<(), Stopped> {
+    let Some(catalog) = catalogs.last() else {
+        return Err(Stopped::Memory);
+    };
+    let next = changed(alloc, catalog, statement)?;
+    catalogs.push(next)?;
+    Ok(())
+}
+
+fn changed(alloc: Global, catalog: &Catalog, statement: &Stmt) -> Result<Catalog, Stopped> {
+    match catalog.change(alloc, statement) {
+        Ok(after) => Ok(after),
+        Err(DdlFault::Memory) => Err(Stopped::Memory),
+        Err(_) => Err(Stopped::Refused),
+    }
+}
+
+/// Executes the statements on rows, of which there are none at first.
+fn counted(alloc: Global, catalog: &Catalog, script: &[Stmt]) -> Result<u64, Stopped> {
+    rows_stay_fitting();
+    let mut rows = Rows::new(alloc);
+    let mut count = 0u64;
+    let mut left = script;
+    'statements: while let Some((statement, rest)) = left.split_first() {
+        count = count.saturating_add(step(alloc, catalog, &mut rows, statement)?);
+        left = rest;
+    }
+    Ok(count)
+}
+
+/// How many rows a statement changes; its changes are applied.
+fn step(alloc: Global, catalog: &Catalog, rows: &mut Rows, statement: &Stmt) -> Result<u64, Stopped>
+    requires rows { RowsFit catalog.now rows.old.rows }
+    ensures rows { OnOk result (RowsFit catalog.now rows.new.rows) }
+{
+    match statement {
+        Stmt::Dml(statement) => on_rows(alloc, catalog, rows, statement),
+        Stmt::Commit => {
+            rows.mark();
+            Ok(0)
+        }
+        _ => Ok(0),
+    }
+}
+
+fn on_rows(
+    alloc: Global,
+    catalog: &Catalog,
+    rows: &mut Rows,
+    statement: &Dml,
+) -> Result<u64, Stopped>
+    requires rows { RowsFit catalog.now rows.old.rows }
+    ensures rows { OnOk result (RowsFit catalog.now rows.new.rows) }
+{
+    rows_stay_fitting();
+    match exec(alloc, catalog, rows, statement) {
+        Ok(changes) => {
+            apply(alloc, catalog, rows, changes.list.as_slice())?;
+            Ok(changes.count)
+        }
+        Err(DmlFault::Memory) => Err(Stopped::Memory),
+        Err(_) => Err(Stopped::Refused),
+    }
+}

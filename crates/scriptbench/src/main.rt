@@ -1,0 +1,76 @@
+//! `scriptbench`: reads standard input as a script and says how many statements it has, or the byte at which it is refused. With the
+//! word `run` it then makes the tables of the script and executes its INSERTs, UPDATEs and DELETEs in memory, and says how many rows
+//! these inserted, updated and deleted.
+//!
+//! It is there to measure the SQL front and the statements on rows before the program uses them: it keeps no database.
+#![tactic(auto)]
+
+mod execution;
+
+use execution::{Stopped, changed_rows};
+use sr_ast::Stmt;
+use sr_base::Text;
+use sr_parse::{ParseFault, parse};
+use std::env;
+use std::io::Read;
+use std::process::ExitCode;
+
+/// The status of a text that is no script.
+const REFUSED: u8 = 3;
+/// The status of a script of which a statement is refused.
+const STOPPED: u8 = 4;
+/// The status of a run that found no memory, or could not read or write.
+const FAILED: u8 = 8;
+
+fn main(rt: HostRuntime) -> ExitCode {
+    let Some(text) = input(rt) else {
+        return ExitCode::from(FAILED);
+    };
+    match parse(rt.alloc(), &text) {
+        Ok(script) => ExitCode::from(told(rt, script.as_slice())),
+        Err(ParseFault::Refused { at }) => {
+            let _ = println!(rt; "script refused at byte {at}");
+            ExitCode::from(REFUSED)
+        }
+        Err(ParseFault::Memory) => ExitCode::from(FAILED),
+    }
+}
+
+/// All of standard input, where it is a text.
+fn input(rt: HostRuntime) -> Option<Text> {
+    let mut text = String::new(rt.alloc());
+    match rt.reader().read_to_string(&mut text) {
+        Ok(_) => Some(Text::from_string(text)),
+        Err(_) => None,
+    }
+}
+
+/// Says what the script has, and what it does where it is to be run; answers the status.
+fn told(rt: HostRuntime, script: &[Stmt]) -> u8 {
+    if println!(rt; "{} statements", script.len()).is_err() {
+        return FAILED;
+    }
+    if !is_run(rt) {
+        return 0;
+    }
+    match changed_rows(rt.alloc(), script) {
+        Ok(count) => match println!(rt; "{count} rows") {
+            Ok(_) => 0,
+            Err(_) => FAILED,
+        },
+        Err(Stopped::Refused) => STOPPED,
+        Err(Stopped::Memory) => FAILED,
+    }
+}
+
+/// Whether the word `run` was given.
+fn is_run(rt: HostRuntime) -> bool {
+    let Ok(mut words) = env::args(&rt) else {
+        return false;
+    };
+    let _ = words.next();
+    match words.next() {
+        Some(word) => word.as_str() == "run",
+        None => false,
+    }
+}
