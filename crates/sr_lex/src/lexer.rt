@@ -1,4 +1,4 @@
-ghost use Rattle.std.specs.Prelude.{◌≡◌, ◌<◌, List, [], length, OnOk, OnSome, IfOk, IfSome};
+ghost use Rattle.std.specs.Prelude.{◌≡◌, ◌<◌, List, [], length, OnOk, OnErr, OnSome, IfOk, IfSome};
 ghost use Rattle.sr_lex.specs.declared.token.Token.{Token};
 ghost use Rattle.sr_lex.specs.Fronts.{IsFront, Goes};
 
@@ -46,6 +46,7 @@ impl<'a> Lexer<'a> {
         ensures text { self.new.0 ≡ self.old.0 }
         ensures goes { (done : List Token) → IsFront self.old done → Goes done self.new result }
         ensures shorter { IfOk result (λ found. OnSome found (length self.new.1 < length self.old.1)) }
+        ensures kept { OnErr result (self.new ≡ self.old) }
     {
         if self.rest.is_empty() {
             return Ok(None);

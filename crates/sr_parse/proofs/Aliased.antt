@@ -13,8 +13,8 @@ use Rattle.sr_parse.specs.Symbols.{Symbols, first, behind, word, IsName, IsWord}
 use Rattle.sr_parse.specs.Listing.{Row}
 use Rattle.sr_parse.specs.Triggers.{image_word, IsAlias, Differ, AreAliases}
 use Rattle.sr_parse.specs.Going.{Stop, is_image}
-use Rattle.sr_parse.proofs.Steps.{Stop-begins, two_parts}
-use Rattle.sr_parse.proofs.Lists.{File, Any}
+use Rattle.sr_parse.proofs.Steps.{Stop-begins}
+use Rattle.sr_parse.proofs.Lists.{File}
 use Rattle.sr_parse.proofs.Lists.File.{empty, first as front}
 use Rattle.sr_parse.proofs.Lines.{Runs}
 use Rattle.sr_parse.proofs.Triggering.{image_once, image_is}
@@ -96,16 +96,6 @@ name_missed {named = named} image read runs f w m xs rest h s =
     let v = a.as_word in
     let same : named ≡ a.named = cc in
     m a.name a.after (subst (λ (b : Symbols). IsName b a.name a.after) (sym same) a.name_is)
-
--- an alias was read
-pub alias_found : {here named after : Symbols} {name : List ℕ} (image : Image) → first here ≡ Some (word (image_word image)) → IsWord (behind here) key.As named
-    → ((x : List ℕ) (rest : Symbols) → IsName named x rest → (name ≡ x) × (after ≡ rest)) → (x : Image × List ℕ) (rest : Symbols) → IsAlias here x rest → Any rest → ((image, name) ≡ x) × (after ≡ rest)
-alias_found {here = here} {named = named} image f w finds x rest h t =
-    let is = h.image in let n = next_is here _ f in
-    let same : symbol.Keyword (image_word image) ≡ symbol.Keyword (image_word x.0) = cc in
-    let place : named ≡ h.next = cc in
-    let r = finds x.1 rest (subst (λ (b : Symbols). IsName b x.1 rest) (sym place) h.name) in
-    (two_parts (λ (i : Image) (n : List ℕ). let a : Image × List ℕ = (i, n) in a) (image_once image x.0 same) r.0, r.1)
 
 -- where no row is next, there is no alias
 pub alias_none : {here : Symbols} → ((image : Image) → first here ≡ Some (word (image_word image)) → ⊥) → (x : Image × List ℕ) (rest : Symbols) → IsAlias here x rest → ⊥

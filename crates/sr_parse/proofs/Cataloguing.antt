@@ -124,7 +124,7 @@ grant_once {after = after} {rest = rest} {s = s} {t = t} e h k p q =
     let address = address_once h.addressed k.addressed s.address after t.address rest user.1 h.address k.address p q in
     (grant_same s t user.0 address.0, address.1)
 
-literal_no_minus : (before here after next : Symbols) (v : Value) → before ≡ here → IsLiteral before v after → IsSign here mark.Minus next → ⊥
+pub literal_no_minus : (before here after next : Symbols) (v : Value) → before ≡ here → IsLiteral before v after → IsSign here mark.Minus next → ⊥
 literal_no_minus before here after next v e (inl l) o =
     let ls = l.stands in let f : l.written ≡ symbol.Sign mark.Minus = cc in
     let m : literal_meant (symbol.Sign mark.Minus) ≡ Some v = subst (λ (s : Symbol). literal_meant s ≡ Some v) f l.means in cc

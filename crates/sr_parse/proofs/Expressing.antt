@@ -1,7 +1,7 @@
 -- Symbols spell one expression at most.
 use Rattle.std.proofs.Common.{◌≡◌, ℕ, List, ◌∷◌, Option, Some, None, refl, sym, subst, ap, ◌∙◌, inl, inr}
 use Rattle.sr_ast.specs.Terms.{Term}
-use Rattle.sr_ast.specs.Terms.Term.{literal, unary, binary}
+use Rattle.sr_ast.specs.Terms.Term.{literal, column, unary, binary}
 use Rattle.sr_ast.specs.Exprs.{term_of}
 use Rattle.sr_ast.specs.declared.expr.Expr.{Expr}
 use Rattle.sr_ast.specs.declared.expr.Expr.TheVariants.{Literal, Column, Unary as UnaryExpr, Binary as BinaryExpr}
@@ -194,6 +194,25 @@ turn_once (within {next = next} z o x c) (value {before = before} {after = after
 turn_once (within {next = next} z o x d) (called {before = before} {after = after} {table = t} {name = n} c) p q = absurd (column_no_sign before after next t n c o)
 turn_once (within z o x c) (within z' o' x' c') p q =
     let s = turn_once x (moved refl (cc) x') (Stop-at expression_goes c refl) (Stop-at expression_goes c' refl) in let e = s.1 in (s.0, cc)
+
+-- the expression that a term is
+abbrev pub expr_of : Term → Expr
+expr_of (literal v) = Literal v
+expr_of (column t n) = Column t n
+expr_of (unary op a) = UnaryExpr op a
+expr_of (binary op a b) = BinaryExpr op a b
+
+pub term_of-expr_of : (t : Term) → term_of (expr_of t) ≡ t
+term_of-expr_of (literal v) = refl
+term_of-expr_of (column t n) = refl
+term_of-expr_of (unary op a) = refl
+term_of-expr_of (binary op a b) = refl
+
+pub expr_of-term_of : (e : Expr) → expr_of (term_of e) ≡ e
+expr_of-term_of (Literal v) = refl
+expr_of-term_of (Column t n) = refl
+expr_of-term_of (UnaryExpr op a) = refl
+expr_of-term_of (BinaryExpr op a b) = refl
 
 term_of_once : (a b : Expr) → term_of a ≡ term_of b → a ≡ b
 term_of_once (Literal v) (Literal w) e = cc

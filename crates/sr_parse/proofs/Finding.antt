@@ -1,5 +1,5 @@
 -- Readers of expressions find what the symbols spell.
-use Rattle.std.proofs.Common.{◌≡◌, ℕ, ◌+◌, ◌-◌, ◌<◌, ◌≤◌, arith, List, [], ◌∷◌, Option, Some, None, Result, Ok, Err, refl, sym, subst, ap, ◌∙◌}
+use Rattle.std.proofs.Common.{◌≡◌, ℕ, Result, ◌+◌, ◌-◌, ◌<◌, ◌≤◌, arith, List, [], ◌∷◌, Option, Some, None, Ok, Err, refl, sym, subst, ap, ◌∙◌}
 use Rattle.std.specs.Option.{option_and_then}
 use Rattle.sr_ast.specs.Terms.{Term}
 use Rattle.sr_ast.specs.Terms.Term.{literal, column, unary, binary}
@@ -23,13 +23,18 @@ use Rattle.sr_parse.specs.Levels.{tightness}
 use Rattle.sr_parse.specs.Expressions.{Tightness, IsNullTest, IsColumn, Reads, IsDeep, depth, tighter, joins, compares}
 use Rattle.sr_parse.specs.Expressions.Tightness.{disjunction, negation, comparison, sum, signed, operand}
 use Rattle.sr_parse.specs.Expressions.Reads.{loose, joined, not, compared, null_test, negative, minus, single, named, inside}
-use Rattle.sr_parse.specs.Going.{Stop, Finds, goes_on, sum_goes, relation_goes, expression_goes, is_dot}
+use Rattle.sr_parse.specs.Going.{Stop, Gives, goes_on, sum_goes, relation_goes, expression_goes}
 use Rattle.sr_parse.proofs.Steps.{Stop-at, Stop-begins, Stop-fewer, Begins-not}
 use Rattle.sr_parse.proofs.Turning.{Spot, beneath, Turn, turned_round}
 use Rattle.sr_parse.proofs.Turning.Spot.{whole, behind, denial, relation, tail, signing, atom}
 use Rattle.sr_parse.proofs.Turning.Turn.{chain, stop, step, refused, affirmed, measured, alone, against, tested, below, turned, plain, value, called, within}
 use Rattle.sr_parse.proofs.Following.{goes, joint_joins, relation_compares, sum_fewer, turn_starts, signed_starts, atom_starts}
 use Rattle.sr_parse.proofs.Expressing.{behind_stops, tail_stops, word_no_operator, negative_begins, literal_no_sign, column_no_sign, literal_no_column, no_key_name}
+
+-- an answer is the expression that the symbols spell, where the room holds it and nothing behind goes on with it
+abbrev pub Finds : Tightness → Room → Symbols → Symbols → Result Sized Broken → Type 0
+Finds level room before here result = (t : Term) (after : Symbols) → Reads level room.parentheses before t after → depth t ≤ room.depth → Stop (goes_on level) after
+    → Gives result (λ sized. (term_of sized.expr ≡ t) × (here ≡ after))
 
 -- back from the form that is turned round
 abbrev Meant : Spot → ℕ → Symbols → Term → Symbols → Type 0
@@ -113,7 +118,7 @@ pub record Next (level : Level) (room limit : ℕ) (op : Binary) (left : Term) (
 meant_at : (meant : Symbol → Option Binary) {here next : Symbols} {s : Symbol} {op : Binary} → here ≡ s ∷ next → option_and_then meant (first here) ≡ Some op → meant s ≡ Some op
 meant_at meant {op = op} e o = subst (λ (b : Symbols). option_and_then meant (first b) ≡ Some op) e o
 
-begun : (meant : Symbol → Option Binary) (here : Symbols) (op : Binary) → option_and_then meant (first here) ≡ Some op → (s : Symbol) × (here ≡ s ∷ rest_of here) × (meant s ≡ Some op)
+pub begun : (meant : Symbol → Option Binary) (here : Symbols) (op : Binary) → option_and_then meant (first here) ≡ Some op → (s : Symbol) × (here ≡ s ∷ rest_of here) × (meant s ≡ Some op)
 begun meant [] op o = absurd (cc)
 begun meant (s ∷ here) op o = (s, refl, o)
 
@@ -330,53 +335,34 @@ comparison_ends left awaits o absent = λ t after h d s. alone_in (awaits t afte
 
 -- ---- NOT
 
-denial_in : {room : ℕ} {before after : Symbols} {t : Term} → Turn denial room before t after → ((rest : Symbols) → IsWord before key.Not rest → ⊥) → Reads comparison room before t after
+pub denial_in : {room : ℕ} {before after : Symbols} {t : Term} → Turn denial room before t after → ((rest : Symbols) → IsWord before key.Not rest → ⊥) → Reads comparison room before t after
 denial_in (refused {next = n} w x) absent = absurd (absent n w)
 denial_in (affirmed h) absent = turned_back h
 
-pub no_denial : {room : Room} {before : Symbols} (here : Symbols) (result : Result Sized Broken) → ((rest : Symbols) → IsWord before key.Not rest → ⊥) → Finds comparison room before here result → Finds negation room before here result
-no_denial here result absent finds = λ t after h d s. finds t after (denial_in (turned_round h) absent) d s
-
 -- behind NOT, or behind a `-`
-record Under (level : Tightness) (op : Unary) (room : ℕ) (next : Symbols) (t : Term) (after : Symbols) : Type 0 where
+pub record Under (level : Tightness) (op : Unary) (room : ℕ) (next : Symbols) (t : Term) (after : Symbols) : Type 0 where
   pub part : Term
   pub reads : Reads level room next part after
   pub is : t ≡ unary op part
 
-denied_in : {room : ℕ} {before next after : Symbols} {t : Term} → Turn denial room before t after → IsWord before key.Not next → Under negation one.Not room next t after
+pub denied_in : {room : ℕ} {before next after : Symbols} {t : Term} → Turn denial room before t after → IsWord before key.Not next → Under negation one.Not room next t after
 denied_in {next = next} (refused {room = r} {next = n} {after = after} {a = a} v x) w =
     let place : n ≡ next = cc in record { part = a; reads = subst (λ b. Reads negation r b a after) place (turned_back x); is = refl }
 denied_in (affirmed h) w = absurd (Begins-not signed_starts w refl (turn_starts h))
 
-under_depth : {level : Tightness} {op : Unary} {room : ℕ} {next after : Symbols} {t : Term} (u : Under level op room next t after) → depth t ≡ depth u.part + 1
+pub under_depth : {level : Tightness} {op : Unary} {room : ℕ} {next after : Symbols} {t : Term} (u : Under level op room next t after) → depth t ≡ depth u.part + 1
 under_depth u = ap depth u.is
 
 pub denied_refused : {room : Room} {before next : Symbols} (there : Symbols) → IsWord before key.Not next → room.depth < 2 → Finds negation room before there (Err Refused)
 denied_refused there w few = λ t after h d s.
     let u = denied_in (turned_round h) w in let deep = under_depth u in let some = some_depth u.part in absurd (omega (arith, few, d, deep, some))
 
-pub denied_fails : {room inner : Room} {before next : Symbols} (new there : Symbols) {e : Broken} → IsWord before key.Not next → inner.depth + 1 ≡ room.depth → inner.parentheses ≡ room.parentheses
-    → Finds negation inner next new (Err e) → Finds negation room before there (Err e)
-denied_fails {next = next} new there w r p finds = λ t after h d s.
-    let u = denied_in (turned_round h) w in let deep = under_depth u in
-    finds u.part after (subst (λ i. Reads negation i next u.part after) (sym p) u.reads) (omega (arith, d, deep, r)) s
-
-pub denied_found : {room inner : Room} {before next new : Symbols} (held all : Sized) → IsWord before key.Not next → inner.depth + 1 ≡ room.depth → inner.parentheses ≡ room.parentheses
-    → Finds negation inner next new (Ok held) → term_of all.expr ≡ unary one.Not (term_of held.expr) → Finds negation room before new (Ok all)
-denied_found {next = next} held all w r p finds is = λ t after h d s.
-    let u = denied_in (turned_round h) w in let deep = under_depth u in
-    let read = finds u.part after (subst (λ i. Reads negation i next u.part after) (sym p) u.reads) (omega (arith, d, deep, r)) s in
-    (is ∙ (ap (unary one.Not) read.0 ∙ sym u.is), read.1)
-
 -- ---- a `-`
 
-unsigned_in : {room : ℕ} {before after : Symbols} {t : Term} → Turn signing room before t after → ((rest : Symbols) → IsSign before sign.Minus rest → ⊥) → Reads operand room before t after
+pub unsigned_in : {room : ℕ} {before after : Symbols} {t : Term} → Turn signing room before t after → ((rest : Symbols) → IsSign before sign.Minus rest → ⊥) → Reads operand room before t after
 unsigned_in (below {next = n} m h) absent = absurd (absent n m)
 unsigned_in (turned {next = n} m h x) absent = absurd (absent n m)
 unsigned_in (plain h) absent = turned_back h
-
-pub no_minus : {room : Room} {before : Symbols} (here : Symbols) (result : Result Sized Broken) → ((rest : Symbols) → IsSign before sign.Minus rest → ⊥) → Finds operand room before here result → Finds signed room before here result
-no_minus here result absent finds = λ t after h d s. finds t after (unsigned_in (turned_round h) absent) d s
 
 below_in : {room : ℕ} {before next after : Symbols} {t : Term} {v : Value} → Turn signing room before t after → IsSign before sign.Minus next → begins_number next ≡ Some v → (literal v ≡ t) × (rest_of next ≡ after)
 below_in {next = next} {v = v} (below {next = n} {v = w} m h) m' b =
@@ -422,14 +408,14 @@ minus_found {next = next} held all m none r p finds is = λ t after h d s.
 -- ---- operands
 
 -- behind a `(`
-record Within (room : ℕ) (next : Symbols) (t : Term) (after : Symbols) : Type 0 where
+pub record Within (room : ℕ) (next : Symbols) (t : Term) (after : Symbols) : Type 0 where
   pub middle : Symbols
   pub some : 0 < room
   pub reads : Reads disjunction (room - 1) next t middle
   pub stops : Stop expression_goes middle
   pub closed : IsSign middle sign.Close after
 
-within_in : {room : ℕ} {before next after : Symbols} {t : Term} → Turn atom room before t after → IsSign before sign.Open next → Within room next t after
+pub within_in : {room : ℕ} {before next after : Symbols} {t : Term} → Turn atom room before t after → IsSign before sign.Open next → Within room next t after
 within_in {next = next} (value {before = before} {after = after} {v = v} l) o = absurd (literal_no_sign before after next v l o)
 within_in {next = next} (called {before = before} {after = after} {table = t} {name = n} c) o = absurd (column_no_sign before after next t n c o)
 within_in {next = next} (within {room = r} {next = n} {middle = m} {t = t} p o x c) o' =
@@ -439,19 +425,6 @@ within_in {next = next} (within {room = r} {next = n} {middle = m} {t = t} p o x
 pub within_refused : {room : Room} {before next : Symbols} (there : Symbols) → IsSign before sign.Open next → room.parentheses ≡ 0 → Finds operand room before there (Err Refused)
 within_refused there o none = λ t after h d s. let w = within_in (turned_round h) o in let some = w.some in absurd (omega (arith, some, none))
 
-pub within_fails : {room inner : Room} {before next : Symbols} (new there : Symbols) {e : Broken} → IsSign before sign.Open next → inner.depth ≡ room.depth → inner.parentheses ≡ room.parentheses - 1
-    → Finds disjunction inner next new (Err e) → Finds operand room before there (Err e)
-within_fails {next = next} new there o r p finds = λ t after h d s.
-    let w = within_in (turned_round h) o in
-    finds t w.middle (subst (λ i. Reads disjunction i next t w.middle) (sym p) w.reads) (omega (arith, d, r)) w.stops
-
-pub within_found : {room inner : Room} {before next here new : Symbols} (all : Sized) → IsSign before sign.Open next → inner.depth ≡ room.depth → inner.parentheses ≡ room.parentheses - 1
-    → Finds disjunction inner next here (Ok all) → ((rest : Symbols) → IsSign here sign.Close rest → new ≡ rest) → Finds operand room before new (Ok all)
-within_found {next = next} all o r p finds closes = λ t after h d s.
-    let w = within_in (turned_round h) o in
-    let read = finds t w.middle (subst (λ i. Reads disjunction i next t w.middle) (sym p) w.reads) (omega (arith, d, r)) w.stops in
-    (read.0, closes after (read.1 ∙ w.closed))
-
 pub within_open : {room inner : Room} {before next here : Symbols} (there : Symbols) (all : Sized) {e : Broken} → IsSign before sign.Open next → inner.depth ≡ room.depth → inner.parentheses ≡ room.parentheses - 1
     → Finds disjunction inner next here (Ok all) → ((rest : Symbols) → IsSign here sign.Close rest → e ≡ Memory) → Finds operand room before there (Err e)
 within_open {next = next} there all o r p finds closes = λ t after h d s.
@@ -460,37 +433,19 @@ within_open {next = next} there all o r p finds closes = λ t after h d s.
     closes after (read.1 ∙ w.closed)
 
 -- a name is next
-column_in : {room : ℕ} {before after rest : Symbols} {t : Term} {n : List ℕ} → Turn atom room before t after → IsName before n rest
+pub column_in : {room : ℕ} {before after rest : Symbols} {t : Term} {n : List ℕ} → Turn atom room before t after → IsName before n rest
     → (table : Option (List ℕ)) × (name : List ℕ) × IsColumn before table name after × (t ≡ column table name)
 column_in {n = n} (value {before = before} {after = after} {v = v} l) is = absurd (literal_no_column before after _ v None n l is)
 column_in (called {table = table} {name = name} c) is = (table, name, c, refl)
 column_in (within p o x c) is = absurd (no_key_name o refl is)
-
-pub column_found : {room : Room} {before rest here : Symbols} {n : List ℕ} (all : Sized) → IsName before n rest
-    → ((table : Option (List ℕ)) (name : List ℕ) (after : Symbols) → IsColumn before table name after → Stop is_dot after → (term_of all.expr ≡ column table name) × (here ≡ after)) → Finds operand room before here (Ok all)
-column_found all is finds = λ t after h d s.
-    let c = column_in (turned_round h) is in let read = finds c.0 c.1 after c.2 s in (read.0 ∙ sym c.3, read.1)
-
-pub column_fails : {room : Room} {before rest : Symbols} (there : Symbols) {n : List ℕ} {e : Broken} → IsName before n rest
-    → ((table : Option (List ℕ)) (name : List ℕ) (after : Symbols) → IsColumn before table name after → Stop is_dot after → e ≡ Memory) → Finds operand room before there (Err e)
-column_fails there is finds = λ t after h d s. let c = column_in (turned_round h) is in finds c.0 c.1 after c.2 s
 
 -- neither a name nor a `(` is next
 column_names : (before : Symbols) (table : Option (List ℕ)) (name : List ℕ) (after : Symbols) → IsColumn before table name after → ((x : List ℕ) (rest : Symbols) → IsName before x rest → ⊥) → ⊥
 column_names before None name after c absent = absent name after c
 column_names before (Some table) name after (dot, next, n, d, m) absent = absent table dot n
 
-literal_in : {room : ℕ} {before after : Symbols} {t : Term} → Turn atom room before t after → ((rest : Symbols) → IsSign before sign.Open rest → ⊥) → ((x : List ℕ) (rest : Symbols) → IsName before x rest → ⊥)
+pub literal_in : {room : ℕ} {before after : Symbols} {t : Term} → Turn atom room before t after → ((rest : Symbols) → IsSign before sign.Open rest → ⊥) → ((x : List ℕ) (rest : Symbols) → IsName before x rest → ⊥)
     → (v : Value) × IsLiteral before v after × (t ≡ literal v)
 literal_in (value {v = v} l) no_open no_name = (v, l, refl)
 literal_in (called {before = before} {after = after} {table = table} {name = name} c) no_open no_name = absurd (column_names before table name after c no_name)
 literal_in (within {next = n} p o x c) no_open no_name = absurd (no_open n o)
-
-pub literal_found : {room : Room} {before here : Symbols} (v : Value) (all : Sized) → ((rest : Symbols) → IsSign before sign.Open rest → ⊥) → ((x : List ℕ) (rest : Symbols) → IsName before x rest → ⊥)
-    → ((x : Value) (after : Symbols) → IsLiteral before x after → (v ≡ x) × (here ≡ after)) → term_of all.expr ≡ literal v → Finds operand room before here (Ok all)
-literal_found v all no_open no_name finds is = λ t after h d s.
-    let l = literal_in (turned_round h) no_open no_name in let read = finds l.0 after l.1 in (is ∙ (ap literal read.0 ∙ sym l.2), read.1)
-
-pub literal_fails : {room : Room} {before : Symbols} (there : Symbols) {e : Broken} → ((rest : Symbols) → IsSign before sign.Open rest → ⊥) → ((x : List ℕ) (rest : Symbols) → IsName before x rest → ⊥)
-    → ((x : Value) (after : Symbols) → IsLiteral before x after → e ≡ Memory) → Finds operand room before there (Err e)
-literal_fails there no_open no_name finds = λ t after h d s. let l = literal_in (turned_round h) no_open no_name in finds l.0 after l.1

@@ -18,7 +18,7 @@ use Rattle.sr_parse.specs.declared.reader.Broken.TheVariants.{Memory}
 use Rattle.sr_parse.specs.Symbols.{Symbols, word, IsWord, IsSign}
 use Rattle.sr_parse.specs.Catalog.{IsSubscription, IsGrant}
 use Rattle.sr_parse.specs.Writing.{IsInsert, IsUpdate, IsDelete}
-use Rattle.sr_parse.specs.Scripts.{IsBehind, IsBehindTwo, IsWork, IsDml, IsDefinition, IsStatement, IsScript}
+use Rattle.sr_parse.specs.Scripts.{IsBehind, IsBehindTwo, IsDml, IsDefinition, IsStatement, IsScript}
 use Rattle.sr_parse.specs.Scripts.Stage.{opened, closed}
 use Rattle.sr_parse.specs.Going.{Ends}
 use Rattle.sr_parse.proofs.Statements.{Form, Content, stmt_of, form_at, formed, Left, left_ends, from_left}
@@ -228,14 +228,6 @@ pub left_over : (here : Symbols) (others : List Stmt) → Left closed here other
 left_over here others over absent = (refl, refl)
 left_over here others (parted {after = after} s l) absent = absurd (absent after s)
 
--- behind COMMIT or ROLLBACK
-pub worked : (k : Keyword) {before next after : Symbols} → IsWord before k next → (at : Symbols) × IsWord before k at × IsWork at after → IsWork next after
-worked k {next = next} {after = after} w (at, v, h) = let same : at ≡ next = cc in subst (λ (b : Symbols). IsWork b after) same h
-
 -- at the begin of a script
 pub script_begun : (here : Symbols) (read : List Stmt) → read ≡ [] → (xs : List Stmt) → IsScript here xs → (others : List Stmt) × (xs ≡ read ++ others) × Left opened here others
 script_begun here read e xs h = (xs, subst (λ (l : List Stmt). xs ≡ l ++ xs) (sym e) refl, subst (λ (l : List Stmt). Left opened here l) (append-nil xs) (from_left h over))
-
--- with nothing left, the script is what was read
-pub script_done : (xs read more others left : List Stmt) → xs ≡ read ++ others → read ++ others ≡ more ++ left → left ≡ [] → more ≡ xs
-script_done xs read more others left e f none = sym (e ∙ (f ∙ (ap (λ (l : List Stmt). more ++ l) none ∙ append-nil more)))

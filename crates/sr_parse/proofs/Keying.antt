@@ -148,7 +148,3 @@ onward_listed {next = next} e s p (one_more {next = at} t h o) k c = absurd (let
 pub Keying-listed : {start here next words : Symbols} {held : List (List ℕ)} (read : List ColumnRule) → Keying start read held here → IsSign here mark.Comma next → IsWord next kw.Primary words
     → (xs : List ColumnRule) (key : List (List ℕ)) (rest after : Symbols) → IsKeyed start xs key rest → IsSign rest mark.Close after → (held ≡ []) × (read ≡ xs) × IsKeyWords next key rest
 Keying-listed read g s p xs key rest after h c = let r = g xs key rest after h c in onward_listed r.all s p r.onward r.keyed c
-
--- columns from where the reader stands
-pub keyed_from : {here there rest : Symbols} {xs : List ColumnRule} {key : List (List ℕ)} → here ≡ there → IsKeyed there xs key rest → IsKeyed here xs key rest
-keyed_from {rest = rest} {xs = xs} {key = key} e h = subst (λ (b : Symbols). IsKeyed b xs key rest) (sym e) h

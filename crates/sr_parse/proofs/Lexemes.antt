@@ -19,7 +19,7 @@ pub Lexes-space : {bytes : List ℕ} {symbols : Symbols} → Lexes bytes symbols
 Lexes-space (done skips) = done (blank refl skips)
 Lexes-space (token word rest kind s skips is means more) = token word rest kind s (blank refl skips) is means more
 
-Skips-front : {bytes rest : List ℕ} → Skips bytes rest → (front : List ℕ) × (bytes ≡ front ++ rest)
+pub Skips-front : {bytes rest : List ℕ} → Skips bytes rest → (front : List ℕ) × (bytes ≡ front ++ rest)
 Skips-front none = ([], refl)
 Skips-front (blank {byte = byte} b more) = let e = Skips-front more in (byte ∷ e.0, ap (λ t. byte ∷ t) e.1)
 Skips-front {rest = rest} (comment line after is l f more) =
@@ -34,7 +34,7 @@ take_front : (xs ys : List ℕ) → take (length xs) (xs ++ ys) ≡ xs
 take_front [] ys = refl
 take_front (x ∷ xs) ys = ap (λ t. x ∷ t) (take_front xs ys)
 
-slice_middle : (xs ys zs : List ℕ) → ys ≡ slice_range (xs ++ (ys ++ zs)) (length xs) (length (xs ++ ys))
+pub slice_middle : (xs ys zs : List ℕ) → ys ≡ slice_range (xs ++ (ys ++ zs)) (length xs) (length (xs ++ ys))
 slice_middle xs ys zs =
     let n : length (xs ++ ys) - length xs ≡ length ys = omega (arith, length-append xs ys) in
     sym (ap (λ t. take (length (xs ++ ys) - length xs) t) (drop_front xs (ys ++ zs)) ∙ (ap (λ k. take k (ys ++ zs)) n ∙ take_front ys zs))

@@ -1,17 +1,12 @@
 -- Lists as a reader goes through them: each list from the start goes on where the reader stands.
-use Rattle.std.proofs.Common.{◌≡◌, ℕ, ◌+◌, ◌<◌, Bool, true, length, arith, ap, length-append, List, Option, Some, None, [], ◌∷◌, ◌++◌, refl, sym, subst, ◌∙◌, append_assoc}
+use Rattle.std.proofs.Common.{◌≡◌, ◌+◌, ◌<◌, length, arith, ap, length-append, List, [], ◌∷◌, ◌++◌, refl, sym, subst, ◌∙◌, append_assoc}
 use Rattle.std.proofs.lemmas.List.{append-nil}
 use Rattle.sr_parse.specs.declared.reader.Broken.{Broken}
 use Rattle.sr_parse.specs.declared.reader.Broken.TheVariants.{Memory}
-use Rattle.sr_parse.specs.declared.keyword.Keyword.{Keyword}
 use Rattle.sr_parse.specs.declared.symbol.Sign.TheVariants as sign
-use Rattle.sr_parse.specs.declared.symbol.Symbol.{Symbol}
-use Rattle.sr_parse.specs.declared.symbol.Symbol.TheVariants as symbol
-use Rattle.sr_parse.specs.Symbols.{Symbols, IsName, IsWord, IsSign}
+use Rattle.sr_parse.specs.Symbols.{Symbols, IsSign}
 use Rattle.sr_parse.specs.Listing.{Listed, Row}
-use Rattle.sr_parse.specs.Expressions.{IsColumn}
-use Rattle.sr_parse.specs.Writing.{IsLed}
-use Rattle.sr_parse.specs.Going.{Stop, is_comma, is_dot}
+use Rattle.sr_parse.specs.Going.{Stop, is_comma}
 use Rattle.sr_parse.proofs.Steps.{Stop-begins}
 use Rattle.sr_parse.proofs.Lists.{Behind, Whole, File, whole, filed, behind_stops, file_begins}
 use Rattle.sr_parse.proofs.Lists.Behind.{no_more, one_more}
@@ -153,27 +148,3 @@ file_more X Q read xs others e (first {x = x} {xs = left} h b) goes q =
 pub Row-more : {A : Type 0} (X : Symbols → A → Symbols → Type 0) (Q : Symbols → Type 0) {start here : Symbols} (read : List A)
     → Runs X Q start read here → (Q here → ⊥) → (xs : List A) (rest : Symbols) → Row X start xs rest → Q rest → length read < length xs
 Row-more X Q read runs goes xs rest h q = let r = runs xs rest h q in file_more X Q read xs r.0 r.1 r.2 goes q
-
--- a production from where the reader stands
-pub onto : {A : Type 0} (X : Symbols → A → Symbols → Type 0) {here there rest : Symbols} {x : A} → here ≡ there → X there x rest → X here x rest
-onto X {rest = rest} {x = x} e h = subst (λ (b : Symbols). X b x rest) (sym e) h
-
--- a key word was taken, and the part behind it was not read
-pub Led-missed : {A : Type 0} (k : Keyword) (X : Symbols → A → Symbols → Type 0) (P : Symbols → Type 0) (test : Symbol → Bool) → test (symbol.Keyword k) ≡ true → {before next : Symbols} {e : Broken}
-    → IsWord before k next → Misses X P next e → (x : Option A) (rest : Symbols) → IsLed k X before x rest → P rest → Stop test rest → e ≡ Memory
-Led-missed k X P test t w m None rest h p s = absurd (Stop-begins test (sym h ∙ w) t s)
-Led-missed k X P test t {next = next} w m (Some x) rest (at, v, h) p s = let same : next ≡ at = cc in m x rest (onto X same h) p
-
--- a column of which the name was not read
-pub Column-unread : {start : Symbols} {e : Broken} → ((x : List ℕ) (rest : Symbols) → IsName start x rest → e ≡ Memory)
-    → (table : Option (List ℕ)) (name : List ℕ) (rest : Symbols) → IsColumn start table name rest → e ≡ Memory
-Column-unread m None name rest h = m name rest h
-Column-unread m (Some table) name rest (dot, next, h, d, k) = m table dot h
-
--- a column of which the name behind the dot was not read
-pub Column-missed : {start here next : Symbols} {y : List ℕ} {e : Broken} → ((x : List ℕ) (rest : Symbols) → IsName start x rest → (y ≡ x) × (here ≡ rest)) → IsSign here sign.Dot next
-    → ((x : List ℕ) (rest : Symbols) → IsName next x rest → e ≡ Memory)
-    → (table : Option (List ℕ)) (name : List ℕ) (rest : Symbols) → IsColumn start table name rest → Stop is_dot rest → e ≡ Memory
-Column-missed f d m None name rest h s = let r = f name rest h in absurd (Stop-begins is_dot (sym r.1 ∙ d) refl s)
-Column-missed {here = here} {next = next} f d m (Some table) name rest (dot, at, h, t, k) s =
-    let r = f table dot h in let same = r.1 in let moved : at ≡ next = cc in m name rest (subst (λ (b : Symbols). IsName b name rest) moved k)

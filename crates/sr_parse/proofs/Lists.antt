@@ -134,10 +134,6 @@ IsNames-once before here xs after ys rest e (inl (n, a)) (inr k) p q = absurd (S
 IsNames-once before here xs after ys rest e (inr h) (inl (m, b)) p q = absurd (Stop-begins is_open (sym b ∙ (sym e ∙ h.opened)) refl q)
 IsNames-once before here xs after ys rest e (inr h) (inr k) p q = IsNameList-once e h k
 
-pub IsNames-stops : (test : Symbol → Bool) (before : Symbols) (xs : List (List ℕ)) (after : Symbols) → test (symbol.Sign sign.Open) ≡ false → IsNames before xs after → Stop test after → Stop test before
-IsNames-stops test before xs after t (inl (n, a)) p = subst (λ (s : Symbols). Stop test s) (sym a) p
-IsNames-stops test before xs after t (inr h) p = Stop-at test h.opened t
-
 pub Closes-stop : (test : Symbol → Bool) (after : Symbols) → test (symbol.Sign sign.Comma) ≡ false → test (symbol.Sign sign.Close) ≡ false → Closes after → Stop test after
 Closes-stop test after t u (inl (next, c)) = Stop-at test c t
 Closes-stop test after t u (inr (next, c)) = Stop-at test c u

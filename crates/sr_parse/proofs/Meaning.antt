@@ -148,7 +148,7 @@ token_once at bytes t after u rest h k =
     let start : t.start ≡ u.start = omega arith in
     (token_same t u kind start (omega arith), parts.1)
 
-tokens_once : (at : ℕ) (bytes : List ℕ) (xs ys : List Token) → Takes at bytes xs [] → Takes at bytes ys [] → xs ≡ ys
+pub tokens_once : (at : ℕ) (bytes : List ℕ) (xs ys : List Token) → Takes at bytes xs [] → Takes at bytes ys [] → xs ≡ ys
 tokens_once at bytes [] [] h k = refl
 tokens_once at bytes [] (u ∷ ys) h (rest, k, more) = absurd (no_token u.kind k.word rest k.is (sym (taken_at u.kind k.word rest bytes k.skips k.is) ∙ after_gap-skips h))
 tokens_once at bytes (t ∷ xs) [] (after, h, more) k = absurd (no_token t.kind h.word after h.is (sym (taken_at t.kind h.word after bytes h.skips h.is) ∙ after_gap-skips k))

@@ -1,7 +1,5 @@
 -- Tokens taken one after the other, and their symbols.
-use Rattle.std.proofs.Common.{◌≡◌, ℕ, List, [], ◌∷◌, ◌++◌, map, Option, Some, None, Result, Ok, Err, sym, subst, ap, ◌∙◌, inr, Contains}
-use Rattle.std.proofs.lemmas.List.{map-append}
-use Rattle.std.proofs.lemmas.List.Elements.{Contains-append_left, Contains-push}
+use Rattle.std.proofs.Common.{◌≡◌, ℕ, ◌+◌, ◌≤◌, zero, suc, List, [], ◌∷◌, ◌++◌, length, Option, Some, None, Result, Ok, Err, refl, sym, subst, ap, ◌∙◌, arith, length-append}
 use Rattle.sr_lex.specs.declared.token.Token.{Token}
 use Rattle.sr_lex.specs.declared.fault.LexFault.{LexFault}
 use Rattle.sr_lex.specs.declared.fault.LexFault.TheVariants.{NoToken, Memory}
@@ -11,9 +9,10 @@ use Rattle.sr_lex.proofs.Walk.{taken, ended, refused_memory, refused_at}
 use Rattle.sr_parse.specs.declared.symbol.Symbol.{Symbol}
 use Rattle.sr_parse.specs.declared.parsing.ParseFault.TheVariants.{Refused}
 use Rattle.sr_parse.specs.Faults.{fault_of}
-use Rattle.sr_parse.specs.Places.{IsPlace}
+use Rattle.sr_parse.specs.Places.{start_at}
 use Rattle.sr_parse.specs.Symbols.{Symbols}
 use Rattle.sr_parse.specs.Meanings.{IsSymbol, AreSymbols}
+use Rattle.sr_parse.proofs.Meaning.{tokens_once}
 
 -- the tokens taken so far mean these symbols
 pub record IsSoFar (text : List ℕ) (lexer : List ℕ × List ℕ) (symbols : Symbols) : Type 0 where
@@ -67,30 +66,44 @@ IsSoFar-whole text before lexer symbols fault h next same tokens at t e =
     let m = IsSoFar-only text before lexer symbols fault h next same tokens t in
     let r = fault_refused fault at e in cc
 
--- tokens of the text were taken
-pub record IsTaken (text : List ℕ) (lexer : List ℕ × List ℕ) : Type 0 where
+-- tokens of the text were taken, of `count` as many as are not left
+pub record IsTaken (text : List ℕ) (lexer : List ℕ × List ℕ) (left count : ℕ) : Type 0 where
   pub done : List Token
   pub front : IsFront lexer done
   pub same : lexer.0 ≡ text
+  pub counted : length done + left ≡ count
 
-pub IsTaken-start : (text : List ℕ) (lexer : List ℕ × List ℕ) → IsFront lexer [] → lexer.0 ≡ text → IsTaken text lexer
-IsTaken-start text lexer f same = record { done = []; front = f; same = same }
+pub IsTaken-start : (text : List ℕ) (lexer : List ℕ × List ℕ) (count : ℕ) → IsFront lexer [] → lexer.0 ≡ text → IsTaken text lexer count count
+IsTaken-start text lexer count f same = record { done = []; front = f; same = same; counted = omega arith }
 
-pub IsTaken-more : (text : List ℕ) (before lexer : List ℕ × List ℕ) (found : Option Token) (t : Token)
-    → IsTaken text before → Next before lexer (Ok found) → found ≡ Some t → lexer.0 ≡ before.0 → IsTaken text lexer
-IsTaken-more text before lexer found t h next e same = record { done = h.done ++ t ∷ []; front = taken h.done lexer found t (next h.done h.front) e; same = same ∙ h.same }
+pub IsTaken-more : (text : List ℕ) (before lexer : List ℕ × List ℕ) (left fewer count : ℕ) (found : Option Token) (t : Token)
+    → IsTaken text before left count → Next before lexer (Ok found) → found ≡ Some t → lexer.0 ≡ before.0 → fewer + 1 ≡ left → IsTaken text lexer fewer count
+IsTaken-more text before lexer left fewer count found t h next e same f =
+    let n = h.counted in
+    record { done = h.done ++ t ∷ []; front = taken h.done lexer found t (next h.done h.front) e; same = same ∙ h.same; counted = omega (arith, n, f, length-append h.done (t ∷ [])) }
 
-starts_there : (done more : List Token) (t : Token) → Contains (map (λ x. x.start) ((done ++ t ∷ []) ++ more)) t.start
-starts_there done more t =
-    let start : Token → ℕ = λ x. x.start in
-    let parts : map start ((done ++ t ∷ []) ++ more) ≡ (map start done ++ t.start ∷ []) ++ map start more =
-    map-append start (done ++ t ∷ []) more ∙ ap (λ (l : List ℕ). l ++ map start more) (map-append start done (t ∷ [])) in
-    subst (λ (l : List ℕ). Contains l t.start) (sym parts) (Contains-append_left (map start done ++ t.start ∷ []) (map start more) t.start (Contains-push (map start done) t.start))
+start_there : (text : List ℕ) (done more : List Token) (t : Token) → start_at text ((done ++ t ∷ []) ++ more) (length done) ≡ t.start
+start_there text [] more t = refl
+start_there text (u ∷ done) more t = start_there text done more t
 
--- a token that is taken begins at one of the tokens of the text
-pub taken_starts : (text : List ℕ) (before lexer : List ℕ × List ℕ) (found : Option Token) (t : Token)
-    → IsTaken text before → Next before lexer (Ok found) → found ≡ Some t → lexer.0 ≡ before.0 → (tokens : List Token) → IsTokens text tokens → IsPlace text tokens t.start
-taken_starts text before lexer found t h next e same tokens all =
+start_beyond : (text : List ℕ) (tokens : List Token) (n : ℕ) → length tokens ≤ n → start_at text tokens n ≡ length text
+start_beyond text [] n h = refl
+start_beyond text (t ∷ tokens) zero h = absurd (omega arith)
+start_beyond text (t ∷ tokens) (suc n) h = start_beyond text tokens n (omega arith)
+
+-- a token that is taken where none is left begins at that of the tokens of the text
+pub taken_starts : (text : List ℕ) (before lexer : List ℕ × List ℕ) (left count : ℕ) (found : Option Token) (t : Token)
+    → IsTaken text before left count → left ≡ 0 → Next before lexer (Ok found) → found ≡ Some t → lexer.0 ≡ before.0 → (tokens : List Token) → IsTokens text tokens → t.start ≡ start_at text tokens count
+taken_starts text before lexer left count found t h z next e same tokens all =
     let f : IsFront lexer (h.done ++ t ∷ []) = taken h.done lexer found t (next h.done h.front) e in
     let b = f.back tokens (subst (λ (b : List ℕ). IsTokens b tokens) (sym (same ∙ h.same)) all) in
-    inr (subst (λ (l : List Token). Contains (map (λ x. x.start) l) t.start) (sym b.1) (starts_there h.done b.0 t))
+    let n = h.counted in
+    sym (start_there text h.done b.0 t) ∙ (ap (λ (l : List Token). start_at text l (length h.done)) (sym b.1) ∙ ap (λ k. start_at text tokens k) (omega (arith, n, z)))
+
+-- behind the last token is the text's length
+pub taken_all : (text : List ℕ) (before lexer : List ℕ × List ℕ) (left count : ℕ) (found : Option Token)
+    → IsTaken text before left count → Next before lexer (Ok found) → found ≡ None → lexer.0 ≡ before.0 → (tokens : List Token) → IsTokens text tokens → length text ≡ start_at text tokens count
+taken_all text before lexer left count found h next e same tokens all =
+    let n = h.counted in
+    let same_tokens : tokens ≡ h.done = tokens_once 0 text tokens h.done all (ended text h.done lexer found (next h.done h.front) e (same ∙ h.same)).0 in
+    sym (start_beyond text tokens count (omega (arith, n, ap length same_tokens)))

@@ -1,5 +1,5 @@
 -- Statements on rows: what the symbols spell, where a part has been read.
-use Rattle.std.proofs.Common.{◌≡◌, [], ◌∷◌, refl, sym, subst}
+use Rattle.std.proofs.Common.{◌≡◌, ◌∷◌, refl, sym, subst}
 use Rattle.sr_ast.specs.declared.expr.Expr.{Expr}
 use Rattle.sr_ast.specs.declared.query.Items.{Items}
 use Rattle.sr_ast.specs.declared.query.Items.TheVariants.{All, Each}
@@ -13,7 +13,6 @@ use Rattle.sr_ast.specs.declared.stmt.Passthrough.{Passthrough}
 use Rattle.sr_parse.specs.declared.keyword.Keyword.{Keyword}
 use Rattle.sr_parse.specs.declared.keyword.Keyword.TheVariants as key
 use Rattle.sr_parse.specs.declared.symbol.Sign.TheVariants as mark
-use Rattle.sr_parse.specs.declared.symbol.Symbol.TheVariants as symbol
 use Rattle.sr_parse.specs.Symbols.{Symbols, word, sign, IsWord, IsSign}
 use Rattle.sr_parse.specs.Writing.{IsAggregated, IsAggregate, IsItem, IsItems, IsJoin}
 use Rattle.sr_parse.specs.Scripts.{IsPassthrough, IsStatement}
@@ -102,9 +101,3 @@ join_goes here b j = clash is_join here b j.1
 -- where none begins, none is spelled
 pub join_none : (here : Symbols) → Stop is_join here → (x : Join) (next : Symbols) → IsJoin here x next → ⊥
 join_none here s x next h = clash is_join here (join_word_is here h.joined h.join) s
-
-pub join_absent : (here : Symbols) → ((rest : Symbols) → IsWord here key.Inner rest → ⊥) → ((rest : Symbols) → IsWord here key.Join rest → ⊥) → Stop is_join here
-join_absent [] inner join = tt
-join_absent (symbol.Keyword key.Inner ∷ after) inner join = absurd (inner after refl)
-join_absent (symbol.Keyword key.Join ∷ after) inner join = absurd (join after refl)
-join_absent (s ∷ after) inner join = refl

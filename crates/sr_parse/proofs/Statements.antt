@@ -30,7 +30,7 @@ use Rattle.sr_parse.proofs.Cataloguing.{publication_once, grant_once, subscripti
 use Rattle.sr_parse.proofs.Columns.{table_once}
 use Rattle.sr_parse.proofs.Triggering.{trigger_once}
 
-abbrev is_work : Symbol → Bool
+abbrev pub is_work : Symbol → Bool
 is_work (symbol.Keyword key.Work) = true
 is_work s = false
 

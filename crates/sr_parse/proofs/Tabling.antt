@@ -1,23 +1,21 @@
 -- Columns and actions, read one after the other.
-use Rattle.std.proofs.Common.{◌≡◌, ℕ, ◌-◌, ◌<◌, ◌≤◌, Bool, true, false, List, [], ◌∷◌, ◌++◌, length, Some, inl, inr, sym, subst, arith}
-use Rattle.sr_parse.specs.declared.symbol.Symbol.{Symbol}
+use Rattle.std.proofs.Common.{◌≡◌, ℕ, ◌-◌, ◌<◌, Bool, true, false, List, [], ◌∷◌, ◌++◌, inl, inr, sym, subst}
 use Rattle.sr_ast.specs.Chains.{Chain}
 use Rattle.sr_ast.specs.Actions.{chain_of}
 use Rattle.sr_ast.specs.declared.expr.Expr.{Expr}
-use Rattle.sr_ast.specs.declared.action.Action.{Action}
 use Rattle.sr_ast.specs.declared.action.Action.TheVariants.{If, IfElse}
 use Rattle.sr_ast.specs.declared.create.ColumnRule.{ColumnRule}
 use Rattle.sr_ast.specs.declared.stmt.Stmt.{Stmt}
 use Rattle.sr_parse.specs.declared.keyword.Keyword.TheVariants as kw
 use Rattle.sr_parse.specs.declared.symbol.Sign.TheVariants as mark
-use Rattle.sr_parse.specs.Symbols.{Symbols, first, behind, word, IsWord, IsSign}
+use Rattle.sr_parse.specs.Symbols.{Symbols, word, IsWord, IsSign}
 use Rattle.sr_parse.specs.Expressions.{IsExpr}
 use Rattle.sr_parse.specs.Tables.{IsRules, IsColumns, IsColumnRule}
 use Rattle.sr_parse.specs.Tables.IsRules.{not_null, null, primary}
 use Rattle.sr_parse.specs.Tables.IsColumns.{one, more}
 use Rattle.sr_parse.specs.Triggers.{Acts, IsActions}
-use Rattle.sr_parse.specs.Triggers.Amount.{one as single, many}
-use Rattle.sr_parse.specs.Triggers.Acts.{none as no_act, then, when, choose}
+use Rattle.sr_parse.specs.Triggers.Amount.{one as single}
+use Rattle.sr_parse.specs.Triggers.Acts.{when, choose}
 use Rattle.sr_parse.specs.Scripts.{Pieces, IsPiece}
 use Rattle.sr_parse.specs.Scripts.Stage.{opened, closed}
 use Rattle.sr_parse.specs.Scripts.Pieces.{start, empty, stated}
@@ -31,11 +29,6 @@ pub IsColumns-more : {before middle next after : Symbols} {cs ys : List ColumnRu
     → IsColumns before cs held middle → IsSign middle mark.Comma next → IsColumnRule next c held key after → ys ≡ cs ++ c ∷ [] → IsColumns before ys key after
 IsColumns-more {before = b} {after = a} {key = k} hs s h e = subst (λ ys. IsColumns b ys k a) (sym e) (more hs s h)
 
--- two symbols, taken one after the other
-pub taken-two : (symbols next after : Symbols) (a b : Symbol) → first symbols ≡ Some a → next ≡ behind symbols → next ≡ b ∷ after → symbols ≡ a ∷ b ∷ after
-taken-two [] next after a b f n e = cc
-taken-two (s ∷ symbols) next after a b f n e = cc
-
 pub IsRules-not_null : {before middle after : Symbols} {n null primary : Bool} → n ≡ false → IsRules before n null primary middle → middle ≡ word kw.Not ∷ word kw.Null ∷ after → IsRules before true null primary after
 IsRules-not_null {before = b} {middle = m} {null = u} {primary = p} e h w = not_null (subst (λ n. IsRules b n u p m) e h) w
 
@@ -44,13 +37,6 @@ IsRules-null {before = b} {middle = m} {n = n} {primary = p} e h w = null (subst
 
 pub IsRules-primary : {before middle after : Symbols} {n u p : Bool} → p ≡ false → IsRules before n u p middle → middle ≡ word kw.Primary ∷ word kw.Key ∷ after → IsRules before n u true after
 IsRules-primary {before = b} {middle = m} {n = n} {u = u} e h w = primary (subst (λ p. IsRules b n u p m) e h) w
-
-pub Acts-none : {ifs : ℕ} {before : Symbols} {ys : List Action} → ys ≡ [] → Acts many ifs before ys before
-Acts-none {ifs = i} {before = b} e = subst (λ ys. Acts many i b ys b) (sym e) no_act
-
-pub Acts-then : {ifs : ℕ} {before middle next after : Symbols} {xs ys : List Action} {x : Action}
-    → Acts many ifs before xs middle → Acts single ifs middle (x ∷ []) next → IsSign next mark.Semicolon after → ys ≡ xs ++ x ∷ [] → Acts many ifs before ys after
-Acts-then {ifs = i} {before = b} {after = a} hs h s e = subst (λ ys. Acts many i b ys a) (sym e) (then hs h s)
 
 pub Acts-when : {ifs : ℕ} {before test then_ taken end after : Symbols} {c : Expr} {x : Chain}
     → 0 < ifs → IsWord before kw.If test → IsExpr test c then_ → IsWord then_ kw.Then taken → IsActions (ifs - 1) taken x end
@@ -70,8 +56,3 @@ Pieces-start {before = b} e = subst (λ ys. Pieces opened b ys b) (sym e) start
 pub Pieces-piece : {before middle after : Symbols} (xs ys : List Stmt) → Pieces opened before xs middle → IsPiece middle xs ys after → Pieces closed before ys after
 Pieces-piece {before = b} {after = a} xs ys h (inl (e, m)) = subst (λ ys. Pieces closed b ys a) (sym e) (empty (subst (λ s. Pieces opened b xs s) m h))
 Pieces-piece {before = b} {after = a} xs ys h (inr (s, e, is)) = subst (λ ys. Pieces closed b ys a) (sym e) (stated s h is)
-
--- no symbol is left
-pub Pieces-end : {before after left : Symbols} {ys : List Stmt} → Pieces closed before ys after → left ≡ after → length left ≤ 0 → Pieces closed before ys []
-Pieces-end {before = b} {after = a} {left = []} {ys = ys} h e n = subst (λ s. Pieces closed b ys s) (sym e) h
-Pieces-end {left = s ∷ left} h e n = absurd (omega arith)

@@ -4,7 +4,6 @@ use Rattle.std.proofs.lemmas.List.{append-nil}
 use Rattle.std.specs.List.{AllByRecursion}
 use Rattle.sr_base.specs.declared.value.Kind.{Kind}
 use Rattle.sr_ast.specs.Terms.{Term}
-use Rattle.sr_ast.specs.Terms.Term.{literal, column, unary, binary}
 use Rattle.sr_ast.specs.Exprs.{term_of}
 use Rattle.sr_ast.specs.Chains.{Chain}
 use Rattle.sr_ast.specs.Chains.Chain.{done, set, insert, when, choose}
@@ -13,7 +12,6 @@ use Rattle.sr_ast.specs.Pages.{Piece, word, semicolon, listed, in_row}
 use Rattle.sr_ast.specs.Printing.{name_pieces, column_pieces, names_pieces, row_pieces, term_pieces, kind_pieces, chain_pieces}
 use Rattle.sr_ast.specs.Layout.{image_word, alias_pieces, variable_pieces, of_pieces, body_pieces, on_pieces, fired_pieces, create_trigger_pieces}
 use Rattle.sr_ast.specs.declared.expr.Expr.{Expr}
-use Rattle.sr_ast.specs.declared.expr.Expr.TheVariants as expr
 use Rattle.sr_ast.specs.declared.action.Action.{Action}
 use Rattle.sr_ast.specs.declared.action.Action.TheVariants as action
 use Rattle.sr_ast.specs.declared.operator.Binary.TheVariants.{Equal}
@@ -37,6 +35,7 @@ use Rattle.sr_parse.specs.Triggers.Acts.{none as no_act, then, set as set_act, i
 use Rattle.sr_parse.specs.Normal.{IsPlain, IsSomeOf, IsNormalDeep}
 use Rattle.sr_parse.specs.NormalForms.{IsNormalAlias, IsNormalVariable, IsNormalChain, ifs, IsNormalTrigger}
 use Rattle.sr_parse.proofs.Saying.{Says, Spelt, word_says, phrase_says, semicolon_says, regrouped}
+use Rattle.sr_parse.proofs.Expressing.{expr_of, term_of-expr_of}
 use Rattle.sr_parse.proofs.Listed.{listed_spelt, row_spelt as in_row_spelt, enclosed}
 use Rattle.sr_parse.proofs.Naming.{name_spelt, names_spelt, column_spelt}
 use Rattle.sr_parse.proofs.Termed.{term_spelt, operator_lexeme}
@@ -44,18 +43,6 @@ use Rattle.sr_parse.proofs.Rowed.{ahead}
 use Rattle.sr_parse.proofs.Cataloged.{kind_spelt}
 
 -- ---- the expression that a term is
-
-abbrev expr_of : Term → Expr
-expr_of (literal v) = expr.Literal v
-expr_of (column t n) = expr.Column t n
-expr_of (unary op a) = expr.Unary op a
-expr_of (binary op a b) = expr.Binary op a b
-
-term_of-expr_of : (t : Term) → term_of (expr_of t) ≡ t
-term_of-expr_of (literal v) = refl
-term_of-expr_of (column t n) = refl
-term_of-expr_of (unary op a) = refl
-term_of-expr_of (binary op a b) = refl
 
 terms_of : (ts : List Term) → map term_of (map expr_of ts) ≡ ts
 terms_of [] = refl

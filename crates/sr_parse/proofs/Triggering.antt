@@ -215,8 +215,12 @@ trigger_same s t a b c d e f =
     six_parts (λ (n : List ℕ) (cs : List (List ℕ)) (u : List ℕ) (as_ : List (Image × List ℕ)) (vs : List (List ℕ × Kind)) (x : Chain).
     let r : CreateTrigger = record { name = n; columns = cs; table = u; aliases = as_; variables = vs; actions = x } in r) a b c d e f
 
+-- no DECLARE stands before actions
+pub acts_no_declare : {m : ℕ} {before after : Symbols} {x : Chain} → IsActions m before x after → Stop is_declare after → Stop is_declare before
+acts_no_declare h p = deeds_stop is_declare refl refl refl (deeds h.acts) p
+
 pub no_declare : {before after : Symbols} {c : CreateTrigger} → (h : IsTrigger before c after) → Stop is_declare h.actions_
-no_declare h = deeds_stop is_declare refl refl refl (deeds h.actions.acts) (Stop-at is_declare h.end refl)
+no_declare h = acts_no_declare h.actions (Stop-at is_declare h.end refl)
 
 pub trigger_once : {before here after rest : Symbols} {s t : CreateTrigger} → before ≡ here → IsTrigger before s after → IsTrigger here t rest → (s ≡ t) × (after ≡ rest)
 trigger_once {s = s} {t = t} e h k =

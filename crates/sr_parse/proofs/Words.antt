@@ -4,7 +4,7 @@ use Rattle.sr_parse.specs.declared.keyword.Keyword.{Keyword}
 use Rattle.sr_parse.specs.declared.keyword.Keyword.TheVariants as key
 use Rattle.sr_parse.specs.declared.symbol.Sign.{Sign}
 use Rattle.sr_parse.specs.declared.symbol.Sign.TheVariants as mark
-use Rattle.sr_parse.specs.Meanings.{IsKeyword, IsNoKeyword, IsNoSign, sign_text}
+use Rattle.sr_parse.specs.Meanings.{IsKeyword, sign_text}
 
 abbrev pub Among : {A : Type 0} → A → List A → Type 0
 Among x [] = ⊥
@@ -118,19 +118,5 @@ dropped : {A : Type 0} (P : A → Type 0) (x : A) (y : A) (ys : List A) → (P y
 dropped P x y ys never h (inl e) = absurd (never (subst P e h))
 dropped P x y ys never h (inr m) = m
 
-pub MayBe-more : (word : List ℕ) (left after : List Keyword) (k : Keyword) → MayBe word left → left ≡ k ∷ after → (IsKeyword word k → ⊥) → MayBe word after
-MayBe-more word left after k h e never =
-    record { among = λ l is. dropped (λ (l : Keyword). IsKeyword word l) l k after never is (subst (λ (ls : List Keyword). Among l ls) e (h.among l is)) }
-
-pub MayBe-end : (word : List ℕ) (left : List Keyword) → MayBe word left → left ≡ [] → IsNoKeyword word
-MayBe-end word left h e = λ k is. subst (λ (ls : List Keyword). Among k ls) e (h.among k is)
-
 pub MayStand-start : (bytes : List ℕ) (left : List Sign) → left ≡ signs → MayStand bytes left
 MayStand-start bytes left e = record { among = λ k h. subst (λ (l : List Sign). Among k l) (sym e) (each_sign k) }
-
-pub MayStand-more : (bytes : List ℕ) (left after : List Sign) (s : Sign) → MayStand bytes left → left ≡ s ∷ after → (bytes ≡ sign_text s → ⊥) → MayStand bytes after
-MayStand-more bytes left after s h e never =
-    record { among = λ l is. dropped (λ (l : Sign). bytes ≡ sign_text l) l s after never is (subst (λ (ls : List Sign). Among l ls) e (h.among l is)) }
-
-pub MayStand-end : (bytes : List ℕ) (left : List Sign) → MayStand bytes left → left ≡ [] → IsNoSign bytes
-MayStand-end bytes left h e = λ k is. subst (λ (ls : List Sign). Among k ls) e (h.among k is)

@@ -1,7 +1,5 @@
--- Where a production may end, and what a reader of it owes.
-use Rattle.std.specs.Prelude.{◌≡◌, ◌≤◌, Bool, true, false, ◌||◌, [], ◌∷◌, Option, Some, None, Result, Ok, Err, ◌⊎◌}
-use Rattle.sr_ast.specs.Terms.{Term}
-use Rattle.sr_ast.specs.Exprs.{term_of}
+-- Where a production may end.
+use Rattle.std.specs.Prelude.{◌≡◌, Bool, true, false, ◌||◌, [], ◌∷◌, Option, Some, None, Result, Ok, Err, ◌⊎◌}
 use Rattle.sr_parse.specs.declared.keyword.Keyword.TheVariants as key
 use Rattle.sr_parse.specs.declared.symbol.Sign.TheVariants as sign
 use Rattle.sr_parse.specs.declared.symbol.Symbol.{Symbol}
@@ -9,9 +7,7 @@ use Rattle.sr_parse.specs.declared.symbol.Symbol.TheVariants as symbol
 use Rattle.sr_parse.specs.declared.reader.Broken.{Broken}
 use Rattle.sr_parse.specs.declared.reader.Broken.TheVariants.{Memory}
 use Rattle.sr_parse.specs.Symbols.{Symbols, IsSign}
-use Rattle.sr_parse.specs.declared.exprs.Room.{Room}
-use Rattle.sr_parse.specs.declared.exprs.Sized.{Sized}
-use Rattle.sr_parse.specs.Expressions.{Tightness, Reads, depth, joins, compares}
+use Rattle.sr_parse.specs.Expressions.{Tightness, joins, compares}
 use Rattle.sr_parse.specs.Expressions.Tightness.{disjunction, conjunction, negation, comparison, sum, product, signed, operand}
 
 -- the symbols do not begin with one that passes the test
@@ -110,11 +106,6 @@ goes_on sum = sum_goes
 goes_on product = factor_goes
 goes_on signed = is_dot
 goes_on operand = is_dot
-
--- what a reader of a level owes: the expression that the symbols spell, where the room holds it and nothing behind goes on with it
-abbrev pub Finds : Tightness → Room → Symbols → Symbols → Result Sized Broken → Type 0
-Finds level room before here result = (t : Term) (after : Symbols) → Reads level room.parentheses before t after → depth t ≤ room.depth → Stop (goes_on level) after
-    → Gives result (λ sized. (term_of sized.expr ≡ t) × (here ≡ after))
 
 -- the symbols with which an action begins
 abbrev pub action_starts : Symbol → Bool

@@ -13,5 +13,8 @@ pub mod Symbols
 pub mod Tables
 pub mod Triggers
 pub mod Writing
+pub mod Meant
+pub mod Reading
+pub mod Productions
 pub mod Normal
 pub mod NormalForms

@@ -1,11 +1,8 @@
-ghost use Rattle.std.specs.Prelude.{◌≡◌, ◌+◌, ◌-◌, ◌*◌, ◌<◌, ◌≤◌, ◌↔◌, length, OnOk, IfOk, IsSome, IsTrue, IsFalse, OnSome, IfSome, ◌∷◌, [], map, ℕ, List, Option};
-ghost use Rattle.sr_ast.specs.Chains.{Chain};
-ghost use Rattle.sr_ast.specs.declared.action.Action.{Action};
-ghost use Rattle.sr_ast.specs.declared.expr.Expr.{Expr};
-ghost use Rattle.sr_parse.specs.Symbols.{Symbols, word};
-ghost use Rattle.sr_parse.specs.Going.{Stop, Begins, Gives, expression_goes, action_starts};
-ghost use Rattle.sr_parse.specs.Triggers.{IsActions, Acts, IsAssigned, IsInserted};
-ghost use Rattle.sr_parse.specs.Triggers.Amount.{one};
+ghost use Rattle.std.specs.Prelude.{◌<◌, ◌≤◌, length, OnOk, IsTrue, IsFalse};
+ghost use Rattle.sr_parse.specs.Reading.{Reading, Anywhere};
+ghost use Rattle.sr_parse.specs.Productions.{TwoWords, OneAction, Assigned, Inserted};
+ghost use Rattle.sr_parse.specs.Going.{Stop, Begins, expression_goes, action_starts};
+ghost use Rattle.sr_parse.specs.Triggers.{IsActions};
 ghost use Rattle.sr_parse.specs.declared.keyword.Keyword.TheVariants as key;
 
 use crate::exprs::expr;
@@ -22,8 +19,7 @@ pub const IFS: usize = 200;
 /// The actions up to END or ELSE, each with its `;`.
 #[cycle(acting)]
 pub fn actions(reader: &mut Reader, ifs: usize) -> Result<Actions, Broken>
-    ensures found { IfOk result (λ actions. IsActions ifs reader.old actions reader.new) }
-    ensures finds { (x : Chain) (rest : Symbols) → IsActions ifs reader.old x rest → Stop action_starts rest → Gives result (λ actions. (actions ≡ x) × (reader.new ≡ rest)) }
+    ensures reads { Reading (IsActions ifs) (Stop action_starts) reader.old reader.new result }
     ensures shorter { length reader.new ≤ length reader.old }
 {
     let mut actions = Vec::new(reader.alloc());
@@ -47,8 +43,7 @@ fn is_action(reader: &Reader) -> bool
 
 #[cycle(acting)]
 fn action(reader: &mut Reader, ifs: usize) -> Result<Action, Broken>
-    ensures found { IfOk result (λ action. Acts one ifs reader.old (action ∷ []) reader.new) }
-    ensures finds { (x : Action) (rest : Symbols) → Acts one ifs reader.old (x ∷ []) rest → Stop expression_goes rest → Gives result (λ action. (action ≡ x) × (reader.new ≡ rest)) }
+    ensures reads { Reading (OneAction ifs) (Stop expression_goes) reader.old reader.new result }
     ensures shorter { length reader.new ≤ length reader.old }
     ensures progress { OnOk result (length reader.new < length reader.old) }
 {
@@ -77,8 +72,7 @@ fn action(reader: &mut Reader, ifs: usize) -> Result<Action, Broken>
 }
 
 fn end_if(reader: &mut Reader) -> Result<(), Broken>
-    ensures found { OnOk result (reader.old ≡ word key.End ∷ word key.If ∷ reader.new) }
-    ensures finds { (rest : Symbols) → reader.old ≡ word key.End ∷ word key.If ∷ rest → Gives result (λ _. reader.new ≡ rest) }
+    ensures reads { Reading (TwoWords key.End key.If) Anywhere reader.old reader.new result }
     ensures shorter { length reader.new ≤ length reader.old }
 {
     reader.keyword(Keyword::End)?;
@@ -88,8 +82,7 @@ fn end_if(reader: &mut Reader) -> Result<(), Broken>
 
 /// Behind SET.
 fn assigned(reader: &mut Reader) -> Result<(Option<Name>, Name, Expr), Broken>
-    ensures found { IfOk result (λ set. IsAssigned reader.old set.0 set.1 set.2 reader.new) }
-    ensures finds { (alias : Option (List ℕ)) (name : List ℕ) (e : Expr) (rest : Symbols) → IsAssigned reader.old alias name e rest → Stop expression_goes rest → Gives result (λ set. (set.0 ≡ alias) × (set.1 ≡ name) × (set.2 ≡ e) × (reader.new ≡ rest)) }
+    ensures reads { Reading Assigned (Stop expression_goes) reader.old reader.new result }
     ensures shorter { length reader.new ≤ length reader.old }
 {
     let (alias, name) = reader.reference()?;
@@ -100,8 +93,7 @@ fn assigned(reader: &mut Reader) -> Result<(Option<Name>, Name, Expr), Broken>
 
 /// Behind INSERT.
 fn inserted(reader: &mut Reader) -> Result<(Name, Seq<Name>, Seq<Expr>), Broken>
-    ensures found { IfOk result (λ insert. IsInserted reader.old insert.0 insert.1 insert.2 reader.new) }
-    ensures finds { (t : List ℕ) (names : List (List ℕ)) (given : List Expr) (rest : Symbols) → IsInserted reader.old t names given rest → Gives result (λ insert. (insert.0 ≡ t) × (insert.1 ≡ names) × (insert.2 ≡ given) × (reader.new ≡ rest)) }
+    ensures reads { Reading Inserted Anywhere reader.old reader.new result }
     ensures shorter { length reader.new ≤ length reader.old }
 {
     reader.keyword(Keyword::Into)?;

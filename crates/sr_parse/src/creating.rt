@@ -1,18 +1,9 @@
-ghost use Rattle.std.specs.Prelude.{◌≡◌, ◌+◌, ◌-◌, ◌*◌, ◌<◌, ◌≤◌, ◌↔◌, length, OnOk, IfOk, IsSome, IsTrue, OnSome, IfSome, ◌∷◌, [], true, Option, ℕ, Bool, List, All, Any, IsFalse, ◌≢◌};
+ghost use Rattle.std.specs.Prelude.{◌≡◌, ◌<◌, ◌≤◌, length, OnOk, IsTrue, IfSome, ◌∷◌, [], ℕ, List, All, Any, IsFalse, ◌≢◌};
 ghost use Rattle.std.specs.Option.{option_copied};
-ghost use Rattle.sr_base.specs.declared.value.Kind.{Kind};
-ghost use Rattle.sr_ast.specs.declared.expr.Expr.{Expr};
-ghost use Rattle.sr_ast.specs.declared.stmt.Stmt.{Stmt as Statement};
-ghost use Rattle.sr_ast.specs.declared.create.ColumnRule.{ColumnRule};
-ghost use Rattle.sr_ast.specs.declared.create.CreateTable.{CreateTable};
-ghost use Rattle.sr_ast.specs.declared.create.CreatePublication.{CreatePublication as Publication};
-ghost use Rattle.sr_ast.specs.declared.create.ArticleRule.{ArticleRule as Article};
-ghost use Rattle.sr_ast.specs.declared.create.Grant.{Grant as GrantRule};
-ghost use Rattle.sr_ast.specs.declared.create.SubscriptionRule.{SubscriptionRule as Subscription};
-ghost use Rattle.sr_base.specs.declared.value.Value.{Value as Literal};
-ghost use Rattle.sr_ast.specs.declared.create.CreateTrigger.{CreateTrigger};
 ghost use Rattle.sr_ast.specs.declared.create.Image.{Image};
-ghost use Rattle.sr_parse.specs.Symbols.{Symbols, word, first, IsName, IsWord, IsSign};
+ghost use Rattle.sr_parse.specs.Reading.{Reading, Anywhere, BeforeWord, BeforeSign, mapped};
+ghost use Rattle.sr_parse.specs.Productions.{TwoWords, Keyed, Ruled, Rules, EachRow, StatementBehind};
+ghost use Rattle.sr_parse.specs.Symbols.{Symbols, word, IsName};
 ghost use Rattle.sr_parse.specs.Going.{Gives, Stop, Ends, Closes, is_open, condition_goes, is_image, is_declare, rule_starts};
 ghost use Rattle.sr_parse.specs.Listing.{Listed, Row};
 ghost use Rattle.sr_parse.specs.Writing.{IsCondition};
@@ -28,9 +19,8 @@ ghost use Rattle.sr_parse.specs.Catalog.{
   IsGiven,
   IsSubscription,
 };
-ghost use Rattle.sr_parse.specs.Tables.{IsTable, IsKeyed, IsKeyWords, IsColumnRule, IsRules};
+ghost use Rattle.sr_parse.specs.Tables.{IsTable, IsKeyWords};
 ghost use Rattle.sr_parse.specs.Triggers.{IsOf, AreAliases, IsVariable, IsTrigger, image_word};
-ghost use Rattle.sr_parse.specs.Scripts.{IsStatement};
 ghost use Rattle.sr_parse.specs.declared.keyword.Keyword.TheVariants as key;
 ghost use Rattle.sr_parse.specs.declared.symbol.Sign.TheVariants as mark;
 
@@ -49,8 +39,7 @@ use std::alloc::Global;
 
 /// Behind CREATE.
 pub fn create(reader: &mut Reader) -> Result<Stmt, Broken>
-    ensures found { IfOk result (λ stmt. IsStatement (word key.Create ∷ reader.old) stmt reader.new) }
-    ensures finds { (x : Statement) (rest : Symbols) → IsStatement (word key.Create ∷ reader.old) x rest → Ends rest → Gives result (λ stmt. (stmt ≡ x) × (reader.new ≡ rest)) }
+    ensures reads { Reading (StatementBehind key.Create) Ends reader.old reader.new result }
     ensures shorter { length reader.new ≤ length reader.old }
 {
     if reader.takes(Keyword::Table) {
@@ -71,8 +60,7 @@ pub fn create(reader: &mut Reader) -> Result<Stmt, Broken>
 
 /// Behind DROP.
 pub fn drop_statement(reader: &mut Reader) -> Result<Stmt, Broken>
-    ensures found { IfOk result (λ stmt. IsStatement (word key.Drop ∷ reader.old) stmt reader.new) }
-    ensures finds { (x : Statement) (rest : Symbols) → IsStatement (word key.Drop ∷ reader.old) x rest → Ends rest → Gives result (λ stmt. (stmt ≡ x) × (reader.new ≡ rest)) }
+    ensures reads { Reading (StatementBehind key.Drop) Ends reader.old reader.new result }
     ensures shorter { length reader.new ≤ length reader.old }
 {
     if reader.takes(Keyword::Table) {
@@ -93,8 +81,7 @@ pub fn drop_statement(reader: &mut Reader) -> Result<Stmt, Broken>
 
 /// Behind GRANT.
 pub fn grant(reader: &mut Reader) -> Result<Stmt, Broken>
-    ensures found { IfOk result (λ stmt. IsStatement (word key.Grant ∷ reader.old) stmt reader.new) }
-    ensures finds { (x : Statement) (rest : Symbols) → IsStatement (word key.Grant ∷ reader.old) x rest → Ends rest → Gives result (λ stmt. (stmt ≡ x) × (reader.new ≡ rest)) }
+    ensures reads { Reading (StatementBehind key.Grant) Ends reader.old reader.new result }
     ensures shorter { length reader.new ≤ length reader.old }
 {
     if reader.takes(Keyword::Remote) {
@@ -107,8 +94,7 @@ pub fn grant(reader: &mut Reader) -> Result<Stmt, Broken>
 }
 
 fn granted(reader: &mut Reader) -> Result<Grant, Broken>
-    ensures found { IfOk result (λ grant. IsGrant reader.old grant reader.new) }
-    ensures finds { (x : GrantRule) (rest : Symbols) → IsGrant reader.old x rest → Ends rest → Gives result (λ grant. (grant ≡ x) × (reader.new ≡ rest)) }
+    ensures reads { Reading IsGrant Ends reader.old reader.new result }
     ensures shorter { length reader.new ≤ length reader.old }
 {
     reader.keyword(Keyword::To)?;
@@ -118,8 +104,7 @@ fn granted(reader: &mut Reader) -> Result<Grant, Broken>
 }
 
 fn address(reader: &mut Reader) -> Result<Option<Text>, Broken>
-    ensures found { IfOk result (λ address. IsAddress reader.old address reader.new) }
-    ensures finds { (x : Option (List ℕ)) (rest : Symbols) → IsAddress reader.old x rest → Ends rest → Gives result (λ address. (address ≡ x) × (reader.new ≡ rest)) }
+    ensures reads { Reading IsAddress Ends reader.old reader.new result }
     ensures shorter { length reader.new ≤ length reader.old }
 {
     if !reader.takes(Keyword::Type) {
@@ -133,8 +118,7 @@ fn address(reader: &mut Reader) -> Result<Option<Text>, Broken>
 
 /// From SUBSCRIPTION on.
 pub fn subscription(reader: &mut Reader) -> Result<SubscriptionRule, Broken>
-    ensures found { IfOk result (λ rule. IsSubscription reader.old rule reader.new) }
-    ensures finds { (x : Subscription) (rest : Symbols) → IsSubscription reader.old x rest → Gives result (λ rule. (rule ≡ x) × (reader.new ≡ rest)) }
+    ensures reads { Reading IsSubscription Anywhere reader.old reader.new result }
     ensures shorter { length reader.new ≤ length reader.old }
     ensures progress { OnOk result (length reader.new < length reader.old) }
 {
@@ -152,8 +136,7 @@ pub fn subscription(reader: &mut Reader) -> Result<SubscriptionRule, Broken>
 }
 
 fn given_value(reader: &mut Reader) -> Result<Option<Value>, Broken>
-    ensures found { IfOk result (λ value. IsGiven reader.old value reader.new) }
-    ensures finds { (x : Option Literal) (rest : Symbols) → IsGiven reader.old x rest → Stop is_open rest → Gives result (λ value. (value ≡ x) × (reader.new ≡ rest)) }
+    ensures reads { Reading IsGiven (Stop is_open) reader.old reader.new result }
     ensures shorter { length reader.new ≤ length reader.old }
 {
     if !reader.takes_sign(Sign::Open) {
@@ -165,8 +148,7 @@ fn given_value(reader: &mut Reader) -> Result<Option<Value>, Broken>
 }
 
 fn signed_literal(reader: &mut Reader) -> Result<Value, Broken>
-    ensures found { IfOk result (λ value. IsSigned reader.old value reader.new) }
-    ensures finds { (x : Literal) (rest : Symbols) → IsSigned reader.old x rest → Gives result (λ value. (value ≡ x) × (reader.new ≡ rest)) }
+    ensures reads { Reading IsSigned Anywhere reader.old reader.new result }
     ensures shorter { length reader.new ≤ length reader.old }
 {
     if !reader.takes_sign(Sign::Minus) {
@@ -184,8 +166,7 @@ fn signed_literal(reader: &mut Reader) -> Result<Value, Broken>
 
 /// Behind CREATE TABLE.
 fn create_table(reader: &mut Reader) -> Result<CreateTable, Broken>
-    ensures found { IfOk result (λ create. IsTable reader.old create reader.new) }
-    ensures finds { (x : CreateTable) (rest : Symbols) → IsTable reader.old x rest → Gives result (λ create. (create ≡ x) × (reader.new ≡ rest)) }
+    ensures reads { Reading IsTable Anywhere reader.old reader.new result }
     ensures shorter { length reader.new ≤ length reader.old }
 {
     let name = reader.name()?;
@@ -202,8 +183,7 @@ fn create_table(reader: &mut Reader) -> Result<CreateTable, Broken>
 
 /// The columns as they are written, and the key.
 fn columns(reader: &mut Reader) -> Result<(Vec<ColumnRule>, Vec<Name>), Broken>
-    ensures found { IfOk result (λ read. IsKeyed reader.old read.0.items read.1.items reader.new) }
-    ensures finds { (xs : List ColumnRule) (key : List (List ℕ)) (rest after : Symbols) → IsKeyed reader.old xs key rest → IsSign rest mark.Close after → Gives result (λ read. (read.0.items ≡ xs) × (read.1.items ≡ key) × (reader.new ≡ rest)) }
+    ensures reads { Reading Keyed (BeforeSign mark.Close) reader.old reader.new (mapped (λ read. (read.0.items, read.1.items)) result) }
     ensures shorter { length reader.new ≤ length reader.old }
 {
     let mut columns = Vec::new(reader.alloc());
@@ -226,8 +206,7 @@ fn columns(reader: &mut Reader) -> Result<(Vec<ColumnRule>, Vec<Name>), Broken>
 
 /// `PRIMARY KEY ( n {, n} )`
 fn key_list(reader: &mut Reader) -> Result<Vec<Name>, Broken>
-    ensures found { IfOk result (λ key. IsKeyWords reader.old key.items reader.new) }
-    ensures finds { (key : List (List ℕ)) (rest : Symbols) → IsKeyWords reader.old key rest → Gives result (λ names. (names.items ≡ key) × (reader.new ≡ rest)) }
+    ensures reads { Reading IsKeyWords Anywhere reader.old reader.new (mapped (λ key. key.items) result) }
     ensures shorter { length reader.new ≤ length reader.old }
 {
     reader.keyword(Keyword::Primary)?;
@@ -240,8 +219,7 @@ fn key_list(reader: &mut Reader) -> Result<Vec<Name>, Broken>
 
 /// A column, and the key with it.
 fn column_rule(reader: &mut Reader, held: Vec<Name>) -> Result<(ColumnRule, Vec<Name>), Broken>
-    ensures found { IfOk result (λ read. IsColumnRule reader.old read.0 held.items read.1.items reader.new) }
-    ensures finds { (x : ColumnRule) (key : List (List ℕ)) (rest : Symbols) → IsColumnRule reader.old x held.items key rest → Stop rule_starts rest → Gives result (λ read. (read.0 ≡ x) × (read.1.items ≡ key) × (reader.new ≡ rest)) }
+    ensures reads { Reading (Ruled held.items) (Stop rule_starts) reader.old reader.new (mapped (λ read. (read.0, read.1.items)) result) }
     ensures shorter { length reader.new ≤ length reader.old }
     ensures progress { OnOk result (length reader.new < length reader.old) }
 {
@@ -286,9 +264,7 @@ struct Written {
 
 /// The rules of a column, each at most once; PRIMARY KEY only where there is no key yet.
 fn rules(reader: &mut Reader, may_be_key: bool) -> Result<Written, Broken>
-    ensures found { IfOk result (λ rules. IsRules reader.old rules.not_null rules.null rules.primary reader.new) }
-    ensures single { IfOk result (λ rules. rules.primary ≡ true → may_be_key ≡ true) }
-    ensures finds { (n u p : Bool) (rest : Symbols) → IsRules reader.old n u p rest → (p ≡ true → may_be_key ≡ true) → Stop rule_starts rest → Gives result (λ rules. (rules.not_null ≡ n) × (rules.null ≡ u) × (rules.primary ≡ p) × (reader.new ≡ rest)) }
+    ensures reads { Reading (Rules may_be_key) (Stop rule_starts) reader.old reader.new (mapped (λ rules. (rules.not_null, rules.null, rules.primary)) result) }
     ensures shorter { length reader.new ≤ length reader.old }
 {
     let mut not_null = false;
@@ -317,8 +293,7 @@ fn rules(reader: &mut Reader, may_be_key: bool) -> Result<Written, Broken>
 }
 
 fn kind(reader: &mut Reader) -> Result<Kind, Broken>
-    ensures found { IfOk result (λ kind. IsKind reader.old kind reader.new) }
-    ensures finds { (x : Kind) (rest : Symbols) → IsKind reader.old x rest → Gives result (λ kind. (kind ≡ x) × (reader.new ≡ rest)) }
+    ensures reads { Reading IsKind Anywhere reader.old reader.new result }
     ensures shorter { length reader.new ≤ length reader.old }
     ensures progress { OnOk result (length reader.new < length reader.old) }
 {
@@ -342,8 +317,7 @@ fn kind(reader: &mut Reader) -> Result<Kind, Broken>
 }
 
 fn length(reader: &mut Reader) -> Result<u16, Broken>
-    ensures found { IfOk result (λ n. IsLength reader.old n reader.new) }
-    ensures finds { (x : ℕ) (rest : Symbols) → IsLength reader.old x rest → Gives result (λ n. (n ≡ x) × (reader.new ≡ rest)) }
+    ensures reads { Reading IsLength Anywhere reader.old reader.new result }
     ensures shorter { length reader.new ≤ length reader.old }
     ensures progress { OnOk result (length reader.new < length reader.old) }
 {
@@ -362,8 +336,7 @@ fn length(reader: &mut Reader) -> Result<u16, Broken>
 
 /// Behind CREATE PUBLICATION.
 fn create_publication(reader: &mut Reader) -> Result<CreatePublication, Broken>
-    ensures found { IfOk result (λ create. IsPublication reader.old create reader.new) }
-    ensures finds { (x : Publication) (rest : Symbols) → IsPublication reader.old x rest → Gives result (λ create. (create ≡ x) × (reader.new ≡ rest)) }
+    ensures reads { Reading IsPublication Anywhere reader.old reader.new result }
     ensures shorter { length reader.new ≤ length reader.old }
 {
     let name = reader.name()?;
@@ -375,8 +348,7 @@ fn create_publication(reader: &mut Reader) -> Result<CreatePublication, Broken>
 
 /// Articles with commas between them.
 fn articles(reader: &mut Reader) -> Result<Seq<ArticleRule>, Broken>
-    ensures found { IfOk result (λ articles. Listed IsArticle reader.old articles reader.new) }
-    ensures finds { (x : List Article) (rest next : Symbols) → Listed IsArticle reader.old x rest → IsSign rest mark.Close next → Gives result (λ articles. (articles ≡ x) × (reader.new ≡ rest)) }
+    ensures reads { Reading (Listed IsArticle) (BeforeSign mark.Close) reader.old reader.new result }
     ensures shorter { length reader.new ≤ length reader.old }
 {
     let mut items = Vec::new(reader.alloc());
@@ -390,8 +362,7 @@ fn articles(reader: &mut Reader) -> Result<Seq<ArticleRule>, Broken>
 }
 
 fn article(reader: &mut Reader) -> Result<ArticleRule, Broken>
-    ensures found { IfOk result (λ article. IsArticle reader.old article reader.new) }
-    ensures finds { (x : Article) (rest : Symbols) → IsArticle reader.old x rest → Closes rest → Gives result (λ article. (article ≡ x) × (reader.new ≡ rest)) }
+    ensures reads { Reading IsArticle Closes reader.old reader.new result }
     ensures shorter { length reader.new ≤ length reader.old }
     ensures progress { OnOk result (length reader.new < length reader.old) }
 {
@@ -410,8 +381,7 @@ fn article(reader: &mut Reader) -> Result<ArticleRule, Broken>
 
 /// A WHERE, or nothing.
 pub fn condition(reader: &mut Reader) -> Result<Option<Expr>, Broken>
-    ensures found { IfOk result (λ condition. IsCondition reader.old condition reader.new) }
-    ensures finds { (x : Option Expr) (rest : Symbols) → IsCondition reader.old x rest → Stop condition_goes rest → Gives result (λ condition. (condition ≡ x) × (reader.new ≡ rest)) }
+    ensures reads { Reading IsCondition (Stop condition_goes) reader.old reader.new result }
     ensures shorter { length reader.new ≤ length reader.old }
 {
     if reader.takes(Keyword::Where) {
@@ -422,8 +392,7 @@ pub fn condition(reader: &mut Reader) -> Result<Option<Expr>, Broken>
 }
 
 fn subscribed_by(reader: &mut Reader) -> Result<Option<Expr>, Broken>
-    ensures found { IfOk result (λ by. IsSubscribed reader.old by reader.new) }
-    ensures finds { (x : Option Expr) (rest : Symbols) → IsSubscribed reader.old x rest → Closes rest → Gives result (λ by. (by ≡ x) × (reader.new ≡ rest)) }
+    ensures reads { Reading IsSubscribed Closes reader.old reader.new result }
     ensures shorter { length reader.new ≤ length reader.old }
 {
     if !reader.takes(Keyword::Subscribe) {
@@ -436,8 +405,7 @@ fn subscribed_by(reader: &mut Reader) -> Result<Option<Expr>, Broken>
 
 /// Behind CREATE TRIGGER.
 fn create_trigger(reader: &mut Reader) -> Result<CreateTrigger, Broken>
-    ensures found { IfOk result (λ create. IsTrigger reader.old create reader.new) }
-    ensures finds { (x : CreateTrigger) (rest : Symbols) → IsTrigger reader.old x rest → Gives result (λ create. (create ≡ x) × (reader.new ≡ rest)) }
+    ensures reads { Reading IsTrigger Anywhere reader.old reader.new result }
     ensures shorter { length reader.new ≤ length reader.old }
 {
     let name = reader.name()?;
@@ -463,8 +431,7 @@ fn create_trigger(reader: &mut Reader) -> Result<CreateTrigger, Broken>
 
 /// `RESOLVE UPDATE`
 fn resolve_update(reader: &mut Reader) -> Result<(), Broken>
-    ensures found { OnOk result (reader.old ≡ word key.Resolve ∷ word key.Update ∷ reader.new) }
-    ensures finds { (rest : Symbols) → reader.old ≡ word key.Resolve ∷ word key.Update ∷ rest → Gives result (λ _. reader.new ≡ rest) }
+    ensures reads { Reading (TwoWords key.Resolve key.Update) Anywhere reader.old reader.new result }
     ensures shorter { length reader.new ≤ length reader.old }
 {
     reader.keyword(Keyword::Resolve)?;
@@ -474,8 +441,7 @@ fn resolve_update(reader: &mut Reader) -> Result<(), Broken>
 
 /// `FOR EACH ROW BEGIN`
 fn for_each_row(reader: &mut Reader) -> Result<(), Broken>
-    ensures found { OnOk result (reader.old ≡ word key.For ∷ word key.Each ∷ word key.Row ∷ word key.Begin ∷ reader.new) }
-    ensures finds { (rest : Symbols) → reader.old ≡ word key.For ∷ word key.Each ∷ word key.Row ∷ word key.Begin ∷ rest → Gives result (λ _. reader.new ≡ rest) }
+    ensures reads { Reading EachRow Anywhere reader.old reader.new result }
     ensures shorter { length reader.new ≤ length reader.old }
 {
     reader.keyword(Keyword::For)?;
@@ -486,8 +452,7 @@ fn for_each_row(reader: &mut Reader) -> Result<(), Broken>
 }
 
 fn of_columns(reader: &mut Reader) -> Result<Seq<Name>, Broken>
-    ensures found { IfOk result (λ columns. IsOf reader.old columns reader.new) }
-    ensures finds { (x : List (List ℕ)) (rest next : Symbols) → IsOf reader.old x rest → IsWord rest key.On next → Gives result (λ columns. (columns ≡ x) × (reader.new ≡ rest)) }
+    ensures reads { Reading IsOf (BeforeWord key.On) reader.old reader.new result }
     ensures shorter { length reader.new ≤ length reader.old }
 {
     if reader.takes(Keyword::Of) {
@@ -511,8 +476,7 @@ fn image_at(symbol: Option<&Symbol>) -> Option<Image>
 
 /// Aliases, each row and each name once.
 fn aliases(reader: &mut Reader) -> Result<Seq<(Image, Name)>, Broken>
-    ensures found { IfOk result (λ aliases. AreAliases reader.old aliases reader.new) }
-    ensures finds { (x : List (Image × List ℕ)) (rest : Symbols) → AreAliases reader.old x rest → Stop is_image rest → Gives result (λ aliases. (aliases ≡ x) × (reader.new ≡ rest)) }
+    ensures reads { Reading AreAliases (Stop is_image) reader.old reader.new result }
     ensures shorter { length reader.new ≤ length reader.old }
 {
     let mut aliases: Vec<(Image, Name)> = Vec::new(reader.alloc());
@@ -559,8 +523,7 @@ fn has_name(aliases: &[(Image, Name)], name: &[u8]) -> bool
 }
 
 fn variables(reader: &mut Reader) -> Result<Seq<(Name, Kind)>, Broken>
-    ensures found { IfOk result (λ variables. Row IsVariable reader.old variables reader.new) }
-    ensures finds { (x : List (List ℕ × Kind)) (rest : Symbols) → Row IsVariable reader.old x rest → Stop is_declare rest → Gives result (λ variables. (variables ≡ x) × (reader.new ≡ rest)) }
+    ensures reads { Reading (Row IsVariable) (Stop is_declare) reader.old reader.new result }
     ensures shorter { length reader.new ≤ length reader.old }
 {
     let mut variables = Vec::new(reader.alloc());
@@ -573,8 +536,7 @@ fn variables(reader: &mut Reader) -> Result<Seq<(Name, Kind)>, Broken>
 
 /// `DECLARE n type ;`
 fn variable(reader: &mut Reader) -> Result<(Name, Kind), Broken>
-    ensures found { IfOk result (λ variable. IsVariable reader.old variable reader.new) }
-    ensures finds { (x : List ℕ × Kind) (rest : Symbols) → IsVariable reader.old x rest → Gives result (λ variable. (variable ≡ x) × (reader.new ≡ rest)) }
+    ensures reads { Reading IsVariable Anywhere reader.old reader.new result }
     ensures shorter { length reader.new ≤ length reader.old }
     ensures progress { OnOk result (length reader.new < length reader.old) }
 {

@@ -1,26 +1,14 @@
-ghost use Rattle.std.specs.Prelude.{◌≡◌, ◌+◌, ◌-◌, ◌*◌, ◌<◌, ◌≤◌, ◌↔◌, length, max, neg_ℤ, OnOk, IfOk, IfErr, IsSome, IsTrue, OnSome, ℕ, List, Option};
+ghost use Rattle.std.specs.Prelude.{◌≡◌, ◌+◌, ◌<◌, ◌≤◌, length, max, OnOk, IfOk, IfErr};
 ghost use Rattle.std.specs.Option.{option_copied, option_and_then};
-ghost use Rattle.sr_ast.specs.Terms.Term.{column, unary, binary};
+ghost use Rattle.sr_ast.specs.Terms.Term.{unary, binary};
 ghost use Rattle.sr_ast.specs.Exprs.{term_of};
-ghost use Rattle.sr_ast.specs.declared.expr.Expr.{Expr};
-ghost use Rattle.sr_ast.specs.declared.operator.Unary.{Unary};
-ghost use Rattle.sr_base.specs.declared.value.Value.{Value};
+ghost use Rattle.sr_parse.specs.Reading.{Reading, Anywhere, mapped};
+ghost use Rattle.sr_parse.specs.Productions.{Named, ReadsLevel};
 ghost use Rattle.sr_parse.specs.declared.reader.Broken.TheVariants.{Memory};
-ghost use Rattle.sr_parse.specs.Symbols.{Symbols};
 ghost use Rattle.sr_parse.specs.Levels.{tightness};
-ghost use Rattle.sr_parse.specs.Going.{Stop, Gives, Finds, expression_goes, is_dot};
+ghost use Rattle.sr_parse.specs.Going.{Stop, expression_goes, is_dot};
 ghost use Rattle.sr_parse.specs.Literals.{IsLiteral, IsDateText, number_value, negated, negative_meant};
-ghost use Rattle.sr_parse.specs.Expressions.{
-  Reads,
-  IsExpr,
-  IsDeep,
-  IsColumn,
-  IsNullTest,
-  tighter,
-  joins,
-  compares,
-  depth,
-};
+ghost use Rattle.sr_parse.specs.Expressions.{IsExpr, IsDeep, IsNullTest, tighter, joins, compares, depth};
 ghost use Rattle.sr_parse.specs.Expressions.Tightness.{negation, comparison, signed, operand};
 
 use crate::keyword::Keyword;
@@ -59,8 +47,7 @@ enum Level {
 }
 
 pub fn expr(reader: &mut Reader) -> Result<Expr, Broken>
-    ensures found { IfOk result (λ expr. IsExpr reader.old expr reader.new) }
-    ensures finds { (x : Expr) (rest : Symbols) → IsExpr reader.old x rest → Stop expression_goes rest → Gives result (λ expr. (expr ≡ x) × (reader.new ≡ rest)) }
+    ensures reads { Reading IsExpr (Stop expression_goes) reader.old reader.new result }
     ensures shorter { length reader.new ≤ length reader.old }
     ensures progress { OnOk result (length reader.new < length reader.old) }
 {
@@ -140,9 +127,8 @@ fn over(reader: &Reader, operator: Unary, operand: Sized) -> Result<Sized, Broke
 #[cycle(exprs)]
 fn chain(reader: &mut Reader, level: Level, room: Room) -> Result<Sized, Broken>
     requires room { (0 < room.depth) × (room.depth ≤ 200) }
-    ensures found { IfOk result (λ sized. Reads (tightness level) room.parentheses reader.old (term_of sized.expr) reader.new) }
-    ensures finds { Finds (tightness level) room reader.old reader.new result }
     ensures deep { IfOk result (λ sized. IsDeep (term_of sized.expr) sized.depth room.depth) }
+    ensures reads { ReadsLevel (tightness level) room reader.old reader.new result }
     ensures shorter { length reader.new ≤ length reader.old }
     ensures progress { OnOk result (length reader.new < length reader.old) }
 {
@@ -161,9 +147,8 @@ fn chain(reader: &mut Reader, level: Level, room: Room) -> Result<Sized, Broken>
 #[cycle(exprs)]
 fn part(reader: &mut Reader, level: Level, room: Room) -> Result<Sized, Broken>
     requires room { (0 < room.depth) × (room.depth ≤ 200) }
-    ensures found { IfOk result (λ sized. Reads (tighter (tightness level)) room.parentheses reader.old (term_of sized.expr) reader.new) }
-    ensures finds { Finds (tighter (tightness level)) room reader.old reader.new result }
     ensures deep { IfOk result (λ sized. IsDeep (term_of sized.expr) sized.depth room.depth) }
+    ensures reads { ReadsLevel (tighter (tightness level)) room reader.old reader.new result }
     ensures shorter { length reader.new ≤ length reader.old }
     ensures progress { OnOk result (length reader.new < length reader.old) }
 {
@@ -178,9 +163,8 @@ fn part(reader: &mut Reader, level: Level, room: Room) -> Result<Sized, Broken>
 #[cycle(exprs)]
 fn negation(reader: &mut Reader, room: Room) -> Result<Sized, Broken>
     requires room { (0 < room.depth) × (room.depth ≤ 200) }
-    ensures found { IfOk result (λ sized. Reads negation room.parentheses reader.old (term_of sized.expr) reader.new) }
-    ensures finds { Finds negation room reader.old reader.new result }
     ensures deep { IfOk result (λ sized. IsDeep (term_of sized.expr) sized.depth room.depth) }
+    ensures reads { ReadsLevel negation room reader.old reader.new result }
     ensures shorter { length reader.new ≤ length reader.old }
     ensures progress { OnOk result (length reader.new < length reader.old) }
 {
@@ -214,9 +198,8 @@ fn comparison_at(symbol: Option<&Symbol>) -> Option<Binary>
 #[cycle(exprs)]
 fn comparison(reader: &mut Reader, room: Room) -> Result<Sized, Broken>
     requires room { (0 < room.depth) × (room.depth ≤ 200) }
-    ensures found { IfOk result (λ sized. Reads comparison room.parentheses reader.old (term_of sized.expr) reader.new) }
-    ensures finds { Finds comparison room reader.old reader.new result }
     ensures deep { IfOk result (λ sized. IsDeep (term_of sized.expr) sized.depth room.depth) }
+    ensures reads { ReadsLevel comparison room reader.old reader.new result }
     ensures shorter { length reader.new ≤ length reader.old }
     ensures progress { OnOk result (length reader.new < length reader.old) }
 {
@@ -243,8 +226,7 @@ fn comparison(reader: &mut Reader, room: Room) -> Result<Sized, Broken>
 }
 
 fn null_test(reader: &mut Reader) -> Result<Unary, Broken>
-    ensures found { IfOk result (λ operator. IsNullTest reader.old operator reader.new) }
-    ensures finds { (x : Unary) (rest : Symbols) → IsNullTest reader.old x rest → Gives result (λ operator. (operator ≡ x) × (reader.new ≡ rest)) }
+    ensures reads { Reading IsNullTest Anywhere reader.old reader.new result }
     ensures shorter { length reader.new ≤ length reader.old }
     ensures progress { OnOk result (length reader.new < length reader.old) }
 {
@@ -260,9 +242,8 @@ fn null_test(reader: &mut Reader) -> Result<Unary, Broken>
 #[cycle(exprs)]
 fn signed(reader: &mut Reader, room: Room) -> Result<Sized, Broken>
     requires room { (0 < room.depth) × (room.depth ≤ 200) }
-    ensures found { IfOk result (λ sized. Reads signed room.parentheses reader.old (term_of sized.expr) reader.new) }
-    ensures finds { Finds signed room reader.old reader.new result }
     ensures deep { IfOk result (λ sized. IsDeep (term_of sized.expr) sized.depth room.depth) }
+    ensures reads { ReadsLevel signed room reader.old reader.new result }
     ensures shorter { length reader.new ≤ length reader.old }
     ensures progress { OnOk result (length reader.new < length reader.old) }
 {
@@ -322,9 +303,8 @@ pub fn value_of(number: i64) -> Value
 #[cycle(exprs)]
 fn primary(reader: &mut Reader, room: Room) -> Result<Sized, Broken>
     requires room { (0 < room.depth) × (room.depth ≤ 200) }
-    ensures found { IfOk result (λ sized. Reads operand room.parentheses reader.old (term_of sized.expr) reader.new) }
-    ensures finds { Finds operand room reader.old reader.new result }
     ensures deep { IfOk result (λ sized. IsDeep (term_of sized.expr) sized.depth room.depth) }
+    ensures reads { ReadsLevel operand room reader.old reader.new result }
     ensures shorter { length reader.new ≤ length reader.old }
     ensures progress { OnOk result (length reader.new < length reader.old) }
 {
@@ -350,9 +330,8 @@ fn primary(reader: &mut Reader, room: Room) -> Result<Sized, Broken>
 }
 
 fn column(reader: &mut Reader) -> Result<Sized, Broken>
-    ensures found { (room : ℕ) → IfOk result (λ sized. Reads operand room reader.old (term_of sized.expr) reader.new) }
-    ensures finds { (table : Option (List ℕ)) (name : List ℕ) (rest : Symbols) → IsColumn reader.old table name rest → Stop is_dot rest → Gives result (λ sized. (term_of sized.expr ≡ column table name) × (reader.new ≡ rest)) }
     ensures deep { IfOk result (λ sized. IsDeep (term_of sized.expr) sized.depth 1) }
+    ensures reads { Reading Named (Stop is_dot) reader.old reader.new (mapped (λ sized. term_of sized.expr) result) }
     ensures shorter { length reader.new ≤ length reader.old }
     ensures progress { OnOk result (length reader.new < length reader.old) }
 {
@@ -362,8 +341,7 @@ fn column(reader: &mut Reader) -> Result<Sized, Broken>
 
 /// A number, a text, NULL, or DATE and the text of a date.
 pub fn literal(reader: &mut Reader) -> Result<Value, Broken>
-    ensures found { IfOk result (λ value. IsLiteral reader.old value reader.new) }
-    ensures finds { (x : Value) (rest : Symbols) → IsLiteral reader.old x rest → Gives result (λ value. (value ≡ x) × (reader.new ≡ rest)) }
+    ensures reads { Reading IsLiteral Anywhere reader.old reader.new result }
     ensures shorter { length reader.new ≤ length reader.old }
     ensures progress { OnOk result (length reader.new < length reader.old) }
 {
@@ -383,8 +361,7 @@ pub fn literal(reader: &mut Reader) -> Result<Value, Broken>
 }
 
 fn date(reader: &mut Reader) -> Result<Value, Broken>
-    ensures found { IfOk result (λ value. IsDateText reader.old value reader.new) }
-    ensures finds { (x : Value) (rest : Symbols) → IsDateText reader.old x rest → Gives result (λ value. (value ≡ x) × (reader.new ≡ rest)) }
+    ensures reads { Reading IsDateText Anywhere reader.old reader.new result }
     ensures shorter { length reader.new ≤ length reader.old }
     ensures progress { OnOk result (length reader.new < length reader.old) }
 {

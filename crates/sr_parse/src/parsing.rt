@@ -1,11 +1,14 @@
-ghost use Rattle.std.specs.Prelude.{◌≡◌, ◌+◌, ◌-◌, ◌*◌, ◌<◌, ◌≤◌, ◌↔◌, length, OnOk, IfOk, IsSome, IsTrue, OnSome, ℕ, List, map, ◌⊎◌, Contains, reverse, [], ◌∷◌, ◌++◌, Ok, Err};
+ghost use Rattle.std.specs.Prelude.{◌≡◌, ◌<◌, ◌≤◌, length, OnOk, IfOk, ℕ, List, Ok, Err};
 ghost use Rattle.sr_ast.specs.declared.stmt.Stmt.{Stmt as Statement};
-ghost use Rattle.sr_parse.specs.Going.{Gives, Ends};
+ghost use Rattle.sr_parse.specs.Reading.{Reading, AtEnd, mapped};
+ghost use Rattle.sr_parse.specs.Productions.{Definition, Work};
+ghost use Rattle.sr_parse.specs.Scripts.{Pieces};
+ghost use Rattle.sr_parse.specs.Scripts.Stage.{closed};
+ghost use Rattle.sr_parse.specs.Going.{Ends};
 ghost use Rattle.sr_parse.specs.Faults.{IsRead};
-ghost use Rattle.sr_parse.specs.Places.{IsPlace, IsRefusedAt};
-ghost use Rattle.sr_parse.specs.Symbols.{Symbols};
-ghost use Rattle.sr_parse.specs.Meanings.{AreSymbols, IsWritten};
-ghost use Rattle.sr_parse.specs.Scripts.{IsStatement, IsDefinition, IsScript, IsPiece, IsWork};
+ghost use Rattle.sr_parse.specs.Places.{IsRefusedAt};
+ghost use Rattle.sr_parse.specs.Meanings.{IsWritten};
+ghost use Rattle.sr_parse.specs.Scripts.{IsStatement, IsPiece};
 
 use crate::creating::{create, drop_statement, grant, subscription};
 use crate::keyword::Keyword;
@@ -75,7 +78,7 @@ pub fn parse(alloc: Global, text: &Text) -> Result<Script, ParseFault>
     ensures only { IfOk result (λ script. (other : List Statement) → IsWritten text.now other → other ≡ script) }
     // A text that spells a script is answered with it, and refused for want of memory alone.
     ensures read { IsRead text.now result }
-    // A refusal stands where no token begins, or at a token, or at the end.
+    // A refusal stands where no token begins, or else at the first token with which no script goes on, or at the end.
     ensures refused { (at : ℕ) → result ≡ Err (ParseFault.Refused at) → IsRefusedAt text.now at }
 {
     let symbols = symbols(alloc, text.bytes())?;
@@ -95,8 +98,8 @@ pub fn parse(alloc: Global, text: &Text) -> Result<Script, ParseFault>
 }
 
 fn script(reader: &mut Reader) -> Result<Script, Broken>
-    ensures found { IfOk result (λ script. IsScript reader.old script) }
-    ensures finds { (x : List Statement) → IsScript reader.old x → Gives result (λ script. script ≡ x) }
+    ensures reads { Reading (Pieces closed) AtEnd reader.old reader.new result }
+    ensures end { OnOk result (AtEnd reader.new) }
     ensures shorter { length reader.new ≤ length reader.old }
 {
     let mut script = Vec::new(reader.alloc());
@@ -113,9 +116,7 @@ fn script(reader: &mut Reader) -> Result<Script, Broken>
 
 /// A statement, or nothing before a `;` and at the end.
 fn piece(reader: &mut Reader, script: &mut Vec<Stmt>) -> Result<(), Broken>
-    ensures found { OnOk result (IsPiece reader.old script.old.items script.new.items reader.new) }
-    ensures none { Ends reader.old → Gives result (λ _. (script.new.items ≡ script.old.items) × (reader.new ≡ reader.old)) }
-    ensures one { (x : Statement) (rest : Symbols) → IsStatement reader.old x rest → Ends rest → Gives result (λ _. (script.new.items ≡ script.old.items ++ x ∷ []) × (reader.new ≡ rest)) }
+    ensures reads { Reading (λ before xs after. IsPiece before script.old.items xs after) Ends reader.old reader.new (mapped (λ _. script.new.items) result) }
     ensures shorter { length reader.new ≤ length reader.old }
 {
     if reader.left() == 0 || reader.is_sign(Sign::Semicolon) {
@@ -127,8 +128,7 @@ fn piece(reader: &mut Reader, script: &mut Vec<Stmt>) -> Result<(), Broken>
 }
 
 fn statement(reader: &mut Reader) -> Result<Stmt, Broken>
-    ensures found { IfOk result (λ stmt. IsStatement reader.old stmt reader.new) }
-    ensures finds { (x : Statement) (rest : Symbols) → IsStatement reader.old x rest → Ends rest → Gives result (λ stmt. (stmt ≡ x) × (reader.new ≡ rest)) }
+    ensures reads { Reading IsStatement Ends reader.old reader.new result }
     ensures shorter { length reader.new ≤ length reader.old }
     ensures progress { OnOk result (length reader.new < length reader.old) }
 {
@@ -166,8 +166,7 @@ fn statement(reader: &mut Reader) -> Result<Stmt, Broken>
 
 /// `[WORK]`
 fn work(reader: &mut Reader)
-    ensures found { IsWork reader.old reader.new }
-    ensures finds { (rest : Symbols) → IsWork reader.old rest → Ends rest → reader.new ≡ rest }
+    ensures reads { Reading Work Ends reader.old reader.new (Ok result) }
     ensures shorter { length reader.new ≤ length reader.old }
 {
     let _ = reader.takes(Keyword::Work);
@@ -175,8 +174,7 @@ fn work(reader: &mut Reader)
 
 /// A statement on tables, publications, users, subscriptions or triggers.
 fn definition(reader: &mut Reader) -> Result<Stmt, Broken>
-    ensures found { IfOk result (λ stmt. IsStatement reader.old stmt reader.new) }
-    ensures finds { (x : Statement) (rest : Symbols) → IsStatement reader.old x rest → IsDefinition x → Ends rest → Gives result (λ stmt. (stmt ≡ x) × (reader.new ≡ rest)) }
+    ensures reads { Reading Definition Ends reader.old reader.new result }
     ensures shorter { length reader.new ≤ length reader.old }
     ensures progress { OnOk result (length reader.new < length reader.old) }
 {

@@ -1,19 +1,9 @@
-ghost use Rattle.std.specs.Prelude.{◌≡◌, ◌+◌, ◌-◌, ◌*◌, ◌<◌, ◌≤◌, ◌↔◌, length, OnOk, IfOk, IsSome, IsTrue, IsFalse, OnSome, ◌∷◌, vec_len, ℕ, Bool, List, Option};
-ghost use Rattle.sr_ast.specs.declared.expr.Expr.{Expr};
-ghost use Rattle.sr_ast.specs.declared.query.Insert.{Insert};
-ghost use Rattle.sr_ast.specs.declared.query.Update.{Update};
-ghost use Rattle.sr_ast.specs.declared.query.Delete.{Delete};
-ghost use Rattle.sr_ast.specs.declared.query.Select.{Select};
-ghost use Rattle.sr_ast.specs.declared.query.Items.{Items};
-ghost use Rattle.sr_ast.specs.declared.query.Item.{Item};
-ghost use Rattle.sr_ast.specs.declared.query.Source.{Source};
-ghost use Rattle.sr_ast.specs.declared.query.Join.{Join};
-ghost use Rattle.sr_ast.specs.declared.query.OrderBy.{OrderBy};
-ghost use Rattle.sr_ast.specs.declared.stmt.Stmt.{Stmt};
-ghost use Rattle.sr_ast.specs.declared.stmt.Passthrough.{Passthrough};
-ghost use Rattle.sr_parse.specs.Symbols.{Symbols, word, sign, IsName, IsWord};
-ghost use Rattle.sr_parse.specs.Going.{Gives, Begins, Stop, Ends, expression_goes, is_comma, is_as, is_join, is_direction};
-ghost use Rattle.sr_parse.specs.Listing.{Listed, Row};
+ghost use Rattle.std.specs.Prelude.{◌<◌, ◌≤◌, length, OnOk, Ok, IsTrue, IsFalse};
+ghost use Rattle.sr_parse.specs.Reading.{Reading, Anywhere, Both, BeforeWord};
+ghost use Rattle.sr_parse.specs.Productions.{Counted, Joining, FewJoins, StatementBehind};
+ghost use Rattle.sr_parse.specs.Symbols.{IsName};
+ghost use Rattle.sr_parse.specs.Going.{Begins, Stop, Ends, expression_goes, is_comma, is_as, is_join, is_direction};
+ghost use Rattle.sr_parse.specs.Listing.{Listed};
 ghost use Rattle.sr_parse.specs.Expressions.{IsExpr};
 ghost use Rattle.sr_parse.specs.Writing.{
   IsLed,
@@ -28,14 +18,12 @@ ghost use Rattle.sr_parse.specs.Writing.{
   IsAggregated,
   IsSource,
   IsJoin,
-  IsJoinWord,
   IsOrdering,
   IsOrder,
   IsDirection,
 };
-ghost use Rattle.sr_parse.specs.Scripts.{IsStatement, IsOnly, IsPassthrough};
+ghost use Rattle.sr_parse.specs.Scripts.{IsOnly, IsPassthrough};
 ghost use Rattle.sr_parse.specs.declared.keyword.Keyword.TheVariants as key;
-ghost use Rattle.sr_parse.specs.declared.symbol.Sign.TheVariants as mark;
 
 use crate::creating::condition;
 use crate::exprs::expr;
@@ -52,8 +40,7 @@ const SOURCES: usize = 8;
 
 /// Behind INSERT.
 pub fn insert(reader: &mut Reader) -> Result<Insert, Broken>
-    ensures found { IfOk result (λ insert. IsInsert reader.old insert reader.new) }
-    ensures finds { (x : Insert) (rest : Symbols) → IsInsert reader.old x rest → Ends rest → Gives result (λ insert. (insert ≡ x) × (reader.new ≡ rest)) }
+    ensures reads { Reading IsInsert Ends reader.old reader.new result }
     ensures shorter { length reader.new ≤ length reader.old }
 {
     reader.keyword(Keyword::Into)?;
@@ -70,8 +57,7 @@ pub fn insert(reader: &mut Reader) -> Result<Insert, Broken>
 
 /// Rows with commas between them.
 fn rows(reader: &mut Reader) -> Result<Seq<Seq<Expr>>, Broken>
-    ensures found { IfOk result (λ rows. Listed IsRow reader.old rows reader.new) }
-    ensures finds { (x : List (List Expr)) (rest : Symbols) → Listed IsRow reader.old x rest → Stop is_comma rest → Gives result (λ rows. (rows ≡ x) × (reader.new ≡ rest)) }
+    ensures reads { Reading (Listed IsRow) (Stop is_comma) reader.old reader.new result }
     ensures shorter { length reader.new ≤ length reader.old }
 {
     let mut items = Vec::new(reader.alloc());
@@ -86,8 +72,7 @@ fn rows(reader: &mut Reader) -> Result<Seq<Seq<Expr>>, Broken>
 
 /// One expression or more, in parentheses.
 pub fn row(reader: &mut Reader) -> Result<Seq<Expr>, Broken>
-    ensures found { IfOk result (λ row. IsRow reader.old row reader.new) }
-    ensures finds { (x : List Expr) (rest : Symbols) → IsRow reader.old x rest → Gives result (λ row. (row ≡ x) × (reader.new ≡ rest)) }
+    ensures reads { Reading IsRow Anywhere reader.old reader.new result }
     ensures shorter { length reader.new ≤ length reader.old }
     ensures progress { OnOk result (length reader.new < length reader.old) }
 {
@@ -99,8 +84,7 @@ pub fn row(reader: &mut Reader) -> Result<Seq<Expr>, Broken>
 
 /// Expressions with commas between them.
 fn values(reader: &mut Reader) -> Result<Seq<Expr>, Broken>
-    ensures found { IfOk result (λ values. Listed IsExpr reader.old values reader.new) }
-    ensures finds { (x : List Expr) (rest : Symbols) → Listed IsExpr reader.old x rest → Stop expression_goes rest → Stop is_comma rest → Gives result (λ values. (values ≡ x) × (reader.new ≡ rest)) }
+    ensures reads { Reading (Listed IsExpr) (Both (Stop expression_goes) (Stop is_comma)) reader.old reader.new result }
     ensures shorter { length reader.new ≤ length reader.old }
 {
     let mut items = Vec::new(reader.alloc());
@@ -115,8 +99,7 @@ fn values(reader: &mut Reader) -> Result<Seq<Expr>, Broken>
 
 /// Behind UPDATE.
 pub fn update(reader: &mut Reader) -> Result<Update, Broken>
-    ensures found { IfOk result (λ update. IsUpdate reader.old update reader.new) }
-    ensures finds { (x : Update) (rest : Symbols) → IsUpdate reader.old x rest → Ends rest → Gives result (λ update. (update ≡ x) × (reader.new ≡ rest)) }
+    ensures reads { Reading IsUpdate Ends reader.old reader.new result }
     ensures shorter { length reader.new ≤ length reader.old }
 {
     let table = reader.name()?;
@@ -132,8 +115,7 @@ pub fn update(reader: &mut Reader) -> Result<Update, Broken>
 
 /// `name = value` with commas between them.
 fn sets(reader: &mut Reader) -> Result<Seq<(Name, Expr)>, Broken>
-    ensures found { IfOk result (λ sets. Listed IsSet reader.old sets reader.new) }
-    ensures finds { (x : List (List ℕ × Expr)) (rest : Symbols) → Listed IsSet reader.old x rest → Stop expression_goes rest → Stop is_comma rest → Gives result (λ sets. (sets ≡ x) × (reader.new ≡ rest)) }
+    ensures reads { Reading (Listed IsSet) (Both (Stop expression_goes) (Stop is_comma)) reader.old reader.new result }
     ensures shorter { length reader.new ≤ length reader.old }
 {
     let mut items = Vec::new(reader.alloc());
@@ -147,8 +129,7 @@ fn sets(reader: &mut Reader) -> Result<Seq<(Name, Expr)>, Broken>
 }
 
 fn set(reader: &mut Reader) -> Result<(Name, Expr), Broken>
-    ensures found { IfOk result (λ set. IsSet reader.old set reader.new) }
-    ensures finds { (x : List ℕ × Expr) (rest : Symbols) → IsSet reader.old x rest → Stop expression_goes rest → Gives result (λ set. (set ≡ x) × (reader.new ≡ rest)) }
+    ensures reads { Reading IsSet (Stop expression_goes) reader.old reader.new result }
     ensures shorter { length reader.new ≤ length reader.old }
     ensures progress { OnOk result (length reader.new < length reader.old) }
 {
@@ -160,8 +141,7 @@ fn set(reader: &mut Reader) -> Result<(Name, Expr), Broken>
 
 /// Behind DELETE.
 pub fn delete(reader: &mut Reader) -> Result<Delete, Broken>
-    ensures found { IfOk result (λ delete. IsDelete reader.old delete reader.new) }
-    ensures finds { (x : Delete) (rest : Symbols) → IsDelete reader.old x rest → Ends rest → Gives result (λ delete. (delete ≡ x) × (reader.new ≡ rest)) }
+    ensures reads { Reading IsDelete Ends reader.old reader.new result }
     ensures shorter { length reader.new ≤ length reader.old }
 {
     reader.keyword(Keyword::From)?;
@@ -172,8 +152,7 @@ pub fn delete(reader: &mut Reader) -> Result<Delete, Broken>
 
 /// Behind SELECT.
 pub fn select(reader: &mut Reader) -> Result<Select, Broken>
-    ensures found { IfOk result (λ select. IsSelect reader.old select reader.new) }
-    ensures finds { (x : Select) (rest : Symbols) → IsSelect reader.old x rest → Ends rest → Gives result (λ select. (select ≡ x) × (reader.new ≡ rest)) }
+    ensures reads { Reading IsSelect Ends reader.old reader.new result }
     ensures shorter { length reader.new ≤ length reader.old }
 {
     let items = items(reader)?;
@@ -192,8 +171,7 @@ pub fn select(reader: &mut Reader) -> Result<Select, Broken>
 }
 
 fn items(reader: &mut Reader) -> Result<Items, Broken>
-    ensures found { IfOk result (λ items. IsItems reader.old items reader.new) }
-    ensures finds { (x : Items) (rest : Symbols) → IsItems reader.old x rest → Stop expression_goes rest → Stop is_comma rest → Gives result (λ items. (items ≡ x) × (reader.new ≡ rest)) }
+    ensures reads { Reading IsItems (Both (Stop expression_goes) (Stop is_comma)) reader.old reader.new result }
     ensures shorter { length reader.new ≤ length reader.old }
 {
     if reader.takes_sign(Sign::Times) {
@@ -205,8 +183,7 @@ fn items(reader: &mut Reader) -> Result<Items, Broken>
 
 /// Items with commas between them.
 fn item_list(reader: &mut Reader) -> Result<Seq<Item>, Broken>
-    ensures found { IfOk result (λ items. Listed IsItem reader.old items reader.new) }
-    ensures finds { (x : List Item) (rest : Symbols) → Listed IsItem reader.old x rest → Stop expression_goes rest → Stop is_comma rest → Gives result (λ items. (items ≡ x) × (reader.new ≡ rest)) }
+    ensures reads { Reading (Listed IsItem) (Both (Stop expression_goes) (Stop is_comma)) reader.old reader.new result }
     ensures shorter { length reader.new ≤ length reader.old }
 {
     let mut items = Vec::new(reader.alloc());
@@ -220,8 +197,7 @@ fn item_list(reader: &mut Reader) -> Result<Seq<Item>, Broken>
 }
 
 fn item(reader: &mut Reader) -> Result<Item, Broken>
-    ensures found { IfOk result (λ item. IsItem reader.old item reader.new) }
-    ensures finds { (x : Item) (rest : Symbols) → IsItem reader.old x rest → Stop expression_goes rest → Gives result (λ item. (item ≡ x) × (reader.new ≡ rest)) }
+    ensures reads { Reading IsItem (Stop expression_goes) reader.old reader.new result }
     ensures shorter { length reader.new ≤ length reader.old }
     ensures progress { OnOk result (length reader.new < length reader.old) }
 {
@@ -247,8 +223,7 @@ fn item(reader: &mut Reader) -> Result<Item, Broken>
 
 /// `( * )`
 fn counted(reader: &mut Reader) -> Result<(), Broken>
-    ensures found { OnOk result (reader.old ≡ sign mark.Open ∷ sign mark.Times ∷ sign mark.Close ∷ reader.new) }
-    ensures finds { (rest : Symbols) → reader.old ≡ sign mark.Open ∷ sign mark.Times ∷ sign mark.Close ∷ rest → Gives result (λ _. reader.new ≡ rest) }
+    ensures reads { Reading Counted Anywhere reader.old reader.new result }
     ensures shorter { length reader.new ≤ length reader.old }
 {
     reader.sign(Sign::Open)?;
@@ -259,8 +234,7 @@ fn counted(reader: &mut Reader) -> Result<(), Broken>
 
 /// `( expr )`
 fn aggregated(reader: &mut Reader) -> Result<Expr, Broken>
-    ensures found { IfOk result (λ of. IsAggregated reader.old of reader.new) }
-    ensures finds { (x : Expr) (rest : Symbols) → IsAggregated reader.old x rest → Gives result (λ of. (of ≡ x) × (reader.new ≡ rest)) }
+    ensures reads { Reading IsAggregated Anywhere reader.old reader.new result }
     ensures shorter { length reader.new ≤ length reader.old }
 {
     reader.sign(Sign::Open)?;
@@ -270,8 +244,7 @@ fn aggregated(reader: &mut Reader) -> Result<Expr, Broken>
 }
 
 fn source(reader: &mut Reader) -> Result<Source, Broken>
-    ensures found { IfOk result (λ source. IsSource reader.old source reader.new) }
-    ensures finds { (x : Source) (rest : Symbols) → IsSource reader.old x rest → Stop is_as rest → Gives result (λ source. (source ≡ x) × (reader.new ≡ rest)) }
+    ensures reads { Reading IsSource (Stop is_as) reader.old reader.new result }
     ensures shorter { length reader.new ≤ length reader.old }
     ensures progress { OnOk result (length reader.new < length reader.old) }
 {
@@ -282,8 +255,7 @@ fn source(reader: &mut Reader) -> Result<Source, Broken>
 
 /// `[AS n]`
 fn alias(reader: &mut Reader) -> Result<Option<Name>, Broken>
-    ensures found { IfOk result (λ alias. IsLed key.As IsName reader.old alias reader.new) }
-    ensures finds { (x : Option (List ℕ)) (rest : Symbols) → IsLed key.As IsName reader.old x rest → Stop is_as rest → Gives result (λ alias. (alias ≡ x) × (reader.new ≡ rest)) }
+    ensures reads { Reading (IsLed key.As IsName) (Stop is_as) reader.old reader.new result }
     ensures shorter { length reader.new ≤ length reader.old }
 {
     if reader.takes(Keyword::As) {
@@ -294,9 +266,7 @@ fn alias(reader: &mut Reader) -> Result<Option<Name>, Broken>
 }
 
 fn joins(reader: &mut Reader) -> Result<Seq<Join>, Broken>
-    ensures found { IfOk result (λ joins. Row IsJoin reader.old joins reader.new) }
-    ensures finds { (x : List Join) (rest : Symbols) → Row IsJoin reader.old x rest → length x ≤ 7 → Stop expression_goes rest → Stop is_join rest → Gives result (λ joins. (joins ≡ x) × (reader.new ≡ rest)) }
-    ensures few { IfOk result (λ joins. length joins ≤ 7) }
+    ensures reads { Reading FewJoins (Both (Stop expression_goes) (Stop is_join)) reader.old reader.new result }
     ensures shorter { length reader.new ≤ length reader.old }
 {
     let mut joins = Vec::new(reader.alloc());
@@ -311,8 +281,7 @@ fn joins(reader: &mut Reader) -> Result<Seq<Join>, Broken>
 }
 
 fn join(reader: &mut Reader) -> Result<Join, Broken>
-    ensures found { IfOk result (λ join. IsJoin reader.old join reader.new) }
-    ensures finds { (x : Join) (rest : Symbols) → IsJoin reader.old x rest → Stop expression_goes rest → Gives result (λ join. (join ≡ x) × (reader.new ≡ rest)) }
+    ensures reads { Reading IsJoin (Stop expression_goes) reader.old reader.new result }
     ensures shorter { length reader.new ≤ length reader.old }
     ensures progress { OnOk result (length reader.new < length reader.old) }
 {
@@ -333,8 +302,7 @@ fn begins_join(reader: &Reader) -> bool
 
 /// `[INNER] JOIN`
 fn join_word(reader: &mut Reader) -> Result<(), Broken>
-    ensures found { OnOk result (IsJoinWord reader.old reader.new) }
-    ensures finds { (rest : Symbols) → IsJoinWord reader.old rest → Gives result (λ _. reader.new ≡ rest) }
+    ensures reads { Reading Joining Anywhere reader.old reader.new result }
     ensures shorter { length reader.new ≤ length reader.old }
     ensures progress { OnOk result (length reader.new < length reader.old) }
 {
@@ -345,8 +313,7 @@ fn join_word(reader: &mut Reader) -> Result<(), Broken>
 }
 
 fn order(reader: &mut Reader) -> Result<Seq<OrderBy>, Broken>
-    ensures found { IfOk result (λ order. IsOrdering reader.old order reader.new) }
-    ensures finds { (x : List OrderBy) (rest : Symbols) → IsOrdering reader.old x rest → Ends rest → Gives result (λ order. (order ≡ x) × (reader.new ≡ rest)) }
+    ensures reads { Reading IsOrdering Ends reader.old reader.new result }
     ensures shorter { length reader.new ≤ length reader.old }
 {
     if !reader.takes(Keyword::Order) {
@@ -359,8 +326,7 @@ fn order(reader: &mut Reader) -> Result<Seq<OrderBy>, Broken>
 
 /// Columns that order, with commas between them.
 fn order_list(reader: &mut Reader) -> Result<Seq<OrderBy>, Broken>
-    ensures found { IfOk result (λ order. Listed IsOrder reader.old order reader.new) }
-    ensures finds { (x : List OrderBy) (rest : Symbols) → Listed IsOrder reader.old x rest → Stop is_direction rest → Stop is_comma rest → Gives result (λ order. (order ≡ x) × (reader.new ≡ rest)) }
+    ensures reads { Reading (Listed IsOrder) (Both (Stop is_direction) (Stop is_comma)) reader.old reader.new result }
     ensures shorter { length reader.new ≤ length reader.old }
 {
     let mut items = Vec::new(reader.alloc());
@@ -374,8 +340,7 @@ fn order_list(reader: &mut Reader) -> Result<Seq<OrderBy>, Broken>
 }
 
 fn order_by(reader: &mut Reader) -> Result<OrderBy, Broken>
-    ensures found { IfOk result (λ order. IsOrder reader.old order reader.new) }
-    ensures finds { (x : OrderBy) (rest : Symbols) → IsOrder reader.old x rest → Stop is_direction rest → Gives result (λ order. (order ≡ x) × (reader.new ≡ rest)) }
+    ensures reads { Reading IsOrder (Stop is_direction) reader.old reader.new result }
     ensures shorter { length reader.new ≤ length reader.old }
     ensures progress { OnOk result (length reader.new < length reader.old) }
 {
@@ -398,8 +363,7 @@ fn order_by(reader: &mut Reader) -> Result<OrderBy, Broken>
 }
 
 fn is_descending(reader: &mut Reader) -> bool
-    ensures found { IsDirection reader.old result reader.new }
-    ensures finds { (x : Bool) (rest : Symbols) → IsDirection reader.old x rest → Stop is_direction rest → (result ≡ x) × (reader.new ≡ rest) }
+    ensures reads { Reading IsDirection (Stop is_direction) reader.old reader.new (Ok result) }
     ensures shorter { length reader.new ≤ length reader.old }
 {
     if reader.takes(Keyword::Asc) {
@@ -410,8 +374,7 @@ fn is_descending(reader: &mut Reader) -> bool
 
 /// Behind PASSTHROUGH.
 pub fn passthrough(reader: &mut Reader) -> Result<Stmt, Broken>
-    ensures found { IfOk result (λ stmt. IsStatement (word key.Passthrough ∷ reader.old) stmt reader.new) }
-    ensures finds { (x : Stmt) (rest : Symbols) → IsStatement (word key.Passthrough ∷ reader.old) x rest → Ends rest → Gives result (λ stmt. (stmt ≡ x) × (reader.new ≡ rest)) }
+    ensures reads { Reading (StatementBehind key.Passthrough) Ends reader.old reader.new result }
     ensures shorter { length reader.new ≤ length reader.old }
 {
     if reader.takes(Keyword::Stop) {
@@ -423,8 +386,7 @@ pub fn passthrough(reader: &mut Reader) -> Result<Stmt, Broken>
 
 /// `[ONLY] FOR n {, n}`
 fn carried(reader: &mut Reader) -> Result<Passthrough, Broken>
-    ensures found { IfOk result (λ passthrough. IsPassthrough reader.old passthrough reader.new) }
-    ensures finds { (x : Passthrough) (rest : Symbols) → IsPassthrough reader.old x rest → Stop is_comma rest → Gives result (λ passthrough. (passthrough ≡ x) × (reader.new ≡ rest)) }
+    ensures reads { Reading IsPassthrough (Stop is_comma) reader.old reader.new result }
     ensures shorter { length reader.new ≤ length reader.old }
 {
     let only = only(reader);
@@ -435,8 +397,7 @@ fn carried(reader: &mut Reader) -> Result<Passthrough, Broken>
 
 /// `[ONLY]`
 fn only(reader: &mut Reader) -> bool
-    ensures found { IsOnly reader.old result reader.new }
-    ensures finds { (x : Bool) (rest next : Symbols) → IsOnly reader.old x rest → IsWord rest key.For next → (result ≡ x) × (reader.new ≡ rest) }
+    ensures reads { Reading IsOnly (BeforeWord key.For) reader.old reader.new (Ok result) }
     ensures shorter { length reader.new ≤ length reader.old }
 {
     reader.takes(Keyword::Only)

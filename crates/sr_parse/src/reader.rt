@@ -1,9 +1,10 @@
-ghost use Rattle.std.specs.Prelude.{◌≡◌, ◌+◌, ◌<◌, ◌≤◌, ◌↔◌, ℕ, List, Option, length, OnOk, IfOk, IsSome, IfSome, IsTrue, IsFalse, reverse, [], ◌∷◌};
+ghost use Rattle.std.specs.Prelude.{◌≡◌, ◌<◌, ◌≤◌, ℕ, List, length, OnOk, IfSome, IsTrue, IsFalse, reverse};
 ghost use Rattle.std.specs.Option.{option_copied};
-ghost use Rattle.sr_parse.specs.Symbols.{Symbols, first, behind, named, name_meant, IsName, IsSign, IsWord, IsTextAt};
+ghost use Rattle.sr_parse.specs.Reading.{Reading, Anywhere, mapped};
+ghost use Rattle.sr_parse.specs.Productions.{Word, Mark, Reference};
+ghost use Rattle.sr_parse.specs.Symbols.{Symbols, first, behind, named, IsName, IsSign, IsWord, IsTextAt};
 ghost use Rattle.sr_parse.specs.Listing.{Listed, IsNames};
-ghost use Rattle.sr_parse.specs.Expressions.{IsColumn};
-ghost use Rattle.sr_parse.specs.Going.{Gives, Stop, is_dot, is_comma, is_open};
+ghost use Rattle.sr_parse.specs.Going.{Stop, is_dot, is_comma, is_open};
 
 use crate::keyword::Keyword;
 use crate::symbol::{Sign, Symbol};
@@ -158,8 +159,7 @@ impl Reader {
     }
 
     pub fn keyword(&mut self, wanted: Keyword) -> Result<(), Broken>
-        ensures found { OnOk result (IsWord self.old wanted self.new) }
-        ensures finds { (rest : Symbols) → IsWord self.old wanted rest → Gives result (λ _. self.new ≡ rest) }
+        ensures reads { Reading (Word wanted) Anywhere self.old self.new result }
         ensures shorter { length self.new ≤ length self.old }
         ensures progress { OnOk result (length self.new < length self.old) }
     {
@@ -171,8 +171,7 @@ impl Reader {
     }
 
     pub fn sign(&mut self, wanted: Sign) -> Result<(), Broken>
-        ensures found { OnOk result (IsSign self.old wanted self.new) }
-        ensures finds { (rest : Symbols) → IsSign self.old wanted rest → Gives result (λ _. self.new ≡ rest) }
+        ensures reads { Reading (Mark wanted) Anywhere self.old self.new result }
         ensures shorter { length self.new ≤ length self.old }
         ensures progress { OnOk result (length self.new < length self.old) }
     {
@@ -208,8 +207,7 @@ impl Reader {
     }
 
     pub fn name(&mut self) -> Result<Name, Broken>
-        ensures found { IfOk result (λ name. IsName self.old name self.new) }
-        ensures finds { (x : List ℕ) (rest : Symbols) → IsName self.old x rest → Gives result (λ name. (name ≡ x) × (self.new ≡ rest)) }
+        ensures reads { Reading IsName Anywhere self.old self.new result }
         ensures shorter { length self.new ≤ length self.old }
         ensures progress { OnOk result (length self.new < length self.old) }
     {
@@ -235,8 +233,7 @@ impl Reader {
 
     /// One name or more, with commas between them.
     pub fn names(&mut self) -> Result<Seq<Name>, Broken>
-        ensures found { IfOk result (λ names. Listed IsName self.old names self.new) }
-        ensures finds { (xs : List (List ℕ)) (rest : Symbols) → Listed IsName self.old xs rest → Stop is_comma rest → Gives result (λ names. (names ≡ xs) × (self.new ≡ rest)) }
+        ensures reads { Reading (Listed IsName) (Stop is_comma) self.old self.new result }
         ensures shorter { length self.new ≤ length self.old }
         ensures progress { OnOk result (length self.new < length self.old) }
     {
@@ -247,8 +244,7 @@ impl Reader {
     /// One name or more, with commas between them.
     #[tactic(auto, using(crate::proofs::Listings::steps))]
     pub fn name_items(&mut self) -> Result<Vec<Name>, Broken>
-        ensures found { IfOk result (λ names. Listed IsName self.old names.items self.new) }
-        ensures finds { (xs : List (List ℕ)) (rest : Symbols) → Listed IsName self.old xs rest → Stop is_comma rest → Gives result (λ names. (names.items ≡ xs) × (self.new ≡ rest)) }
+        ensures reads { Reading (Listed IsName) (Stop is_comma) self.old self.new (mapped (λ names. names.items) result) }
         ensures shorter { length self.new ≤ length self.old }
         ensures progress { OnOk result (length self.new < length self.old) }
     {
@@ -262,8 +258,7 @@ impl Reader {
 
     /// Names in parentheses, or none where no `(` is next.
     pub fn optional_names(&mut self) -> Result<Seq<Name>, Broken>
-        ensures found { IfOk result (λ names. IsNames self.old names self.new) }
-        ensures finds { (xs : List (List ℕ)) (rest : Symbols) → IsNames self.old xs rest → Stop is_open rest → Gives result (λ names. (names ≡ xs) × (self.new ≡ rest)) }
+        ensures reads { Reading IsNames (Stop is_open) self.old self.new result }
         ensures shorter { length self.new ≤ length self.old }
     {
         if !self.takes_sign(Sign::Open) {
@@ -276,8 +271,7 @@ impl Reader {
 
     /// A name, or two with a dot between them.
     pub fn reference(&mut self) -> Result<(Option<Name>, Name), Broken>
-        ensures found { IfOk result (λ reference. IsColumn self.old reference.0 reference.1 self.new) }
-        ensures finds { (table : Option (List ℕ)) (name : List ℕ) (rest : Symbols) → IsColumn self.old table name rest → Stop is_dot rest → Gives result (λ reference. (reference.0 ≡ table) × (reference.1 ≡ name) × (self.new ≡ rest)) }
+        ensures reads { Reading Reference (Stop is_dot) self.old self.new result }
         ensures shorter { length self.new ≤ length self.old }
         ensures progress { OnOk result (length self.new < length self.old) }
     {
@@ -290,8 +284,7 @@ impl Reader {
     }
 
     pub fn text(&mut self) -> Result<Text, Broken>
-        ensures found { IfOk result (λ text. IsTextAt self.old text self.new) }
-        ensures finds { (x : List ℕ) (rest : Symbols) → IsTextAt self.old x rest → Gives result (λ text. (text ≡ x) × (self.new ≡ rest)) }
+        ensures reads { Reading IsTextAt Anywhere self.old self.new result }
         ensures shorter { length self.new ≤ length self.old }
         ensures progress { OnOk result (length self.new < length self.old) }
     {

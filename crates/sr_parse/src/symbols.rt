@@ -2,7 +2,7 @@ ghost use Rattle.std.specs.Prelude.{◌≡◌, ℕ, List, IfOk, reverse};
 ghost use Rattle.sr_lex.specs.declared.token.Token.{Token};
 ghost use Rattle.sr_lex.specs.Tokens.{IsTokens, NoTokenAt};
 ghost use Rattle.sr_parse.specs.Meanings.{AreSymbols};
-ghost use Rattle.sr_parse.specs.Places.{IsPlace};
+ghost use Rattle.sr_parse.specs.Places.{start_at};
 
 use crate::parsing::ParseFault;
 use crate::symbol::{Symbol, symbol_of};
@@ -27,7 +27,7 @@ pub fn symbols(alloc: Global, text: &[u8]) -> Result<Vec<Symbol>, ParseFault>
 
 /// The first byte of the token that stands behind so many, or the text's length.
 pub fn start_behind(alloc: Global, text: &[u8], count: usize) -> Result<usize, LexFault>
-    ensures place { IfOk result (λ at. (tokens : List Token) → IsTokens text.now tokens → IsPlace text.now tokens at) }
+    ensures place { IfOk result (λ at. (tokens : List Token) → IsTokens text.now tokens → at ≡ start_at text.now tokens count) }
 {
     let mut lexer = Lexer::new(text);
     let mut left = count;

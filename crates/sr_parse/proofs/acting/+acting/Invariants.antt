@@ -1,7 +1,7 @@
 use Rattle.std.proofs.Common.{◌+◌, ◌*◌, ◌≤◌, length}
-use Rattle.sr_parse.specs.Triggers.{Acts}
-use Rattle.sr_parse.specs.Triggers.Amount.{many}
-use Rattle.sr_parse.proofs.Doing.{Remains}
+use Rattle.sr_parse.specs.Going.{Stop, action_starts}
+use Rattle.sr_parse.proofs.Loops.{Filed}
+use Rattle.sr_parse.proofs.Acted.{Ended}
 use Rattle.sr_parse.proofs.acting.+acting.Given as goal
 
 abbrev pub decreases-actions : goal.decreases-actions
@@ -12,8 +12,7 @@ decreases-action l = 2 * l.ifs
 
 abbrev pub invariant-actions-more : goal.invariant-actions-more
 invariant-actions-more l = record {
-  so_far : Acts many l.ifs l.fn.reader l.actions.items l.reader;
-  finds : Remains l.ifs l.fn.reader l.reader l.actions.items;
+  reads : Filed (Ended l.ifs) (Stop action_starts) l.fn.reader l.reader l.actions.items;
   less : length l.reader ≤ length l.fn.reader;
 }
 

@@ -1,44 +1,36 @@
-use Rattle.std.proofs.Common.{rules, arith, ◌≡◌, ◌∙◌, sym}
+use Rattle.std.proofs.Common.{rules, arith, refl, ◌∙◌, sym}
 use Rattle.std.proofs.lemmas.Grind.{common_steps}
-use Rattle.sr_parse.specs.declared.reader.Broken.TheVariants.{Memory}
-use Rattle.sr_parse.specs.Triggers.{IsAlias}
-use Rattle.sr_parse.specs.Going.{Stop, is_image}
-use Rattle.sr_parse.proofs.Lists.{Any}
-use Rattle.sr_parse.proofs.Listings.{Row-none, Row-then}
-use Rattle.sr_parse.proofs.Lines.{Row-begun, Row-on, Row-done}
-use Rattle.sr_parse.proofs.Tabling.{taken-two}
-use Rattle.sr_parse.proofs.Aliased.{image_used, name_used, apart_more, alias_found, alias_none, keyword_missed, name_missed, image_begins}
+use Rattle.sr_parse.proofs.Aliased.{apart_more}
+use Rattle.sr_parse.proofs.Parts.{handed, no_memory}
+use Rattle.sr_parse.proofs.Loops.{filed_begun, filed_on, filed_done}
+use Rattle.sr_parse.proofs.Aliases.{alias_read, image_goes, no_alias_next, apart_read, image_refused, as_missed, name_refused, name_unread}
+use Rattle.sr_parse.proofs.Parts.{spelled}
 use Rattle.sr_parse.proofs.creating.aliases.Goals as goal
 
 pub more-init : goal.more-init
-more-init c = record { so_far = Row-none (search rules); apart = search rules; runs = Row-begun IsAlias (Stop is_image) (search rules); less = search rules }
-
-pub returns-then-has_image-clause-finds : goal.returns-then-has_image-clause-finds
-returns-then-has_image-clause-finds c = λ x rest h s. absurd (image_used c.in-Some.image _ _ c.more.invariant.runs (search rules) c.as_slice.ensures.value (c.has_image.ensures.found (search rules)) x rest h s)
-
-pub returns-in_err-keyword-clause-finds : goal.returns-in_err-keyword-clause-finds
-returns-in_err-keyword-clause-finds c =
-    λ x rest h s. let m : c.in_err-keyword.field-0.0 ≡ Memory = keyword_missed c.in-Some.image _ c.more.invariant.runs (search rules) c.skip.ensures.rest c.in_err-keyword.ensures.finds x rest h.listed s in
-    search rules
-
-pub returns-then-is_taken-clause-finds : goal.returns-then-is_taken-clause-finds
-returns-then-is_taken-clause-finds c =
-    λ x rest h s. absurd (name_used c.in-Some.image _ _ c.more.invariant.runs (search rules) (sym c.skip.ensures.rest ∙ c.in_ok-keyword.ensures.found) c.as_slice-in-Some.ensures.value (c.is_taken.ensures.found (search rules)) x rest h s)
-
-pub returns-in_err-name-clause-finds : goal.returns-in_err-name-clause-finds
-returns-in_err-name-clause-finds c =
-    λ x rest h s. let m : c.in_err-name.field-0.0 ≡ Memory = name_missed c.in-Some.image _ c.more.invariant.runs (search rules) (sym c.skip.ensures.rest ∙ c.in_ok-keyword.ensures.found) c.in_err-name.ensures.finds x rest h.listed s in
-    search rules
+more-init c = record { apart = search rules; reads = filed_begun (search rules); less = search rules }
 
 pub more-preserved : goal.more-preserved
 more-preserved c = record {
-  so_far = Row-then {x = (c.in-Some.image, c.in_ok-name.name)} c.more.invariant.so_far (record { next = c.keyword.new.self; image = taken-two _ _ _ _ _ (search rules) c.skip.ensures.rest (search rules); name = c.in_ok-name.ensures.found }) (grind (arith, common_steps));
-  apart = apart_more _ _ _ _ c.in-Some.image c.in_ok-name.name c.more.invariant.apart (grind (arith, common_steps)) c.as_slice.ensures.value (c.has_image.ensures.absent (search rules)) c.as_slice-in-Some.ensures.value (c.is_taken.ensures.absent (search rules) _ _ c.in_ok-name.ensures.found);
-  runs = Row-on IsAlias Any (Stop is_image) (λ b x a h. tt) (λ a s. tt) _ c.more.invariant.runs (image_begins _ c.in-Some.image (search rules)) (alias_found c.in-Some.image (search rules) (sym c.skip.ensures.rest ∙ c.in_ok-keyword.ensures.found) c.in_ok-name.ensures.finds) (grind (arith, common_steps));
+  apart = apart_more _ _ _ _ c.in-Some.image c.in_ok-name.name c.more.invariant.apart (grind (arith, common_steps)) c.as_slice.ensures.value (c.has_image.ensures.absent (search rules)) c.as_slice-in-Some.ensures.value (c.is_taken.ensures.absent (search rules) _ _ (spelled c.in_ok-name.ensures.reads));
+  reads = filed_on (λ b x a h. tt) (λ a s. tt) c.more.invariant.reads (image_goes _ c.in-Some.image (search rules)) (alias_read c.in-Some.image (search rules) (sym c.skip.ensures.rest ∙ (spelled c.in_ok-keyword.ensures.reads)) c.in_ok-name.ensures.reads) (grind (arith, common_steps));
   less = search rules;
 }
 
-pub returns-clause-finds : goal.returns-clause-finds
-returns-clause-finds c =
-    λ x rest h s. let d = Row-done IsAlias (Stop is_image) c.more.invariant.runs (alias_none (λ image e. c.image_at.ensures.absent (search rules) image (search rules))) x rest h.listed s in
-    search rules
+pub returns-then-has_image-clause-reads : goal.returns-then-has_image-clause-reads
+returns-then-has_image-clause-reads c = image_refused c.in-Some.image c.more.invariant.reads c.more.invariant.apart (search rules) c.as_slice.ensures.value (c.has_image.ensures.found (search rules))
+
+pub returns-in_err-keyword-clause-reads : goal.returns-in_err-keyword-clause-reads
+returns-in_err-keyword-clause-reads c = handed _ (as_missed c.in-Some.image c.more.invariant.reads c.more.invariant.apart (search rules) c.skip.ensures.rest c.as_slice.ensures.value (c.has_image.ensures.absent (search rules)) c.in_err-keyword.ensures.reads) (search rules)
+
+pub returns-then-is_taken-clause-reads : goal.returns-then-is_taken-clause-reads
+returns-then-is_taken-clause-reads c = name_refused c.in-Some.image c.more.invariant.reads c.more.invariant.apart (search rules) (sym c.skip.ensures.rest ∙ (spelled c.in_ok-keyword.ensures.reads)) c.as_slice.ensures.value (c.has_image.ensures.absent (search rules)) c.as_slice-in-Some.ensures.value (c.is_taken.ensures.found (search rules))
+
+pub returns-in_err-name-clause-reads : goal.returns-in_err-name-clause-reads
+returns-in_err-name-clause-reads c = handed _ (name_unread c.in-Some.image c.more.invariant.reads c.more.invariant.apart (search rules) (sym c.skip.ensures.rest ∙ (spelled c.in_ok-keyword.ensures.reads)) c.as_slice.ensures.value (c.has_image.ensures.absent (search rules)) c.in_err-name.ensures.reads) (search rules)
+
+pub returns-in_err-push-clause-reads : goal.returns-in_err-push-clause-reads
+returns-in_err-push-clause-reads c = no_memory _ (search rules)
+
+pub returns-clause-reads : goal.returns-clause-reads
+returns-clause-reads c = apart_read c.more.invariant.apart c.from_vec.ensures.items (filed_done c.more.invariant.reads (no_alias_next _ (λ image e. c.image_at.ensures.absent (search rules) image (search rules))) refl)

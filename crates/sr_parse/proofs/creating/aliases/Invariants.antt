@@ -1,15 +1,13 @@
 use Rattle.std.proofs.Common.{◌≤◌, length, AllPairs}
-use Rattle.sr_parse.specs.Listing.{Row}
 use Rattle.sr_parse.specs.Triggers.{IsAlias, Differ}
 use Rattle.sr_parse.specs.Going.{Stop, is_image}
-use Rattle.sr_parse.proofs.Lines.{Runs}
+use Rattle.sr_parse.proofs.Loops.{Filed}
 use Rattle.sr_parse.proofs.creating.aliases.Given as goal
 
 abbrev pub invariant-more : goal.invariant-more
 invariant-more l = record {
-  so_far : Row IsAlias l.fn.reader l.aliases.items l.reader;
   apart : AllPairs Differ l.aliases.items;
-  runs : Runs IsAlias (Stop is_image) l.fn.reader l.aliases.items l.reader;
+  reads : Filed IsAlias (Stop is_image) l.fn.reader l.reader l.aliases.items;
   less : length l.reader ≤ length l.fn.reader;
 }
 

@@ -1,28 +1,18 @@
-use Rattle.std.proofs.Common.{rules, ◌≡◌, Some, sym, ap, ◌∙◌}
-use Rattle.sr_parse.specs.declared.reader.Broken.TheVariants.{Memory}
-use Rattle.sr_parse.proofs.Granting.{given_open}
+use Rattle.std.proofs.Common.{rules}
+use Rattle.sr_parse.specs.declared.symbol.Sign.TheVariants as mark
+use Rattle.sr_parse.proofs.Grants.{given_none, given_read}
+use Rattle.sr_parse.proofs.Parts.{then, first_fails, handed}
+use Rattle.sr_parse.proofs.Starts.{sign_read, sign_sample}
 use Rattle.sr_parse.proofs.creating.given_value.Goals as goal
 
-pub returns-in_err-value-clause-finds : goal.returns-in_err-value-clause-finds
-returns-in_err-value-clause-finds c = λ x rest h p.
-    let g = given_open c.args.reader.now c.takes_sign.new.self (c.takes_sign.ensures.found (search rules)) x rest h p in
-    let m : c.in_err-value.field-0.0 ≡ Memory = c.in_err-value.ensures.finds g.0 g.2.0 g.2.1 in
-    search rules
+pub returns-then-not-takes_sign-clause-reads : goal.returns-then-not-takes_sign-clause-reads
+returns-then-not-takes_sign-clause-reads c = given_none (c.takes_sign.ensures.kept (search rules)) (c.takes_sign.ensures.absent (search rules))
 
-pub returns-clause-found : goal.returns-clause-found
-returns-clause-found c =
-    (c.takes_sign.new.self, c.signed_literal.new.reader, c.takes_sign.ensures.found (search rules), c.in_ok-value.ensures.found, c.in_ok-sign.ensures.found)
+pub returns-in_err-value-clause-reads : goal.returns-in_err-value-clause-reads
+returns-in_err-value-clause-reads c = handed _ (given_read (c.takes_sign.ensures.found (search rules)) (then (λ b y a h q. tt) (sign_read (c.takes_sign.ensures.found (search rules))) (first_fails _ _ (λ b y a h q. tt) (sign_sample mark.Close) c.in_err-value.ensures.reads))) (search rules)
 
-pub returns-in_err-sign-clause-finds : goal.returns-in_err-sign-clause-finds
-returns-in_err-sign-clause-finds c = λ x rest h p.
-    let g = given_open c.args.reader.now c.takes_sign.new.self (c.takes_sign.ensures.found (search rules)) x rest h p in
-    let v = c.in_ok-value.ensures.finds g.0 g.2.0 g.2.1 in
-    let m : c.in_err-sign.field-0.0 ≡ Memory = c.in_err-sign.ensures.finds rest (v.1 ∙ g.2.2) in
-    search rules
+pub returns-in_err-sign-clause-reads : goal.returns-in_err-sign-clause-reads
+returns-in_err-sign-clause-reads c = handed _ (given_read (c.takes_sign.ensures.found (search rules)) (then (λ b y a h q. tt) (sign_read (c.takes_sign.ensures.found (search rules))) (then (λ b y a h q. tt) c.in_ok-value.ensures.reads c.in_err-sign.ensures.reads))) (search rules)
 
-pub returns-clause-finds : goal.returns-clause-finds
-returns-clause-finds c = λ x rest h p.
-    let g = given_open c.args.reader.now c.takes_sign.new.self (c.takes_sign.ensures.found (search rules)) x rest h p in
-    let v = c.in_ok-value.ensures.finds g.0 g.2.0 g.2.1 in
-    let s = c.in_ok-sign.ensures.finds rest (v.1 ∙ g.2.2) in
-    (ap Some v.0 ∙ sym g.1, s)
+pub returns-clause-reads : goal.returns-clause-reads
+returns-clause-reads c = given_read (c.takes_sign.ensures.found (search rules)) (then (λ b y a h q. tt) (sign_read (c.takes_sign.ensures.found (search rules))) (then (λ b y a h q. tt) c.in_ok-value.ensures.reads c.in_ok-sign.ensures.reads))

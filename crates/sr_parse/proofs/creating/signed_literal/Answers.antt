@@ -1,13 +1,17 @@
-use Rattle.std.proofs.Common.{rules, ◌≡◌}
-use Rattle.sr_parse.specs.declared.reader.Broken.TheVariants.{Memory}
-use Rattle.sr_parse.specs.Literals.{IsLiteral}
-use Rattle.sr_parse.proofs.Lines.{onto}
-use Rattle.sr_parse.proofs.Granting.{signed_left}
+use Rattle.std.proofs.Common.{rules, refl}
+use Rattle.sr_parse.proofs.Grants.{literal_read, signed_read, negative_read, negative_missed}
+use Rattle.sr_parse.proofs.Parts.{then, handed}
+use Rattle.sr_parse.proofs.Starts.{sign_read}
 use Rattle.sr_parse.proofs.creating.signed_literal.Goals as goal
 
-pub returns-in_err-value-clause-finds : goal.returns-in_err-value-clause-finds
-returns-in_err-value-clause-finds c = λ x rest h.
-    let l = signed_left c.args.reader.now (c.takes_sign.ensures.absent (search rules)) x rest h in
-    let kept : c.takes_sign.new.self ≡ c.args.reader.now = c.takes_sign.ensures.kept (search rules) in
-    let m : c.in_err-value.field-0.0 ≡ Memory = c.in_err-value.ensures.finds x rest (onto IsLiteral kept l) in
-    search rules
+pub returns-in_err-value-clause-reads : goal.returns-in_err-value-clause-reads
+returns-in_err-value-clause-reads c = handed _ (literal_read (c.takes_sign.ensures.kept (search rules)) (c.takes_sign.ensures.absent (search rules)) c.in_err-value.ensures.reads) (search rules)
+
+pub returns-then-not-takes_sign-clause-reads : goal.returns-then-not-takes_sign-clause-reads
+returns-then-not-takes_sign-clause-reads c = literal_read (c.takes_sign.ensures.kept (search rules)) (c.takes_sign.ensures.absent (search rules)) c.in_ok-value.ensures.reads
+
+pub returns-in-Some-clause-reads : goal.returns-in-Some-clause-reads
+returns-in-Some-clause-reads c = signed_read (c.takes_sign.ensures.found (search rules)) (then (λ b y a h q. tt) (sign_read (c.takes_sign.ensures.found (search rules))) (negative_read (search rules)))
+
+pub returns-in-None-clause-reads : goal.returns-in-None-clause-reads
+returns-in-None-clause-reads c = signed_read (c.takes_sign.ensures.found (search rules)) (then (λ b y a h q. tt) (sign_read (c.takes_sign.ensures.found (search rules))) (negative_missed refl (λ v rest h. search rules)))

@@ -1,29 +1,31 @@
-use Rattle.std.proofs.Common.{rules, ◌≡◌, refl, ◌∙◌}
-use Rattle.sr_parse.specs.declared.reader.Broken.TheVariants.{Memory}
-use Rattle.sr_parse.specs.Symbols.{IsName}
-use Rattle.sr_parse.specs.Catalog.{IsGiven}
+use Rattle.std.proofs.Common.{rules, [], refl}
 use Rattle.sr_parse.specs.Going.{is_open}
 use Rattle.sr_parse.proofs.Steps.{Stop-at}
-use Rattle.sr_parse.proofs.Lines.{onto}
+use Rattle.sr_parse.specs.declared.keyword.Keyword.TheVariants as key
+use Rattle.sr_parse.specs.Catalog.{IsSubscription}
+use Rattle.sr_parse.specs.Productions.{Word}
+use Rattle.sr_parse.proofs.Grants.{subscription_of, subscription_to, subscription_back, for_sample, valued_sample, published_sample}
+use Rattle.sr_parse.proofs.Parts.{then, first_fails, goes_first, recast, handed}
+use Rattle.sr_parse.proofs.Starts.{word_sample, name_sample}
 use Rattle.sr_parse.proofs.creating.subscription.Goals as goal
 
-pub returns-in_err-publication-clause-finds : goal.returns-in_err-publication-clause-finds
-returns-in_err-publication-clause-finds c = λ x rest h.
-    let a = c.in_ok-keyword.ensures.found in
-    let b = c.in_ok-keyword-2.ensures.found in
-    let t = h.to in
-    let e : c.keyword-2.new.self ≡ h.named = cc in
-    let m : c.in_err-publication.field-0.0 ≡ Memory = c.in_err-publication.ensures.finds x.publication h.given (onto IsName e h.publication) in
-    search rules
+pub returns-in_err-keyword-clause-reads : goal.returns-in_err-keyword-clause-reads
+returns-in_err-keyword-clause-reads c = handed _ (recast IsSubscription subscription_of subscription_to subscription_back (first_fails _ _ (λ b y a h q. tt) (goes_first (Word key.To) _ [] (word_sample key.To) published_sample) c.in_err-keyword.ensures.reads)) (search rules)
 
-pub returns-in_err-user-clause-finds : goal.returns-in_err-user-clause-finds
-returns-in_err-user-clause-finds c = λ x rest h.
-    let a = c.in_ok-keyword.ensures.found in
-    let b = c.in_ok-keyword-2.ensures.found in
-    let t = h.to in
-    let e : c.keyword-2.new.self ≡ h.named = cc in
-    let n = c.in_ok-publication.ensures.finds x.publication h.given (onto IsName e h.publication) in
-    let v = c.in_ok-value.ensures.finds x.value h.for (onto IsGiven n.1 h.value) (Stop-at is_open h.behind refl) in
-    let k = c.in_ok-keyword-3.ensures.finds h.user_ (v.1 ∙ h.behind) in
-    let m : c.in_err-user.field-0.0 ≡ Memory = c.in_err-user.ensures.finds x.user rest (onto IsName k h.user) in
-    search rules
+pub returns-in_err-keyword-2-clause-reads : goal.returns-in_err-keyword-2-clause-reads
+returns-in_err-keyword-2-clause-reads c = handed _ (recast IsSubscription subscription_of subscription_to subscription_back (then (λ b y a h q. tt) c.in_ok-keyword.ensures.reads (first_fails _ _ (λ b y a h q. tt) published_sample c.in_err-keyword-2.ensures.reads))) (search rules)
+
+pub returns-in_err-publication-clause-reads : goal.returns-in_err-publication-clause-reads
+returns-in_err-publication-clause-reads c = handed _ (recast IsSubscription subscription_of subscription_to subscription_back (then (λ b y a h q. tt) c.in_ok-keyword.ensures.reads (then (λ b y a h q. tt) c.in_ok-keyword-2.ensures.reads (first_fails _ _ (λ b y a h q. tt) valued_sample c.in_err-publication.ensures.reads)))) (search rules)
+
+pub returns-in_err-value-clause-reads : goal.returns-in_err-value-clause-reads
+returns-in_err-value-clause-reads c = handed _ (recast IsSubscription subscription_of subscription_to subscription_back (then (λ b y a h q. tt) c.in_ok-keyword.ensures.reads (then (λ b y a h q. tt) c.in_ok-keyword-2.ensures.reads (then (λ b y a h q. tt) c.in_ok-publication.ensures.reads (first_fails _ _ (λ b y a h q. Stop-at is_open h.1 refl) for_sample c.in_err-value.ensures.reads))))) (search rules)
+
+pub returns-in_err-keyword-3-clause-reads : goal.returns-in_err-keyword-3-clause-reads
+returns-in_err-keyword-3-clause-reads c = handed _ (recast IsSubscription subscription_of subscription_to subscription_back (then (λ b y a h q. tt) c.in_ok-keyword.ensures.reads (then (λ b y a h q. tt) c.in_ok-keyword-2.ensures.reads (then (λ b y a h q. tt) c.in_ok-publication.ensures.reads (then (λ b y a h q. Stop-at is_open h.1 refl) c.in_ok-value.ensures.reads (first_fails _ _ (λ b y a h q. tt) name_sample c.in_err-keyword-3.ensures.reads)))))) (search rules)
+
+pub returns-in_err-user-clause-reads : goal.returns-in_err-user-clause-reads
+returns-in_err-user-clause-reads c = handed _ (recast IsSubscription subscription_of subscription_to subscription_back (then (λ b y a h q. tt) c.in_ok-keyword.ensures.reads (then (λ b y a h q. tt) c.in_ok-keyword-2.ensures.reads (then (λ b y a h q. tt) c.in_ok-publication.ensures.reads (then (λ b y a h q. Stop-at is_open h.1 refl) c.in_ok-value.ensures.reads (then (λ b y a h q. tt) c.in_ok-keyword-3.ensures.reads c.in_err-user.ensures.reads)))))) (search rules)
+
+pub returns-clause-reads : goal.returns-clause-reads
+returns-clause-reads c = recast IsSubscription subscription_of subscription_to subscription_back (then (λ b y a h q. tt) c.in_ok-keyword.ensures.reads (then (λ b y a h q. tt) c.in_ok-keyword-2.ensures.reads (then (λ b y a h q. tt) c.in_ok-publication.ensures.reads (then (λ b y a h q. Stop-at is_open h.1 refl) c.in_ok-value.ensures.reads (then (λ b y a h q. tt) c.in_ok-keyword-3.ensures.reads c.in_ok-user.ensures.reads)))))

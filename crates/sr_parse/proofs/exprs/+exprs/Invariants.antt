@@ -1,8 +1,8 @@
 use Rattle.std.proofs.Common.{◌+◌, ◌*◌, ◌<◌, length}
 use Rattle.sr_ast.specs.Exprs.{term_of}
-use Rattle.sr_parse.specs.Levels.{rank, tightness}
-use Rattle.sr_parse.specs.Expressions.{Reads, IsDeep}
-use Rattle.sr_parse.proofs.Finding.{Follows}
+use Rattle.sr_parse.specs.Levels.{rank}
+use Rattle.sr_parse.specs.Expressions.{IsDeep}
+use Rattle.sr_parse.proofs.Refusing.{Partly}
 use Rattle.sr_parse.proofs.exprs.+exprs.Given as goal
 
 abbrev pub decreases-chain : goal.decreases-chain
@@ -25,9 +25,8 @@ decreases-primary l = 16 * (l.room.depth + l.room.parentheses)
 
 abbrev pub invariant-chain-more : goal.invariant-chain-more
 invariant-chain-more l = record {
-  found : Reads (tightness l.level) l.room.parentheses l.fn.reader (term_of l.left.expr) l.reader;
-  finds : Follows l.level l.room l.fn.reader l.reader (term_of l.left.expr);
   deep : IsDeep (term_of l.left.expr) l.left.depth l.room.depth;
+  reads : Partly l.level l.room l.fn.reader l.reader (term_of l.left.expr);
   less : length l.reader < length l.fn.reader;
 }
 

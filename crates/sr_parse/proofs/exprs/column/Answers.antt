@@ -1,7 +1,12 @@
-use Rattle.std.proofs.Common.{ap}
+use Rattle.std.proofs.Common.{rules, ap}
 use Rattle.sr_ast.specs.Exprs.{term_of}
-use Rattle.sr_parse.proofs.Readings.{Reads-named}
+use Rattle.sr_parse.specs.Productions.{Named}
+use Rattle.sr_parse.proofs.Parts.{recast, handed_mapped, valued}
+use Rattle.sr_parse.proofs.Constants.{column_of, column_to, column_back}
 use Rattle.sr_parse.proofs.exprs.column.Goals as goal
 
-pub returns-clause-found : goal.returns-clause-found
-returns-clause-found c = λ room. Reads-named c.in_ok-table.ensures.found (ap term_of c.leaf.ensures.expr)
+pub returns-in_err-table-clause-reads : goal.returns-in_err-table-clause-reads
+returns-in_err-table-clause-reads c = handed_mapped _ c.from_residual.result (recast Named column_of column_to column_back c.in_err-table.ensures.reads) (search rules)
+
+pub returns-clause-reads : goal.returns-clause-reads
+returns-clause-reads c = valued (ap term_of c.leaf.ensures.expr) (recast Named column_of column_to column_back c.in_ok-table.ensures.reads)

@@ -1,13 +1,16 @@
-use Rattle.std.proofs.Common.{rules, ◌≡◌, refl}
-use Rattle.sr_parse.specs.declared.reader.Broken.TheVariants.{Memory}
+use Rattle.std.proofs.Common.{rules, refl}
 use Rattle.sr_parse.specs.declared.keyword.Keyword.TheVariants as key
 use Rattle.sr_parse.specs.Symbols.{IsName}
-use Rattle.sr_parse.specs.Going.{is_as}
-use Rattle.sr_parse.proofs.Lists.{Any}
-use Rattle.sr_parse.proofs.Lines.{Led-missed}
+use Rattle.sr_parse.specs.Going.{is_as, Stop}
+use Rattle.sr_parse.proofs.Parts.{handed}
+use Rattle.sr_parse.proofs.Optionals.{led_read, led_absent}
 use Rattle.sr_parse.proofs.querying.alias.Goals as goal
 
-pub returns-in_err-name-clause-finds : goal.returns-in_err-name-clause-finds
-returns-in_err-name-clause-finds c =
-    λ x rest h s. let m : c.in_err-name.field-0.0 ≡ Memory = Led-missed key.As IsName Any is_as refl (c.takes.ensures.found (search rules)) (λ n r k p. c.in_err-name.ensures.finds n r k) x rest h tt s in
-    search rules
+pub returns-in_err-name-clause-reads : goal.returns-in_err-name-clause-reads
+returns-in_err-name-clause-reads c = handed _ (led_read key.As IsName (Stop is_as) is_as refl (λ a q. tt) (λ a q. q) (c.takes.ensures.found (search rules)) c.in_err-name.ensures.reads) (search rules)
+
+pub returns-then-takes-clause-reads : goal.returns-then-takes-clause-reads
+returns-then-takes-clause-reads c = led_read key.As IsName (Stop is_as) is_as refl (λ a q. tt) (λ a q. q) (c.takes.ensures.found (search rules)) c.in_ok-name.ensures.reads
+
+pub returns-clause-reads : goal.returns-clause-reads
+returns-clause-reads c = led_absent key.As IsName (Stop is_as) (c.takes.ensures.kept (search rules)) (c.takes.ensures.absent (search rules))

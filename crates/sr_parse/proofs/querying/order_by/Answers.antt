@@ -1,16 +1,20 @@
-use Rattle.std.proofs.Common.{rules, ◌≡◌}
-use Rattle.sr_parse.specs.declared.reader.Broken.TheVariants.{Memory}
+use Rattle.std.proofs.Common.{rules}
+use Rattle.sr_parse.specs.Writing.{IsOrder}
 use Rattle.sr_parse.proofs.Selecting.{direction_stops}
-use Rattle.sr_parse.proofs.Lines.{Column-unread, Column-missed}
+use Rattle.sr_parse.proofs.Parts.{then, first_fails, recast, handed}
+use Rattle.sr_parse.proofs.Samples.{direction_sample}
+use Rattle.sr_parse.proofs.Orders.{order_of, order_to, order_back}
+use Rattle.sr_parse.proofs.Names.{dotted, undotted, referred, unreferred}
 use Rattle.sr_parse.proofs.querying.order_by.Goals as goal
 
-pub returns-in_err-first-clause-finds : goal.returns-in_err-first-clause-finds
-returns-in_err-first-clause-finds c =
-    λ x rest h s. let m : c.in_err-first.field-0.0 ≡ Memory = Column-unread (λ n r k. c.in_err-first.ensures.finds n r k) x.table x.column h.directed h.column in
-    search rules
+pub returns-in_err-first-clause-reads : goal.returns-in_err-first-clause-reads
+returns-in_err-first-clause-reads c = handed _ (recast IsOrder order_of order_to order_back (first_fails _ _ direction_stops direction_sample (unreferred c.in_err-first.ensures.reads))) (search rules)
 
-pub returns-in_err-column-clause-finds : goal.returns-in_err-column-clause-finds
-returns-in_err-column-clause-finds c =
-    λ x rest h s. let m : c.in_err-column.field-0.0 ≡ Memory =
-    Column-missed c.in_ok-first.ensures.finds (c.takes_sign.ensures.found (search rules)) c.in_err-column.ensures.finds x.table x.column h.directed h.column (direction_stops h.directed x.descending rest h.direction s) in
-    search rules
+pub returns-in_err-column-clause-reads : goal.returns-in_err-column-clause-reads
+returns-in_err-column-clause-reads c = handed _ (recast IsOrder order_of order_to order_back (first_fails _ _ direction_stops direction_sample (referred c.in_ok-first.ensures.reads (dotted (c.takes_sign.ensures.found (search rules)) c.in_err-column.ensures.reads)))) (search rules)
+
+pub returns-then-takes_sign-clause-reads : goal.returns-then-takes_sign-clause-reads
+returns-then-takes_sign-clause-reads c = recast IsOrder order_of order_to order_back (then direction_stops (referred c.in_ok-first.ensures.reads (dotted (c.takes_sign.ensures.found (search rules)) c.in_ok-column.ensures.reads)) c.is_descending-descending.ensures.reads)
+
+pub returns-clause-reads : goal.returns-clause-reads
+returns-clause-reads c = recast IsOrder order_of order_to order_back (then direction_stops (referred c.in_ok-first.ensures.reads (undotted (c.takes_sign.ensures.kept (search rules)) (c.takes_sign.ensures.absent (search rules)))) c.is_descending-descending-2.ensures.reads)

@@ -1,14 +1,12 @@
 use Rattle.std.proofs.Common.{◌≤◌, length}
-use Rattle.sr_parse.specs.Listing.{Listed}
 use Rattle.sr_parse.specs.Writing.{IsOrder}
 use Rattle.sr_parse.specs.Going.{Stop, is_direction}
-use Rattle.sr_parse.proofs.Lines.{Goes}
+use Rattle.sr_parse.proofs.Loops.{Along}
 use Rattle.sr_parse.proofs.querying.order_list.Given as goal
 
 abbrev pub invariant-more : goal.invariant-more
 invariant-more l = record {
-  so_far : Listed IsOrder l.fn.reader l.items.items l.reader;
-  goes : Goes IsOrder (Stop is_direction) l.fn.reader l.items.items l.reader;
+  reads : Along IsOrder (Stop is_direction) l.fn.reader l.reader l.items.items;
   less : length l.reader ≤ length l.fn.reader;
 }
 

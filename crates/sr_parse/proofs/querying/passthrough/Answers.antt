@@ -1,19 +1,16 @@
-use Rattle.std.proofs.Common.{rules, ◌≡◌, refl, sym, ap, ◌∙◌}
-use Rattle.sr_parse.specs.declared.reader.Broken.TheVariants.{Memory}
-use Rattle.sr_ast.specs.declared.stmt.Stmt.TheVariants as stmt
-use Rattle.sr_parse.specs.Going.{is_comma}
+use Rattle.std.proofs.Common.{rules, refl}
+use Rattle.sr_parse.specs.Going.{is_comma, Ends}
 use Rattle.sr_parse.proofs.Lists.{Ends-stop}
-use Rattle.sr_parse.proofs.Missing.{Passthrough-carried}
+use Rattle.sr_parse.proofs.Parts.{handed, narrow}
+use Rattle.sr_parse.proofs.Optionals.{moved}
+use Rattle.sr_parse.proofs.Carrying.{stop_read, carries_read}
 use Rattle.sr_parse.proofs.querying.passthrough.Goals as goal
 
-pub returns-in_err-passthrough-clause-finds : goal.returns-in_err-passthrough-clause-finds
-returns-in_err-passthrough-clause-finds c =
-    λ x rest h s. let p = Passthrough-carried (c.takes.ensures.kept (search rules)) (c.takes.ensures.absent (search rules)) x rest h in
-    let m : c.in_err-passthrough.field-0.0 ≡ Memory = c.in_err-passthrough.ensures.finds p.0 rest p.2 (Ends-stop is_comma rest refl s) in
-    search rules
+pub returns-then-takes-clause-reads : goal.returns-then-takes-clause-reads
+returns-then-takes-clause-reads c = stop_read (c.takes.ensures.found (search rules))
 
-pub returns-clause-finds : goal.returns-clause-finds
-returns-clause-finds c =
-    λ x rest h s. let p = Passthrough-carried (c.takes.ensures.kept (search rules)) (c.takes.ensures.absent (search rules)) x rest h in
-    let f = c.in_ok-passthrough.ensures.finds p.0 rest p.2 (Ends-stop is_comma rest refl s) in
-    let e = f.0 in let g = p.1 in (ap stmt.Passthrough f.0 ∙ sym p.1, f.1)
+pub returns-in_err-passthrough-clause-reads : goal.returns-in_err-passthrough-clause-reads
+returns-in_err-passthrough-clause-reads c = handed _ (carries_read (c.takes.ensures.absent (search rules)) (narrow Ends (λ a q. Ends-stop is_comma a refl q) (moved (c.takes.ensures.kept (search rules)) c.in_err-passthrough.ensures.reads))) (search rules)
+
+pub returns-clause-reads : goal.returns-clause-reads
+returns-clause-reads c = carries_read (c.takes.ensures.absent (search rules)) (narrow Ends (λ a q. Ends-stop is_comma a refl q) (moved (c.takes.ensures.kept (search rules)) c.in_ok-passthrough.ensures.reads))

@@ -1,38 +1,33 @@
-use Rattle.std.proofs.Common.{rules, arith, ◌≡◌}
+use Rattle.std.proofs.Common.{rules, arith}
 use Rattle.std.proofs.lemmas.Grind.{common_steps}
-use Rattle.sr_parse.specs.declared.reader.Broken.TheVariants.{Memory}
-use Rattle.sr_parse.specs.Writing.{IsRow}
-use Rattle.sr_parse.proofs.Lists.{Any}
-use Rattle.sr_parse.proofs.Listings.{Listed-one, Listed-more}
-use Rattle.sr_parse.proofs.Lines.{Listed-begun, Listed-on, Listed-done, Listed-missed, Listed-unread}
+use Rattle.sr_parse.specs.Going.{is_comma, Stop}
+use Rattle.sr_parse.proofs.Loops.{along_begun, along_on, along_done, along_missed, along_unread}
+use Rattle.sr_parse.proofs.Parts.{handed, narrow, no_memory, valued}
 use Rattle.sr_parse.proofs.querying.rows.Goals as goal
 
 pub more-init : goal.more-init
 more-init c = record {
-  so_far = Listed-one c.in_ok-first.ensures.found (grind (arith, common_steps));
-  goes = Listed-begun IsRow Any (λ b n e. tt) (λ x r k p. c.in_ok-first.ensures.finds x r k) (grind (arith, common_steps));
+  reads = along_begun (λ b n e. tt) c.in_ok-first.ensures.reads (grind (arith, common_steps));
   less = search rules;
 }
 
 pub more-preserved : goal.more-preserved
 more-preserved c = record {
-  so_far = Listed-more c.more.invariant.so_far (c.takes_sign.ensures.found (search rules)) c.in_ok-item.ensures.found (grind (arith, common_steps));
-  goes = Listed-on IsRow Any (λ b n e. tt) _ c.more.invariant.goes (c.takes_sign.ensures.found (search rules)) (λ x r k p. c.in_ok-item.ensures.finds x r k) (grind (arith, common_steps));
+  reads = along_on (λ b n e. tt) c.more.invariant.reads (c.takes_sign.ensures.found (search rules)) c.in_ok-item.ensures.reads (grind (arith, common_steps));
   less = search rules;
 }
 
-pub returns-in_err-first-clause-finds : goal.returns-in_err-first-clause-finds
-returns-in_err-first-clause-finds c =
-    λ x rest h s. let m : c.in_err-first.field-0.0 ≡ Memory = Listed-unread IsRow Any (λ b n e. tt) (λ x r k p. c.in_err-first.ensures.finds x r k) x rest h tt s in
-    search rules
+pub returns-in_err-first-clause-reads : goal.returns-in_err-first-clause-reads
+returns-in_err-first-clause-reads c = handed _ (narrow (Stop is_comma) (λ a s. (tt, s)) (along_unread (λ b n e. tt) c.in_err-first.ensures.reads)) (search rules)
 
-pub returns-in_err-item-clause-finds : goal.returns-in_err-item-clause-finds
-returns-in_err-item-clause-finds c =
-    λ x rest h s. let m : c.in_err-item.field-0.0 ≡ Memory =
-    Listed-missed IsRow Any (λ b n e. tt) _ c.more.invariant.goes (c.takes_sign.ensures.found (search rules)) (λ x r k p. c.in_err-item.ensures.finds x r k) x rest h tt s in
-    search rules
+pub returns-in_err-push-clause-reads : goal.returns-in_err-push-clause-reads
+returns-in_err-push-clause-reads c = no_memory _ (search rules)
 
-pub returns-clause-finds : goal.returns-clause-finds
-returns-clause-finds c =
-    λ x rest h s. let d = Listed-done IsRow Any c.more.invariant.goes (c.takes_sign.ensures.absent (search rules)) (c.takes_sign.ensures.kept (search rules)) x rest h tt s in
-    search rules
+pub returns-in_err-item-clause-reads : goal.returns-in_err-item-clause-reads
+returns-in_err-item-clause-reads c = handed _ (narrow (Stop is_comma) (λ a s. (tt, s)) (along_missed (λ b n e. tt) c.more.invariant.reads (c.takes_sign.ensures.found (search rules)) c.in_err-item.ensures.reads)) (search rules)
+
+pub returns-in_err-push-2-clause-reads : goal.returns-in_err-push-2-clause-reads
+returns-in_err-push-2-clause-reads c = no_memory _ (search rules)
+
+pub returns-clause-reads : goal.returns-clause-reads
+returns-clause-reads c = valued (search rules) (narrow (Stop is_comma) (λ a s. (tt, s)) (along_done c.more.invariant.reads (c.takes_sign.ensures.absent (search rules)) (c.takes_sign.ensures.kept (search rules))))

@@ -1,14 +1,12 @@
 use Rattle.std.proofs.Common.{◌≤◌, length}
-use Rattle.sr_parse.specs.Listing.{Listed}
 use Rattle.sr_parse.specs.Writing.{IsRow}
-use Rattle.sr_parse.proofs.Lists.{Any}
-use Rattle.sr_parse.proofs.Lines.{Goes}
+use Rattle.sr_parse.proofs.Loops.{Along}
+use Rattle.sr_parse.specs.Reading.{Anywhere}
 use Rattle.sr_parse.proofs.querying.rows.Given as goal
 
 abbrev pub invariant-more : goal.invariant-more
 invariant-more l = record {
-  so_far : Listed IsRow l.fn.reader l.items.items l.reader;
-  goes : Goes IsRow Any l.fn.reader l.items.items l.reader;
+  reads : Along IsRow Anywhere l.fn.reader l.reader l.items.items;
   less : length l.reader ≤ length l.fn.reader;
 }
 

@@ -1,53 +1,30 @@
-use Rattle.std.proofs.Common.{rules, ◌≡◌, refl, ◌∙◌}
-use Rattle.sr_parse.specs.declared.reader.Broken.TheVariants.{Memory}
-use Rattle.sr_parse.specs.Listing.{Row}
-use Rattle.sr_parse.specs.Writing.{IsSource, IsJoin, IsCondition, IsOrdering}
+use Rattle.std.proofs.Common.{rules, refl}
+use Rattle.sr_parse.specs.Writing.{IsSelect}
 use Rattle.sr_parse.specs.Going.{is_comma, is_join, expression_goes, condition_goes}
 use Rattle.sr_parse.proofs.Steps.{Stop-at}
-use Rattle.sr_parse.proofs.Lines.{onto}
-use Rattle.sr_parse.proofs.Selecting.{joins_stop, select_stops, ordering_stops, select_same}
+use Rattle.sr_parse.proofs.Selecting.{ordering_stops}
+use Rattle.sr_parse.proofs.Parts.{then, first_fails, recast, handed}
+use Rattle.sr_parse.proofs.Samples.{ordering_sample}
+use Rattle.sr_parse.proofs.Selections.{select_of, select_to, select_back, sifted_stops, joined_stops, sifted_sample, joined_parts_sample, sourced_sample, from_sample}
 use Rattle.sr_parse.proofs.querying.select.Goals as goal
 
-pub returns-in_err-source-clause-finds : goal.returns-in_err-source-clause-finds
-returns-in_err-source-clause-finds c =
-    λ x rest h p. let i = c.in_ok-items.ensures.finds x.items h.from h.items (Stop-at expression_goes h.behind refl) (Stop-at is_comma h.behind refl) in
-    let k = c.in_ok-keyword.ensures.finds h.sources (i.1 ∙ h.behind) in
-    let m : c.in_err-source.field-0.0 ≡ Memory = c.in_err-source.ensures.finds x.source h.joins (onto IsSource k h.source) (joins_stop h p) in
-    search rules
+pub returns-in_err-items-clause-reads : goal.returns-in_err-items-clause-reads
+returns-in_err-items-clause-reads c = handed _ (recast IsSelect select_of select_to select_back (first_fails _ _ (λ b y a h q. (Stop-at expression_goes h.1 refl, Stop-at is_comma h.1 refl)) from_sample c.in_err-items.ensures.reads)) (search rules)
 
-pub returns-in_err-joins-clause-finds : goal.returns-in_err-joins-clause-finds
-returns-in_err-joins-clause-finds c =
-    λ x rest h p. let i = c.in_ok-items.ensures.finds x.items h.from h.items (Stop-at expression_goes h.behind refl) (Stop-at is_comma h.behind refl) in
-    let k = c.in_ok-keyword.ensures.finds h.sources (i.1 ∙ h.behind) in
-    let s = c.in_ok-source.ensures.finds x.source h.joins (onto IsSource k h.source) (joins_stop h p) in
-    let m : c.in_err-joins.field-0.0 ≡ Memory = c.in_err-joins.ensures.finds x.joins h.where_ (onto (Row IsJoin) s.1 h.joined) h.few (select_stops expression_goes refl refl refl h p) (select_stops is_join refl refl refl h p) in
-    search rules
+pub returns-in_err-keyword-clause-reads : goal.returns-in_err-keyword-clause-reads
+returns-in_err-keyword-clause-reads c = handed _ (recast IsSelect select_of select_to select_back (then (λ b y a h q. (Stop-at expression_goes h.1 refl, Stop-at is_comma h.1 refl)) c.in_ok-items.ensures.reads (first_fails _ _ (λ b y a h q. tt) sourced_sample c.in_err-keyword.ensures.reads))) (search rules)
 
-pub returns-in_err-condition-clause-finds : goal.returns-in_err-condition-clause-finds
-returns-in_err-condition-clause-finds c =
-    λ x rest h p. let i = c.in_ok-items.ensures.finds x.items h.from h.items (Stop-at expression_goes h.behind refl) (Stop-at is_comma h.behind refl) in
-    let k = c.in_ok-keyword.ensures.finds h.sources (i.1 ∙ h.behind) in
-    let s = c.in_ok-source.ensures.finds x.source h.joins (onto IsSource k h.source) (joins_stop h p) in
-    let j = c.in_ok-joins.ensures.finds x.joins h.where_ (onto (Row IsJoin) s.1 h.joined) h.few (select_stops expression_goes refl refl refl h p) (select_stops is_join refl refl refl h p) in
-    let m : c.in_err-condition.field-0.0 ≡ Memory = c.in_err-condition.ensures.finds x.condition h.ordered (onto IsCondition j.1 h.condition) (ordering_stops condition_goes h.ordered x.order rest refl refl h.order p) in
-    search rules
+pub returns-in_err-source-clause-reads : goal.returns-in_err-source-clause-reads
+returns-in_err-source-clause-reads c = handed _ (recast IsSelect select_of select_to select_back (then (λ b y a h q. (Stop-at expression_goes h.1 refl, Stop-at is_comma h.1 refl)) c.in_ok-items.ensures.reads (then (λ b y a h q. tt) c.in_ok-keyword.ensures.reads (first_fails _ _ joined_stops joined_parts_sample c.in_err-source.ensures.reads)))) (search rules)
 
-pub returns-in_err-order-clause-finds : goal.returns-in_err-order-clause-finds
-returns-in_err-order-clause-finds c =
-    λ x rest h p. let i = c.in_ok-items.ensures.finds x.items h.from h.items (Stop-at expression_goes h.behind refl) (Stop-at is_comma h.behind refl) in
-    let k = c.in_ok-keyword.ensures.finds h.sources (i.1 ∙ h.behind) in
-    let s = c.in_ok-source.ensures.finds x.source h.joins (onto IsSource k h.source) (joins_stop h p) in
-    let j = c.in_ok-joins.ensures.finds x.joins h.where_ (onto (Row IsJoin) s.1 h.joined) h.few (select_stops expression_goes refl refl refl h p) (select_stops is_join refl refl refl h p) in
-    let d = c.in_ok-condition.ensures.finds x.condition h.ordered (onto IsCondition j.1 h.condition) (ordering_stops condition_goes h.ordered x.order rest refl refl h.order p) in
-    let m : c.in_err-order.field-0.0 ≡ Memory = c.in_err-order.ensures.finds x.order rest (onto IsOrdering d.1 h.order) p in
-    search rules
+pub returns-in_err-joins-clause-reads : goal.returns-in_err-joins-clause-reads
+returns-in_err-joins-clause-reads c = handed _ (recast IsSelect select_of select_to select_back (then (λ b y a h q. (Stop-at expression_goes h.1 refl, Stop-at is_comma h.1 refl)) c.in_ok-items.ensures.reads (then (λ b y a h q. tt) c.in_ok-keyword.ensures.reads (then joined_stops c.in_ok-source.ensures.reads (first_fails _ _ (λ b y a h q. (sifted_stops expression_goes refl refl refl b y a h q, sifted_stops is_join refl refl refl b y a h q)) sifted_sample c.in_err-joins.ensures.reads))))) (search rules)
 
-pub returns-clause-finds : goal.returns-clause-finds
-returns-clause-finds c =
-    λ x rest h p. let i = c.in_ok-items.ensures.finds x.items h.from h.items (Stop-at expression_goes h.behind refl) (Stop-at is_comma h.behind refl) in
-    let k = c.in_ok-keyword.ensures.finds h.sources (i.1 ∙ h.behind) in
-    let s = c.in_ok-source.ensures.finds x.source h.joins (onto IsSource k h.source) (joins_stop h p) in
-    let j = c.in_ok-joins.ensures.finds x.joins h.where_ (onto (Row IsJoin) s.1 h.joined) h.few (select_stops expression_goes refl refl refl h p) (select_stops is_join refl refl refl h p) in
-    let d = c.in_ok-condition.ensures.finds x.condition h.ordered (onto IsCondition j.1 h.condition) (ordering_stops condition_goes h.ordered x.order rest refl refl h.order p) in
-    let o = c.in_ok-order.ensures.finds x.order rest (onto IsOrdering d.1 h.order) p in
-    (select_same _ x i.0 s.0 j.0 d.0 o.0, o.1)
+pub returns-in_err-condition-clause-reads : goal.returns-in_err-condition-clause-reads
+returns-in_err-condition-clause-reads c = handed _ (recast IsSelect select_of select_to select_back (then (λ b y a h q. (Stop-at expression_goes h.1 refl, Stop-at is_comma h.1 refl)) c.in_ok-items.ensures.reads (then (λ b y a h q. tt) c.in_ok-keyword.ensures.reads (then joined_stops c.in_ok-source.ensures.reads (then (λ b y a h q. (sifted_stops expression_goes refl refl refl b y a h q, sifted_stops is_join refl refl refl b y a h q)) c.in_ok-joins.ensures.reads (first_fails _ _ (λ b y a h q. ordering_stops condition_goes b y a refl refl h q) ordering_sample c.in_err-condition.ensures.reads)))))) (search rules)
+
+pub returns-in_err-order-clause-reads : goal.returns-in_err-order-clause-reads
+returns-in_err-order-clause-reads c = handed _ (recast IsSelect select_of select_to select_back (then (λ b y a h q. (Stop-at expression_goes h.1 refl, Stop-at is_comma h.1 refl)) c.in_ok-items.ensures.reads (then (λ b y a h q. tt) c.in_ok-keyword.ensures.reads (then joined_stops c.in_ok-source.ensures.reads (then (λ b y a h q. (sifted_stops expression_goes refl refl refl b y a h q, sifted_stops is_join refl refl refl b y a h q)) c.in_ok-joins.ensures.reads (then (λ b y a h q. ordering_stops condition_goes b y a refl refl h q) c.in_ok-condition.ensures.reads (c.in_err-order.ensures.reads))))))) (search rules)
+
+pub returns-clause-reads : goal.returns-clause-reads
+returns-clause-reads c = recast IsSelect select_of select_to select_back (then (λ b y a h q. (Stop-at expression_goes h.1 refl, Stop-at is_comma h.1 refl)) c.in_ok-items.ensures.reads (then (λ b y a h q. tt) c.in_ok-keyword.ensures.reads (then joined_stops c.in_ok-source.ensures.reads (then (λ b y a h q. (sifted_stops expression_goes refl refl refl b y a h q, sifted_stops is_join refl refl refl b y a h q)) c.in_ok-joins.ensures.reads (then (λ b y a h q. ordering_stops condition_goes b y a refl refl h q) c.in_ok-condition.ensures.reads (c.in_ok-order.ensures.reads))))))

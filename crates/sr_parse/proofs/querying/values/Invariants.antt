@@ -1,14 +1,12 @@
 use Rattle.std.proofs.Common.{◌≤◌, length}
-use Rattle.sr_parse.specs.Listing.{Listed}
 use Rattle.sr_parse.specs.Expressions.{IsExpr}
 use Rattle.sr_parse.specs.Going.{Stop, expression_goes}
-use Rattle.sr_parse.proofs.Lines.{Goes}
+use Rattle.sr_parse.proofs.Loops.{Along}
 use Rattle.sr_parse.proofs.querying.values.Given as goal
 
 abbrev pub invariant-more : goal.invariant-more
 invariant-more l = record {
-  so_far : Listed IsExpr l.fn.reader l.items.items l.reader;
-  goes : Goes IsExpr (Stop expression_goes) l.fn.reader l.items.items l.reader;
+  reads : Along IsExpr (Stop expression_goes) l.fn.reader l.reader l.items.items;
   less : length l.reader ≤ length l.fn.reader;
 }
 

@@ -1,36 +1,34 @@
-use Rattle.std.proofs.Common.{rules, arith, ◌≡◌}
+use Rattle.std.proofs.Common.{rules, arith}
 use Rattle.std.proofs.lemmas.Grind.{common_steps}
-use Rattle.sr_parse.specs.declared.reader.Broken.TheVariants.{Memory}
-use Rattle.sr_parse.specs.Symbols.{IsName}
-use Rattle.sr_parse.proofs.Listings.{Listed-one, Listed-more}
-use Rattle.sr_parse.proofs.Lists.{Any}
-use Rattle.sr_parse.proofs.Lines.{Listed-begun, Listed-on, Listed-done, Listed-missed, Listed-unread}
+use Rattle.sr_parse.specs.Going.{Stop, is_comma}
+use Rattle.sr_parse.proofs.Loops.{along_begun, along_on, along_done, along_missed, along_unread}
+use Rattle.sr_parse.proofs.Parts.{narrow, handed_mapped, no_memory_mapped}
 use Rattle.sr_parse.proofs.reader.Reader.name_items.Goals as goal
 
 pub more-init : goal.more-init
 more-init c = record {
-  so_far = Listed-one c.in_ok-name.ensures.found (grind (arith, common_steps));
-  goes = Listed-begun IsName Any (λ b n e. tt) (λ x rest h p. c.in_ok-name.ensures.finds x rest h) (grind (arith, common_steps));
+  reads = along_begun (λ b n e. tt) c.in_ok-name.ensures.reads (grind (arith, common_steps));
   less = search rules;
 }
 
 pub more-preserved : goal.more-preserved
 more-preserved c = record {
-  so_far = Listed-more c.more.invariant.so_far (c.takes_sign.ensures.found (search rules)) c.in_ok-name-2.ensures.found (grind (arith, common_steps));
-  goes = Listed-on IsName Any (λ b n e. tt) _ c.more.invariant.goes (c.takes_sign.ensures.found (search rules)) (λ x rest h p. c.in_ok-name-2.ensures.finds x rest h) (grind (arith, common_steps));
+  reads = along_on (λ b n e. tt) c.more.invariant.reads (c.takes_sign.ensures.found (search rules)) c.in_ok-name-2.ensures.reads (grind (arith, common_steps));
   less = search rules;
 }
 
-pub returns-in_err-name-clause-finds : goal.returns-in_err-name-clause-finds
-returns-in_err-name-clause-finds c =
-    λ xs rest h s. let m : c.in_err-name.field-0.0 ≡ Memory = Listed-unread IsName Any (λ b n e. tt) (λ x r k p. c.in_err-name.ensures.finds x r k) xs rest h tt s in
-    search rules
+pub returns-in_err-name-clause-reads : goal.returns-in_err-name-clause-reads
+returns-in_err-name-clause-reads c = handed_mapped _ _ (narrow (Stop is_comma) (λ a s. (tt, s)) (along_unread (λ b n e. tt) c.in_err-name.ensures.reads)) (search rules)
 
-pub returns-in_err-name-2-clause-finds : goal.returns-in_err-name-2-clause-finds
-returns-in_err-name-2-clause-finds c =
-    λ xs rest h s. let m : c.in_err-name-2.field-0.0 ≡ Memory =
-    Listed-missed IsName Any (λ b n e. tt) _ c.more.invariant.goes (c.takes_sign.ensures.found (search rules)) (λ x r k p. c.in_err-name-2.ensures.finds x r k) xs rest h tt s in
-    search rules
+pub returns-in_err-push-clause-reads : goal.returns-in_err-push-clause-reads
+returns-in_err-push-clause-reads c = no_memory_mapped _ _ (search rules)
 
-pub returns-clause-finds : goal.returns-clause-finds
-returns-clause-finds c = λ xs rest h s. Listed-done IsName Any c.more.invariant.goes (c.takes_sign.ensures.absent (search rules)) (c.takes_sign.ensures.kept (search rules)) xs rest h tt s
+pub returns-in_err-name-2-clause-reads : goal.returns-in_err-name-2-clause-reads
+returns-in_err-name-2-clause-reads c =
+    handed_mapped _ _ (narrow (Stop is_comma) (λ a s. (tt, s)) (along_missed (λ b n e. tt) c.more.invariant.reads (c.takes_sign.ensures.found (search rules)) c.in_err-name-2.ensures.reads)) (search rules)
+
+pub returns-in_err-push-2-clause-reads : goal.returns-in_err-push-2-clause-reads
+returns-in_err-push-2-clause-reads c = no_memory_mapped _ _ (search rules)
+
+pub returns-clause-reads : goal.returns-clause-reads
+returns-clause-reads c = narrow (Stop is_comma) (λ a s. (tt, s)) (along_done c.more.invariant.reads (c.takes_sign.ensures.absent (search rules)) (c.takes_sign.ensures.kept (search rules)))
