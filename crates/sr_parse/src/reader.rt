@@ -41,11 +41,12 @@ impl<T: Drop> From<AllocFailed<T>> for Broken {
     }
 }
 
-/// Gives memory back where more than half of it is free. While a whole list is taken, this moves no more than the list's length.
+/// Gives memory back where more than an eighth of it is free. While a whole list is taken, this moves no more than eight times the list's
+/// length, where shrinking moves at all.
 fn give_back(left: &mut Vec<Symbol>)
     ensures same { left.new.items ≡ left.old.items }
 {
-    if left.len() < left.capacity() / 2 {
+    if left.len() < left.capacity() - left.capacity() / 8 {
         left.shrink_to_fit();
     }
 }
