@@ -2,13 +2,12 @@ ghost use Rattle.std.specs.Prelude.{◌≡◌, ◌<◌, ◌≤◌, length, OnOk,
 ghost use Rattle.sr_ast.specs.declared.stmt.Stmt.{Stmt as Statement};
 ghost use Rattle.sr_parse.specs.Reading.{Reading, AtEnd, mapped};
 ghost use Rattle.sr_parse.specs.Productions.{Definition, Work};
-ghost use Rattle.sr_parse.specs.Scripts.{Pieces};
 ghost use Rattle.sr_parse.specs.Scripts.Stage.{closed};
 ghost use Rattle.sr_parse.specs.Going.{Ends};
 ghost use Rattle.sr_parse.specs.Faults.{IsRead};
 ghost use Rattle.sr_parse.specs.Places.{IsRefusedAt};
 ghost use Rattle.sr_parse.specs.Meanings.{IsWritten};
-ghost use Rattle.sr_parse.specs.Scripts.{IsStatement, IsPiece};
+ghost use Rattle.sr_parse.specs.Scripts.{Pieces, IsStatement, IsPiece};
 
 use crate::creating::{create, drop_statement, grant, subscription};
 use crate::keyword::Keyword;
