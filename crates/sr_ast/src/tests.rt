@@ -2,7 +2,8 @@ use super::{
     Binary, Class, ColumnRule, CreateTable, Delete, Dml, Expr, NotTyped, Operand, Scope, Stmt,
     SubscriptionRule, Unary, class_of, is_carried, is_ddl, print,
 };
-use sr_base::{Copied, Kind, Name, Seq, Text, Value, day_of, name_of};
+use sr_base::{Copied, Kind, Name, Seq, Text, Value, name_of};
+use sr_dates::day_of;
 use std::alloc::Global;
 use std::test::Fail;
 

@@ -1,5 +1,5 @@
 -- Values that compare alike are one.
-use Rattle.std.proofs.Common.{◌≡◌, ◌↔◌, ℕ, ℤ, List, refl, sym, ap, ◌∙◌}
+use Rattle.std.proofs.Common.{◌≡◌, ◌↔◌, ℕ, ℤ, List, sym, ap, ◌∙◌}
 use Rattle.std.proofs.lemmas.Map.Lookups.{CmpEqualImpliesEq, exact_pairs, exact_unsigned, exact_signed, exact_bytes}
 use Rattle.std.specs.Ordering.{nat_cmp, int_cmp, ordering_then}
 use Rattle.std.specs.Cmp.Lexicographic.{slice_cmp}

@@ -1,5 +1,3 @@
-pub mod DateTexts
-pub mod Dates
 pub mod Exact
 pub mod Formats
 pub mod Loop

@@ -1,11 +1,9 @@
-pub mod Calendar
 pub mod Codes
 pub mod Days
 pub mod Fields
 pub mod Fitting
 pub mod Laws
 pub mod ListLaws
-pub mod Literals
 pub mod Names
 pub mod NumberLaws
 pub mod Order

@@ -7,17 +7,14 @@
 mod broken;
 mod copied;
 mod day;
-mod day_reading;
 mod field;
 mod field_lists;
 mod field_numbers;
 mod field_parts;
 mod field_texts;
 mod field_values;
-mod fitting;
 mod from_bytes;
 mod laws;
-mod literal;
 mod name;
 mod name_bytes;
 mod offset;
@@ -28,20 +25,15 @@ mod row;
 mod seq;
 mod text;
 mod value;
-#[cfg(test)]
-mod value_tests;
 mod writing;
 
 pub use broken::{Bad, Broken};
 pub use copied::{Copied, NoMemory};
 pub use day::Day;
-pub use day_reading::day_of;
 pub use field::Field;
 pub use field_parts::{write_pair, write_triple};
-pub use fitting::fit;
 pub use from_bytes::{name_of, text_of};
 pub use laws::{no_spelling_begins_another, what_is_read_is_spelled_so, what_is_spelled_is_read};
-pub use literal::write_literal;
 pub use name::Name;
 pub use offset::Offset;
 pub use ordering::{compare, order};

@@ -1,8 +1,8 @@
 -- What an expression gives is of its class.
 use Rattle.std.proofs.Common.{◌≡◌, ℕ, Bool, true, false, cond, ◌⊎◌, inl, inr, List, [], ◌∷◌, Option, Some, None, IfSome, IsTrue, ℤ, ◌+ℤ◌, ◌-ℤ◌, ◌*ℤ◌, refl, sym, ◌∙◌}
 use Rattle.std.specs.Option.{option_map, option_and_then}
-use Rattle.sr_base.specs.Calendar.{day_named}
-use Rattle.sr_base.specs.Fitting.{fitted}
+use Rattle.sr_dates.specs.Calendar.{day_named}
+use Rattle.sr_dates.specs.Fitting.{fitted}
 use Rattle.sr_base.specs.declared.value.Value.{Value as Cell}
 use Rattle.sr_base.specs.declared.value.Value.TheVariants as cell
 use Rattle.sr_base.specs.declared.value.Kind.{Kind}

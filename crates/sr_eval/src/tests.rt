@@ -5,7 +5,8 @@ ghost use Rattle.sr_eval.specs.Bounds.{IsRowOf, gives_value, gives_truth, is_pla
 
 use super::{Bound, EvalFault, eval, holds, holds_plain};
 use sr_ast::{Binary, Class, Expr, Operand, Scope, Unary, class_of};
-use sr_base::{Kind, Name, Seq, Text, Value, day_of, name_of};
+use sr_base::{Kind, Name, Seq, Text, Value, name_of};
+use sr_dates::day_of;
 use std::alloc::Global;
 use std::test::Fail;
 

@@ -2,8 +2,9 @@
 use Rattle.std.proofs.Common.{◌≡◌, ◌++◌, ◌&&◌, not, Bool, true, false, cond, if◌then◌else◌, map, length, nat_le, ℕ, ℤ, List, [], ◌∷◌, Option, Some, None, Result, Ok, Err, IsTrue, refl, ap, subst, ◌∙◌}
 use Rattle.std.specs.List.{AllByRecursion}
 use Rattle.std.specs.Option.{option_map}
-use Rattle.sr_base.specs.Fitting.{fitted, is_int}
-use Rattle.sr_base.specs.Calendar.{day_named}
+use Rattle.sr_base.specs.Fitting.{is_int}
+use Rattle.sr_dates.specs.Fitting.{fitted}
+use Rattle.sr_dates.specs.Calendar.{day_named}
 use Rattle.sr_base.specs.declared.value.Kind.{Kind}
 use Rattle.sr_base.specs.declared.value.Kind.TheVariants as kind
 use Rattle.sr_base.specs.declared.value.Value.{Value}

@@ -1,6 +1,6 @@
 -- When a statement may be executed, and what is answered.
 use Rattle.std.specs.Prelude.{◌≡◌, ◌≢◌, ℕ, ⊤, not, ◌&&◌, List, [], ◌∷◌, Some, Result, Ok, Err, MatchResult, IsTrue}
-use Rattle.sr_base.specs.Fitting.{fitted}
+use Rattle.sr_dates.specs.Fitting.{fitted}
 use Rattle.sr_base.specs.declared.value.Value.{Value as Cell}
 use Rattle.sr_eval.specs.Comparisons.{is_null}
 use Rattle.sr_rows.specs.Marks.{RowMap, rows_of_table}

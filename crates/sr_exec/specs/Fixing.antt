@@ -1,7 +1,7 @@
 -- Conditions that fix the key: each of its columns is equal to a constant, alone or in a conjunction.
 use Rattle.std.specs.Prelude.{ℕ, cond, List, [], ◌∷◌, ◌++◌, Option, Some, None, Ok, slice_get, take, bytes_eq}
 use Rattle.std.specs.List.{list_any}
-use Rattle.sr_base.specs.Fitting.{fitted}
+use Rattle.sr_dates.specs.Fitting.{fitted}
 use Rattle.sr_base.specs.declared.value.Value.{Value as Cell}
 use Rattle.sr_ast.specs.Terms.{Term}
 use Rattle.sr_ast.specs.Terms.Term.{literal, column, unary, binary}

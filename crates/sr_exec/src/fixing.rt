@@ -1,5 +1,5 @@
 ghost use Rattle.std.specs.Prelude.{◌≡◌, Some, IfOk, slice_get};
-ghost use Rattle.sr_base.specs.Fitting.{fitted};
+ghost use Rattle.sr_dates.specs.Fitting.{fitted};
 ghost use Rattle.sr_ast.specs.Exprs.{term_of};
 ghost use Rattle.sr_ast.specs.Classes.{is_meant};
 ghost use Rattle.sr_eval.specs.Bounds.{is_plain, is_plain_unary, is_plain_binary};
@@ -8,8 +8,9 @@ ghost use Rattle.sr_exec.specs.Fixing.{fixed_side, fixed_in, fixed_column, fixed
 use crate::lists::push;
 use crate::names::{is_column, is_same};
 use sr_ast::{Binary, Expr, Operand, Unary};
-use sr_base::{Copied, Key, Kind, Name, NoMemory, Seq, Value, fit};
+use sr_base::{Copied, Key, Kind, Name, NoMemory, Seq, Value};
 use sr_catalog::{Column, Table};
+use sr_dates::fit;
 use std::alloc::Global;
 
 /// The key that a condition fixes: each of its columns is equal to a constant that fits it, alone or in a conjunction. It goes over the

@@ -1,5 +1,5 @@
 ghost use Rattle.std.specs.Prelude.{IsTrue};
-ghost use Rattle.sr_base.specs.Fitting.{fitted};
+ghost use Rattle.sr_dates.specs.Fitting.{fitted};
 ghost use Rattle.sr_ast.specs.Exprs.{term_of};
 ghost use Rattle.sr_ast.specs.Classes.{class_in};
 ghost use Rattle.sr_eval.specs.Bounds.{gives_value, IsRowOf};
@@ -8,8 +8,9 @@ ghost use Rattle.sr_exec.specs.Conditions.{Answers};
 ghost use Rattle.sr_exec.specs.Storing.{allowed, fitting, stored};
 
 use sr_ast::Expr;
-use sr_base::{Copied, Value, fit};
+use sr_base::{Copied, Value};
 use sr_catalog::{Column, DmlFault};
+use sr_dates::fit;
 use sr_eval::{Bound, EvalFault, eval};
 use std::alloc::Global;
 

@@ -6,8 +6,9 @@ ghost use Rattle.sr_exec.specs.Conditions.{RowsFit};
 
 use crate::{Changes, apply, exec, rows_stay_fitting};
 use sr_ast::{Dml, Stmt};
-use sr_base::{Name, Row, Text, Value, name_of, write_literal};
+use sr_base::{Name, Row, Text, Value, name_of};
 use sr_catalog::{Catalog, DmlFault};
+use sr_dates::write_literal;
 use sr_parse::parse;
 use sr_rows::Rows;
 use std::alloc::Global;

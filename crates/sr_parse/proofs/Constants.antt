@@ -1,7 +1,7 @@
 -- Readers of literals, of what stands behind IS, and of columns.
 use Rattle.std.proofs.Common.{◌≡◌, ℕ, ℤ, List, [], ◌∷◌, Option, Some, Result, Ok, Err, refl, sym, subst, ap, ◌∙◌, codes, inl, inr}
 use lib.Utf8.{encode}
-use Rattle.sr_base.specs.Calendar.{day_named}
+use Rattle.sr_dates.specs.Calendar.{day_named}
 use Rattle.sr_base.specs.declared.value.Value.{Value}
 use Rattle.sr_base.specs.declared.value.Value.TheVariants as value
 use Rattle.sr_ast.specs.declared.operator.Unary.{Unary}

@@ -4,7 +4,7 @@ use Rattle.std.specs.Option.{option_map, option_and_then}
 use Rattle.sr_base.specs.declared.value.Value.{Value}
 use Rattle.sr_base.specs.declared.value.Value.TheVariants as value
 use Rattle.sr_base.specs.Fitting.{is_int}
-use Rattle.sr_base.specs.Calendar.{day_named}
+use Rattle.sr_dates.specs.Calendar.{day_named}
 use Rattle.sr_parse.specs.declared.keyword.Keyword.TheVariants.{Null, Date}
 use Rattle.sr_parse.specs.declared.symbol.Symbol.{Symbol}
 use Rattle.sr_parse.specs.declared.symbol.Symbol.TheVariants as symbol

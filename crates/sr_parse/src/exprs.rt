@@ -15,7 +15,8 @@ use crate::keyword::Keyword;
 use crate::reader::{Broken, Reader};
 use crate::symbol::{Sign, Symbol};
 use sr_ast::{Binary, Expr, Operand, Unary};
-use sr_base::{Value, day_of};
+use sr_base::Value;
+use sr_dates::day_of;
 
 /// How deep an expression may be, and how many parentheses it may open.
 #[derive(Clone, Copy)]

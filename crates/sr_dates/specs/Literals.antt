@@ -2,7 +2,7 @@ use Rattle.std.specs.Prelude.{ℕ, nat_eq, if◌then◌else◌, List, [], ◌∷
 use Rattle.std.specs.Fmt.{signed_decimal}
 use Rattle.sr_base.specs.declared.value.Value.{Value}
 use Rattle.sr_base.specs.declared.value.Value.TheVariants.{Null, Int, Big, Str, Date}
-use Rattle.sr_base.specs.Calendar.{date_text}
+use Rattle.sr_dates.specs.Calendar.{date_text}
 
 -- the bytes with each quote twice
 abbrev pub quotes_doubled : List ℕ → List ℕ

@@ -1,12 +1,12 @@
 ghost use Rattle.std.specs.Prelude.{◌≡◌, ℤ, ◌≤◌, ◌&&◌, if◌then◌else◌, pos, IfSome, Some, None, IsTrue};
 ghost use Rattle.std.specs.Option.{SomeIff};
-ghost use Rattle.sr_base.specs.Calendar.{civil, is_date, number_of_two, day_named, date_text};
+ghost use Rattle.sr_dates.specs.Calendar.{civil, is_date, number_of_two, day_named, date_text};
 ghost use Rattle.sr_base.specs.Days.{IsDay};
 ghost use Rattle.sr_base.specs.Names.{is_digit};
 ghost use Rattle.jiff_core.specs.Calendar.{days_from_civil};
 
-use crate::day::Day;
-use jiff::civil::Date;
+use jiff_core::civil::Date;
+use sr_base::Day;
 
 /// The day that a text `YYYY-MM-DD` names. `None` where the text is not of this form, where the calendar has no such date,
 /// and in the year 0.
@@ -61,5 +61,5 @@ fn calendar_day(year: u16, month: u8, day: u8) -> Option<Day>
     let Ok(date) = Date::new(year as i16, month as i8, day as i8) else {
         return None;
     };
-    Day::new(date.to_plain().to_unix_epoch_day())
+    Day::new(date.to_unix_epoch_day())
 }

@@ -1,6 +1,6 @@
 use Rattle.std.proofs.Common.{sym, ◌∙◌}
-use Rattle.sr_base.proofs.DateTexts.{named_parts}
-use Rattle.sr_base.proofs.day_reading.named.Goals as goal
+use Rattle.sr_dates.proofs.DateTexts.{named_parts}
+use Rattle.sr_dates.proofs.day_reading.named.Goals as goal
 
 pub returns : goal.returns
 returns c = record {

@@ -1,6 +1,5 @@
-use crate::{
-    Day, Key, Kind, NoMemory, Seq, Text, Value, compare, day_of, fit, order, write_literal,
-};
+use crate::{day_of, fit, write_literal};
+use sr_base::{Day, Key, Kind, NoMemory, Seq, Text, Value, compare, order};
 use std::alloc::Global;
 use std::cmp::Ordering;
 

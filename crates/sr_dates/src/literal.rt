@@ -1,12 +1,10 @@
 ghost use Rattle.std.specs.Prelude.{◌≡◌, ◌+◌, ◌%◌, ◌++◌, ◌∷◌, [], pos, ◌+ℤ◌, unsigned_abs, IfOk, OnOk, OnErr};
-ghost use Rattle.sr_base.specs.Calendar.{civil, date_at, date_text};
+ghost use Rattle.sr_dates.specs.Calendar.{civil, date_at, date_text};
 ghost use Rattle.std.specs.Fmt.{signed_decimal};
-ghost use Rattle.sr_base.specs.Literals.{literal, quotes_doubled};
+ghost use Rattle.sr_dates.specs.Literals.{literal, quotes_doubled};
 
-use crate::copied::NoMemory;
-use crate::day::Day;
-use crate::value::Value;
 use jiff_core::civil::Date;
+use sr_base::{Day, NoMemory, Value};
 use std::alloc::Global;
 
 /// Appends a value as SQL writes it: `NULL`, a decimal number, a text in quotes with each quote in it twice, a date as

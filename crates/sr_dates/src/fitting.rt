@@ -1,11 +1,9 @@
 ghost use Rattle.std.specs.Prelude.{◌≡◌};
 ghost use Rattle.std.specs.Option.{ok_or};
-ghost use Rattle.sr_base.specs.Fitting.{fitted, fitted_number, fitted_text, fitted_date};
+ghost use Rattle.sr_dates.specs.Fitting.{fitted, fitted_number, fitted_text, fitted_date};
 
-use crate::day::Day;
 use crate::day_reading::day_of;
-use crate::text::Text;
-use crate::value::{Kind, Value};
+use sr_base::{Day, Kind, Text, Value};
 
 /// What a column of this type holds for the value: a number in range of a number column, a text of at most so many bytes,
 /// a date or a text `YYYY-MM-DD` that names one; NULL fits every type. `Err` gives back a value that does not fit.

@@ -1,0 +1,3 @@
+pub mod Calendar
+pub mod Fitting
+pub mod Literals
