@@ -11,7 +11,7 @@ use Rattle.sr_base.specs.declared.value.Value.TheVariants as value
 use Rattle.sr_base.specs.Fitting.{is_int}
 use Rattle.sr_dates.specs.Literals.{quotes_doubled}
 use Rattle.sr_dates.specs.Calendar.{date_text, date_at, two_digits}
-use Rattle.sr_base.proofs.DateTexts.{day_named-date_text}
+use Rattle.sr_dates.proofs.DateTexts.{day_named-date_text}
 use Rattle.sr_ast.specs.Terms.Term.{literal}
 use Rattle.sr_ast.specs.Pages.{word}
 use Rattle.sr_ast.specs.Printing.{value_pieces, quoted}

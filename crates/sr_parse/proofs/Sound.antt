@@ -8,7 +8,7 @@ use Rattle.sr_base.specs.declared.value.Value.TheVariants as value
 use Rattle.sr_base.specs.Fitting.{is_int}
 use Rattle.sr_base.specs.Names.{is_lower_name, is_name}
 use Rattle.sr_base.proofs.NameCase.{is_lower_name-lowered}
-use Rattle.sr_base.proofs.DateTexts.{day_named-text}
+use Rattle.sr_dates.proofs.DateTexts.{day_named-text}
 use Rattle.sr_lex.specs.declared.token.Token.{Token}
 use Rattle.sr_lex.specs.declared.token.TokenKind.{TokenKind}
 use Rattle.sr_lex.specs.declared.token.TokenKind.TheVariants as token
