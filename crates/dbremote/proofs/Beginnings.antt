@@ -9,8 +9,8 @@ use Rattle.sr_logfile.proofs.Commits.{length-front}
 use Rattle.sr_exchange.specs.declared.entry.Entry.{Entry}
 use Rattle.sr_exchange.specs.declared.role.Role.{Role}
 use Rattle.sr_exchange.specs.Entries.{body}
-use Rattle.sr_exchange.specs.Exchange.{waiting_of}
-use Rattle.sr_exchange.specs.Logs.{bodies_of, HasHistory, Standing}
+use Rattle.sr_exchange.specs.Exchange.{waiting_of, State}
+use Rattle.sr_exchange.specs.Logs.{bodies_of, HasHistory}
 use Rattle.dbremote.specs.Histories.{Stands, HasStanding, HoldsBeginning, HoldsSome}
 use Rattle.dbremote.specs.Openings.{IsPrepared}
 use Rattle.dbremote.proofs.Opened.{Behind, told_on, stood_for, stands_for, role_of_fold, has_bytes}
@@ -46,9 +46,9 @@ begins_made role before mid now prepared told same none = elim (prepared.state t
 ]
 
 -- the log was made, and some of the statements
-pub begins_some : (role : Role) (before mid opened folded now : Seen) (log : Log) (fold : Standing) → IsPrepared before mid → Behind mid opened log → IsTrue before.told → DiskStays opened folded
+pub begins_some : (role : Role) (before mid opened folded now : Seen) (log : Log) (fold : State) → IsPrepared before mid → Behind mid opened log → IsTrue before.told → DiskStays opened folded
     → (IsTrue opened.told → folded.files ≡ opened.files) → HasStanding role log fold opened.told opened.files
-    → (IsTrue folded.told → (es : List Entry) → Stands fold.state.role es log fold folded.told folded.files → HoldsSome fold.state.role log.base es now.files.log0)
+    → (IsTrue folded.told → (es : List Entry) → Stands fold.role es log fold folded.told folded.files → HoldsSome fold.role log.base es now.files.log0)
     → before.files.log0 ≡ [] → HoldsBeginning role now.files.log0
 begins_some role before mid opened folded now log fold prepared b told stays files has left none =
     let again = stands_for role has.es log fold opened.told folded.told opened.files folded.files has.stands stays.told files in

@@ -1,29 +1,27 @@
 -- The statements that a database misses, committed one after another.
 use Rattle.std.proofs.Common.{◌≡◌, ◌+◌, ◌^◌, ◌≤◌, ◌<◌, ◌⊎◌, ◌&&◌, ℕ, Bool, true, nat_lt, IsTrue, List, [], ◌∷◌, ◌++◌, length, map, refl, ap, sym, ◌∙◌, subst, append_assoc, append-nil, length-append, inl, inr, arith}
-use Rattle.std.specs.Str.{bytes_eq}
 use Rattle.std.proofs.lemmas.List.{map-append}
 use Rattle.std.proofs.lemmas.Slice.Eq.{bytes_eq-Decides}
 use Rattle.sr_base.specs.declared.offset.Offset.{Offset}
-use Rattle.sr_site.specs.Causes.{DiskStays, Rose}
+use Rattle.sr_site.specs.Causes.{DiskStays}
 use Rattle.sr_site.specs.Files.{Files, bytes_of, OthersStay}
 use Rattle.sr_site.specs.Seen.{Seen}
 use Rattle.sr_site.specs.declared.file.File.{File}
 use Rattle.sr_site.specs.declared.file.File.TheVariants.{Log0}
 use Rattle.sr_logfile.specs.Log.{Log}
-use Rattle.sr_logfile.specs.Logs.{IsLog, HasLog, IsFull, gate_of, longer}
+use Rattle.sr_logfile.specs.Logs.{IsLog, HasLog, IsFull, longer}
 use Rattle.sr_logfile.specs.Records.{Spells, framed_of, record_of, open_records}
 use Rattle.sr_exchange.specs.declared.role.Role.{Role}
 use Rattle.sr_exchange.specs.declared.role.Role.TheVariants.{Alone, Consolidated, Remote}
 use Rattle.sr_exchange.specs.declared.entry.Entry.{Entry}
 use Rattle.sr_exchange.specs.declared.entry.Entry.TheVariants.{Ddl, Own, Took, Sent}
-use Rattle.sr_exchange.specs.Entries.{body, is_text, is_offset, is_transaction, items_in}
-use Rattle.sr_exchange.specs.Exchange.{State, fresh, next, fits, size, goes_on, exchange, state_from, state_of, waiting_of, is_lawful, is_waited_for, is_whole, is_remote, is_consolidated, others_of}
-use Rattle.sr_exchange.specs.Logs.{bodies_of, HasHistory, completed, Standing, standing_of, stepped}
+use Rattle.sr_exchange.specs.Entries.{is_text, is_offset, is_transaction, items_in}
+use Rattle.sr_exchange.specs.Exchange.{State, fresh, next, fits, size, goes_on, state_from, state_of, waiting_of, is_lawful, is_waited_for, is_whole, is_remote, is_consolidated, others_of, lawful_from}
+use Rattle.sr_exchange.specs.Logs.{bodies_of, HasHistory, completed}
 use Rattle.sr_exchange.specs.Roles.{statements_of}
 use Rattle.sr_exchange.specs.Tables.{are_free, are_judged}
-use Rattle.sr_model.specs.Machines.{lawful_from}
 use Rattle.sr_exchange.proofs.Fits.{both, and_both, test_of_lt}
-use Rattle.sr_exchange.proofs.Histories.{standing_more, state_from-append}
+use Rattle.sr_exchange.proofs.Histories.{state_more, state_from-append}
 use Rattle.dbremote.specs.declared.fault.Fault.{Fault}
 use Rattle.dbremote.specs.declared.fault.Fault.TheVariants.{Words, Memory, Disk, Damaged, Source, TooLong, Script, Refused, Full, Sink}
 use Rattle.dbremote.specs.Histories.{Stands, HasStanding, HoldsSome, LacksRoomFor}
@@ -91,28 +89,28 @@ some_text : (front : List (List ℕ)) (text : List ℕ) (texts : List (List ℕ)
 some_text [] text texts e = absurd cc
 some_text (first ∷ front) text texts e = absurd cc
 
-begun : (s : State) (place : ℕ) (es : List Entry) (text : List ℕ) (texts : List (List ℕ)) → IsTrue (lawful_from exchange s place es) → (state_from s es).waiting ≡ text ∷ texts → Begun s es (text ∷ texts)
+begun : (s : State) (place : ℕ) (es : List Entry) (text : List ℕ) (texts : List (List ℕ)) → IsTrue (lawful_from s place es) → (state_from s es).waiting ≡ text ∷ texts → Begun s es (text ∷ texts)
 begun s place [] text texts h waits = record { front = []; parts = waits; are = refl }
 begun s place (Ddl first ∷ es) text texts h waits =
-    let e = both (fits s place (Ddl first)) (lawful_from exchange (next s (Ddl first)) (place + (size (Ddl first) + 5)) es) h in
+    let e = both (fits s place (Ddl first)) (lawful_from (next s (Ddl first)) (place + (size (Ddl first) + 5)) es) h in
     let first_is = first_waits first s.waiting (both (is_text first) (is_waited_for first s.waiting) (on_of s place (Ddl first) e.0)).1 in
     let rest = begun (next s (Ddl first)) (place + (size (Ddl first) + 5)) es text texts e.1 waits in
     record { front = first ∷ rest.front; parts = first_is ∙ ap (λ (l : List (List ℕ)). first ∷ l) rest.parts; are = ap (λ (l : List Entry). Ddl first ∷ l) rest.are }
 begun s place (Own items ∷ es) text texts h waits =
-    let e = both (fits s place (Own items)) (lawful_from exchange (next s (Own items)) (place + (size (Own items) + 5)) es) h in
+    let e = both (fits s place (Own items)) (lawful_from (next s (Own items)) (place + (size (Own items) + 5)) es) h in
     let front = both (is_whole s.waiting && is_transaction items) (are_free s.rows items) (on_of s place (Own items) e.0) in
     absurd (whole_no s (Own items) es text texts refl (both (is_whole s.waiting) (is_transaction items) front.0).0 waits)
 begun s place (Took at ops ∷ es) text texts h waits =
-    let e = both (fits s place (Took at ops)) (lawful_from exchange (next s (Took at ops)) (place + (size (Took at ops) + 5)) es) h in
+    let e = both (fits s place (Took at ops)) (lawful_from (next s (Took at ops)) (place + (size (Took at ops) + 5)) es) h in
     let four = both (is_whole s.waiting && is_remote s.role && is_offset at && is_transaction (items_in ops)) (are_judged s.rows ops) (on_of s place (Took at ops) e.0) in
     let three = both (is_whole s.waiting && is_remote s.role && is_offset at) (is_transaction (items_in ops)) four.0 in
     let two = both (is_whole s.waiting && is_remote s.role) (is_offset at) three.0 in
     absurd (whole_no s (Took at ops) es text texts refl (both (is_whole s.waiting) (is_remote s.role) two.0).0 waits)
 begun s place (Sent end messages confirm ∷ es) text texts h waits =
-    let e = both (fits s place (Sent end messages confirm)) (lawful_from exchange (next s (Sent end messages confirm)) (place + (size (Sent end messages confirm) + 5)) es) h in
+    let e = both (fits s place (Sent end messages confirm)) (lawful_from (next s (Sent end messages confirm)) (place + (size (Sent end messages confirm) + 5)) es) h in
     absurd (whole_no s (Sent end messages confirm) es text texts refl (sent_whole s end messages confirm (on_of s place (Sent end messages confirm) e.0)) waits)
 
-begun_all : (s : State) (place : ℕ) (es : List Entry) (texts : List (List ℕ)) → (texts ≡ [] → ⊥) → IsTrue (lawful_from exchange s place es) → (state_from s es).waiting ≡ texts → Begun s es texts
+begun_all : (s : State) (place : ℕ) (es : List Entry) (texts : List (List ℕ)) → (texts ≡ [] → ⊥) → IsTrue (lawful_from s place es) → (state_from s es).waiting ≡ texts → Begun s es texts
 begun_all s place es [] some h waits = absurd (some refl)
 begun_all s place es (text ∷ texts) some h waits = begun s place es text texts h waits
 
@@ -151,33 +149,33 @@ all_short role base es front text texts h waits =
 -- ---- how far they are committed
 
 -- some of the statements that were missing are committed
-pub record Made (role : Role) (es : List Entry) (log : Log) (fold : Standing) (told : Bool) (files : Files) : Type 0 where
+pub record Made (role : Role) (es : List Entry) (log : Log) (fold : State) (told : Bool) (files : Files) : Type 0 where
   pub front : List (List ℕ)
   pub behind : List (List ℕ)
   pub missing : waiting_of role es ≡ front ++ behind
   pub stands : Stands role (es ++ map Ddl front) log fold told files
 
-pub record Completing (start log : Log) (from fold : Standing) (before now : Seen) : Type 0 where
-  pub made : (es : List Entry) → Stands from.state.role es start from before.told before.files → Made from.state.role es log fold before.told now.files
+pub record Completing (start log : Log) (from fold : State) (before now : Seen) : Type 0 where
+  pub made : (es : List Entry) → Stands from.role es start from before.told before.files → Made from.role es log fold before.told now.files
   pub has_log : IsTrue before.told → HasLog log now.files
   pub base : log.base ≡ start.base
   pub file : log.file ≡ Log0
   pub usable : log.usable ≡ true
-  pub idle : from.state.waiting ≡ [] → (fold ≡ from) × (now.files ≡ before.files)
+  pub idle : from.waiting ≡ [] → (fold ≡ from) × (now.files ≡ before.files)
   pub others : IsTrue before.told → OthersStay Log0 before.files now.files
   pub stays : DiskStays before now
 
 same_files : (files : Files) → OthersStay Log0 files files
 same_files files = refl
 
-pub completing_start : (log : Log) (fold : Standing) (before : Seen) → HasStanding fold.state.role log fold before.told before.files → log.file ≡ Log0 → log.usable ≡ true
+pub completing_start : (log : Log) (fold : State) (before : Seen) → HasStanding fold.role log fold before.told before.files → log.file ≡ Log0 → log.usable ≡ true
     → Completing log log fold fold before before
 completing_start log fold before has file usable = record {
   made = λ es stands. record {
     front = [];
-    behind = waiting_of fold.state.role es;
+    behind = waiting_of fold.role es;
     missing = refl;
-    stands = subst (λ (l : List Entry). Stands fold.state.role l log fold before.told before.files) (sym (append-nil es)) stands;
+    stands = subst (λ (l : List Entry). Stands fold.role l log fold before.told before.files) (sym (append-nil es)) stands;
   };
   has_log = λ told. record { bodies = bodies_of has.es; is_log = has.stands.is_log told };
   base = refl;
@@ -193,28 +191,28 @@ framed_long : (text : List ℕ) → length (framed_of (statement_body text)) ≡
 framed_long text = omega (arith, length-append (record_of (statement_body text)) (0 ∷ []))
 
 -- the next that is missing, of a history
-next_missing : (role : Role) (es : List Entry) (log : Log) (fold : Standing) (told : Bool) (files : Files) (text : List ℕ) (texts : List (List ℕ)) → (m : Made role es log fold told files)
-    → fold.state.waiting ≡ text ∷ texts → m.behind ≡ text ∷ texts
+next_missing : (role : Role) (es : List Entry) (log : Log) (fold : State) (told : Bool) (files : Files) (text : List ℕ) (texts : List (List ℕ)) → (m : Made role es log fold told files)
+    → fold.waiting ≡ text ∷ texts → m.behind ≡ text ∷ texts
 next_missing role es log fold told files text texts m waits =
-    sym (waiting_behind role es m.front m.behind m.missing) ∙ ap (λ (s : Standing). s.state.waiting) (sym m.stands.fold_is) ∙ waits
+    sym (waiting_behind role es m.front m.behind m.missing) ∙ ap (λ (s : State). s.waiting) (sym m.stands.fold_is) ∙ waits
 
 -- it is committed
-made_more : (role : Role) (es : List Entry) (log new : Log) (fold folded : Standing) (told : Bool) (mid now : Files) (text : List ℕ) (texts : List (List ℕ)) → Made role es log fold told mid
-    → fold.state.waiting ≡ text ∷ texts → length text ≤ 65 → new ≡ longer log (length (framed_of (statement_body text))) → new.end ≤ 2 ^ 62
-    → (IsTrue told → (bodies : List (List ℕ)) → IsLog log bodies mid → IsLog new (bodies ++ statement_body text ∷ []) now) → folded ≡ stepped fold (Ddl text) → Made role es new folded told now
+made_more : (role : Role) (es : List Entry) (log new : Log) (fold folded : State) (told : Bool) (mid now : Files) (text : List ℕ) (texts : List (List ℕ)) → Made role es log fold told mid
+    → fold.waiting ≡ text ∷ texts → length text ≤ 65 → new ≡ longer log (length (framed_of (statement_body text))) → new.end ≤ 2 ^ 62
+    → (IsTrue told → (bodies : List (List ℕ)) → IsLog log bodies mid → IsLog new (bodies ++ statement_body text ∷ []) now) → folded ≡ next fold (Ddl text) → Made role es new folded told now
 made_more role es log new fold folded told mid now text texts m waits short grown limit record_is folds =
     let fs = es ++ map Ddl m.front in
     let behind = next_missing role es log fold told mid text texts m waits in
     let base : log.base ≡ new.base = ap (λ (l : Log). l.base) (sym grown) in
     let end : new.end ≡ log.end + length (framed_of (statement_body text)) = ap (λ (l : Log). l.end) grown in
-    let on = waited_for (state_of role fs) text texts short (ap (λ (s : Standing). s.state.waiting) (sym m.stands.fold_is) ∙ waits) in
+    let on = waited_for (state_of role fs) text texts short (ap (λ (s : State). s.waiting) (sym m.stands.fold_is) ∙ waits) in
     let long = framed_long text in
     let stands : Stands role (fs ++ Ddl text ∷ []) new folded told now =
     record {
       lawful = subst (λ (b : ℕ). IsTrue (is_lawful role b (fs ++ Ddl text ∷ []))) base
           (lawful_more role log.base fs (Ddl text) m.stands.lawful (omega (arith, limit, end, long, m.stands.end_is)) on);
       end_is = omega (arith, base, end, long, m.stands.end_is, span_more fs (Ddl text));
-      fold_is = folds ∙ ap (λ (s : Standing). stepped s (Ddl text)) m.stands.fold_is ∙ sym (standing_more role fs (Ddl text));
+      fold_is = folds ∙ ap (λ (s : State). next s (Ddl text)) m.stands.fold_is ∙ sym (state_more role fs (Ddl text));
       is_log = λ t. subst (λ (l : List (List ℕ)). IsLog new l now) (sym (bodies-append fs (Ddl text ∷ []))) (record_is t (bodies_of fs) (m.stands.is_log t));
     } in
     record {
@@ -224,31 +222,31 @@ made_more role es log new fold folded told mid now text texts m waits short grow
       stands = subst (λ (l : List Entry). Stands role l new folded told now) (sym (statement_more es m.front text)) stands;
     }
 
-pub completing_step : (start log new : Log) (from fold folded : Standing) (before mid now : Seen) (text : List ℕ) (texts : List (List ℕ)) → Completing start log from fold before mid
-    → fold.state.waiting ≡ text ∷ texts → length text ≤ 65 → new ≡ longer log (length (framed_of (statement_body text))) → new.end ≤ 2 ^ 62
-    → (IsTrue mid.told → (bodies : List (List ℕ)) → IsLog log bodies mid.files → IsLog new (bodies ++ statement_body text ∷ []) now.files) → folded ≡ stepped fold (Ddl text)
+pub completing_step : (start log new : Log) (from fold folded : State) (before mid now : Seen) (text : List ℕ) (texts : List (List ℕ)) → Completing start log from fold before mid
+    → fold.waiting ≡ text ∷ texts → length text ≤ 65 → new ≡ longer log (length (framed_of (statement_body text))) → new.end ≤ 2 ^ 62
+    → (IsTrue mid.told → (bodies : List (List ℕ)) → IsLog log bodies mid.files → IsLog new (bodies ++ statement_body text ∷ []) now.files) → folded ≡ next fold (Ddl text)
     → (IsTrue mid.told → OthersStay Log0 mid.files now.files) → DiskStays mid now → Completing start new from folded before now
 completing_step start log new from fold folded before mid now text texts c waits short grown limit record_is folds others stays =
     let inside : IsTrue before.told → IsTrue mid.told = λ told. subst IsTrue (sym c.stays.told) told in
     record {
-      made = λ es stands. made_more from.state.role es log new fold folded before.told mid.files now.files text texts (c.made es stands) waits short grown limit (λ told. record_is (inside told)) folds;
+      made = λ es stands. made_more from.role es log new fold folded before.told mid.files now.files text texts (c.made es stands) waits short grown limit (λ told. record_is (inside told)) folds;
       has_log = λ told. let l = c.has_log told in record { bodies = l.bodies ++ statement_body text ∷ []; is_log = record_is (inside told) l.bodies l.is_log };
       base = ap (λ (l : Log). l.base) grown ∙ c.base;
       file = ap (λ (l : Log). l.file) grown ∙ c.file;
       usable = ap (λ (l : Log). l.usable) grown ∙ c.usable;
-      idle = λ none. absurd (let no : [] ≡ text ∷ texts = sym none ∙ ap (λ (s : Standing). s.state.waiting) (sym (c.idle none).0) ∙ waits in no_text text texts no);
+      idle = λ none. absurd (let no : [] ≡ text ∷ texts = sym none ∙ ap (λ (s : State). s.waiting) (sym (c.idle none).0) ∙ waits in no_text text texts no);
       others = λ told. others_more before.files mid.files now.files (c.others told) (others (inside told));
       stays = stays_more before mid now c.stays stays;
     }
 
 -- none is missing any more
-pub completed_whole : (start log : Log) (from fold : Standing) (before now : Seen) → Completing start log from fold before now → fold.state.waiting ≡ []
-    → (es : List Entry) → Stands from.state.role es start from before.told before.files → Stands from.state.role (completed from.state.role es) log fold before.told now.files
+pub completed_whole : (start log : Log) (from fold : State) (before now : Seen) → Completing start log from fold before now → fold.waiting ≡ []
+    → (es : List Entry) → Stands from.role es start from before.told before.files → Stands from.role (completed from.role es) log fold before.told now.files
 completed_whole start log from fold before now c none es stands =
     let m = c.made es stands in
-    let behind : m.behind ≡ [] = sym (waiting_behind from.state.role es m.front m.behind m.missing) ∙ ap (λ (s : Standing). s.state.waiting) (sym m.stands.fold_is) ∙ none in
-    let all : m.front ≡ waiting_of from.state.role es = sym (m.missing ∙ ap (λ (l : List (List ℕ)). m.front ++ l) behind ∙ append-nil m.front) in
-    subst (λ (l : List (List ℕ)). Stands from.state.role (es ++ map Ddl l) log fold before.told now.files) all m.stands
+    let behind : m.behind ≡ [] = sym (waiting_behind from.role es m.front m.behind m.missing) ∙ ap (λ (s : State). s.waiting) (sym m.stands.fold_is) ∙ none in
+    let all : m.front ≡ waiting_of from.role es = sym (m.missing ∙ ap (λ (l : List (List ℕ)). m.front ++ l) behind ∙ append-nil m.front) in
+    subst (λ (l : List (List ℕ)). Stands from.role (es ++ map Ddl l) log fold before.told now.files) all m.stands
 
 -- the file holds some of them
 history_at : (role : Role) (log : Log) (base : ℕ) (es : List Entry) (files : Files) → log.base ≡ base → log.file ≡ Log0 → IsTrue (is_lawful role log.base es) → Spells log.base (bodies_of es) (bytes_of files log.file)
@@ -258,15 +256,15 @@ history_at role log base es files b f lawful spells = record {
   lawful = subst (λ (n : ℕ). IsTrue (is_lawful role n es)) b lawful;
 }
 
-pub some_made : (start log : Log) (from fold : Standing) (before now : Seen) → Completing start log from fold before now → IsTrue before.told
-    → (es : List Entry) → Stands from.state.role es start from before.told before.files → HoldsSome from.state.role start.base es now.files.log0
+pub some_made : (start log : Log) (from fold : State) (before now : Seen) → Completing start log from fold before now → IsTrue before.told
+    → (es : List Entry) → Stands from.role es start from before.told before.files → HoldsSome from.role start.base es now.files.log0
 some_made start log from fold before now c told es stands =
     let m = c.made es stands in
     record {
       front = m.front;
       behind = m.behind;
       missing = m.missing;
-      stands = history_at from.state.role log start.base (es ++ map Ddl m.front) now.files c.base c.file m.stands.lawful (m.stands.is_log told).spells;
+      stands = history_at from.role log start.base (es ++ map Ddl m.front) now.files c.base c.file m.stands.lawful (m.stands.is_log told).spells;
     }
 
 history_in : (role : Role) (log : Log) (base : ℕ) (es : List Entry) (files : Files) → log.base ≡ base → IsTrue (is_lawful role log.base es) → Spells log.base (bodies_of es) files.log0 → HasHistory role base es files.log0
@@ -276,16 +274,16 @@ history_in role log base es files b lawful spells = record {
 }
 
 -- the same where the next was refused
-pub some_left : (start log : Log) (from fold : Standing) (before mid : Seen) (now : Files) (text : List ℕ) (texts : List (List ℕ)) → Completing start log from fold before mid
-    → fold.state.waiting ≡ text ∷ texts → length text ≤ 65
+pub some_left : (start log : Log) (from fold : State) (before mid : Seen) (now : Files) (text : List ℕ) (texts : List (List ℕ)) → Completing start log from fold before mid
+    → fold.waiting ≡ text ∷ texts → length text ≤ 65
     → (IsTrue mid.told → (bodies : List (List ℕ)) → IsLog log bodies mid.files → Spells log.base bodies now.log0 ⊎ Spells log.base (bodies ++ statement_body text ∷ []) now.log0)
-    → IsTrue before.told → (es : List Entry) → Stands from.state.role es start from before.told before.files → HoldsSome from.state.role start.base es now.log0
+    → IsTrue before.told → (es : List Entry) → Stands from.role es start from before.told before.files → HoldsSome from.role start.base es now.log0
 some_left start log from fold before mid now text texts c waits short left told es stands =
-    let role = from.state.role in
+    let role = from.role in
     let m = c.made es stands in
     let fs = es ++ map Ddl m.front in
     let behind = next_missing role es log fold before.told mid.files text texts m waits in
-    let on = waited_for (state_of role fs) text texts short (ap (λ (s : Standing). s.state.waiting) (sym m.stands.fold_is) ∙ waits) in
+    let on = waited_for (state_of role fs) text texts short (ap (λ (s : State). s.waiting) (sym m.stands.fold_is) ∙ waits) in
     elim (left (subst IsTrue (sym c.stays.told) told) (bodies_of fs) (m.stands.is_log told)) [
       | inl spells ↦ record {
         front = m.front;
@@ -311,15 +309,15 @@ no_bound log need base long (inl bound) b end few = absurd (omega (arith, bound,
 no_bound log need base long (inr last) b end few = omega (arith, last, b, end)
 
 -- why the next was refused
-pub complete_fault : (start log : Log) (from fold : Standing) (before mid now : Seen) (text : List ℕ) (texts : List (List ℕ)) (fault : Fault) → Completing start log from fold before mid
-    → fold.state.waiting ≡ text ∷ texts → MakeCause log text mid now fault → CompleteCause from.state.role start from before now fault
+pub complete_fault : (start log : Log) (from fold : State) (before mid now : Seen) (text : List ℕ) (texts : List (List ℕ)) (fault : Fault) → Completing start log from fold before mid
+    → fold.waiting ≡ text ∷ texts → MakeCause log text mid now fault → CompleteCause from.role start from before now fault
 complete_fault start log from fold before mid now text texts Disk c waits cause = omega (arith, cause, c.stays.later)
 complete_fault start log from fold before mid now text texts (Full end need) c waits cause = λ es stands.
-    let role = from.state.role in
+    let role = from.role in
     let m = c.made es stands in
     let fs = es ++ map Ddl m.front in
     let behind = next_missing role es log fold before.told mid.files text texts m waits in
-    let few = short_start role log.base fs text texts m.stands.lawful (ap (λ (s : Standing). s.state.waiting) (sym m.stands.fold_is) ∙ waits) in
+    let few = short_start role log.base fs text texts m.stands.lawful (ap (λ (s : State). s.waiting) (sym m.stands.fold_is) ∙ waits) in
     let long = framed_long text in
     record {
       front = m.front;
@@ -342,9 +340,9 @@ complete_fault start log from fold before mid now text texts (Refused number id)
 complete_fault start log from fold before mid now text texts Sink c waits cause = cause
 
 -- where none was missing, nothing is refused
-pub none_refused : (start log : Log) (from fold : Standing) (before mid : Seen) (text : List ℕ) (texts : List (List ℕ)) → Completing start log from fold before mid → fold.state.waiting ≡ text ∷ texts
-    → from.state.waiting ≡ [] → ⊥
-none_refused start log from fold before mid text texts c waits none = no_text text texts (sym none ∙ ap (λ (s : Standing). s.state.waiting) (sym (c.idle none).0) ∙ waits)
+pub none_refused : (start log : Log) (from fold : State) (before mid : Seen) (text : List ℕ) (texts : List (List ℕ)) → Completing start log from fold before mid → fold.waiting ≡ text ∷ texts
+    → from.waiting ≡ [] → ⊥
+none_refused start log from fold before mid text texts c waits none = no_text text texts (sym none ∙ ap (λ (s : State). s.waiting) (sym (c.idle none).0) ∙ waits)
 
 -- a missing statement has room in a log that begins at 0
 pub short_room : (role : Role) (base : ℕ) (es : List Entry) (end need : ℕ) (told : Bool) (bytes : List ℕ) → IsTrue (is_lawful role base es) → LacksRoomFor role base es end need told bytes → base ≡ 0 → ⊥
@@ -353,7 +351,7 @@ short_room role base es end need told bytes lawful room zero =
     absurd (omega (arith, room.past, zero, few, room.need_is, framed_long room.text))
 
 -- one fewer is missing
-pub waits_less : (fold folded : Standing) (text : List ℕ) (texts : List (List ℕ)) → fold.state.waiting ≡ text ∷ texts → folded ≡ stepped fold (Ddl text) → length folded.state.waiting < length fold.state.waiting
+pub waits_less : (fold folded : State) (text : List ℕ) (texts : List (List ℕ)) → fold.waiting ≡ text ∷ texts → folded ≡ next fold (Ddl text) → length folded.waiting < length fold.waiting
 waits_less fold folded text texts waits folds =
-    let now : folded.state.waiting ≡ texts = ap (λ (s : Standing). s.state.waiting) folds ∙ ap others_of waits in
+    let now : folded.waiting ≡ texts = ap (λ (s : State). s.waiting) folds ∙ ap others_of waits in
     omega (arith, ap (λ (l : List (List ℕ)). length l) now, ap (λ (l : List (List ℕ)). length l) waits)

@@ -1,10 +1,9 @@
 -- No file both stands for a database and is damaged.
-use Rattle.std.proofs.Common.{◌≡◌, ◌⊎◌, ℕ, IsTrue, List, [], ◌∷◌, ◌++◌, refl, sym, ap, ◌∙◌, subst, inl, inr}
+use Rattle.std.proofs.Common.{◌≡◌, ◌⊎◌, ℕ, List, ◌∷◌, ◌++◌, inl, inr}
 use Rattle.sr_logfile.specs.Damage.{IsDamaged}
 use Rattle.sr_logfile.specs.Records.{Spells}
 use Rattle.sr_exchange.specs.declared.role.Role.{Role}
 use Rattle.sr_exchange.specs.declared.entry.Entry.{Entry}
-use Rattle.sr_exchange.specs.Exchange.{fits, state_of}
 use Rattle.sr_exchange.specs.Logs.{bodies_of, HasHistory, StandsFor, LacksEntry, IsDamagedDatabase}
 use Rattle.dbremote.proofs.Lawful.{onward, at_end}
 

@@ -1,6 +1,5 @@
 -- From the fault that ended `sql`, and what was written of it, to what is true of the run.
-use Rattle.std.proofs.Common.{◌≡◌, ◌≢◌, ◌⊎◌, ◌≤◌, ℕ, IsTrue, List, [], ◌++◌, refl, ap, sym, ◌∙◌, subst, append_assoc, inl, inr, Some, arith}
-use Rattle.sr_exchange.specs.declared.item.Item.{Item}
+use Rattle.std.proofs.Common.{◌≡◌, ◌≢◌, ◌⊎◌, ◌≤◌, ℕ, IsTrue, List, [], ◌++◌, refl, ap, sym, ◌∙◌, subst, append_assoc, inl, inr, arith}
 use Rattle.dbremote.specs.declared.statement.Statement.{Statement}
 use Rattle.dbremote.specs.declared.fault.Fault.{Fault}
 use Rattle.dbremote.specs.declared.fault.Fault.TheVariants.{Words, Memory, Disk, Damaged, Source, TooLong, Script, Refused, Full, Sink}

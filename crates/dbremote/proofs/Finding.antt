@@ -14,7 +14,6 @@ use Rattle.dbremote.specs.declared.statement.ScriptFault.TheVariants as script_f
 use Rattle.dbremote.specs.declared.stream.InputFault.{InputFault}
 use Rattle.dbremote.specs.declared.stream.InputFault.TheVariants as source
 use Rattle.dbremote.specs.declared.stream.TheConstants.{LONGEST_SCRIPT}
-use Rattle.sr_exchange.specs.Entries.{own}
 use Rattle.dbremote.specs.FaultsOfReading.{fault_of_input, fault_of_script}
 use Rattle.dbremote.specs.ScriptFaults.{IsScriptFault}
 use Rattle.dbremote.specs.Streams.{InputCause}
@@ -22,8 +21,8 @@ use Rattle.dbremote.specs.Histories.{HoldsSome, LacksRoomFor, IsOpened}
 use Rattle.sr_exchange.specs.declared.role.Role.{Role}
 use Rattle.sr_exchange.specs.declared.entry.Entry.{Entry}
 use Rattle.sr_exchange.specs.declared.entry.Entry.TheVariants.{Own}
-use Rattle.sr_exchange.specs.Exchange.{rows_of, waiting_of, is_lawful}
-use Rattle.sr_exchange.specs.Logs.{bodies_of, HasHistory, StandsFor, IsDamagedDatabase, Standing, completed}
+use Rattle.sr_exchange.specs.Exchange.{rows_of, waiting_of, is_lawful, State}
+use Rattle.sr_exchange.specs.Logs.{bodies_of, HasHistory, StandsFor, IsDamagedDatabase, completed}
 use Rattle.sr_site.specs.declared.file.File.{File}
 use Rattle.dbremote.specs.Openings.{OpenFault}
 use Rattle.dbremote.specs.Lines.{script, AreStatements}
@@ -41,12 +40,12 @@ none_waits : (role : Role) (es : List Entry) → waiting_of role (completed role
 none_waits role es = waiting_behind role es (waiting_of role es) [] (sym (append-nil (waiting_of role es)))
 
 -- what an opened database is
-pub found_of : (role : Role) (old now : Files) (fold : Standing) (table : Rows) (log : Log) → table ≡ fold.state.rows → IsOpened role old now fold log → Found role old.log0 table log.end
+pub found_of : (role : Role) (old now : Files) (fold : State) (table : Rows) (log : Log) → table ≡ fold.rows → IsOpened role old now fold log → Found role old.log0 table log.end
 found_of role old now fold table log rows o = record {
   base = o.base;
   es = o.es;
   stood = o.stood;
-  rows_are = rows ∙ ap (λ (s : Standing). s.state.rows) o.fold_is;
+  rows_are = rows ∙ ap (λ (s : State). s.rows) o.fold_is;
   end_is = o.is_log.is_log.end_is ∙ ap (λ (b : ℕ). b + length (open_records (bodies_of (completed role o.es)))) o.base_is;
 }
 
@@ -54,15 +53,15 @@ free_at : (table rows : Rows) (items : List Item) → table ≡ rows → are_fre
 free_at table rows items e h = subst (λ (r : Rows). are_free r items ≡ true) e h
 
 -- what stands after a fault that left the statements done alone
-beside_done : (role : Role) (old opened new : Files) (fold : Standing) (table : Rows) (log : Log) (done : List Statement) → table ≡ fold.state.rows → (o : IsOpened role old opened fold log) → log.file ≡ Log0
+beside_done : (role : Role) (old opened new : Files) (fold : State) (table : Rows) (log : Log) (done : List Statement) → table ≡ fold.rows → (o : IsOpened role old opened fold log) → log.file ≡ Log0
     → AreStatements done → length (script done) ≤ 2 ^ 26 → are_free table (items_of done) ≡ true → HoldsBeside log (transactions [] done) opened new
     → HasHistory role o.base (completed role o.es ++ map Own (transactions [] done)) new.log0
 beside_done role old opened new fold table log done rows o file are short free holds =
     history_done role log o.base (completed role o.es) done new o.base_is file o.is_log.lawful (none_waits role o.es) are short
-    (free_at table (rows_of role (completed role o.es)) (items_of done) (rows ∙ ap (λ (s : Standing). s.state.rows) o.fold_is) free) (holds (bodies_of (completed role o.es)) o.is_log.is_log)
+    (free_at table (rows_of role (completed role o.es)) (items_of done) (rows ∙ ap (λ (s : State). s.rows) o.fold_is) free) (holds (bodies_of (completed role o.es)) o.is_log.is_log)
 
 -- the statements ran to their end
-pub goes_on_of : (role : Role) (old opened new : Files) (fold : Standing) (table : Rows) (log : Log) (statements : List Statement) → table ≡ fold.state.rows → IsOpened role old opened fold log → log.file ≡ Log0
+pub goes_on_of : (role : Role) (old opened new : Files) (fold : State) (table : Rows) (log : Log) (statements : List Statement) → table ≡ fold.rows → IsOpened role old opened fold log → log.file ≡ Log0
     → AreStatements statements → length (script statements) ≤ 2 ^ 26 → are_free table (items_of statements) ≡ true → HoldsBeside log (transactions [] statements) opened new
     → FoundAndGoesOn role old.log0 new.log0 table log.end (transactions [] statements)
 unfolding found_of
@@ -72,19 +71,19 @@ goes_on_of role old opened new fold table log statements rows o file are short f
 }
 
 -- what stands after the disk's fault
-disk_done : (role : Role) (old opened new : Files) (fold : Standing) (table : Rows) (log : Log) (done : List Statement) → table ≡ fold.state.rows → (o : IsOpened role old opened fold log) → log.file ≡ Log0
+disk_done : (role : Role) (old opened new : Files) (fold : State) (table : Rows) (log : Log) (done : List Statement) → table ≡ fold.rows → (o : IsOpened role old opened fold log) → log.file ≡ Log0
     → AreStatements done → length (script done) ≤ 2 ^ 26 → are_free table (items_of done) ≡ true → HoldsAfter log done opened new Disk
     → HasHistory role o.base (completed role o.es ++ map Own (transactions [] done)) new.log0
     ⊎ HasHistory role o.base ((completed role o.es ++ map Own (transactions [] done)) ++ map Own (committed (open_after [] done))) new.log0
 disk_done role old opened new fold table log done rows o file are short free holds =
-    let free_rows = free_at table (rows_of role (completed role o.es)) (items_of done) (rows ∙ ap (λ (s : Standing). s.state.rows) o.fold_is) free in
+    let free_rows = free_at table (rows_of role (completed role o.es)) (items_of done) (rows ∙ ap (λ (s : State). s.rows) o.fold_is) free in
     let few : 22 * length (open_after [] done) ≤ 2 ^ 26 = omega (arith, short, length_open [] done) in
     elim (holds (bodies_of (completed role o.es)) o.is_log.is_log) [
       | inl spells ↦ inl (history_done role log o.base (completed role o.es) done new o.base_is file o.is_log.lawful (none_waits role o.es) are short free_rows spells)
       | inr spells ↦ inr (history_open role log o.base (completed role o.es) done new o.base_is file o.is_log.lawful (none_waits role o.es) are short few free_rows spells)
     ]
 
-holds_done_of : (role : Role) (old opened new : Files) (fold : Standing) (table : Rows) (log : Log) (done : List Statement) (fault : Fault) → table ≡ fold.state.rows → (o : IsOpened role old opened fold log) → log.file ≡ Log0
+holds_done_of : (role : Role) (old opened new : Files) (fold : State) (table : Rows) (log : Log) (done : List Statement) (fault : Fault) → table ≡ fold.rows → (o : IsOpened role old opened fold log) → log.file ≡ Log0
     → AreStatements done → length (script done) ≤ 2 ^ 26 → are_free table (items_of done) ≡ true → HoldsAfter log done opened new fault → HoldsDone role o.base (completed role o.es) done new.log0 fault
 holds_done_of role old opened new fold table log done Disk rows o file are short free holds = disk_done role old opened new fold table log done rows o file are short free holds
 holds_done_of role old opened new fold table log done Memory rows o file are short free holds = inl (beside_done role old opened new fold table log done rows o file are short free holds)
@@ -98,8 +97,8 @@ holds_done_of role old opened new fold table log done (Full end need) rows o fil
 holds_done_of role old opened new fold table log done Sink rows o file are short free holds = beside_done role old opened new fold table log done rows o file are short free holds
 
 -- a fault ended the statements
-pub late_of : (role : Role) (old new : Outside) (opened : Files) (fold : Standing) (table : Rows) (log : Log) (statements : List Statement) (kept : List ℕ) (before : Seen) (fault : Fault)
-    → table ≡ fold.state.rows → (IsTrue old.site.told → IsOpened role old.site.files opened fold log) → log.file ≡ Log0 → AreStatements statements → length (script statements) ≤ 2 ^ 26
+pub late_of : (role : Role) (old new : Outside) (opened : Files) (fold : State) (table : Rows) (log : Log) (statements : List Statement) (kept : List ℕ) (before : Seen) (fault : Fault)
+    → table ≡ fold.rows → (IsTrue old.site.told → IsOpened role old.site.files opened fold log) → log.file ≡ Log0 → AreStatements statements → length (script statements) ≤ 2 ^ 26
     → (IsTrue old.input.told → HasRead old.input new.input (script statements)) → (IsTrue old.site.told → before.files ≡ opened) → before.told ≡ old.site.told
     → new.output.told ≡ old.output.told → old.output.faults ≤ new.output.faults
     → (s : Stopped table log kept statements before new.site old.output.told old.output.bytes new.output.bytes old.output.faults new.output.faults fault)
@@ -133,8 +132,8 @@ room_of log items end need h = elim h.full [
 ]
 
 -- what is true of `sql` then
-pub stops_late : (role : Role) (old new : Outside) (opened : Files) (fold : Standing) (table : Rows) (log : Log) (statements : List Statement) (kept : List ℕ) (before : Seen) (fault : Fault)
-    → table ≡ fold.state.rows → (IsTrue old.site.told → IsOpened role old.site.files opened fold log) → log.file ≡ Log0 → AreStatements statements → length (script statements) ≤ 2 ^ 26
+pub stops_late : (role : Role) (old new : Outside) (opened : Files) (fold : State) (table : Rows) (log : Log) (statements : List Statement) (kept : List ℕ) (before : Seen) (fault : Fault)
+    → table ≡ fold.rows → (IsTrue old.site.told → IsOpened role old.site.files opened fold log) → log.file ≡ Log0 → AreStatements statements → length (script statements) ≤ 2 ^ 26
     → (IsTrue old.input.told → HasRead old.input new.input (script statements)) → (IsTrue old.site.told → before.files ≡ opened) → before.told ≡ old.site.told → old.site.disk_faults ≤ before.disk_faults
     → new.output.told ≡ old.output.told → old.output.faults ≤ new.output.faults
     → Stopped table log kept statements before new.site old.output.told old.output.bytes new.output.bytes old.output.faults new.output.faults fault
@@ -230,7 +229,7 @@ pub no_error : false ≡ true → ⊥
 no_error h = cc
 
 -- what was opened behind the attaching, and left so
-pub left_of : (role : Role) (old mid new : Seen) (fold : Standing) (log : Log) → (IsTrue old.told → mid.files ≡ old.files) → mid.told ≡ old.told → log.file ≡ Log0
+pub left_of : (role : Role) (old mid new : Seen) (fold : State) (log : Log) → (IsTrue old.told → mid.files ≡ old.files) → mid.told ≡ old.told → log.file ≡ Log0
     → (IsTrue mid.told → IsOpened role mid.files new.files fold log) → IsTrue old.told → FoundAndLeft role old.files.log0 new.files.log0
 left_of role old mid new fold log same told file opened t =
     let o = opened (subst IsTrue (sym told) t) in

@@ -10,19 +10,18 @@ use Rattle.sr_logfile.specs.declared.fault.LogFault.TheVariants as log_fault
 use Rattle.sr_logfile.specs.Faults.{NextCause}
 use Rattle.sr_logfile.specs.Log.{Log}
 use Rattle.sr_logfile.specs.Logs.{IsLog, HasLog, IsAt}
-use Rattle.sr_logfile.specs.Records.{Spells, record_of, open_records}
+use Rattle.sr_logfile.specs.Records.{Spells, open_records}
 use Rattle.sr_logfile.specs.Steps.{IsNext}
 use Rattle.sr_exchange.specs.declared.role.Role.{Role}
 use Rattle.sr_exchange.specs.declared.entry.Entry.{Entry}
 use Rattle.sr_exchange.specs.Entries.{body, IsEntry}
-use Rattle.sr_exchange.specs.Exchange.{goes_on, size, state_of, is_lawful}
-use Rattle.sr_exchange.specs.Letters.{end_of}
-use Rattle.sr_exchange.specs.Logs.{bodies_of, GoesOn, LacksEntry, Standing, fresh_standing, standing_of, stepped}
-use Rattle.sr_exchange.proofs.Histories.{standing_more}
+use Rattle.sr_exchange.specs.Exchange.{goes_on, size, state_of, is_lawful, State, end_of, fresh, next}
+use Rattle.sr_exchange.specs.Logs.{bodies_of, LacksEntry}
+use Rattle.sr_exchange.proofs.Histories.{state_more}
 use Rattle.dbremote.specs.declared.fault.Fault.{Fault}
 use Rattle.dbremote.specs.declared.fault.Fault.TheVariants.{Words, Memory, Disk, Damaged, Source, TooLong, Script, Refused, Full, Sink}
 use Rattle.dbremote.specs.FaultsOfLogs.{fault_of}
-use Rattle.dbremote.specs.Histories.{Stands, HasStanding}
+use Rattle.dbremote.specs.Histories.{HasStanding}
 use Rattle.dbremote.specs.Openings.{ReadCause, TookEntry, TakesEntry, FoldCause}
 use Rattle.dbremote.proofs.Lawful.{bodies-append, records-append, no_bodies, span_more, lawful_more, on_of}
 use Rattle.sr_exchange.proofs.OneBody.{one_entry}
@@ -63,16 +62,16 @@ fold_fault role log after bytes before mid now (Full end need) later same parted
 fold_fault role log after bytes before mid now Sink later same parted cause = cause
 
 -- what folding the entry of a body answers
-takes : (old new : Standing) (bytes : List ℕ) (e : Entry) (goes : Bool) → IsEntry e → bytes ≡ body e → goes ≡ goes_on old.state e → (goes ≡ true → new ≡ stepped old e) → TakesEntry old new bytes goes
+takes : (old new : State) (bytes : List ℕ) (e : Entry) (goes : Bool) → IsEntry e → bytes ≡ body e → goes ≡ goes_on old e → (goes ≡ true → new ≡ next old e) → TakesEntry old new bytes goes
 takes old new bytes e true is same on after = record { entry = e; is_entry = is; body_is = same; keeps = sym on; fold_is = after refl }
 takes old new bytes e false is same on after = λ other other_is other_body other_on.
     let one : e ≡ other = one_entry e other is other_is (sym same ∙ other_body) in
-    let both : false ≡ true = on ∙ ap (λ (x : Entry). goes_on old.state x) one ∙ other_on in
+    let both : false ≡ true = on ∙ ap (λ (x : Entry). goes_on old x) one ∙ other_on in
     cc
 
 -- the same where there was memory
-pub takes_entry : {E : Type 0} (old new : Standing) (bytes : List ℕ) (e : Entry) (answer : Result Bool E) → IsEntry e → bytes ≡ body e
-    → IfOk answer (λ yes. yes ≡ goes_on old.state e) → IfOk answer (λ yes. yes ≡ true → new ≡ stepped old e) → IfOk answer (TakesEntry old new bytes)
+pub takes_entry : {E : Type 0} (old new : State) (bytes : List ℕ) (e : Entry) (answer : Result Bool E) → IsEntry e → bytes ≡ body e
+    → IfOk answer (λ yes. yes ≡ goes_on old e) → IfOk answer (λ yes. yes ≡ true → new ≡ next old e) → IfOk answer (TakesEntry old new bytes)
 takes_entry old new bytes e (Ok goes) is same on after = takes old new bytes e goes is same on after
 takes_entry old new bytes e (Err fault) is same on after = tt
 
@@ -81,18 +80,18 @@ pub record IsAfter (log : Log) (after : ℕ) (es : List Entry) (files : Files) :
   pub left : List (List ℕ)
   pub is_at : IsAt log after (bodies_of es) left files
 
-pub record Folding (role : Role) (log : Log) (after : ℕ) (fold : Standing) (before now : Seen) : Type 0 where
+pub record Folding (role : Role) (log : Log) (after : ℕ) (fold : State) (before now : Seen) : Type 0 where
   pub es : List Entry
   pub lawful : IsTrue (is_lawful role log.base es)
   pub after_is : after ≡ log.base + length (open_records (bodies_of es))
-  pub fold_is : fold ≡ standing_of role es
+  pub fold_is : fold ≡ state_of role es
   pub low : log.base ≤ after
   pub high : after ≤ log.end
   pub parts : IsTrue before.told → IsAfter log after es before.files
   pub files : IsTrue before.told → now.files ≡ before.files
   pub stays : DiskStays before now
 
-pub folding_start : (role : Role) (log : Log) (after : ℕ) (fold : Standing) (before : Seen) → after ≡ log.base → log.base ≤ log.end → fold ≡ fresh_standing role → (IsTrue before.told → HasLog log before.files)
+pub folding_start : (role : Role) (log : Log) (after : ℕ) (fold : State) (before : Seen) → after ≡ log.base → log.base ≤ log.end → fold ≡ fresh role → (IsTrue before.told → HasLog log before.files)
     → Folding role log after fold before before
 folding_start role log after fold before e order fresh has = record {
   es = [];
@@ -107,14 +106,14 @@ folding_start role log after fold before e order fresh has = record {
 }
 
 -- a read, refused
-pub later_fault : (role : Role) (log : Log) (after : ℕ) (fold : Standing) (before mid now : Seen) (fault : Fault) → Folding role log after fold before mid
+pub later_fault : (role : Role) (log : Log) (after : ℕ) (fold : State) (before mid now : Seen) (fault : Fault) → Folding role log after fold before mid
     → ReadCause log after mid now fault → FoldCause role (bytes_of before.files log.file) before now fault
 later_fault role log after fold before mid now fault f cause =
     fold_fault role log after (bytes_of before.files log.file) before mid now fault f.stays.later f.stays.told
     (λ told. let g = f.parts told in record { done = bodies_of f.es; left = g.left; at = subst (λ (s : Files). IsAt log after (bodies_of f.es) g.left s) (sym (f.files told)) g.is_at }) cause
 
 -- there is a record behind a position before the log's end
-pub never_none : (role : Role) (log : Log) (after : ℕ) (fold : Standing) (before mid : Seen) → Folding role log after fold before mid → after < log.end
+pub never_none : (role : Role) (log : Log) (after : ℕ) (fold : State) (before mid : Seen) → Folding role log after fold before mid → after < log.end
     → (IsTrue mid.told → (done left : List (List ℕ)) → IsAt log after done left mid.files → left ≡ []) → IsTrue before.told → ⊥
 never_none role log after fold before mid f some none told =
     let g = f.parts told in
@@ -128,7 +127,7 @@ nothing_left log after done left files e at =
     no_bodies left (omega (arith, e, at.after_is, at.is_log.end_is, ap (λ (l : List ℕ). length l) (records-append done left), length-append (open_records done) (open_records left)))
 
 -- all is folded
-pub folded_whole : (role : Role) (log : Log) (after : ℕ) (fold : Standing) (before now : Seen) → Folding role log after fold before now → log.end ≤ after
+pub folded_whole : (role : Role) (log : Log) (after : ℕ) (fold : State) (before now : Seen) → Folding role log after fold before now → log.end ≤ after
     → HasStanding role log fold before.told before.files
 folded_whole role log after fold before now f whole = record {
   es = f.es;
@@ -148,18 +147,18 @@ abbrev pub Reads : Log → ℕ → Files → Files → List ℕ → ℕ → ℕ 
 Reads log after before now buffer end count = (done left : List (List ℕ)) → IsAt log after done left before → IsNext log after done left now buffer end count
 
 -- one entry more is folded
-pub folding_more : (role : Role) (log : Log) (after end count : ℕ) (old new : Standing) (before mid now : Seen) (buffer bytes : List ℕ) → Folding role log after old before mid
+pub folding_more : (role : Role) (log : Log) (after end count : ℕ) (old new : State) (before mid now : Seen) (buffer bytes : List ℕ) → Folding role log after old before mid
     → DiskStays mid now → (IsTrue mid.told → now.files ≡ mid.files) → log.end ≤ 2 ^ 62 → end ≡ after + 5 + count → end ≤ log.end → count ≤ length buffer
     → (IsTrue mid.told → Reads log after mid.files now.files buffer end count) → bytes ≡ take count buffer → TookEntry old new bytes → Folding role log end new before now
 folding_more role log after end count old new before mid now buffer bytes f stays files limit end_is high fits reads is took =
     let long : count ≡ size took.entry = sym (length-take-le count buffer fits) ∙ ap (λ (l : List ℕ). length l) (sym is ∙ took.body_is) in
-    let on : goes_on (state_of role f.es) took.entry ≡ true = ap (λ (s : Standing). goes_on s.state took.entry) (sym f.fold_is) ∙ took.keeps in
+    let on : goes_on (state_of role f.es) took.entry ≡ true = ap (λ (s : State). goes_on s took.entry) (sym f.fold_is) ∙ took.keeps in
     let room : log.base + length (open_records (bodies_of f.es)) + (size took.entry + 5) ≤ 2 ^ 62 = omega (arith, limit, end_is, high, long, f.after_is) in
     record {
       es = f.es ++ took.entry ∷ [];
       lawful = lawful_more role log.base f.es took.entry f.lawful room on;
       after_is = omega (arith, f.after_is, end_is, long, span_more f.es took.entry);
-      fold_is = took.fold_is ∙ ap (λ (s : Standing). stepped s took.entry) f.fold_is ∙ sym (standing_more role f.es took.entry);
+      fold_is = took.fold_is ∙ ap (λ (s : State). next s took.entry) f.fold_is ∙ sym (state_more role f.es took.entry);
       low = omega (arith, f.low, end_is);
       high = high;
       parts = λ told.
@@ -178,7 +177,7 @@ folding_more role log after end count old new before mid now buffer bytes f stay
     }
 
 -- the next record is no entry that goes on
-pub lacks_entry : (role : Role) (log : Log) (after end count place : ℕ) (old new : Standing) (before mid : Seen) (now : Files) (buffer bytes : List ℕ) → Folding role log after old before mid
+pub lacks_entry : (role : Role) (log : Log) (after end count place : ℕ) (old new : State) (before mid : Seen) (now : Files) (buffer bytes : List ℕ) → Folding role log after old before mid
     → (IsTrue mid.told → Reads log after mid.files now buffer end count) → bytes ≡ take count buffer → TakesEntry old new bytes false → place + log.base ≡ after + 16 → IsTrue before.told
     → LacksEntry role (bytes_of before.files log.file) place
 lacks_entry role log after end count place old new before mid now buffer bytes f reads is wrong at told =
@@ -191,6 +190,6 @@ lacks_entry role log after end count place old new before mid now buffer bytes f
       after = next.rest;
       spells = subst (λ (l : List (List ℕ)). Spells log.base (bodies_of f.es ++ l) (bytes_of before.files log.file)) next.left_is g.is_at.is_log.spells;
       lawful = f.lawful;
-      wrong = λ goes. wrong goes.entry goes.is_entry (is ∙ next.front ∙ goes.body_is) (ap (λ (s : Standing). goes_on s.state goes.entry) f.fold_is ∙ on_of (state_of role f.es) (end_of log.base f.es) goes.entry goes.keeps);
+      wrong = λ goes. wrong goes.entry goes.is_entry (is ∙ next.front ∙ goes.body_is) (ap (λ (s : State). goes_on s goes.entry) f.fold_is ∙ on_of (state_of role f.es) (end_of log.base f.es) goes.entry goes.keeps);
       place_is = omega (arith, at, f.after_is);
     }

@@ -1,31 +1,24 @@
 -- Histories of a role, and those that go on from them.
-use Rattle.std.proofs.Common.{◌≡◌, ◌+◌, ◌^◌, ◌≤◌, ◌<◌, ◌&&◌, ℕ, zero, suc, Bool, true, false, IsTrue, nat_le, nat_lt, List, [], ◌∷◌, ◌++◌, length, map, drop, refl, ap, sym, ◌∙◌, subst, append_assoc, append-nil, length-append, codes, arith}
+use Rattle.std.proofs.Common.{◌≡◌, ◌+◌, ◌^◌, ◌≤◌, ◌<◌, ◌&&◌, ℕ, zero, suc, Bool, true, IsTrue, nat_le, nat_lt, List, [], ◌∷◌, ◌++◌, length, drop, refl, ap, sym, ◌∙◌, subst, append_assoc, length-append, codes, arith}
 use Rattle.std.specs.List.{AllByRecursion, list_all}
-use Rattle.std.specs.Str.{bytes_eq, IsAscii}
+use Rattle.std.specs.Str.{IsAscii}
 use Rattle.std.proofs.lemmas.List.{map-append}
 use Rattle.std.proofs.lemmas.Slice.Eq.{bytes_eq-Decides}
 use Rattle.std.proofs.lemmas.Str.{IsUtf8-from_ascii}
 use Rattle.std.proofs.lemmas.Str.Ascii.{IsAscii-nil}
 use Rattle.sr_base.specs.Fields.{IsText}
-use Rattle.sr_base.specs.declared.offset.Offset.{Offset}
-use Rattle.sr_logfile.specs.Records.{Spells, record_of, open_records}
-use Rattle.sr_model.specs.Machines.{lawful_from, parts_of}
-use Rattle.sr_model.specs.Parts.{end_from}
-use Rattle.sr_exchange.specs.declared.item.Item.{Item}
-use Rattle.sr_exchange.specs.declared.entry.Judged.{Judged}
+use Rattle.sr_logfile.specs.Records.{record_of, open_records}
 use Rattle.sr_exchange.specs.declared.role.Role.{Role}
 use Rattle.sr_exchange.specs.declared.role.Role.TheVariants.{Alone, Consolidated, Remote}
 use Rattle.sr_exchange.specs.declared.entry.Entry.{Entry}
 use Rattle.sr_exchange.specs.declared.entry.Entry.TheVariants.{Ddl, Own, Took, Sent}
-use Rattle.sr_exchange.specs.Entries.{body, items_in, IsEntry, IsTransaction, is_transaction, is_offset, is_text}
-use Rattle.sr_exchange.specs.Exchange.{State, fresh, next, fits, size, goes_on, exchange, state_from, state_of, waiting_of, rows_of, is_lawful, is_waited_for, is_whole, is_remote, is_consolidated, others_of}
-use Rattle.sr_exchange.specs.Letters.{end_of}
+use Rattle.sr_exchange.specs.Entries.{body, items_in, IsEntry, is_transaction, is_offset, is_text}
+use Rattle.sr_exchange.specs.Exchange.{State, fresh, next, fits, size, goes_on, state_from, state_of, is_lawful, is_waited_for, is_whole, is_remote, is_consolidated, others_of, end_of, lawful_from}
 use Rattle.sr_exchange.specs.Logs.{bodies_of}
-use Rattle.sr_exchange.specs.Roles.{statements_of, table_statement}
+use Rattle.sr_exchange.specs.Roles.{table_statement}
 use Rattle.sr_exchange.specs.Tables.{are_judged, are_free}
 use Rattle.sr_exchange.proofs.Fits.{both, and_both, lt_of_test}
 use Rattle.sr_exchange.proofs.RowTests.{transaction_meant}
-use Rattle.sr_exchange.proofs.Histories.{state_from-append}
 use Rattle.sr_exchange.proofs.OneBody.{one_entry}
 
 -- ---- the bytes of a history's records
@@ -58,7 +51,7 @@ span_first e es = omega (arith, length-append (1 ∷ record_of (body e)) (open_r
 pub span_more : (es : List Entry) (e : Entry) → span (es ++ e ∷ []) ≡ span es + (size e + 5)
 span_more es e = omega (arith, span-append es (e ∷ []), span_first e [])
 
-pub end_from_is : (place : ℕ) (es : List Entry) → end_from (parts_of exchange) place es ≡ place + span es
+pub end_from_is : (place : ℕ) (es : List Entry) → end_of place es ≡ place + span es
 end_from_is place [] = omega arith
 end_from_is place (e ∷ es) = end_from_is (place + (size e + 5)) es ∙ omega (arith, span_first e es)
 
@@ -70,26 +63,26 @@ end_of_is base es = end_from_is base es
 le_test : (a b : ℕ) → a ≤ b → nat_le a b ≡ true
 le_test a b h = grind arith
 
-pub lawful_front : (s : State) (place : ℕ) (es more : List Entry) → IsTrue (lawful_from exchange s place (es ++ more)) → IsTrue (lawful_from exchange s place es)
+pub lawful_front : (s : State) (place : ℕ) (es more : List Entry) → IsTrue (lawful_from s place (es ++ more)) → IsTrue (lawful_from s place es)
 lawful_front s place [] more h = refl
 lawful_front s place (e ∷ es) more h =
-    let parts = both (fits s place e) (lawful_from exchange (next s e) (place + (size e + 5)) (es ++ more)) h in
-    and_both (fits s place e) (lawful_from exchange (next s e) (place + (size e + 5)) es) parts.0 (lawful_front (next s e) (place + (size e + 5)) es more parts.1)
+    let parts = both (fits s place e) (lawful_from (next s e) (place + (size e + 5)) (es ++ more)) h in
+    and_both (fits s place e) (lawful_from (next s e) (place + (size e + 5)) es) parts.0 (lawful_front (next s e) (place + (size e + 5)) es more parts.1)
 
-pub lawful_behind : (s : State) (place : ℕ) (es more : List Entry) → IsTrue (lawful_from exchange s place (es ++ more)) → IsTrue (lawful_from exchange (state_from s es) (place + span es) more)
-lawful_behind s place [] more h = subst (λ (n : ℕ). IsTrue (lawful_from exchange s n more)) (omega arith) h
+pub lawful_behind : (s : State) (place : ℕ) (es more : List Entry) → IsTrue (lawful_from s place (es ++ more)) → IsTrue (lawful_from (state_from s es) (place + span es) more)
+lawful_behind s place [] more h = subst (λ (n : ℕ). IsTrue (lawful_from s n more)) (omega arith) h
 lawful_behind s place (e ∷ es) more h =
-    let parts = both (fits s place e) (lawful_from exchange (next s e) (place + (size e + 5)) (es ++ more)) h in
-    subst (λ (n : ℕ). IsTrue (lawful_from exchange (state_from (next s e) es) n more)) (omega (arith, span_first e es)) (lawful_behind (next s e) (place + (size e + 5)) es more parts.1)
+    let parts = both (fits s place e) (lawful_from (next s e) (place + (size e + 5)) (es ++ more)) h in
+    subst (λ (n : ℕ). IsTrue (lawful_from (state_from (next s e) es) n more)) (omega (arith, span_first e es)) (lawful_behind (next s e) (place + (size e + 5)) es more parts.1)
 
-pub lawful_append : (s : State) (place : ℕ) (es more : List Entry) → IsTrue (lawful_from exchange s place es) → IsTrue (lawful_from exchange (state_from s es) (place + span es) more)
-    → IsTrue (lawful_from exchange s place (es ++ more))
-lawful_append s place [] more h behind = subst (λ (n : ℕ). IsTrue (lawful_from exchange s n more)) (omega arith) behind
+pub lawful_append : (s : State) (place : ℕ) (es more : List Entry) → IsTrue (lawful_from s place es) → IsTrue (lawful_from (state_from s es) (place + span es) more)
+    → IsTrue (lawful_from s place (es ++ more))
+lawful_append s place [] more h behind = subst (λ (n : ℕ). IsTrue (lawful_from s n more)) (omega arith) behind
 lawful_append s place (e ∷ es) more h behind =
-    let parts = both (fits s place e) (lawful_from exchange (next s e) (place + (size e + 5)) es) h in
-    and_both (fits s place e) (lawful_from exchange (next s e) (place + (size e + 5)) (es ++ more)) parts.0
+    let parts = both (fits s place e) (lawful_from (next s e) (place + (size e + 5)) es) h in
+    and_both (fits s place e) (lawful_from (next s e) (place + (size e + 5)) (es ++ more)) parts.0
     (lawful_append (next s e) (place + (size e + 5)) es more parts.1
-    (subst (λ (n : ℕ). IsTrue (lawful_from exchange (state_from (next s e) es) n more)) (omega (arith, span_first e es)) behind))
+    (subst (λ (n : ℕ). IsTrue (lawful_from (state_from (next s e) es) n more)) (omega (arith, span_first e es)) behind))
 
 pub fits_of : (s : State) (place : ℕ) (e : Entry) → place + (size e + 5) ≤ 2 ^ 62 → goes_on s e ≡ true → IsTrue (fits s place e)
 fits_of s place e room on = and_both (nat_le (place + (size e + 5)) (2 ^ 62)) (goes_on s e) (le_test (place + (size e + 5)) (2 ^ 62) room) on
@@ -181,16 +174,16 @@ front_or [] = []
 front_or (bytes ∷ bodies) = bytes
 
 -- the histories with these bodies are one
-one_from : (s : State) (place other : ℕ) (es fs : List Entry) → AreTexts s.waiting → IsTrue (lawful_from exchange s place es) → IsTrue (lawful_from exchange s other fs) → bodies_of es ≡ bodies_of fs → es ≡ fs
+one_from : (s : State) (place other : ℕ) (es fs : List Entry) → AreTexts s.waiting → IsTrue (lawful_from s place es) → IsTrue (lawful_from s other fs) → bodies_of es ≡ bodies_of fs → es ≡ fs
 unfolding front_or
 one_from s place other [] [] are h k e = refl
 one_from s place other [] (f ∷ fs) are h k e = absurd cc
 one_from s place other (x ∷ es) [] are h k e = absurd cc
 one_from s place other (x ∷ es) (f ∷ fs) are h k e =
-    let a = both (fits s place x) (lawful_from exchange (next s x) (place + (size x + 5)) es) h in
-    let b = both (fits s other f) (lawful_from exchange (next s f) (other + (size f + 5)) fs) k in
+    let a = both (fits s place x) (lawful_from (next s x) (place + (size x + 5)) es) h in
+    let b = both (fits s other f) (lawful_from (next s f) (other + (size f + 5)) fs) k in
     let same : x ≡ f = one_entry x f (entry_of s x are (on_of s place x a.0)) (entry_of s f are (on_of s other f b.0)) (ap front_or e) in
-    let behind : IsTrue (lawful_from exchange (next s x) (other + (size f + 5)) fs) = subst (λ (y : Entry). IsTrue (lawful_from exchange (next s y) (other + (size f + 5)) fs)) (sym same) b.1 in
+    let behind : IsTrue (lawful_from (next s x) (other + (size f + 5)) fs) = subst (λ (y : Entry). IsTrue (lawful_from (next s y) (other + (size f + 5)) fs)) (sym same) b.1 in
     let rest : es ≡ fs = one_from (next s x) (place + (size x + 5)) (other + (size f + 5)) es fs (next_texts s x are) a.1 behind (ap (λ (l : List (List ℕ)). drop 1 l) e) in
     λ i. same i ∷ rest i
 
@@ -204,13 +197,13 @@ pub record Onward (s : State) (place : ℕ) (es others : List Entry) (bytes : Li
   pub body_is : bytes ≡ body entry
   pub keeps : IsTrue (fits (state_from s others) (place + span others) entry)
 
-onward_from : (s : State) (place other : ℕ) (es others : List Entry) (bytes : List ℕ) (after : List (List ℕ)) → AreTexts s.waiting → IsTrue (lawful_from exchange s place es)
-    → IsTrue (lawful_from exchange s other others) → bodies_of es ≡ bodies_of others ++ bytes ∷ after → Onward s place es others bytes
+onward_from : (s : State) (place other : ℕ) (es others : List Entry) (bytes : List ℕ) (after : List (List ℕ)) → AreTexts s.waiting → IsTrue (lawful_from s place es)
+    → IsTrue (lawful_from s other others) → bodies_of es ≡ bodies_of others ++ bytes ∷ after → Onward s place es others bytes
 unfolding front_or
 onward_from s place other [] [] bytes after are h k e = absurd cc
 onward_from s place other [] (o ∷ others) bytes after are h k e = absurd cc
 onward_from s place other (x ∷ es) [] bytes after are h k e =
-    let a = both (fits s place x) (lawful_from exchange (next s x) (place + (size x + 5)) es) h in
+    let a = both (fits s place x) (lawful_from (next s x) (place + (size x + 5)) es) h in
     record {
       entry = x;
       is_entry = entry_of s x are (on_of s place x a.0);
@@ -218,10 +211,10 @@ onward_from s place other (x ∷ es) [] bytes after are h k e =
       keeps = subst (λ (n : ℕ). IsTrue (fits s n x)) (omega arith) a.0;
     }
 onward_from s place other (x ∷ es) (o ∷ others) bytes after are h k e =
-    let a = both (fits s place x) (lawful_from exchange (next s x) (place + (size x + 5)) es) h in
-    let b = both (fits s other o) (lawful_from exchange (next s o) (other + (size o + 5)) others) k in
+    let a = both (fits s place x) (lawful_from (next s x) (place + (size x + 5)) es) h in
+    let b = both (fits s other o) (lawful_from (next s o) (other + (size o + 5)) others) k in
     let same : x ≡ o = one_entry x o (entry_of s x are (on_of s place x a.0)) (entry_of s o are (on_of s other o b.0)) (ap front_or e) in
-    let behind : IsTrue (lawful_from exchange (next s o) (place + (size o + 5)) es) = subst (λ (y : Entry). IsTrue (lawful_from exchange (next s y) (place + (size y + 5)) es)) same a.1 in
+    let behind : IsTrue (lawful_from (next s o) (place + (size o + 5)) es) = subst (λ (y : Entry). IsTrue (lawful_from (next s y) (place + (size y + 5)) es)) same a.1 in
     let rest = onward_from (next s o) (place + (size o + 5)) (other + (size o + 5)) es others bytes after (next_texts s o are) behind b.1 (ap (λ (l : List (List ℕ)). drop 1 l) e) in
     record {
       entry = rest.entry;

@@ -7,13 +7,12 @@ use Rattle.sr_site.specs.declared.file.File.{File}
 use Rattle.sr_site.specs.declared.file.File.TheVariants.{Log0}
 use Rattle.sr_logfile.specs.Log.{Log}
 use Rattle.sr_logfile.specs.Records.{Spells, record_of, open_records}
-use Rattle.sr_model.specs.Machines.{lawful_from}
 use Rattle.sr_exchange.specs.declared.item.Item.{Item}
 use Rattle.sr_exchange.specs.declared.role.Role.{Role}
 use Rattle.sr_exchange.specs.declared.entry.Entry.{Entry}
 use Rattle.sr_exchange.specs.declared.entry.Entry.TheVariants.{Own}
 use Rattle.sr_exchange.specs.Entries.{own, AreItems, IsTransaction, is_transaction}
-use Rattle.sr_exchange.specs.Exchange.{State, fresh, next, fits, size, goes_on, exchange, state_of, waiting_of, rows_of, is_lawful, is_whole}
+use Rattle.sr_exchange.specs.Exchange.{State, fresh, next, fits, size, goes_on, state_of, waiting_of, rows_of, is_lawful, is_whole, lawful_from}
 use Rattle.sr_exchange.specs.Logs.{bodies_of, HasHistory}
 use Rattle.sr_exchange.specs.Tables.{Rows, all_inserted, are_free}
 use Rattle.sr_exchange.proofs.Fits.{both, and_both}
@@ -94,14 +93,14 @@ open_items pending (Commit ∷ statements) items are = open_items [] statements 
 
 -- transactions whose inserts are free go on, one behind the other
 lawful_own : (s : State) (place : ℕ) (more : List (List Item)) → s.waiting ≡ [] → AllByRecursion IsTransaction more → are_free s.rows (all_items more) ≡ true
-    → place + length (open_records (map own more)) ≤ 2 ^ 62 → IsTrue (lawful_from exchange s place (map Own more))
+    → place + length (open_records (map own more)) ≤ 2 ^ 62 → IsTrue (lawful_from s place (map Own more))
 lawful_own s place [] none each free room = refl
 lawful_own s place (items ∷ more) none each free room =
     let parts = both (are_free s.rows items) (are_free (all_inserted s.rows items) (all_items more)) (sym (are_free-append s.rows items (all_items more)) ∙ free) in
     let on : goes_on s (Own items) ≡ true =
     and_both (is_whole s.waiting && is_transaction items) (are_free s.rows items) (and_both (is_whole s.waiting) (is_transaction items) (ap is_whole none) (transaction_tested items each.0)) parts.0 in
     let long = length-append (1 ∷ record_of (own items)) (open_records (map own more)) in
-    and_both (fits s place (Own items)) (lawful_from exchange (next s (Own items)) (place + (size (Own items) + 5)) (map Own more))
+    and_both (fits s place (Own items)) (lawful_from (next s (Own items)) (place + (size (Own items) + 5)) (map Own more))
     (fits_of s place (Own items) (omega (arith, room, long)) on)
     (lawful_own (next s (Own items)) (place + (size (Own items) + 5)) more none each.1 parts.1 (omega (arith, room, long)))
 

@@ -1,5 +1,5 @@
 -- Why a statement's record is not committed, and what stands then.
-use Rattle.std.proofs.Common.{◌≡◌, ◌⊎◌, ◌^◌, ◌<◌, ◌+◌, ◌≤◌, ℕ, List, ◌∷◌, [], ◌++◌, length, inl, inr, sym, ap, subst, ◌∙◌, arith}
+use Rattle.std.proofs.Common.{◌≡◌, ◌⊎◌, ℕ, List, ◌∷◌, [], ◌++◌, length, inl, sym, subst, ◌∙◌}
 use Rattle.sr_site.specs.declared.file.File.{File}
 use Rattle.sr_site.specs.declared.file.File.TheVariants.{Log0}
 use Rattle.sr_site.specs.Files.{Files, bytes_of}
@@ -8,8 +8,8 @@ use Rattle.sr_logfile.specs.declared.fault.LogFault.{LogFault}
 use Rattle.sr_logfile.specs.declared.fault.LogFault.TheVariants as log_fault
 use Rattle.sr_logfile.specs.Faults.{CommitCause}
 use Rattle.sr_logfile.specs.Log.{Log}
-use Rattle.sr_logfile.specs.Logs.{IsLog, IsFull, longer}
-use Rattle.sr_logfile.specs.Records.{Spells, framed_of, body_of}
+use Rattle.sr_logfile.specs.Logs.{IsLog, IsFull}
+use Rattle.sr_logfile.specs.Records.{Spells, framed_of}
 use Rattle.dbremote.specs.FaultsOfLogs.{fault_of}
 use Rattle.dbremote.specs.Openings.{MakeCause, statement_body}
 

@@ -1,5 +1,5 @@
 -- What a database that is opened stood for.
-use Rattle.std.proofs.Common.{◌≡◌, ◌≢◌, ◌⊎◌, ◌+◌, ◌^◌, ◌<◌, ◌≤◌, ℕ, Bool, IsTrue, List, [], ◌∷◌, ◌++◌, length, map, refl, sym, ap, subst, ◌∙◌, inl, inr, append-nil, length-append, arith}
+use Rattle.std.proofs.Common.{◌≡◌, ◌≢◌, ℕ, Bool, IsTrue, List, [], ◌∷◌, ◌++◌, length, refl, sym, ap, subst, ◌∙◌, inl, inr, append-nil, length-append, arith}
 use Rattle.sr_site.specs.Causes.{DiskStays, Rose}
 use Rattle.sr_site.specs.Files.{Files, bytes_of}
 use Rattle.sr_site.specs.Seen.{Seen}
@@ -10,14 +10,13 @@ use Rattle.sr_logfile.specs.declared.fault.LogFault.TheVariants as log_fault
 use Rattle.sr_logfile.specs.Damage.{IsDamaged}
 use Rattle.sr_logfile.specs.Faults.{IsDisk, OpenCause}
 use Rattle.sr_logfile.specs.Log.{Log}
-use Rattle.sr_logfile.specs.Logs.{IsLog, HasLog}
-use Rattle.sr_logfile.specs.Records.{Spells, record_of, open_records, framed_of, header}
+use Rattle.sr_logfile.specs.Logs.{IsLog}
+use Rattle.sr_logfile.specs.Records.{Spells, record_of, open_records, header}
 use Rattle.sr_exchange.specs.declared.role.Role.{Role}
 use Rattle.sr_exchange.specs.declared.entry.Entry.{Entry}
-use Rattle.sr_exchange.specs.declared.entry.Entry.TheVariants.{Ddl}
 use Rattle.sr_exchange.specs.Entries.{body}
-use Rattle.sr_exchange.specs.Exchange.{State, fresh, waiting_of, size, is_lawful}
-use Rattle.sr_exchange.specs.Logs.{bodies_of, HasHistory, StandsFor, LacksEntry, IsDamagedDatabase, Standing, standing_of, completed}
+use Rattle.sr_exchange.specs.Exchange.{State, fresh, waiting_of, state_of}
+use Rattle.sr_exchange.specs.Logs.{bodies_of, HasHistory, StandsFor, LacksEntry, completed}
 use Rattle.sr_exchange.proofs.Histories.{role_from}
 use Rattle.dbremote.specs.declared.fault.Fault.{Fault}
 use Rattle.dbremote.specs.declared.fault.Fault.TheVariants.{Words, Memory, Disk, Damaged, Source, TooLong, Script, Refused, Full, Sink}
@@ -26,7 +25,7 @@ use Rattle.dbremote.specs.Histories.{Stands, HasStanding, HoldsSome, LacksRoomFo
 use Rattle.dbremote.specs.Openings.{FoldCause, CompleteCause, OpenFault, IsPrepared}
 use Rattle.dbremote.proofs.Completing.{short_room}
 use Rattle.dbremote.proofs.Damages.{OneSpelling}
-use Rattle.dbremote.proofs.Lawful.{span, one_history}
+use Rattle.dbremote.proofs.Lawful.{one_history}
 
 pub told_on : (before now : Seen) → DiskStays before now → IsTrue before.told → IsTrue now.told
 told_on before now stays told = subst IsTrue (sym stays.told) told
@@ -73,7 +72,7 @@ pub record Behind (mid opened : Seen) (log : Log) : Type 0 where
   pub spelled : IsTrue mid.told → (base : ℕ) (bodies : List (List ℕ)) → Spells base bodies mid.files.log0 → (log.base ≡ base) × IsLog log bodies opened.files
 
 -- an empty log has no entry
-none_stand : (role : Role) (es : List Entry) (log : Log) (fold : Standing) (told : Bool) (files : Files) → Stands role es log fold told files → IsLog log [] files → es ≡ []
+none_stand : (role : Role) (es : List Entry) (log : Log) (fold : State) (told : Bool) (files : Files) → Stands role es log fold told files → IsLog log [] files → es ≡ []
 none_stand role [] log fold told files s is_log = refl
 none_stand role (e ∷ es) log fold told files s is_log = absurd (omega (arith, s.end_is, is_log.end_is, length-append (1 ∷ record_of (body e)) (open_records (bodies_of es))))
 
@@ -110,7 +109,7 @@ unfolded one role before mid opened now log (Full end need) prepared b same caus
 unfolded one role before mid opened now log Sink prepared b same cause = cause
 
 -- what the file stood for
-pub stood_for : (role : Role) (before mid opened : Seen) (log : Log) (fold : Standing) (es : List Entry) → IsPrepared before mid → Behind mid opened log → IsTrue before.told → Stands role es log fold opened.told opened.files
+pub stood_for : (role : Role) (before mid opened : Seen) (log : Log) (fold : State) (es : List Entry) → IsPrepared before mid → Behind mid opened log → IsTrue before.told → Stands role es log fold opened.told opened.files
     → StandsFor role log.base es before.files.log0
 stood_for role before mid opened log fold es prepared b told s =
     let inside = told_on before mid prepared.stays told in
@@ -127,12 +126,12 @@ stood_for role before mid opened log fold es prepared b told s =
     ]
 
 -- the fold has the role
-pub role_of_fold : (role : Role) (es : List Entry) (fold : Standing) → fold ≡ standing_of role es → fold.state.role ≡ role
-role_of_fold role es fold e = ap (λ (s : Standing). s.state.role) e ∙ role_from (fresh role) es
+pub role_of_fold : (role : Role) (es : List Entry) (fold : State) → fold ≡ state_of role es → fold.role ≡ role
+role_of_fold role es fold e = ap (λ (s : State). s.role) e ∙ role_from (fresh role) es
 
 -- what a fold and its log stand for, said with the fold's role and of the same files
-pub stands_for : (role : Role) (es : List Entry) (log : Log) (fold : Standing) (told now : Bool) (files same : Files) → Stands role es log fold told files → now ≡ told → (IsTrue told → same ≡ files)
-    → Stands fold.state.role es log fold now same
+pub stands_for : (role : Role) (es : List Entry) (log : Log) (fold : State) (told now : Bool) (files same : Files) → Stands role es log fold told files → now ≡ told → (IsTrue told → same ≡ files)
+    → Stands fold.role es log fold now same
 stands_for role es log fold told now files same s e f =
     subst (λ (r : Role). Stands r es log fold now same) (sym (role_of_fold role es fold s.fold_is)) (record {
       lawful = s.lawful;
@@ -142,12 +141,12 @@ stands_for role es log fold told now files same s e f =
     })
 
 -- what `complete` requires
-pub standing_for : (role : Role) (log : Log) (fold : Standing) (told now : Bool) (files same : Files) → HasStanding role log fold told files → now ≡ told → (IsTrue told → same ≡ files) → HasStanding fold.state.role log fold now same
+pub standing_for : (role : Role) (log : Log) (fold : State) (told now : Bool) (files same : Files) → HasStanding role log fold told files → now ≡ told → (IsTrue told → same ≡ files) → HasStanding fold.role log fold now same
 standing_for role log fold told now files same has e f = record { es = has.es; stands = stands_for role has.es log fold told now files same has.stands e f }
 
 -- a statement was refused
-pub uncompleted : (role : Role) (before mid opened folded now : Seen) (log : Log) (fold : Standing) (fault : Fault) → IsPrepared before mid → Behind mid opened log → DiskStays opened folded
-    → (IsTrue opened.told → folded.files ≡ opened.files) → HasStanding role log fold opened.told opened.files → CompleteCause fold.state.role log fold folded now fault → OpenFault role before now fault
+pub uncompleted : (role : Role) (before mid opened folded now : Seen) (log : Log) (fold : State) (fault : Fault) → IsPrepared before mid → Behind mid opened log → DiskStays opened folded
+    → (IsTrue opened.told → folded.files ≡ opened.files) → HasStanding role log fold opened.told opened.files → CompleteCause fold.role log fold folded now fault → OpenFault role before now fault
 uncompleted role before mid opened folded now log fold Disk prepared b stays files has cause = omega (arith, prepared.stays.later, b.stays.later, stays.later, cause)
 uncompleted role before mid opened folded now log fold (Full end need) prepared b stays files has cause =
     let again = stands_for role has.es log fold opened.told folded.told opened.files folded.files has.stands stays.told files in
@@ -182,9 +181,9 @@ uncompleted role before mid opened folded now log fold (Refused number id) prepa
 uncompleted role before mid opened folded now log fold Sink prepared b stays files has cause = cause
 
 -- the database is open
-pub opened_whole : (role : Role) (before mid opened folded now : Seen) (log new : Log) (fold whole : Standing) → IsTrue before.told → IsPrepared before mid → Behind mid opened log → DiskStays opened folded
+pub opened_whole : (role : Role) (before mid opened folded now : Seen) (log new : Log) (fold whole : State) → IsTrue before.told → IsPrepared before mid → Behind mid opened log → DiskStays opened folded
     → (IsTrue opened.told → folded.files ≡ opened.files) → HasStanding role log fold opened.told opened.files → new.base ≡ log.base
-    → ((es : List Entry) → Stands fold.state.role es log fold folded.told folded.files → Stands fold.state.role (completed fold.state.role es) new whole folded.told now.files)
+    → ((es : List Entry) → Stands fold.role es log fold folded.told folded.files → Stands fold.role (completed fold.role es) new whole folded.told now.files)
     → IsOpened role before.files now.files whole new
 opened_whole role before mid opened folded now log new fold whole told prepared b stays files has base done =
     let again = stands_for role has.es log fold opened.told folded.told opened.files folded.files has.stands stays.told files in
@@ -205,7 +204,7 @@ some_bytes : (base : ℕ) (bodies : List (List ℕ)) → Spells base bodies [] �
 some_bytes base bodies s = absurd (omega (arith, ap (λ (l : List ℕ). length l) s.bytes_are, length-append (header base ++ open_records bodies) (s.gate ∷ s.rest)))
 
 -- a history that the file had is the one that was folded
-the_history : (one : OneSpelling) (role : Role) (before mid opened : Seen) (log : Log) (fold : Standing) (base : ℕ) (es : List Entry) → IsPrepared before mid → Behind mid opened log → IsTrue before.told
+the_history : (one : OneSpelling) (role : Role) (before mid opened : Seen) (log : Log) (fold : State) (base : ℕ) (es : List Entry) → IsPrepared before mid → Behind mid opened log → IsTrue before.told
     → HasHistory role base es before.files.log0 → (has : HasStanding role log fold opened.told opened.files) → (log.base ≡ base) × (has.es ≡ es)
 the_history one role before mid opened log fold base es prepared b told h has =
     elim (stood_for role before mid opened log fold has.es prepared b told has.stands) [
@@ -216,11 +215,11 @@ the_history one role before mid opened log fold base es prepared b told h has =
     ]
 
 -- where no statement was missing
-pub none_missing : (one : OneSpelling) (role : Role) (before mid opened : Seen) (log : Log) (fold : Standing) (base : ℕ) (es : List Entry) → IsPrepared before mid → Behind mid opened log → IsTrue before.told
-    → HasHistory role base es before.files.log0 → HasStanding role log fold opened.told opened.files → waiting_of role es ≡ [] → fold.state.waiting ≡ []
+pub none_missing : (one : OneSpelling) (role : Role) (before mid opened : Seen) (log : Log) (fold : State) (base : ℕ) (es : List Entry) → IsPrepared before mid → Behind mid opened log → IsTrue before.told
+    → HasHistory role base es before.files.log0 → HasStanding role log fold opened.told opened.files → waiting_of role es ≡ [] → fold.waiting ≡ []
 none_missing one role before mid opened log fold base es prepared b told h has none =
     let same = the_history one role before mid opened log fold base es prepared b told h has in
-    ap (λ (s : Standing). s.state.waiting) has.stands.fold_is ∙ ap (waiting_of role) same.1 ∙ none
+    ap (λ (s : State). s.waiting) has.stands.fold_is ∙ ap (waiting_of role) same.1 ∙ none
 
 -- a file that has a history was there
 pub was_there : (before mid : Seen) (role : Role) (base : ℕ) (es : List Entry) → IsPrepared before mid → IsTrue before.told → HasHistory role base es before.files.log0 → mid.files ≡ before.files
@@ -243,9 +242,9 @@ holds_none role base es before now h same = record {
 }
 
 -- some of what was missing is there
-pub holds_some : (one : OneSpelling) (role : Role) (before mid opened folded now : Seen) (log : Log) (fold : Standing) (base : ℕ) (es : List Entry) → IsPrepared before mid → Behind mid opened log → IsTrue before.told
+pub holds_some : (one : OneSpelling) (role : Role) (before mid opened folded now : Seen) (log : Log) (fold : State) (base : ℕ) (es : List Entry) → IsPrepared before mid → Behind mid opened log → IsTrue before.told
     → DiskStays opened folded → (IsTrue opened.told → folded.files ≡ opened.files) → HasStanding role log fold opened.told opened.files
-    → (IsTrue folded.told → (es : List Entry) → Stands fold.state.role es log fold folded.told folded.files → HoldsSome fold.state.role log.base es now.files.log0)
+    → (IsTrue folded.told → (es : List Entry) → Stands fold.role es log fold folded.told folded.files → HoldsSome fold.role log.base es now.files.log0)
     → HasHistory role base es before.files.log0 → HoldsSome role base es now.files.log0
 holds_some one role before mid opened folded now log fold base es prepared b told stays files has left h =
     let again = stands_for role has.es log fold opened.told folded.told opened.files folded.files has.stands stays.told files in

@@ -7,29 +7,29 @@ use Rattle.sr_exchange.specs.declared.entry.Entry.{Entry}
 use Rattle.sr_exchange.specs.declared.entry.Entry.TheVariants.{Ddl}
 use Rattle.sr_exchange.specs.declared.role.Role.{Role}
 use Rattle.sr_exchange.specs.Entries.{body}
-use Rattle.sr_exchange.specs.Exchange.{waiting_of, is_lawful}
-use Rattle.sr_exchange.specs.Logs.{bodies_of, HasHistory, StandsFor, completed, Standing, standing_of, IsLogOf}
+use Rattle.sr_exchange.specs.Exchange.{waiting_of, is_lawful, State, state_of}
+use Rattle.sr_exchange.specs.Logs.{bodies_of, HasHistory, StandsFor, completed, IsLogOf}
 
 -- a log and its fold are those of a history, and so is the log's file where the files are told
-pub record Stands (role : Role) (es : List Entry) (log : Log) (fold : Standing) (told : Bool) (files : Files) : Type 0 where
+pub record Stands (role : Role) (es : List Entry) (log : Log) (fold : State) (told : Bool) (files : Files) : Type 0 where
   pub lawful : IsTrue (is_lawful role log.base es)
   pub end_is : log.end ≡ log.base + length (open_records (bodies_of es))
-  pub fold_is : fold ≡ standing_of role es
+  pub fold_is : fold ≡ state_of role es
   pub is_log : IsTrue told → IsLog log (bodies_of es) files
 
 -- the same of some history
-pub record HasStanding (role : Role) (log : Log) (fold : Standing) (told : Bool) (files : Files) : Type 0 where
+pub record HasStanding (role : Role) (log : Log) (fold : State) (told : Bool) (files : Files) : Type 0 where
   pub es : List Entry
   pub stands : Stands role es log fold told files
 
 -- a database that was opened: the file before, what it stood for, and the log and the fold now, which have the statements that were missing
-pub record IsOpened (role : Role) (before now : Files) (fold : Standing) (log : Log) : Type 0 where
+pub record IsOpened (role : Role) (before now : Files) (fold : State) (log : Log) : Type 0 where
   pub base : ℕ
   pub es : List Entry
   pub stood : StandsFor role base es before.log0
   pub base_is : log.base ≡ base
   pub is_log : IsLogOf role log (completed role es) now
-  pub fold_is : fold ≡ standing_of role (completed role es)
+  pub fold_is : fold ≡ state_of role (completed role es)
 
 -- the file holds a history, and behind it some of the statements that were missing, or none
 pub record HoldsSome (role : Role) (base : ℕ) (es : List Entry) (bytes : List ℕ) : Type 0 where

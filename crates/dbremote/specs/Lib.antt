@@ -1,16 +1,11 @@
-pub mod AgentFaults
-pub mod Agents
 pub mod Commands
 pub mod Faults
 pub mod FaultsOfLogs
 pub mod FaultsOfReading
-pub mod Finishing
 pub mod Histories
-pub mod Lateness
 pub mod Lines
 pub mod Numbers
 pub mod Openings
-pub mod Receipts
 pub mod Reports
 pub mod Runs
 pub mod ScriptFaults

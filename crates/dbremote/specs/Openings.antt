@@ -1,4 +1,4 @@
-use Rattle.std.specs.Prelude.{◌≡◌, ◌≢◌, ◌⊎◌, ◌+◌, ◌-◌, ℕ, Bool, true, false, IsTrue, List, [], ◌∷◌, length}
+use Rattle.std.specs.Prelude.{◌≡◌, ◌≢◌, ◌⊎◌, ◌+◌, ℕ, Bool, true, false, IsTrue, List, [], ◌∷◌, length}
 use Rattle.sr_site.specs.Causes.{DiskStays, Rose}
 use Rattle.sr_site.specs.Seen.{Seen}
 use Rattle.sr_base.specs.Fields.{bytes_spelling}
@@ -8,8 +8,8 @@ use Rattle.sr_logfile.specs.Records.{Spells, framed_of}
 use Rattle.sr_exchange.specs.declared.entry.Entry.{Entry}
 use Rattle.sr_exchange.specs.declared.role.Role.{Role}
 use Rattle.sr_exchange.specs.Entries.{body, IsEntry}
-use Rattle.sr_exchange.specs.Exchange.{goes_on, is_lawful}
-use Rattle.sr_exchange.specs.Logs.{HasHistory, LacksEntry, IsDamagedDatabase, Standing, stepped}
+use Rattle.sr_exchange.specs.Exchange.{goes_on, is_lawful, State, next}
+use Rattle.sr_exchange.specs.Logs.{HasHistory, LacksEntry, IsDamagedDatabase}
 use Rattle.dbremote.specs.declared.fault.Fault.{Fault}
 use Rattle.dbremote.specs.declared.fault.Fault.TheVariants.{Words, Memory, Disk, Damaged, Source, TooLong, Script, Refused, Full, Sink}
 use Rattle.dbremote.specs.Histories.{Stands, LacksRoomFor}
@@ -33,17 +33,17 @@ pub record IsPrepared (before now : Seen) : Type 0 where
   pub state : IsTrue before.told → ((before.files.log0 ≡ []) × Spells 0 [] now.files.log0) ⊎ ((before.files.log0 ≢ []) × (now.files ≡ before.files))
 
 -- an entry that was folded: it goes on, and is in
-pub record TookEntry (old new : Standing) (bytes : List ℕ) : Type 0 where
+pub record TookEntry (old new : State) (bytes : List ℕ) : Type 0 where
   pub entry : Entry
   pub is_entry : IsEntry entry
   pub body_is : bytes ≡ body entry
-  pub keeps : goes_on old.state entry ≡ true
-  pub fold_is : new ≡ stepped old entry
+  pub keeps : goes_on old entry ≡ true
+  pub fold_is : new ≡ next old entry
 
 -- what folding a body answers
-abbrev pub TakesEntry : Standing → Standing → List ℕ → Bool → Type 0
+abbrev pub TakesEntry : State → State → List ℕ → Bool → Type 0
 TakesEntry old new bytes true = TookEntry old new bytes
-TakesEntry old new bytes false = (entry : Entry) → IsEntry entry → bytes ≡ body entry → goes_on old.state entry ≡ true → ⊥
+TakesEntry old new bytes false = (entry : Entry) → IsEntry entry → bytes ≡ body entry → goes_on old entry ≡ true → ⊥
 
 -- why a log is not folded
 abbrev pub FoldCause : Role → List ℕ → Seen → Seen → Fault → Type 0
@@ -76,7 +76,7 @@ MakeCause log text before now (Refused number id) = ⊥
 MakeCause log text before now Sink = ⊥
 
 -- why the statements that are missing are not all committed
-abbrev pub CompleteCause : Role → Log → Standing → Seen → Seen → Fault → Type 0
+abbrev pub CompleteCause : Role → Log → State → Seen → Seen → Fault → Type 0
 CompleteCause role log fold before now Disk = Rose before.disk_faults now.disk_faults
 CompleteCause role log fold before now (Damaged place) = ⊥
 CompleteCause role log fold before now (Full end need) = (es : List Entry) → Stands role es log fold before.told before.files → LacksRoomFor role log.base es end need before.told now.files.log0

@@ -1,4 +1,4 @@
-use Rattle.std.specs.Prelude.{◌≡◌, ◌≢◌, ◌⊎◌, ◌+◌, ◌-◌, ◌^◌, ◌<◌, ℕ, ℤ, Bool, true, IsTrue, None, List, [], ◌∷◌, ◌++◌, length, map}
+use Rattle.std.specs.Prelude.{◌≡◌, ◌⊎◌, ◌+◌, ◌-◌, ◌^◌, ◌<◌, ℕ, ℤ, Bool, true, IsTrue, List, [], ◌∷◌, ◌++◌, length, map}
 use Rattle.sr_site.specs.Causes.{Rose}
 use Rattle.sr_site.specs.Seen.{Seen}
 use Rattle.sr_logfile.specs.Records.{open_records, framed_of}
@@ -40,10 +40,6 @@ abbrev pub stream : Bool → List ℕ → ℕ → Stream
 stream told bytes faults = record { told = told; bytes = bytes; faults = faults }
 
 -- all of it from its parts
-abbrev pub beside : Seen → Stream → Stream → Outside
-beside site input output = record { site = site; input = input; output = output }
-
--- the same from its parts
 abbrev pub outside : Seen → Bool → List ℕ → ℕ → Bool → List ℕ → ℕ → Outside
 outside site input_told left input_faults output_told taken output_faults =
     record {

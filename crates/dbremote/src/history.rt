@@ -133,14 +133,14 @@ fn complete<S: Disk>(
 ) -> Result<(), Fault>
     requires usable { log.old.usable ≡ true }
     requires file { log.old.file ≡ log0 }
-    requires folded { HasStanding fold.old.state.role log.old fold.old (S.seen site.old).told (S.seen site.old).files }
-    ensures done { OnOk result ((es : List Entry) → Stands fold.old.state.role es log.old fold.old (S.seen site.old).told (S.seen site.old).files → Stands fold.old.state.role (completed fold.old.state.role es) log.new fold.new (S.seen site.old).told (S.seen site.new).files) }
+    requires folded { HasStanding fold.old.role log.old fold.old (S.seen site.old).told (S.seen site.old).files }
+    ensures done { OnOk result ((es : List Entry) → Stands fold.old.role es log.old fold.old (S.seen site.old).told (S.seen site.old).files → Stands fold.old.role (completed fold.old.role es) log.new fold.new (S.seen site.old).told (S.seen site.new).files) }
     ensures log { OnOk result ((log.new.base ≡ log.old.base) × (log.new.file ≡ log0) × (log.new.usable ≡ true)) }
-    ensures kept { fold.old.state.waiting ≡ [] → (S.seen site.new).files ≡ (S.seen site.old).files }
-    ensures left { IsTrue (S.seen site.old).told → (es : List Entry) → Stands fold.old.state.role es log.old fold.old (S.seen site.old).told (S.seen site.old).files → HoldsSome fold.old.state.role log.old.base es (S.seen site.new).files.log0 }
+    ensures kept { fold.old.waiting ≡ [] → (S.seen site.new).files ≡ (S.seen site.old).files }
+    ensures left { IsTrue (S.seen site.old).told → (es : List Entry) → Stands fold.old.role es log.old fold.old (S.seen site.old).told (S.seen site.old).files → HoldsSome fold.old.role log.old.base es (S.seen site.new).files.log0 }
     ensures others { IsTrue (S.seen site.old).told → OthersStay log0 (S.seen site.old).files (S.seen site.new).files }
     ensures stays { DiskStays (S.seen site.old) (S.seen site.new) }
-    ensures cause { IfErr result (CompleteCause fold.old.state.role log.old fold.old (S.seen site.old) (S.seen site.new)) }
+    ensures cause { IfErr result (CompleteCause fold.old.role log.old fold.old (S.seen site.old) (S.seen site.new)) }
 {
     'missing: while let Some(text) = fold.missing() {
         commit_statement(alloc, site, log, text)?;

@@ -1,30 +1,16 @@
-//! `dbremote`: databases that copy their transactions to one another by messages in a folder.
+//! `dbremote`: a database of one fixed table, and the scripts that are run on it.
 //!
 //! `run` does all that the program does, over any site, source and sink; its contract is what the program is claimed to do. Here it is
 //! given the host's: files, standard input and standard output.
 #![tactic(auto)]
 
-mod agent_fault;
 mod beginning;
-#[cfg(test)]
-mod damaged_log;
-#[cfg(test)]
-mod exchange_tests;
 mod fault;
 mod history;
 mod host;
-#[cfg(test)]
-mod letters;
-mod opening;
-mod receiving;
 mod report;
-#[cfg(test)]
-mod role_logs;
-#[cfg(test)]
-mod role_tests;
 mod run;
 mod script_run;
-mod sending;
 mod session;
 mod statement;
 mod stream;

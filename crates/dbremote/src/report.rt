@@ -1,7 +1,6 @@
 ghost use Rattle.std.specs.Prelude.{◌≡◌, ◌≢◌, ◌⊎◌, ◌≤◌, ◌++◌, IsTrue, IfOk};
 ghost use Rattle.std.specs.String.{string_bytes};
 ghost use Rattle.dbremote.specs.declared.fault.Fault.TheVariants.{Memory as memory, Sink as sink, Words as words};
-ghost use Rattle.dbremote.specs.Faults.{status_of};
 ghost use Rattle.dbremote.specs.Reports.{Wrote};
 ghost use Rattle.dbremote.specs.Runs.{line_of};
 

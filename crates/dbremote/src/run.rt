@@ -1,23 +1,17 @@
-ghost use Rattle.std.specs.Prelude.{◌≡◌, ◌≢◌, ◌⊎◌, ◌↔◌, [], ℕ, List, length, Some, None, IsTrue, IsErr, IfErr, OnOk};
+ghost use Rattle.std.specs.Prelude.{◌≡◌, ◌≢◌, ◌⊎◌, ◌↔◌, [], ℕ, false, IsTrue, IsErr, IfErr, OnOk};
 ghost use Rattle.sr_site.specs.Causes.{DiskStays, Rose};
-ghost use Rattle.dbremote.specs.declared.fault.Fault.{Fault as Cause};
-ghost use Rattle.dbremote.specs.declared.words.Command.TheVariants.{Receive as receive};
-ghost use Rattle.dbremote.specs.Commands.{RunsCommand, Puts};
-ghost use Rattle.dbremote.specs.Receipts.{KeepsPrefix};
+ghost use Rattle.dbremote.specs.Commands.{RunsWords};
 ghost use Rattle.dbremote.specs.Runs.{RanScript, RanOrStopped, IsStatusOfOpening, outside};
 ghost use Rattle.dbremote.specs.Stops.{StopsSql, IsOfOpening};
-ghost use Rattle.dbremote.specs.Words.{command_of, name_of};
-ghost use Rattle.sr_exchange.specs.declared.role.Role.TheVariants.{Remote};
+ghost use Rattle.dbremote.specs.Words.{is_sql, name_of};
 ghost use Rattle.sr_exchange.specs.Logs.{IsDamagedDatabase};
 ghost use Rattle.sr_exchange.specs.Roles.{role_of};
 
 use crate::beginning::begin;
 use crate::fault::Fault;
-use crate::receiving::agent_receives;
 use crate::report::{refuse_words, report};
 use crate::script_run::run_script;
-use crate::sending::agent_sends;
-use crate::words::{Command, command_of, name_in};
+use crate::words::{is_sql, name_in};
 use sr_base::Text;
 use sr_exchange::{Role, role_of};
 use sr_site::{Sink, Site, Source};
@@ -40,7 +34,7 @@ fn sql<S: Site, I: Source, O: Sink>(
     ensures stays { DiskStays (S.seen site.old) (S.seen site.new) }
 {
     let beginning = begin(alloc, name, role, site, input)?;
-    let (_, table, _) = beginning.fold.into_parts();
+    let table = beginning.fold.into_table();
     run_script(
         alloc,
         site,
@@ -78,14 +72,10 @@ fn run_sql<S: Site, I: Source, O: Sink>(
 
 /// Does all that the program does, and answers its exit status.
 ///
-/// The words `sql NAME` run the script on `input`: each line is `INSERT INTO t VALUES (A, B);` or `COMMIT;`. The words
-/// `agent cons --mail FOLDER -s` put what cons has for r1 into r1's folder, and `agent r1 --mail FOLDER -r` take what comes next of it. All
-/// other words are refused. In every run each message that is put is true; and where no file in r1's folder is forged, what r1 has taken stays a
-/// beginning of what cons's log gives it.
+/// The words `sql NAME` run the script on `input`: each line is `INSERT INTO t VALUES (A, B);` or `COMMIT;`. All other words are refused.
 ///
-/// The status is 0; or 1 where r1's run reported something: a file that is no message for it, a row whose key was held, a message whose body is
-/// none; or that of the fault that ended the run: 2 for other words, 3 for a damaged database, 4 for a script or a statement that is refused, 5
-/// for the disk, 6 for the mail, 7 for the source or the sink, 8 for want of memory, 9 for a limit.
+/// The status is 0; or that of the fault that ended the run: 2 for other words, 3 for a damaged database, 4 for a script or a statement that is
+/// refused, 5 for the disk, 7 for the source or the sink, 8 for want of memory, 9 for a limit. No run has mail yet.
 pub fn run<S: Site, I: Source, O: Sink>(
     alloc: Global,
     words: &[Text],
@@ -94,25 +84,18 @@ pub fn run<S: Site, I: Source, O: Sink>(
     output: &mut O,
     now: i64,
 ) -> u8
-    ensures ran { RunsCommand (command_of words.now) (name_of words.now) (outside (S.seen site.old) (I.told input.old) (I.left input.old) (I.faults input.old) (O.told output.old) (O.taken output.old) (O.faults output.old)) (outside (S.seen site.new) (I.told input.new) (I.left input.new) (I.faults input.new) (O.told output.new) (O.taken output.new) (O.faults output.new)) result }
-    ensures puts { IsTrue (S.seen site.old).told → Puts (command_of words.now) (S.seen site.old) (S.seen site.new) }
-    ensures prefix { IsTrue (S.seen site.old).told → role_of (name_of words.now) ≡ Remote → KeepsPrefix (S.seen site.old) (S.seen site.new) }
+    ensures ran { RunsWords (is_sql words.now) (name_of words.now) (outside (S.seen site.old) (I.told input.old) (I.left input.old) (I.faults input.old) (O.told output.old) (O.taken output.old) (O.faults output.old)) (outside (S.seen site.new) (I.told input.new) (I.left input.new) (I.faults input.new) (O.told output.new) (O.taken output.new) (O.faults output.new)) result }
+    ensures stays { DiskStays (S.seen site.old) (S.seen site.new) }
     ensures damaged { IsTrue (S.seen site.old).told → (place : ℕ) → IsDamagedDatabase (role_of (name_of words.now)) (S.seen site.old).files.log0 place → IsStatusOfOpening result }
-    ensures words { (result ≡ 2) ↔ (command_of words.now ≡ None) }
+    ensures words { (result ≡ 2) ↔ (is_sql words.now ≡ false) }
     ensures disk { result ≡ 5 → Rose (S.seen site.old).disk_faults (S.seen site.new).disk_faults }
-    ensures mail { result ≡ 6 → Rose (S.seen site.old).mail_faults (S.seen site.new).mail_faults }
     ensures streams { result ≡ 7 → Rose (I.faults input.old) (I.faults input.new) ⊎ Rose (O.faults output.old) (O.faults output.new) }
-    ensures never { result ≡ 1 → command_of words.now ≡ Some receive }
+    ensures never { (result ≢ 1) × (result ≢ 6) }
 {
     let _now = now;
-    let Some(command) = command_of(words) else {
+    if !is_sql(words) {
         refuse_words(output);
         return Fault::Words.status();
-    };
-    let name = name_in(words);
-    match command {
-        Command::Sql => run_sql(alloc, name, site, input, output),
-        Command::Send => agent_sends(alloc, name, &words[3], site, output),
-        Command::Receive => agent_receives(alloc, name, &words[3], site, output),
     }
+    run_sql(alloc, name_in(words), site, input, output)
 }

@@ -1,4 +1,4 @@
-ghost use Rattle.std.specs.Prelude.{◌≡◌, ◌+◌, ◌*◌, ◌^◌, ◌≤◌, ◌<◌, [], ◌∷◌, ◌++◌, length, true, false, codes, IsTrue, IfErr, OnOk, OnErr, map};
+ghost use Rattle.std.specs.Prelude.{◌≡◌, ◌+◌, ◌*◌, ◌^◌, ◌≤◌, ◌<◌, [], ◌∷◌, ◌++◌, length, true, false, codes, IsTrue, IfErr, OnOk, OnErr};
 ghost use Rattle.sr_site.specs.Causes.{DiskStays, Rose};
 ghost use Rattle.sr_site.specs.Files.{OthersStay};
 ghost use Rattle.sr_site.specs.declared.file.File.TheVariants.{Log0 as log0};
@@ -14,7 +14,7 @@ use crate::fault::Fault;
 use crate::statement::Statement;
 use crate::stream::say;
 use sr_exchange::{Item, Table, own_body};
-use sr_logfile::{LogFault, LogFile, frame};
+use sr_logfile::{LogFile, frame};
 use sr_site::{Disk, Sink};
 use std::alloc::Global;
 

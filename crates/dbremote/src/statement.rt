@@ -1,4 +1,4 @@
-ghost use Rattle.std.specs.Prelude.{◌≡◌, ◌≢◌, ◌<◌, ◌≤◌, ℕ, ℤ, List, [], ◌∷◌, ◌++◌, length, true, false, slice_index, IsSomeAnd, IsTrue, ◌↔◌, MatchResult, IfOk, IfErr, IfSome, FitsSigned};
+ghost use Rattle.std.specs.Prelude.{◌≡◌, ◌<◌, ◌≤◌, ℕ, ℤ, List, ◌++◌, length, true, false, slice_index, IsSomeAnd, IsTrue, ◌↔◌, MatchResult, IfOk, IfErr, IfSome, FitsSigned};
 ghost use Rattle.std.specs.Int.{w32};
 ghost use Rattle.std.specs.Fmt.{signed_decimal};
 ghost use Rattle.dbremote.specs.Lines.{line, script, IsStatement, AreStatements};

@@ -1,21 +1,9 @@
-ghost use Rattle.std.specs.Prelude.{◌≡◌, ◌≢◌, ◌≤◌, length, IfSome};
-ghost use Rattle.dbremote.specs.declared.words.Command.TheVariants.{Sql as sql};
-ghost use Rattle.dbremote.specs.Words.{is_place, command_of, agent_of, name_of};
+ghost use Rattle.std.specs.Prelude.{◌≡◌, ◌≤◌, length, true};
+ghost use Rattle.dbremote.specs.Words.{is_place, is_sql, name_of};
 
 use sr_base::Text;
 
-/// What the program is asked for.
-#[derive(Clone, Copy)]
-pub enum Command {
-    /// `sql NAME`
-    Sql,
-    /// `agent cons --mail FOLDER -s`
-    Send,
-    /// `agent r1 --mail FOLDER -r`
-    Receive,
-}
-
-/// Whether a text can name a database or a folder: 1 to 255 bytes.
+/// Whether a text can name a database: 1 to 255 bytes.
 fn is_name_of_files(name: &Text) -> bool
     ensures { result ≡ is_place name.now }
 {
@@ -23,45 +11,14 @@ fn is_name_of_files(name: &Text) -> bool
     length >= 1 && length <= 255
 }
 
-/// Which agent's run a name and a flag ask for.
-fn agent(name: &Text, flag: &Text) -> Option<Command>
-    ensures agent { result ≡ agent_of name.now flag.now }
-    ensures not_sql { IfSome result (λ command. command ≢ sql) }
-{
-    if name.bytes() == b"cons".as_slice() && flag.bytes() == b"-s".as_slice() {
-        return Some(Command::Send);
-    }
-    if name.bytes() == b"r1".as_slice() && flag.bytes() == b"-r".as_slice() {
-        return Some(Command::Receive);
-    }
-    None
-}
-
-/// The command that words give, each written exactly so. `None` for all other words.
-pub fn command_of(words: &[Text]) -> Option<Command>
-    ensures command { result ≡ command_of words.now }
-    ensures named { IfSome result (λ command. 2 ≤ length words.now) }
-    ensures folder { IfSome result (λ command. command ≢ sql → length words.now ≡ 5) }
+/// Whether the words are `sql NAME`, written exactly so.
+pub fn is_sql(words: &[Text]) -> bool
+    ensures sql { result ≡ is_sql words.now }
+    ensures named { result ≡ true → 2 ≤ length words.now }
 {
     match words {
-        [first, name] => {
-            if first.bytes() == b"sql".as_slice() && is_name_of_files(name) {
-                Some(Command::Sql)
-            } else {
-                None
-            }
-        }
-        [first, name, option, folder, flag] => {
-            if first.bytes() == b"agent".as_slice()
-                && option.bytes() == b"--mail".as_slice()
-                && is_name_of_files(folder)
-            {
-                agent(name, flag)
-            } else {
-                None
-            }
-        }
-        _ => None,
+        [first, name] => first.bytes() == b"sql".as_slice() && is_name_of_files(name),
+        _ => false,
     }
 }
 

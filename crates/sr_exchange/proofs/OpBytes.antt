@@ -1,31 +1,12 @@
 -- Ops that were taken, one at a time.
-use Rattle.std.proofs.Common.{◌≡◌, ℕ, ◌+◌, Option, Some, None, IfNone, ◌*◌, ◌<◌, ◌≤◌, Bool, true, false, List, [], ◌∷◌, ◌++◌, length, refl, sym, ap, ◌∙◌, append_assoc, arith}
-use Rattle.std.proofs.lemmas.List.{append-nil, length-append, length-map}
+use Rattle.std.proofs.Common.{◌≡◌, ℕ, ◌+◌, Option, Some, None, IfNone, ◌<◌, Bool, true, false, List, [], ◌∷◌, ◌++◌, length, refl, sym, ap, ◌∙◌, append_assoc, arith}
+use Rattle.std.proofs.lemmas.List.{append-nil, length-map}
 use Rattle.sr_base.specs.declared.offset.Offset.{Offset}
 use Rattle.sr_exchange.specs.declared.item.Item.{Item}
 use Rattle.sr_exchange.specs.declared.entry.Judged.{Judged}
 use Rattle.sr_exchange.specs.declared.entry.Entry.{Entry}
 use Rattle.sr_exchange.specs.declared.entry.Entry.TheVariants.{Ddl, Own, Took, Sent}
-use Rattle.sr_exchange.specs.Entries.{change, insert, outcome, taken_op, taken_ops, items_in, body, tag_of, AreItems, IsEntry}
-
--- an op in its three parts, one behind the other
-pub inserted_op : (out first second third : List ℕ) (op : Judged) → op.clashed ≡ false → first ≡ out ++ insert op.item → second ≡ first ++ (0 ∷ 0 ∷ 0 ∷ 0 ∷ 1 ∷ []) → third ≡ second ++ change op.item → third ≡ out ++ taken_op op
-inserted_op out first second third op free one two three =
-    three
-    ∙ ap (λ (t : List ℕ). t ++ change op.item) (two ∙ ap (λ (t : List ℕ). t ++ (0 ∷ 0 ∷ 0 ∷ 0 ∷ 1 ∷ [])) one)
-    ∙ append_assoc (out ++ insert op.item) (0 ∷ 0 ∷ 0 ∷ 0 ∷ 1 ∷ []) (change op.item)
-    ∙ append_assoc out (insert op.item) (outcome op.item false)
-    ∙ ap (λ b. out ++ (insert op.item ++ outcome op.item b)) (sym free)
-
-taken_long : (op : Judged) → length (taken_op op) ≤ 45
-taken_long op = long op.clashed where
-  long : (b : Bool) → length (insert op.item ++ outcome op.item b) ≤ 45
-  long true = omega arith
-  long false = omega arith
-
-pub ops_long : (ops : List Judged) → length (taken_ops ops) ≤ 45 * length ops
-ops_long [] = omega arith
-ops_long (op ∷ ops) = omega (arith, length-append (taken_op op) (taken_ops ops), taken_long op, ops_long ops)
+use Rattle.sr_exchange.specs.Entries.{change, outcome, taken_op, taken_ops, items_in, body, tag_of, AreItems, IsEntry}
 
 pub ops_more : (done : List Judged) (op : Judged) → taken_ops (done ++ op ∷ []) ≡ taken_ops done ++ taken_op op
 ops_more [] op = append-nil (taken_op op)
@@ -58,19 +39,6 @@ neither item bytes rest false no_clash no_change e = no_change e
 pub if_none : {A : Type 0} (found : Option A) (P : Type 0) → P → IfNone found P
 if_none None P h = h
 if_none (Some x) P h = tt
-
--- an op written behind the others, and those that are left
-pub ops_written : (out new all : List ℕ) (rest following : List Judged) (op : Judged) → rest ≡ op ∷ following → new ≡ out ++ taken_op op → out ++ taken_ops rest ≡ all → new ++ taken_ops following ≡ all
-ops_written out new all rest following op split pushed so_far =
-    ap (λ (t : List ℕ). t ++ taken_ops following) pushed ∙ append_assoc out (taken_op op) (taken_ops following) ∙ ap (λ (xs : List Judged). out ++ taken_ops xs) (sym split) ∙ so_far
-
--- a whole body is short
-pub body_short : (out : List ℕ) (at : Offset) (ops rest : List Judged) → out ++ taken_ops rest ≡ body (Took at ops) → length out ≤ 18 + 45 * length ops
-body_short out at ops rest e =
-    let same : length (out ++ taken_ops rest) ≡ length (body (Took at ops)) = ap (λ (xs : List ℕ). length xs) e in
-    let sum = length-append out (taken_ops rest) in
-    let all = ops_long ops in
-    omega arith
 
 -- bytes that are the body of no note are that of no entry with its tag
 pub none_sent : (bytes : List ℕ) (tag : ℕ) → tag ≡ 6 → ((end : Offset) (messages : ℕ) (confirm : Offset) → IsEntry (Sent end messages confirm) → bytes ≡ body (Sent end messages confirm) → ⊥)

@@ -1,13 +1,12 @@
 -- Tests of rows, and what they mean.
-use Rattle.std.proofs.Common.{◌≡◌, ◌≢◌, ◌^◌, ◌<◌, ℤ, pos, negsuc, neg_ℤ, ◌-◌, ◌≤◌, cond, Bool, true, false, not, ◌&&◌, List, [], ◌∷◌, length, refl, ap, ◌∙◌, FitsSigned, arith, ltb}
+use Rattle.std.proofs.Common.{◌≡◌, ◌≢◌, ◌^◌, ◌<◌, ℤ, pos, negsuc, neg_ℤ, ◌-◌, ◌≤◌, true, ◌&&◌, List, [], ◌∷◌, length, refl, FitsSigned, arith, ltb}
 use Rattle.std.specs.Prelude.{int_le}
 use Rattle.std.specs.Int.{w32}
 use Rattle.std.specs.List.{list_all}
 use Rattle.std.proofs.lemmas.Bool.{and_parts, and_from, ltb-true, lt-ltb, leb-true, le-leb}
 use Rattle.sr_base.specs.Fitting.{is_int}
 use Rattle.sr_exchange.specs.declared.item.Item.{Item}
-use Rattle.sr_exchange.specs.Entries.{is_item, is_some_list, is_transaction, items_in, AreItems, IsTransaction}
-use Rattle.sr_exchange.specs.Tables.{Rows, holds, judged, with_judged, judge_all, are_judged}
+use Rattle.sr_exchange.specs.Entries.{is_item, is_some_list, is_transaction, AreItems, IsTransaction}
 
 -- ---- numbers of 32 bits
 
@@ -56,17 +55,3 @@ transaction_meant items e =
     let all = and_parts (is_some_list items && list_all is_item items) (ltb (length items) (2 ^ 32)) e in
     let front = and_parts (is_some_list items) (list_all is_item items) all.0 in
     record { some = some_meant items front.0; items_are = items_meant items front.1; few = ltb-true (length items) (2 ^ 32) all.1 }
-
--- ---- judging
-
-judged_so : (held : Bool) → cond held held (not held) ≡ true
-judged_so true = refl
-judged_so false = refl
-
-pub all_judged_so : (rows : Rows) (items : List Item) → are_judged rows (judge_all rows items) ≡ true
-all_judged_so rows [] = refl
-all_judged_so rows (item ∷ items) = ap (λ b. b && are_judged (with_judged rows (judged rows item)) (judge_all (with_judged rows (judged rows item)) items)) (judged_so (holds rows item.id)) ∙ all_judged_so (with_judged rows (judged rows item)) items
-
-pub none_lost : (rows : Rows) (items : List Item) → items_in (judge_all rows items) ≡ items
-none_lost rows [] = refl
-none_lost rows (item ∷ items) = ap (λ (xs : List Item). item ∷ xs) (none_lost (with_judged rows (judged rows item)) items)

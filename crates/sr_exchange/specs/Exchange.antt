@@ -1,19 +1,12 @@
-use Rattle.std.specs.Prelude.{ℕ, ◌+◌, ◌^◌, Bool, true, false, ◌&&◌, nat_le, nat_lt, List, [], ◌∷◌, length, Option, Some, None, if◌then◌else◌}
+use Rattle.std.specs.Prelude.{ℕ, ◌+◌, ◌^◌, Bool, true, false, ◌&&◌, nat_le, nat_lt, List, [], ◌∷◌, length}
 use Rattle.std.specs.FinMap as map_of
 use Rattle.std.specs.Str.{bytes_eq}
-use Rattle.sr_book.specs.declared.note.Note.TheVariants as note
-use Rattle.sr_book.specs.Entries.{Name, Seen, local, from_user, noted}
-use Rattle.sr_book.specs.Histories.{taken, taken_end, book_of}
-use Rattle.sr_book.specs.declared.book.Book.{Book}
-use Rattle.sr_model.specs.Machines.{Machine, lawful_from, given_from}
-use Rattle.sr_exchange.specs.declared.item.Item.{Item}
 use Rattle.sr_exchange.specs.declared.role.Role.{Role}
 use Rattle.sr_exchange.specs.declared.role.Role.TheVariants.{Alone, Consolidated, Remote}
 use Rattle.sr_exchange.specs.declared.entry.Entry.{Entry}
 use Rattle.sr_exchange.specs.declared.entry.Entry.TheVariants.{Ddl, Own, Took, Sent}
-use Rattle.sr_exchange.specs.Bodies.{Transaction, body_spelling, is_fit}
 use Rattle.sr_exchange.specs.Entries.{body, items_in, is_transaction, is_offset, is_text}
-use Rattle.sr_exchange.specs.Roles.{cons, r1, role_of, statements_of}
+use Rattle.sr_exchange.specs.Roles.{statements_of}
 use Rattle.sr_exchange.specs.Tables.{Rows, all_inserted, all_judged, are_free, are_judged}
 
 -- what a database is on the way: its role, the statements that it still waits for, and its rows
@@ -26,6 +19,7 @@ pub record State : Type 0 where
 abbrev pub fresh : Role → State
 fresh role = record { role = role; waiting = statements_of role; rows = map_of.empty }
 
+-- the statements behind the first
 abbrev pub others_of : List (List ℕ) → List (List ℕ)
 others_of [] = []
 others_of (text ∷ texts) = texts
@@ -47,11 +41,13 @@ abbrev pub is_whole : List (List ℕ) → Bool
 is_whole [] = true
 is_whole (text ∷ texts) = false
 
+-- it is cons
 abbrev pub is_consolidated : Role → Bool
 is_consolidated Alone = false
 is_consolidated Consolidated = true
 is_consolidated Remote = false
 
+-- it is r1
 abbrev pub is_remote : Role → Bool
 is_remote Alone = false
 is_remote Consolidated = false
@@ -65,6 +61,7 @@ goes_on s (Own items) = is_whole s.waiting && is_transaction items && are_free s
 goes_on s (Took at ops) = is_whole s.waiting && is_remote s.role && is_offset at && is_transaction (items_in ops) && are_judged s.rows ops
 goes_on s (Sent end messages confirm) = is_whole s.waiting && is_consolidated s.role && is_offset end && nat_lt messages (2 ^ 32) && is_offset confirm
 
+-- the length of an entry's body in bytes
 abbrev pub size : Entry → ℕ
 size e = length (body e)
 
@@ -72,36 +69,14 @@ size e = length (body e)
 abbrev pub fits : State → ℕ → Entry → Bool
 fits s place e = nat_le (place + (size e + 5)) (2 ^ 62) && goes_on s e
 
--- what the world sees of it
-abbrev pub sees : Entry → Seen (List Item)
-sees (Ddl text) = local
-sees (Own items) = local
-sees (Took at ops) = from_user cons at.0 (items_in ops)
-sees (Sent end messages confirm) = noted r1 (note.Sent end messages confirm)
-
--- what it gives a user: cons gives r1 the rows of each transaction of its own, since r1's subscription has the whole table; nothing else is
--- given to anybody
-abbrev pub gives : State → Entry → Name → Option (List Item)
-gives s (Own items) user = if is_consolidated s.role && bytes_eq user r1 then Some items else None
-gives s (Ddl text) user = None
-gives s (Took at ops) user = None
-gives s (Sent end messages confirm) user = None
-
--- the fixed databases as a fold over their histories
-abbrev pub exchange : Machine State Entry (List Item)
-exchange = record {
-  fresh = λ d. fresh (role_of d);
-  next = next;
-  sees = sees;
-  size = size;
-  fits = fits;
-  gives = gives;
-  encode = body_spelling;
-  is_fit = is_fit;
-}
+-- the entries keep every rule, one after the other
+abbrev pub lawful_from : State → ℕ → List Entry → Bool
+lawful_from s place [] = true
+lawful_from s place (e ∷ es) = fits s place e && lawful_from (next s e) (place + (size e + 5)) es
 
 -- ---- histories of a role behind a base, the stream position of the log's first gate
 
+-- what a database becomes by entries
 abbrev pub state_from : State → List Entry → State
 state_from s [] = s
 state_from s (e ∷ es) = state_from (next s e) es
@@ -110,6 +85,7 @@ state_from s (e ∷ es) = state_from (next s e) es
 abbrev pub state_of : Role → List Entry → State
 state_of role es = state_from (fresh role) es
 
+-- its rows then
 abbrev pub rows_of : Role → List Entry → Rows
 rows_of role es = (state_of role es).rows
 
@@ -119,19 +95,9 @@ waiting_of role es = (state_of role es).waiting
 
 -- the history keeps every rule
 abbrev pub is_lawful : Role → ℕ → List Entry → Bool
-is_lawful role base es = lawful_from exchange (fresh role) base es
+is_lawful role base es = lawful_from (fresh role) base es
 
--- what cons's log gives r1: each transaction with its offset, in order
-abbrev pub given_by_cons : ℕ → List Entry → List Transaction
-given_by_cons base es = given_from exchange (fresh Consolidated) base r1 es
-
--- what r1's log took from cons
-abbrev pub taken_by_r1 : List Entry → List Transaction
-taken_by_r1 es = taken sees cons es
-
-abbrev pub received_by_r1 : List Entry → ℕ
-received_by_r1 es = taken_end sees cons es
-
--- cons's book of r1
-abbrev pub book_of_r1 : List Entry → Book
-book_of_r1 es = book_of sees r1 es
+-- the stream position behind a history that begins at a base: an entry ends the length of its body and five bytes later
+abbrev pub end_of : ℕ → List Entry → ℕ
+end_of base [] = base
+end_of base (e ∷ es) = end_of (base + (size e + 5)) es

@@ -1,10 +1,6 @@
 pub mod Tables
 pub mod Roles
 pub mod Entries
-pub mod Bodies
 pub mod Exchange
-pub mod Letters
 pub mod Logs
 pub mod Codes
-pub mod Findings
-pub mod AgentLines

@@ -1,20 +1,14 @@
 use Rattle.std.specs.Prelude.{◌≡◌, ◌≢◌, ◌⊎◌, ◌+◌, ℕ, IsTrue, List, [], ◌∷◌, ◌++◌, length, map}
-use Rattle.sr_book.specs.declared.book.Book.{Book}
-use Rattle.sr_book.specs.Entries.{booked}
-use Rattle.sr_book.specs.Histories as histories
 use Rattle.sr_logfile.specs.Damage.{IsDamaged}
 use Rattle.sr_logfile.specs.Log.{Log}
 use Rattle.sr_logfile.specs.Logs.{IsLog}
 use Rattle.sr_logfile.specs.Records.{Spells, open_records}
 use Rattle.sr_site.specs.Files.{Files}
 use Rattle.sr_exchange.specs.declared.role.Role.{Role}
-use Rattle.sr_exchange.specs.declared.role.Role.TheVariants.{Alone, Consolidated, Remote}
 use Rattle.sr_exchange.specs.declared.entry.Entry.{Entry}
 use Rattle.sr_exchange.specs.declared.entry.Entry.TheVariants.{Ddl}
 use Rattle.sr_exchange.specs.Entries.{body, IsEntry}
-use Rattle.sr_exchange.specs.Exchange.{State, fresh, next, sees, fits, state_of, waiting_of, is_lawful}
-use Rattle.sr_exchange.specs.Letters.{end_of}
-use Rattle.sr_exchange.specs.Roles.{cons, r1}
+use Rattle.sr_exchange.specs.Exchange.{fits, state_of, waiting_of, is_lawful, end_of}
 
 -- the bodies of a history's records
 abbrev pub bodies_of : List Entry → List (List ℕ)
@@ -56,27 +50,6 @@ pub record LacksEntry (role : Role) (bytes : List ℕ) (place : ℕ) : Type 0 wh
 pub record IsDamagedDatabase (role : Role) (bytes : List ℕ) (place : ℕ) : Type 0 where
   pub there : bytes ≢ []
   pub damage : IsDamaged bytes place ⊎ LacksEntry role bytes place
-
--- the partner in the exchange
-abbrev pub partner_of : Role → List ℕ
-partner_of Alone = r1
-partner_of Consolidated = r1
-partner_of Remote = cons
-
--- what a database is, and its book of its partner
-pub record Standing : Type 0 where
-  pub state : State
-  pub book : Book
-
-abbrev pub fresh_standing : Role → Standing
-fresh_standing role = record { state = fresh role; book = histories.book_of sees (partner_of role) [] }
-
-abbrev pub stepped : Standing → Entry → Standing
-stepped s e = record { state = next s.state e; book = booked (partner_of s.state.role) s.book (sees e) }
-
--- after a history
-abbrev pub standing_of : Role → List Entry → Standing
-standing_of role es = record { state = state_of role es; book = histories.book_of sees (partner_of role) es }
 
 -- a log that stands for a history of a role
 pub record IsLogOf (role : Role) (log : Log) (es : List Entry) (files : Files) : Type 0 where

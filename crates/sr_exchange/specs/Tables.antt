@@ -34,15 +34,6 @@ abbrev pub all_judged : Rows → List Judged → Rows
 all_judged rows [] = rows
 all_judged rows (op ∷ ops) = all_judged (with_judged rows op) ops
 
--- an incoming row clashes where its key is held
-abbrev pub judged : Rows → Item → Judged
-judged rows item = record { item = item; clashed = holds rows item.id }
-
--- what becomes of incoming rows, each judged on the rows that those before it leave
-abbrev pub judge_all : Rows → List Item → List Judged
-judge_all rows [] = []
-judge_all rows (item ∷ items) = judged rows item ∷ judge_all (with_judged rows (judged rows item)) items
-
 -- each of these is as it is judged on the rows that those before it leave
 abbrev pub are_judged : Rows → List Judged → Bool
 are_judged rows [] = true

@@ -1,11 +1,11 @@
 //! An entry of the bytes of a record's body, in one pass. Each body has one reading (docs/FORMATS.md, "Entries").
 
-ghost use Rattle.std.specs.Prelude.{◌≡◌, ◌<◌, ◌^◌, ℕ, ℤ, Bool, true, false, List, ◌++◌, [], ◌∷◌, length, IsSomeAnd, IfOk, IfSome, IfNone, FitsSigned};
-ghost use Rattle.std.specs.Int.{w32, w64, to_be_bytes, cast_unsigned};
+ghost use Rattle.std.specs.Prelude.{◌≡◌, ◌<◌, ◌^◌, ℕ, Bool, true, false, List, ◌++◌, [], ◌∷◌, length, IsSomeAnd, IfOk, IfSome, IfNone};
+ghost use Rattle.std.specs.Int.{w32, to_be_bytes};
 ghost use Rattle.sr_base.specs.Fields.{bytes_spelling, name_spelling, IsText};
 ghost use Rattle.sr_base.specs.Values.{offset_spelling, IsOffset};
-ghost use Rattle.sr_exchange.specs.Entries.{change, changes, insert, outcome, taken_op, taken_ops, items_in, own, body, tag_of, AreItems, IsTransaction, IsEntry};
-ghost use Rattle.sr_exchange.specs.Roles.{cons, r1};
+ghost use Rattle.sr_exchange.specs.Entries.{change, changes, outcome, taken_op, taken_ops, items_in, own, body, tag_of, AreItems, IsTransaction, IsEntry};
+ghost use Rattle.sr_exchange.specs.Roles.{cons};
 ghost use Rattle.sr_exchange.specs.declared.entry.Entry.{Entry as Kept};
 ghost use Rattle.sr_exchange.specs.declared.entry.Entry.TheVariants.{Ddl, Own, Took, Sent};
 

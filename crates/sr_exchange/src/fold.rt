@@ -1,10 +1,8 @@
 //! What a log has come to: its entries folded, one after another.
 
-ghost use Rattle.std.specs.Prelude.{◌≡◌, ◌≤◌, ◌^◌, ◌&&◌, ◌++◌, [], ◌∷◌, ℕ, List, true, length, nat_lt, IfSome, IfNone, IfOk, OnOk};
+ghost use Rattle.std.specs.Prelude.{◌≡◌, ◌≤◌, ◌^◌, ◌&&◌, [], ◌∷◌, ℕ, List, true, length, nat_lt, IfSome, IfNone, IfOk};
 ghost use Rattle.sr_exchange.specs.Entries.{is_some_list, items_in};
-ghost use Rattle.sr_exchange.specs.Exchange.{goes_on, is_whole, is_consolidated, is_remote, others_of};
-ghost use Rattle.sr_exchange.specs.Logs.{fresh_standing, stepped};
-ghost use Rattle.sr_exchange.specs.Tables.{judge_all};
+ghost use Rattle.sr_exchange.specs.Exchange.{fresh, next, goes_on, is_whole, is_consolidated, is_remote, others_of};
 ghost use Rattle.sr_exchange.specs.declared.entry.Entry.TheVariants.{Ddl, Own, Took, Sent};
 
 use crate::entry::{Entry, Judged};
@@ -12,31 +10,29 @@ use crate::item::Item;
 use crate::role::Role;
 use crate::table::Table;
 use sr_base::{NoMemory, Offset, Text};
-use sr_book::{Book, Note};
 use std::alloc::Global;
 use std::marker::Model;
 
-/// What a log has come to: which database it is, how many of the statements that it begins with are made, its rows, and its book of its
-/// partner. Contracts see a standing.
+/// What a log has come to: which database it is, how many of the statements that it begins with are made, and its rows. Contracts see a
+/// state.
 #[derive(Drop)]
 pub struct Fold {
     role: Role,
     made: usize,
     table: Table,
-    book: Book,
 }
 
 impl Model for Fold {
     ghost use Rattle.std.specs.Prelude.{drop};
-    ghost use Rattle.sr_exchange.specs.Codes.{coded_standing};
-    ghost use Rattle.sr_exchange.specs.Logs.{Standing};
+    ghost use Rattle.sr_exchange.specs.Codes.{coded_state};
+    ghost use Rattle.sr_exchange.specs.Exchange.{State};
     ghost use Rattle.sr_exchange.specs.Roles.{statements_of};
 
-    ghost Value = { Standing };
+    ghost Value = { State };
 
-    ghost coded = { coded_standing };
+    ghost coded = { coded_state };
 
-    ghost view = { λ f. record { state = record { role = f.role; waiting = drop f.made (statements_of f.role); rows = f.table }; book = f.book } };
+    ghost view = { λ f. record { role = f.role; waiting = drop f.made (statements_of f.role); rows = f.table } };
 }
 
 /// Whether a list of this length has a count of 32 bits.
@@ -69,50 +65,26 @@ fn are_some_taken(ops: &[Judged]) -> bool
 impl Fold {
     /// A log without an entry.
     pub fn new(alloc: Global, role: Role) -> Fold
-        ensures fresh { result ≡ fresh_standing role }
+        ensures fresh { result ≡ fresh role }
     {
         Fold {
             role,
             made: 0,
             table: Table::new(alloc),
-            book: Book::new(),
         }
     }
 
-    /// Which of the fixed databases it is.
-    pub fn role(&self) -> Role
-        ensures role { result ≡ self.now.state.role }
+    /// Its rows, for good.
+    pub fn into_table(self) -> Table
+        ensures table { result ≡ self.rows }
     {
-        self.role
-    }
-
-    /// The book of its partner.
-    pub fn book(&self) -> Book
-        ensures book { result ≡ self.now.book }
-    {
-        self.book
-    }
-
-    /// Its rows.
-    pub fn table(&self) -> &Table
-        ensures table { result.now ≡ self.now.state.rows }
-    {
-        &self.table
-    }
-
-    /// Its role, its rows and its book.
-    pub fn into_parts(self) -> (Role, Table, Book)
-        ensures role { result.0 ≡ self.state.role }
-        ensures table { result.1 ≡ self.state.rows }
-        ensures book { result.2 ≡ self.book }
-    {
-        (self.role, self.table, self.book)
+        self.table
     }
 
     /// The next of the statements that the database begins with and that is still missing. `None` where none is.
     pub fn missing(&self) -> Option<&'static [u8]>
-        ensures next { IfSome result (λ text. self.now.state.waiting ≡ text.now ∷ others_of self.now.state.waiting) }
-        ensures none { IfNone result (self.now.state.waiting ≡ []) }
+        ensures next { IfSome result (λ text. self.now.waiting ≡ text.now ∷ others_of self.now.waiting) }
+        ensures none { IfNone result (self.now.waiting ≡ []) }
         ensures short { IfSome result (λ text. length text.now ≤ 65) }
     {
         self.role.statement(self.made)
@@ -120,7 +92,7 @@ impl Fold {
 
     /// Folds in the next of these statements, where one is missing. It takes no memory.
     pub fn make_next(&mut self)
-        ensures made { (text : List ℕ) (rest : List (List ℕ)) → self.old.state.waiting ≡ text ∷ rest → self.new ≡ stepped self.old (Ddl text) }
+        ensures made { (text : List ℕ) (rest : List (List ℕ)) → self.old.waiting ≡ text ∷ rest → self.new ≡ next self.old (Ddl text) }
     {
         if self.role.statement(self.made).is_some() {
             self.made += 1;
@@ -129,7 +101,7 @@ impl Fold {
 
     /// Whether none of these statements is missing.
     fn is_whole(&self) -> bool
-        ensures { result ≡ is_whole self.now.state.waiting }
+        ensures { result ≡ is_whole self.now.waiting }
     {
         match self.missing() {
             Some(_) => false,
@@ -139,7 +111,7 @@ impl Fold {
 
     /// Whether it is cons.
     fn is_consolidated(&self) -> bool
-        ensures { result ≡ is_consolidated self.now.state.role }
+        ensures { result ≡ is_consolidated self.now.role }
     {
         match self.role {
             Role::Consolidated => true,
@@ -149,7 +121,7 @@ impl Fold {
 
     /// Whether it is r1.
     fn is_remote(&self) -> bool
-        ensures { result ≡ is_remote self.now.state.role }
+        ensures { result ≡ is_remote self.now.role }
     {
         match self.role {
             Role::Remote => true,
@@ -159,8 +131,8 @@ impl Fold {
 
     /// Folds the entry of a statement in, and answers whether it is the next that is missing.
     fn take_statement(&mut self, text: &Text) -> bool
-        ensures goes_on { result ≡ goes_on self.old.state (Ddl text.now) }
-        ensures after { result ≡ true → self.new ≡ stepped self.old (Ddl text.now) }
+        ensures goes_on { result ≡ goes_on self.old (Ddl text.now) }
+        ensures after { result ≡ true → self.new ≡ next self.old (Ddl text.now) }
     {
         let bytes = text.bytes();
         if !is_count(bytes.len()) {
@@ -178,8 +150,8 @@ impl Fold {
 
     /// Folds the entry of a transaction of the database's own in, and answers whether it goes on.
     fn take_own(&mut self, items: &[Item]) -> Result<bool, NoMemory>
-        ensures goes_on { IfOk result (λ yes. yes ≡ goes_on self.old.state (Own items.now)) }
-        ensures after { IfOk result (λ yes. yes ≡ true → self.new ≡ stepped self.old (Own items.now)) }
+        ensures goes_on { IfOk result (λ yes. yes ≡ goes_on self.old (Own items.now)) }
+        ensures after { IfOk result (λ yes. yes ≡ true → self.new ≡ next self.old (Own items.now)) }
     {
         if !self.is_whole() {
             return Ok(false);
@@ -193,8 +165,8 @@ impl Fold {
 
     /// Folds the entry of a transaction that was taken in, and answers whether it goes on.
     fn take_taken(&mut self, at: Offset, ops: &[Judged]) -> Result<bool, NoMemory>
-        ensures goes_on { IfOk result (λ yes. yes ≡ goes_on self.old.state (Took at ops.now)) }
-        ensures after { IfOk result (λ yes. yes ≡ true → self.new ≡ stepped self.old (Took at ops.now)) }
+        ensures goes_on { IfOk result (λ yes. yes ≡ goes_on self.old (Took at ops.now)) }
+        ensures after { IfOk result (λ yes. yes ≡ true → self.new ≡ next self.old (Took at ops.now)) }
     {
         if !self.is_whole() {
             return Ok(false);
@@ -206,14 +178,13 @@ impl Fold {
             return Ok(false);
         }
         let all = self.table.take_all(ops)?;
-        self.book = self.book.took(at);
         Ok(all)
     }
 
     /// Folds the entry of messages that were put in, and answers whether it goes on.
     fn take_sent(&mut self, end: Offset, messages: u32, confirm: Offset) -> bool
-        ensures goes_on { result ≡ goes_on self.old.state (Sent end messages confirm) }
-        ensures after { result ≡ true → self.new ≡ stepped self.old (Sent end messages confirm) }
+        ensures goes_on { result ≡ goes_on self.old (Sent end messages confirm) }
+        ensures after { result ≡ true → self.new ≡ next self.old (Sent end messages confirm) }
     {
         if !self.is_whole() {
             return false;
@@ -221,39 +192,15 @@ impl Fold {
         if !self.is_consolidated() {
             return false;
         }
-        self.book = self.book.after(&Note::Sent {
-            end,
-            messages,
-            confirm,
-        });
         true
-    }
-
-    /// Judges the rows of a transaction from cons whose offset in cons's log is `at`, adds what became of them at the end of `ops`, and folds
-    /// the entry of it in. For want of memory the fold is not used again.
-    pub fn judge(
-        &mut self,
-        at: Offset,
-        items: &[Item],
-        ops: &mut Vec<Judged>,
-    ) -> Result<(), NoMemory>
-        ensures ops { OnOk result (ops.new.items ≡ ops.old.items ++ judge_all self.old.state.rows items.now) }
-        ensures after { OnOk result (self.new ≡ stepped self.old (Took at (judge_all self.old.state.rows items.now))) }
-    {
-        self.table.judge(items, ops)?;
-        match self.role {
-            Role::Remote => self.book = self.book.took(at),
-            Role::Alone | Role::Consolidated => {}
-        }
-        Ok(())
     }
 
     /// Folds an entry in, and answers whether it goes on from those before it: the statements that the database begins with come first, each
     /// as it is printed; then transactions of its own, whose keys are free; at cons notes of what was sent; at r1 transactions that were taken,
     /// each row as it is judged. After `false`, and for want of memory, the fold is not used again.
     pub fn take(&mut self, entry: &Entry) -> Result<bool, NoMemory>
-        ensures goes_on { IfOk result (λ yes. yes ≡ goes_on self.old.state entry.now) }
-        ensures after { IfOk result (λ yes. yes ≡ true → self.new ≡ stepped self.old entry.now) }
+        ensures goes_on { IfOk result (λ yes. yes ≡ goes_on self.old entry.now) }
+        ensures after { IfOk result (λ yes. yes ≡ true → self.new ≡ next self.old entry.now) }
     {
         match entry {
             Entry::Ddl(text) => Ok(self.take_statement(text)),

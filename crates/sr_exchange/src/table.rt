@@ -1,8 +1,8 @@
-ghost use Rattle.std.specs.Prelude.{◌≡◌, ◌++◌, true, not, if◌then◌else◌, OnOk, OnErr, IfOk};
+ghost use Rattle.std.specs.Prelude.{◌≡◌, true, not, if◌then◌else◌, OnOk, OnErr, IfOk};
 ghost use Rattle.std.specs.List.{list_all};
 ghost use Rattle.std.specs.FinMap as map;
 ghost use Rattle.sr_exchange.specs.Entries.{is_item, items_in};
-ghost use Rattle.sr_exchange.specs.Tables.{holds, inserted, are_free, all_inserted, judged, with_judged, judge_all, are_judged, all_judged};
+ghost use Rattle.sr_exchange.specs.Tables.{holds, inserted, are_free, all_inserted, with_judged, are_judged, all_judged};
 
 use crate::entry::Judged;
 use crate::item::Item;
@@ -53,35 +53,6 @@ impl Table {
         ensures err { OnErr result (self.new ≡ self.old) }
     {
         self.rows.insert(item.id, item.n)?;
-        Ok(())
-    }
-
-    /// Judges an incoming row: one whose key is free goes in.
-    fn judge_one(&mut self, item: Item) -> Result<Judged, NoMemory>
-        ensures op { IfOk result (λ op. op ≡ judged self.old item) }
-        ensures table { OnOk result (self.new ≡ with_judged self.old (judged self.old item)) }
-        ensures err { OnErr result (self.new ≡ self.old) }
-    {
-        let clashed = self.holds(item.id);
-        if !clashed {
-            self.insert(item)?;
-        }
-        Ok(Judged { item, clashed })
-    }
-
-    /// Judges incoming rows in order, each on the rows that those before it leave, and adds what became of them at the end of `ops`.
-    ///
-    /// For want of memory some of them are in.
-    pub fn judge(&mut self, items: &[Item], ops: &mut Vec<Judged>) -> Result<(), NoMemory>
-        ensures ops { OnOk result (ops.new.items ≡ ops.old.items ++ judge_all self.old items.now) }
-        ensures table { OnOk result (self.new ≡ all_judged self.old (judge_all self.old items.now)) }
-    {
-        let mut rest = items;
-        'items: while let Some((item, following)) = rest.split_first() {
-            let op = self.judge_one(*item)?;
-            ops.push(op)?;
-            rest = following;
-        }
         Ok(())
     }
 

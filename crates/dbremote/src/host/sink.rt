@@ -1,5 +1,5 @@
 //! Standard output as the lines' sink. It keeps no bytes back, so what it says that it took, the system took.
-ghost use Rattle.std.specs.Prelude.{◌≤◌, ◌-◌, ◌^◌, [], false};
+ghost use Rattle.std.specs.Prelude.{◌-◌, [], false};
 
 use sr_site::{Failed, Sink};
 use std::io::Print;

@@ -1,7 +1,6 @@
 //! The host as a site: it counts the faults of its disk and of its mail, and tells nothing else.
-ghost use Rattle.std.specs.Prelude.{◌≡◌, ◌≤◌, ◌^◌, ◌-◌, Ok, IfOk, OnErr, IsErrOf};
+ghost use Rattle.std.specs.Prelude.{◌≡◌, ◌≤◌, ◌-◌, Ok, IfOk, OnErr};
 ghost use Rattle.sr_site.specs.Causes.{Rose};
-ghost use Rattle.sr_site.specs.declared.mail.MailFault.TheVariants.{Failed as failed_mail};
 ghost use Rattle.dbremote.specs.Untold.{untold};
 
 use crate::host::files::DatabaseFiles;

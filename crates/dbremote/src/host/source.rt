@@ -1,5 +1,5 @@
 //! Standard input as the script's source. It keeps no bytes back: each read is a call of the system.
-ghost use Rattle.std.specs.Prelude.{◌≤◌, ◌-◌, ◌^◌, [], false};
+ghost use Rattle.std.specs.Prelude.{◌-◌, [], false};
 
 use sr_site::{Failed, Source};
 use std::io::Read;

@@ -2,13 +2,8 @@
 
 use crate::host::folder;
 use crate::host::site::HostSite;
-use crate::letters::LETTER;
-use crate::role_logs::{CONS, R1};
-use crate::run::run;
 use sr_base::{NoMemory, Text};
-use sr_memsite::{MemorySink, MemorySource};
 use sr_site::{Disk, File, Site};
-use std::alloc::Global;
 use std::fs;
 
 /// Makes a folder for one test, without what an earlier run left.
@@ -129,93 +124,5 @@ fn a_message_is_put_listed_fetched_and_removed(rt: HostRuntime) -> Result<(), No
         folder::list(&rt, alloc, "trial-mail/r1").is_ok_and(|names| names.first.len() == 1)
     );
     end(&rt, "trial-mail");
-    Ok(())
-}
-
-/// Lets go of the files of a database in the folder that the tests run in.
-fn end_database(rt: &HostRuntime, alloc: Global, name: &str) -> Result<(), NoMemory> {
-    for suffix in ["root", "log0", "log1", "snap0", "snap1"] {
-        let file = format!(in alloc; "{name}.{suffix}")?;
-        let _ = fs::remove_file(rt, file.as_str());
-    }
-    Ok(())
-}
-
-/// Whether a run of these words with this script on the host's files ends with status 0 and these lines.
-fn says(
-    rt: &HostRuntime,
-    alloc: Global,
-    words: &[&str],
-    script: &[u8],
-    lines: &str,
-) -> Result<bool, NoMemory> {
-    let mut texts = Vec::new(alloc);
-    for word in words {
-        texts.push(Text::from_str(alloc, word)?)?;
-    }
-    let mut site = HostSite::new(*rt);
-    let mut input = MemorySource::new(Vec::from_slice(alloc, script)?);
-    let mut output = MemorySink::new(alloc);
-    let status = run(
-        alloc,
-        texts.as_slice(),
-        &mut site,
-        &mut input,
-        &mut output,
-        0,
-    );
-    Ok(status == 0 && output.bytes() == lines.as_bytes())
-}
-
-/// Whether a file has these bytes.
-fn has(rt: &HostRuntime, alloc: Global, path: &str, bytes: &[u8]) -> bool {
-    match folder::fetch(rt, alloc, path, 4096) {
-        Ok(Some(found)) => found.as_slice() == bytes,
-        _ => false,
-    }
-}
-
-const SEND: [&str; 5] = ["agent", "cons", "--mail", "trial-exchange", "-s"];
-
-const RECEIVE: [&str; 5] = ["agent", "r1", "--mail", "trial-exchange", "-r"];
-
-const FIRST_FILE: &str = "trial-exchange/r1/cons.0000000000000001";
-
-#[test]
-fn one_message_goes_over_real_files(rt: HostRuntime) -> Result<(), NoMemory> {
-    let alloc = rt.alloc();
-    end(&rt, "trial-exchange");
-    end_database(&rt, alloc, "cons")?;
-    end_database(&rt, alloc, "r1")?;
-    let script = b"INSERT INTO t VALUES (1, 5);\nCOMMIT;\n".as_slice();
-    assert!(rt;
-        says(
-            &rt,
-            alloc,
-            &["sql", "cons"],
-            script,
-            "1 rows\ncommitted 252\n"
-        )?
-    );
-    assert!(rt; says(&rt, alloc, &SEND, &[], "to r1 put 1 up to 252\n")?);
-    assert!(rt; has(&rt, alloc, FIRST_FILE, &LETTER), "the file");
-    assert!(rt; has(&rt, alloc, "cons.log0", &CONS), "the log of cons");
-    assert!(rt; says(&rt, alloc, &["sql", "r1"], &[], "")?);
-    assert!(rt; says(&rt, alloc, &RECEIVE, &[], "from cons took 1 up to 252\n")?);
-    assert!(rt; has(&rt, alloc, "r1.log0", &R1), "the log of r1");
-    assert!(rt;
-        folder::list(&rt, alloc, "trial-exchange/r1").is_ok_and(|names| names.first.is_empty()),
-        "the file is gone"
-    );
-    assert!(rt; says(&rt, alloc, &SEND, &[], "to r1 put 0 up to 252\n")?);
-    assert!(rt;
-        has(&rt, alloc, "cons.log0", &CONS),
-        "the log of cons stays"
-    );
-    assert!(rt; says(&rt, alloc, &RECEIVE, &[], "from cons took 0 up to 252\n")?);
-    assert!(rt; has(&rt, alloc, "r1.log0", &R1), "the log of r1 stays");
-    end(&rt, "trial-exchange");
-    end_database(&rt, alloc, "cons")?;
-    end_database(&rt, alloc, "r1")?;
     Ok(())
 }

@@ -1,5 +1,5 @@
 //! A part of a file, read ahead: many small reads, one behind the other, cost a copy each and no call of the system.
-ghost use Rattle.std.specs.Prelude.{◌≤◌, length, IfOk, IfSome};
+ghost use Rattle.std.specs.Prelude.{◌≤◌, length, IfOk};
 
 use crate::host::disk_file::DiskFile;
 use sr_base::NoMemory;

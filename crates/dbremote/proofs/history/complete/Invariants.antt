@@ -7,4 +7,4 @@ abbrev pub invariant-missing : goal.invariant-missing
 invariant-missing g l = Completing l.fn.log l.log l.fn.fold l.fold (g.S.Held.seen l.fn.site) (g.S.Held.seen l.site)
 
 abbrev pub decreases-missing : goal.decreases-missing
-decreases-missing g l = length l.fold.state.waiting
+decreases-missing g l = length l.fold.waiting

@@ -16,8 +16,8 @@ returns-in_err-run_script-clause-stopped g c =
     let old : Outside = outside (seen c.args.site.now) (g.I.Source.told c.args.input.now) (g.I.Source.left c.args.input.now) (g.I.Source.faults c.args.input.now) (g.O.Sink.told c.args.output.now) (g.O.Sink.taken c.args.output.now) (g.O.Sink.faults c.args.output.now) in
     let new : Outside = outside (seen c.run_script.new.site) (g.I.Source.told c.begin.new.input) (g.I.Source.left c.begin.new.input) (g.I.Source.faults c.begin.new.input) (g.O.Sink.told c.run_script.new.output) (g.O.Sink.taken c.run_script.new.output) (g.O.Sink.faults c.run_script.new.output) in
     let p = err_from_is_err_and c.from_residual-in_err-run_script.result c.from_residual-in_err-run_script.ensures.1 in
-    rw (p.1, p.2) (stops_late c.args.role old new (seen c.begin.new.site).files begun.fold c.into_parts-table.result.1 begun.log c.as_slice.result.now c.run_script.new.kept.items (seen c.begin.new.site) _
-    c.into_parts-table.ensures.table c.in_ok-beginning.ensures.opened c.in_ok-beginning.ensures.log.1
+    rw (p.1, p.2) (stops_late c.args.role old new (seen c.begin.new.site).files begun.fold c.into_table-table.result begun.log c.as_slice.result.now c.run_script.new.kept.items (seen c.begin.new.site) _
+    c.into_table-table.ensures.table c.in_ok-beginning.ensures.opened c.in_ok-beginning.ensures.log.1
     (subst AreStatements (sym is) c.in_ok-beginning.ensures.statements.0) (omega (arith, c.in_ok-beginning.ensures.statements.1, ap (λ (l : List Statement). length (script l)) is))
     (λ t. subst (λ (l : List Statement). HasRead old.input new.input (script l)) (sym is) (c.in_ok-beginning.ensures.read t))
     (λ t. refl) c.in_ok-beginning.ensures.stays.told c.in_ok-beginning.ensures.stays.later
@@ -33,12 +33,12 @@ returns-clause-done g c =
     let are = subst AreStatements (sym is) c.in_ok-beginning.ensures.statements.0 in
     record {
       statements = c.as_slice.result.now;
-      rows = c.into_parts-table.result.1;
+      rows = c.into_table-table.result;
       end = begun.log.end;
       are_statements = are;
       read = λ t. subst (λ (l : List Statement). HasRead old.input new.input (script l)) (sym is) (c.in_ok-beginning.ensures.read t);
       free = c.in_ok-run_script.ensures.free;
-      database = λ t. goes_on_of c.args.role old.site.files (seen c.begin.new.site).files new.site.files begun.fold c.into_parts-table.result.1 begun.log c.as_slice.result.now c.into_parts-table.ensures.table (c.in_ok-beginning.ensures.opened t) c.in_ok-beginning.ensures.log.1
+      database = λ t. goes_on_of c.args.role old.site.files (seen c.begin.new.site).files new.site.files begun.fold c.into_table-table.result begun.log c.as_slice.result.now c.into_table-table.ensures.table (c.in_ok-beginning.ensures.opened t) c.in_ok-beginning.ensures.log.1
           are (omega (arith, c.in_ok-beginning.ensures.statements.1, ap (λ (l : List Statement). length (script l)) is)) c.in_ok-run_script.ensures.free
           (c.in_ok-run_script.ensures.holds (subst IsTrue (sym c.in_ok-beginning.ensures.stays.told) t));
       said = c.in_ok-run_script.ensures.said;
