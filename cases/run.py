@@ -108,6 +108,19 @@ def is_found(program, log, place):
     return (status, printed, left) == (3, b"database damaged log0 %s\n" % place.encode(), log)
 
 
+def refusals(path):
+    """The scripts of a file that are refused: each its name, its bytes, and its first wrong line's place."""
+    for row in rows_of(path):
+        place, _, text = row.partition(" ")
+        yield f"{path}: {row}", text.encode("latin-1").decode("unicode_escape").encode("latin-1"), place
+
+
+def is_refused(program, script, place):
+    """Whether a script is refused at this place, and leaves a log as it was."""
+    log = LOGS["C1"]
+    return run(program, ["sql", "c1"], log, script) == (4, b"script refused at byte %s\n" % place.encode(), log)
+
+
 def main(words):
     """Runs every case, and answers the exit status."""
     if len(words) != 2:
@@ -117,6 +130,7 @@ def main(words):
     outcomes = []
     for path in ("sql/scripts.txt", "sql/roles.txt", "sql/words.txt"):
         outcomes += [(f"{path}: {name}", is_met(program, case)) for name, case in script_cases(path)]
+    outcomes += [(name, is_refused(program, script, place)) for name, script, place in refusals("sql/refused.txt")]
     outcomes += [(name, is_found(program, log, place)) for name, log, place in damages("sql/damage.txt")]
     for name, met in outcomes:
         if not met:
