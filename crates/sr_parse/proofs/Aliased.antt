@@ -3,21 +3,21 @@ use Rattle.std.proofs.Common.{◌≡◌, ℕ, ◌+◌, ◌<◌, List, [], ◌∷
 use Rattle.std.proofs.Math.Seq.{get_or-append_seam}
 use Rattle.std.proofs.lemmas.List.{get_or_append_left}
 use Rattle.std.proofs.lemmas.List.Quantifiers.{all_pairs_push}
-use Rattle.sr_parse.specs.declared.reader.Broken.{Broken}
-use Rattle.sr_parse.specs.declared.reader.Broken.TheVariants.{Memory}
+use Rattle.sr_reader.specs.declared.reader.Broken.{Broken}
+use Rattle.sr_reader.specs.declared.reader.Broken.TheVariants.{Memory}
 use Rattle.sr_ast.specs.declared.create.Image.{Image}
-use Rattle.sr_parse.specs.declared.keyword.Keyword.TheVariants as key
-use Rattle.sr_parse.specs.declared.symbol.Symbol.{Symbol}
-use Rattle.sr_parse.specs.declared.symbol.Symbol.TheVariants as symbol
-use Rattle.sr_parse.specs.Symbols.{Symbols, first, behind, word, IsName, IsWord}
-use Rattle.sr_parse.specs.Listing.{Row}
-use Rattle.sr_parse.specs.Triggers.{image_word, IsAlias, Differ, AreAliases}
-use Rattle.sr_parse.specs.Going.{Stop, is_image}
-use Rattle.sr_parse.proofs.Steps.{Stop-begins}
-use Rattle.sr_parse.proofs.Lists.{File}
-use Rattle.sr_parse.proofs.Lists.File.{empty, first as front}
-use Rattle.sr_parse.proofs.Lines.{Runs}
-use Rattle.sr_parse.proofs.Triggering.{image_once, image_is}
+use Rattle.sr_grammar.specs.declared.keyword.Keyword.TheVariants as key
+use Rattle.sr_grammar.specs.declared.symbol.Symbol.{Symbol}
+use Rattle.sr_grammar.specs.declared.symbol.Symbol.TheVariants as symbol
+use Rattle.sr_grammar.specs.Symbols.{Symbols, first, behind, word, IsName, IsWord}
+use Rattle.sr_grammar.specs.Listing.{Row}
+use Rattle.sr_grammar.specs.Triggers.{image_word, IsAlias, Differ, AreAliases}
+use Rattle.sr_grammar.specs.Going.{Stop, is_image}
+use Rattle.sr_grammar.proofs.Steps.{Stop-begins}
+use Rattle.sr_grammar.proofs.Lists.{File}
+use Rattle.sr_grammar.proofs.Lists.File.{empty, first as front}
+use Rattle.sr_reader.proofs.Lines.{Runs}
+use Rattle.sr_grammar.proofs.Triggering.{image_once, image_is}
 
 -- the next symbol, and what is behind it
 pub next_is : (symbols : Symbols) (s : Symbol) → first symbols ≡ Some s → symbols ≡ s ∷ behind symbols

@@ -3,19 +3,20 @@ use Rattle.std.proofs.Common.{◌≡◌, ◌∷◌, Some, Result, refl, sym, sub
 use Rattle.sr_ast.specs.declared.stmt.Stmt.TheVariants as stmt
 use Rattle.sr_ast.specs.declared.create.Grant.{Grant}
 use Rattle.sr_ast.specs.declared.create.SubscriptionRule.{SubscriptionRule}
-use Rattle.sr_parse.specs.declared.keyword.Keyword.{Keyword}
-use Rattle.sr_parse.specs.declared.keyword.Keyword.TheVariants as key
-use Rattle.sr_parse.specs.declared.reader.Broken.{Broken}
-use Rattle.sr_parse.specs.Symbols.{Symbols, first, word, IsWord}
-use Rattle.sr_parse.specs.Catalog.{IsSubscription, IsGrant}
-use Rattle.sr_parse.specs.Scripts.{IsBehindTwo, IsStatement}
-use Rattle.sr_parse.specs.Going.{Ends}
-use Rattle.sr_parse.specs.Reading.{Reading, Anywhere, mapped}
-use Rattle.sr_parse.specs.Productions.{Word, StatementBehind}
-use Rattle.sr_parse.proofs.Statements.{Form, Content, stmt_of, form_at}
-use Rattle.sr_parse.proofs.Forms.{stands_as, behind_two, creates, drops, consolidates, Lacks}
-use Rattle.sr_parse.proofs.Parts.{Seq, cast}
-use Rattle.sr_parse.proofs.Starts.{standing, lacks}
+use Rattle.sr_grammar.specs.declared.keyword.Keyword.{Keyword}
+use Rattle.sr_grammar.specs.declared.keyword.Keyword.TheVariants as key
+use Rattle.sr_reader.specs.declared.reader.Broken.{Broken}
+use Rattle.sr_grammar.specs.Symbols.{Symbols, first, word, IsWord}
+use Rattle.sr_grammar.specs.Catalog.{IsSubscription, IsGrant}
+use Rattle.sr_grammar.specs.Scripts.{IsBehindTwo, IsStatement}
+use Rattle.sr_grammar.specs.Going.{Ends}
+use Rattle.sr_reader.specs.Reading.{Reading, Anywhere, mapped}
+use Rattle.sr_reader.specs.Productions.{Word, StatementBehind}
+use Rattle.sr_grammar.proofs.Statements.{Form, Content, stmt_of, form_at}
+use Rattle.sr_parse.proofs.Forms.{stands_as, behind_two, creates, drops, consolidates}
+use Rattle.sr_reader.proofs.Conditions.{Lacks}
+use Rattle.sr_reader.proofs.Parts.{Seq, cast}
+use Rattle.sr_reader.proofs.Starts.{standing, lacks}
 
 -- the second word was taken, which tells the form: what stands behind it makes the statement
 pub formed_read : (k l : Keyword) (f : Form) (X : Symbols → Content f → Symbols → Type 0) (P : Symbols → Type 0) → ((b : Symbols) (c : Content f) (a : Symbols) → IsBehindTwo k l X b c a → IsStatement b (stmt_of f c) a)

@@ -8,26 +8,27 @@ use Rattle.sr_ast.specs.declared.query.Update.{Update}
 use Rattle.sr_ast.specs.declared.query.Delete.{Delete}
 use Rattle.sr_ast.specs.declared.query.Select.{Select}
 use Rattle.sr_ast.specs.declared.create.SubscriptionRule.{SubscriptionRule}
-use Rattle.sr_parse.specs.declared.keyword.Keyword.{Keyword}
-use Rattle.sr_parse.specs.declared.keyword.Keyword.TheVariants as key
-use Rattle.sr_parse.specs.declared.symbol.Symbol.{Symbol}
-use Rattle.sr_parse.specs.declared.symbol.Symbol.TheVariants as symbol
-use Rattle.sr_parse.specs.declared.reader.Broken.{Broken}
-use Rattle.sr_parse.specs.Symbols.{Symbols, first, behind, word, IsWord}
-use Rattle.sr_parse.specs.Writing.{IsInsert, IsUpdate, IsDelete, IsSelect}
-use Rattle.sr_parse.specs.Catalog.{IsSubscription}
-use Rattle.sr_parse.specs.Scripts.{IsBehind, IsWork, IsDefinition, IsStatement}
-use Rattle.sr_parse.specs.Going.{Ends}
-use Rattle.sr_parse.specs.Reading.{Alike, Reading, Anywhere, mapped}
-use Rattle.sr_parse.specs.Productions.{Word, Work, StatementBehind, Definition}
-use Rattle.sr_parse.proofs.Steps.{Stop-at, Stop-begins}
-use Rattle.sr_parse.proofs.Lists.{Ends-stop}
-use Rattle.sr_parse.proofs.Statements.{Form, Content, stmt_of, form_at, is_work}
-use Rattle.sr_parse.proofs.Statements.Form.{selects, commits, rolls_back, starts_subscription, stops_subscription}
-use Rattle.sr_parse.proofs.Forms.{inserts, updates, deletes, defines, stands_as, behind_word, synchronizing, Lacks}
-use Rattle.sr_parse.proofs.Optionals.{moved}
-use Rattle.sr_parse.proofs.Parts.{Seq, Sample, then, cast, paired}
-use Rattle.sr_parse.proofs.Starts.{nothing_read, standing, lacks, word_read, meant_word}
+use Rattle.sr_grammar.specs.declared.keyword.Keyword.{Keyword}
+use Rattle.sr_grammar.specs.declared.keyword.Keyword.TheVariants as key
+use Rattle.sr_grammar.specs.declared.symbol.Symbol.{Symbol}
+use Rattle.sr_grammar.specs.declared.symbol.Symbol.TheVariants as symbol
+use Rattle.sr_reader.specs.declared.reader.Broken.{Broken}
+use Rattle.sr_grammar.specs.Symbols.{Symbols, first, behind, word, IsWord}
+use Rattle.sr_grammar.specs.Writing.{IsInsert, IsUpdate, IsDelete, IsSelect}
+use Rattle.sr_grammar.specs.Catalog.{IsSubscription}
+use Rattle.sr_grammar.specs.Scripts.{IsBehind, IsWork, IsDefinition, IsStatement}
+use Rattle.sr_grammar.specs.Going.{Ends}
+use Rattle.sr_reader.specs.Reading.{Alike, Reading, Anywhere, mapped}
+use Rattle.sr_reader.specs.Productions.{Word, Work, StatementBehind, Definition}
+use Rattle.sr_grammar.proofs.Steps.{Stop-at, Stop-begins}
+use Rattle.sr_grammar.proofs.Lists.{Ends-stop}
+use Rattle.sr_grammar.proofs.Statements.{Form, Content, stmt_of, form_at, is_work}
+use Rattle.sr_grammar.proofs.Statements.Form.{selects, commits, rolls_back, starts_subscription, stops_subscription}
+use Rattle.sr_parse.proofs.Forms.{inserts, updates, deletes, defines, stands_as, behind_word, synchronizing}
+use Rattle.sr_reader.proofs.Conditions.{Lacks}
+use Rattle.sr_reader.proofs.Optionals.{moved}
+use Rattle.sr_reader.proofs.Parts.{Seq, Sample, then, cast, paired}
+use Rattle.sr_reader.proofs.Starts.{nothing_read, standing, lacks, word_read, meant_word}
 
 -- ---- [WORK]
 

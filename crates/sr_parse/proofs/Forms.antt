@@ -9,21 +9,22 @@ use Rattle.sr_ast.specs.declared.query.Update.{Update}
 use Rattle.sr_ast.specs.declared.query.Delete.{Delete}
 use Rattle.sr_ast.specs.declared.create.SubscriptionRule.{SubscriptionRule}
 use Rattle.sr_ast.specs.declared.create.Grant.{Grant}
-use Rattle.sr_parse.specs.declared.keyword.Keyword.{Keyword}
-use Rattle.sr_parse.specs.declared.keyword.Keyword.TheVariants as key
-use Rattle.sr_parse.specs.declared.symbol.Symbol.{Symbol}
-use Rattle.sr_parse.specs.declared.symbol.Sign.TheVariants as mark
-use Rattle.sr_parse.specs.declared.reader.Broken.{Broken}
-use Rattle.sr_parse.specs.declared.reader.Broken.TheVariants.{Memory}
-use Rattle.sr_parse.specs.Symbols.{Symbols, word, IsWord, IsSign}
-use Rattle.sr_parse.specs.Catalog.{IsSubscription, IsGrant}
-use Rattle.sr_parse.specs.Writing.{IsInsert, IsUpdate, IsDelete}
-use Rattle.sr_parse.specs.Scripts.{IsBehind, IsBehindTwo, IsDml, IsDefinition, IsStatement, IsScript}
-use Rattle.sr_parse.specs.Scripts.Stage.{opened, closed}
-use Rattle.sr_parse.specs.Going.{Ends}
-use Rattle.sr_parse.proofs.Statements.{Form, Content, stmt_of, form_at, formed, Left, left_ends, from_left}
-use Rattle.sr_parse.proofs.Statements.Form.{changes_rows}
-use Rattle.sr_parse.proofs.Statements.Left.{over, parted, passed_over, said}
+use Rattle.sr_grammar.specs.declared.keyword.Keyword.{Keyword}
+use Rattle.sr_grammar.specs.declared.keyword.Keyword.TheVariants as key
+use Rattle.sr_grammar.specs.declared.symbol.Symbol.{Symbol}
+use Rattle.sr_grammar.specs.declared.symbol.Sign.TheVariants as mark
+use Rattle.sr_reader.specs.declared.reader.Broken.{Broken}
+use Rattle.sr_reader.specs.declared.reader.Broken.TheVariants.{Memory}
+use Rattle.sr_grammar.specs.Symbols.{Symbols, word, IsWord, IsSign}
+use Rattle.sr_grammar.specs.Catalog.{IsSubscription, IsGrant}
+use Rattle.sr_grammar.specs.Writing.{IsInsert, IsUpdate, IsDelete}
+use Rattle.sr_grammar.specs.Scripts.{IsBehind, IsBehindTwo, IsDml, IsDefinition, IsStatement, IsScript}
+use Rattle.sr_grammar.specs.Scripts.Stage.{opened, closed}
+use Rattle.sr_grammar.specs.Going.{Ends}
+use Rattle.sr_grammar.proofs.Statements.{Form, Content, stmt_of, form_at, formed, Left, left_ends, from_left}
+use Rattle.sr_grammar.proofs.Statements.Form.{changes_rows}
+use Rattle.sr_grammar.proofs.Statements.Left.{over, parted, passed_over, said}
+use Rattle.sr_reader.proofs.Conditions.{Lacks}
 
 at_form : (f g : Form) → f ≡ g → (before : Symbols) (c : Content f) (after : Symbols) → IsStatement before (stmt_of f c) after → (d : Content g) × (stmt_of f c ≡ stmt_of g d) × IsStatement before (stmt_of g d) after
 at_form f g e before c after h = subst (λ (g : Form). (d : Content g) × (stmt_of f c ≡ stmt_of g d) × IsStatement before (stmt_of g d) after) e (c, refl, h)
@@ -70,10 +71,6 @@ updates before next w s after h =
 pub deletes : (before next : Symbols) → IsWord before key.Delete next → (s : Stmt) (after : Symbols) → IsStatement before s after → (i : Delete) × (s ≡ stmt.Dml (dml.Delete i)) × IsDelete next i after
 deletes before next w s after h =
     let r = stands_as changes_rows before (ap form_at w) s after h in let d = dml_delete before next r.0 after w r.2 in (d.0, r.1 ∙ ap stmt.Dml d.1, d.2)
-
--- no such word is next
-abbrev pub Lacks : Keyword → Symbols → Type 0
-Lacks k before = (rest : Symbols) → IsWord before k rest → ⊥
 
 -- without the words of the others, it is a definition
 pub defines : (before : Symbols) → Lacks key.Insert before → Lacks key.Update before → Lacks key.Delete before → Lacks key.Select before → Lacks key.Commit before → Lacks key.Rollback before → Lacks key.Passthrough before

@@ -4,31 +4,27 @@ use Rattle.sr_base.specs.declared.value.Value.{Value}
 use Rattle.sr_base.specs.declared.value.Value.TheVariants.{Int}
 use Rattle.sr_ast.specs.declared.create.Grant.{Grant}
 use Rattle.sr_ast.specs.declared.create.SubscriptionRule.{SubscriptionRule}
-use Rattle.sr_parse.specs.declared.keyword.Keyword.TheVariants as key
-use Rattle.sr_parse.specs.declared.symbol.Sign.TheVariants as mark
-use Rattle.sr_parse.specs.declared.symbol.Symbol.{Symbol}
-use Rattle.sr_parse.specs.declared.symbol.Symbol.TheVariants as symbol
-use Rattle.sr_parse.specs.declared.reader.Broken.{Broken}
-use Rattle.sr_parse.specs.declared.reader.Broken.TheVariants.{Refused}
-use Rattle.sr_parse.specs.Symbols.{Symbols, first, behind, word, IsName, IsWord, IsSign, IsTextAt}
-use Rattle.sr_parse.specs.Literals.{IsLiteral, IsNegative}
-use Rattle.sr_parse.specs.Catalog.{IsSigned, IsGiven, IsSubscription, IsAddress, IsGrant}
-use Rattle.sr_parse.specs.Going.{Stop, Ends, is_open}
-use Rattle.sr_parse.specs.Reading.{Alike, Reading, Anywhere, mapped}
-use Rattle.sr_parse.specs.Reading.Reading.{read}
-use Rattle.sr_parse.specs.Productions.{Word, Mark}
-use Rattle.sr_parse.proofs.Steps.{Stop-begins}
-use Rattle.sr_parse.proofs.Lists.{Ends-stop}
-use Rattle.sr_parse.proofs.Expressing.{negative_once}
+use Rattle.sr_grammar.specs.declared.keyword.Keyword.TheVariants as key
+use Rattle.sr_grammar.specs.declared.symbol.Sign.TheVariants as mark
+use Rattle.sr_grammar.specs.declared.symbol.Symbol.{Symbol}
+use Rattle.sr_grammar.specs.declared.symbol.Symbol.TheVariants as symbol
+use Rattle.sr_reader.specs.declared.reader.Broken.{Broken}
+use Rattle.sr_reader.specs.declared.reader.Broken.TheVariants.{Refused}
+use Rattle.sr_grammar.specs.Symbols.{Symbols, first, behind, word, IsName, IsWord, IsSign, IsTextAt}
+use Rattle.sr_grammar.specs.Literals.{IsLiteral, IsNegative}
+use Rattle.sr_grammar.specs.Catalog.{IsSigned, IsGiven, IsSubscription, IsAddress, IsGrant}
+use Rattle.sr_grammar.specs.Going.{Stop, Ends, is_open}
+use Rattle.sr_reader.specs.Reading.{Alike, Reading, Anywhere, mapped}
+use Rattle.sr_reader.specs.Reading.Reading.{read}
+use Rattle.sr_reader.specs.Productions.{Word, Mark}
+use Rattle.sr_grammar.proofs.Steps.{Stop-begins}
+use Rattle.sr_grammar.proofs.Lists.{Ends-stop}
+use Rattle.sr_grammar.proofs.Expressing.{negative_once}
 use Rattle.sr_parse.proofs.Granting.{signed_left}
-use Rattle.sr_parse.proofs.Cataloguing.{literal_no_minus}
-use Rattle.sr_parse.proofs.Parts.{Seq, Sample, cast, cast_goes, goes_first}
-use Rattle.sr_parse.proofs.Starts.{meant_one, standing, one_read, none_read, lacks, word_sample, name_sample}
-
--- nothing was taken, and nothing stands there where it looks alike
-pub passed_by : {A : Type 0} (X : Symbols → A → Symbols → Type 0) (P : Symbols → Type 0) {before here : Symbols} (x : A) → here ≡ before → ((after : Symbols) → X after x after)
-    → ((there : Symbols) → Alike before there → (y : A) (rest : Symbols) → X there y rest → P rest → (x ≡ y) × (there ≡ rest)) → Reading X P before here (Ok x)
-passed_by X P x e spells only = read (record { taken = []; parts = sym e; spells = spells; only = λ there alike y rest h p. only there (ap first (sym e) ∙ alike) y rest h p })
+use Rattle.sr_grammar.proofs.Cataloguing.{literal_no_minus}
+use Rattle.sr_reader.proofs.Parts.{Seq, Sample, cast, cast_goes, goes_first}
+use Rattle.sr_reader.proofs.Starts.{meant_one, standing, one_read, none_read, lacks, word_sample, name_sample}
+use Rattle.sr_reader.proofs.Conditions.{passed_by}
 
 -- ---- literals with a sign
 

@@ -12,7 +12,7 @@ use Rattle.std.specs.BTreeSet.{BTreeSet, contains, Updates}
 use Rattle.sr_base.specs.Order.{name_cmp, name_cmp_total}
 use Rattle.sr_ast.specs.declared.create.ColumnRule.{ColumnRule}
 use Rattle.sr_parse.specs.Keys.{IsSetOf}
-use Rattle.sr_parse.specs.Tables.{IsNormal, AreNormal}
+use Rattle.sr_grammar.specs.Tables.{IsNormal, AreNormal}
 
 -- the columns behind those that are left have the normal form so far
 pub record NormalSoFar (key : List (List ℕ)) (all left columns : List ColumnRule) : Type 0 where

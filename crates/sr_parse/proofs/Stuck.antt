@@ -7,19 +7,19 @@ use Rattle.sr_lex.specs.declared.token.TokenKind.{TokenKind}
 use Rattle.sr_lex.specs.declared.token.TokenKind.TheVariants.{Word, Number, TopNumber, Str, Sign}
 use Rattle.sr_lex.specs.Tokens.{IsToken, IsTokens, Takes, is_sign, is_lone, is_dash, is_behind_less, begins}
 use Rattle.sr_lex.specs.Tokens.Skips.{none, blank}
-use Rattle.sr_parse.specs.Symbols.{Symbols}
-use Rattle.sr_parse.specs.Meanings.{IsSymbolOf, AreSymbols}
-use Rattle.sr_parse.specs.Meant.{AreMeant}
-use Rattle.sr_parse.specs.Places.{start_at, NoneGoesOn, IsStuck, IsRefusedAt}
-use Rattle.sr_parse.specs.Scripts.{Pieces, IsScript}
-use Rattle.sr_parse.specs.Scripts.Stage.{closed}
-use Rattle.sr_parse.specs.Reading.{WasRefused, Reading, Alike, AtEnd}
-use Rattle.sr_parse.specs.Reading.Reading.{refused}
-use Rattle.sr_parse.specs.declared.reader.Broken.{Broken}
-use Rattle.sr_parse.specs.declared.reader.Broken.TheVariants.{Memory, Refused}
-use Rattle.sr_parse.proofs.Parts.{spelled}
-use Rattle.sr_parse.proofs.Lexemes.{Lexes, Skips-front, slice_middle, tokens_of}
-use Rattle.sr_parse.proofs.Lexemes.Lexes.{done, token}
+use Rattle.sr_grammar.specs.Symbols.{Symbols}
+use Rattle.sr_grammar.specs.Meanings.{IsSymbolOf, AreSymbols}
+use Rattle.sr_grammar.specs.Meant.{AreMeant}
+use Rattle.sr_grammar.specs.Places.{start_at, NoneGoesOn, IsStuck, IsRefusedAt}
+use Rattle.sr_grammar.specs.Scripts.{Pieces, IsScript}
+use Rattle.sr_grammar.specs.Scripts.Stage.{closed}
+use Rattle.sr_reader.specs.Reading.{WasRefused, Reading, Alike, AtEnd}
+use Rattle.sr_reader.specs.Reading.Reading.{refused}
+use Rattle.sr_reader.specs.declared.reader.Broken.{Broken}
+use Rattle.sr_reader.specs.declared.reader.Broken.TheVariants.{Memory, Refused}
+use Rattle.sr_reader.proofs.Parts.{spelled}
+use Rattle.sr_grammar.proofs.Lexemes.{Lexes, Skips-front, slice_middle, tokens_of}
+use Rattle.sr_grammar.proofs.Lexemes.Lexes.{done, token}
 
 -- ---- a token alone, and before a space
 

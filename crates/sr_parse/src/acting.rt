@@ -1,17 +1,14 @@
 ghost use Rattle.std.specs.Prelude.{◌<◌, ◌≤◌, length, OnOk, IsTrue, IsFalse};
-ghost use Rattle.sr_parse.specs.Reading.{Reading, Anywhere};
-ghost use Rattle.sr_parse.specs.Productions.{TwoWords, OneAction, Assigned, Inserted};
-ghost use Rattle.sr_parse.specs.Going.{Stop, Begins, expression_goes, action_starts};
-ghost use Rattle.sr_parse.specs.Triggers.{IsActions};
-ghost use Rattle.sr_parse.specs.declared.keyword.Keyword.TheVariants as key;
+ghost use Rattle.sr_reader.specs.Reading.{Reading, Anywhere};
+ghost use Rattle.sr_reader.specs.Productions.{TwoWords, OneAction, Assigned, Inserted};
+ghost use Rattle.sr_grammar.specs.Going.{Stop, Begins, expression_goes, action_starts};
+ghost use Rattle.sr_grammar.specs.Triggers.{IsActions};
+ghost use Rattle.sr_grammar.specs.declared.keyword.Keyword.TheVariants as key;
 
-use crate::exprs::expr;
-use crate::keyword::Keyword;
-use crate::querying::row;
-use crate::reader::{Broken, Reader};
-use crate::symbol::Sign;
 use sr_ast::{Action, Actions, Expr};
 use sr_base::{Name, Seq};
+use sr_grammar::{Keyword, Sign};
+use sr_reader::{Broken, Reader, expr, row};
 
 /// How many IFs may stand in one another.
 pub const IFS: usize = 200;

@@ -1,13 +1,13 @@
 ghost use Rattle.std.specs.Prelude.{◌≡◌, ◌<◌, ◌≤◌, length, OnOk, IsTrue, IfSome, ◌∷◌, [], ℕ, List, All, Any, IsFalse, ◌≢◌};
 ghost use Rattle.std.specs.Option.{option_copied};
 ghost use Rattle.sr_ast.specs.declared.create.Image.{Image};
-ghost use Rattle.sr_parse.specs.Reading.{Reading, Anywhere, BeforeWord, BeforeSign, mapped};
-ghost use Rattle.sr_parse.specs.Productions.{TwoWords, Keyed, Ruled, Rules, EachRow, StatementBehind};
-ghost use Rattle.sr_parse.specs.Symbols.{Symbols, word, IsName};
-ghost use Rattle.sr_parse.specs.Going.{Gives, Stop, Ends, Closes, is_open, condition_goes, is_image, is_declare, rule_starts};
-ghost use Rattle.sr_parse.specs.Listing.{Listed, Row};
-ghost use Rattle.sr_parse.specs.Writing.{IsCondition};
-ghost use Rattle.sr_parse.specs.Catalog.{
+ghost use Rattle.sr_reader.specs.Reading.{Reading, Anywhere, BeforeWord, BeforeSign, mapped, Gives};
+ghost use Rattle.sr_reader.specs.Productions.{TwoWords, Keyed, Ruled, Rules, EachRow, StatementBehind};
+ghost use Rattle.sr_grammar.specs.Symbols.{Symbols, word, IsName};
+ghost use Rattle.sr_grammar.specs.Going.{Stop, Ends, Closes, is_open, condition_goes, is_image, is_declare, rule_starts};
+ghost use Rattle.sr_grammar.specs.Listing.{Listed, Row};
+ghost use Rattle.sr_grammar.specs.Writing.{IsCondition};
+ghost use Rattle.sr_grammar.specs.Catalog.{
   IsKind,
   IsLength,
   IsArticle,
@@ -19,22 +19,20 @@ ghost use Rattle.sr_parse.specs.Catalog.{
   IsGiven,
   IsSubscription,
 };
-ghost use Rattle.sr_parse.specs.Tables.{IsTable, IsKeyWords};
-ghost use Rattle.sr_parse.specs.Triggers.{IsOf, AreAliases, IsVariable, IsTrigger, image_word};
-ghost use Rattle.sr_parse.specs.declared.keyword.Keyword.TheVariants as key;
-ghost use Rattle.sr_parse.specs.declared.symbol.Sign.TheVariants as mark;
+ghost use Rattle.sr_grammar.specs.Tables.{IsTable, IsKeyWords};
+ghost use Rattle.sr_grammar.specs.Triggers.{IsOf, AreAliases, IsVariable, IsTrigger, image_word};
+ghost use Rattle.sr_grammar.specs.declared.keyword.Keyword.TheVariants as key;
+ghost use Rattle.sr_grammar.specs.declared.symbol.Sign.TheVariants as mark;
 
 use crate::acting::{IFS, actions};
-use crate::exprs::{expr, literal, negative};
-use crate::keyword::Keyword;
 use crate::normal::normal;
-use crate::reader::{Broken, Reader};
-use crate::symbol::{Sign, Symbol};
 use sr_ast::{
     ArticleRule, ColumnRule, CreatePublication, CreateTable, CreateTrigger, Expr, Grant, Image,
     Stmt, SubscriptionRule,
 };
 use sr_base::{Kind, Name, Seq, Text, Value};
+use sr_grammar::{Keyword, Sign, Symbol};
+use sr_reader::{Broken, Reader, expr, literal, negative};
 use std::alloc::Global;
 
 /// Behind CREATE.
@@ -377,18 +375,6 @@ fn article(reader: &mut Reader) -> Result<ArticleRule, Broken>
         condition,
         by,
     })
-}
-
-/// A WHERE, or nothing.
-pub fn condition(reader: &mut Reader) -> Result<Option<Expr>, Broken>
-    ensures reads { Reading IsCondition (Stop condition_goes) reader.old reader.new result }
-    ensures shorter { length reader.new ≤ length reader.old }
-{
-    if reader.takes(Keyword::Where) {
-        let condition = expr(reader)?;
-        return Ok(Some(condition));
-    }
-    Ok(None)
 }
 
 fn subscribed_by(reader: &mut Reader) -> Result<Option<Expr>, Broken>

@@ -2,13 +2,13 @@
 ghost use Rattle.std.specs.Prelude.{◌≡◌, ◌||◌};
 ghost use Rattle.std.specs.BTreeSet.{contains as has};
 ghost use Rattle.sr_base.specs.Order.{name_cmp};
-ghost use Rattle.sr_parse.specs.Going.{Gives};
-ghost use Rattle.sr_parse.specs.Tables.{AreNormal};
+ghost use Rattle.sr_reader.specs.Reading.{Gives};
+ghost use Rattle.sr_grammar.specs.Tables.{AreNormal};
 ghost use Rattle.sr_parse.specs.Keys.{IsSetOf};
 
-use crate::reader::Broken;
 use sr_ast::ColumnRule;
 use sr_base::{Copied, Name};
+use sr_reader::Broken;
 use std::alloc::Global;
 use std::collections::BTreeSet;
 

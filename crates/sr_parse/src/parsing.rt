@@ -1,70 +1,21 @@
 ghost use Rattle.std.specs.Prelude.{◌≡◌, ◌<◌, ◌≤◌, length, OnOk, IfOk, ℕ, List, Ok, Err};
 ghost use Rattle.sr_ast.specs.declared.stmt.Stmt.{Stmt as Statement};
-ghost use Rattle.sr_parse.specs.Reading.{Reading, AtEnd, mapped};
-ghost use Rattle.sr_parse.specs.Productions.{Definition, Work};
-ghost use Rattle.sr_parse.specs.Scripts.Stage.{closed};
-ghost use Rattle.sr_parse.specs.Going.{Ends};
-ghost use Rattle.sr_parse.specs.Faults.{IsRead};
-ghost use Rattle.sr_parse.specs.Places.{IsRefusedAt};
-ghost use Rattle.sr_parse.specs.Meanings.{IsWritten};
-ghost use Rattle.sr_parse.specs.Scripts.{Pieces, IsStatement, IsPiece};
+ghost use Rattle.sr_reader.specs.Reading.{Reading, AtEnd, mapped};
+ghost use Rattle.sr_reader.specs.Productions.{Definition, Work};
+ghost use Rattle.sr_grammar.specs.Scripts.Stage.{closed};
+ghost use Rattle.sr_grammar.specs.Going.{Ends};
+ghost use Rattle.sr_grammar.specs.Faults.{IsRead};
+ghost use Rattle.sr_grammar.specs.Places.{IsRefusedAt};
+ghost use Rattle.sr_grammar.specs.Meanings.{IsWritten};
+ghost use Rattle.sr_grammar.specs.Scripts.{Pieces, IsStatement, IsPiece};
 
 use crate::creating::{create, drop_statement, grant, subscription};
-use crate::keyword::Keyword;
-use crate::querying::{delete, insert, passthrough, select, update};
-use crate::reader::{Broken, Reader};
-use crate::symbol::Sign;
-use crate::symbols::{start_behind, symbols};
 use sr_ast::{Dml, Script, Stmt};
 use sr_base::{Seq, Text};
+use sr_grammar::{Keyword, ParseFault, Sign};
 use sr_lex::LexFault;
+use sr_reader::{Broken, Reader, delete, insert, passthrough, select, start_behind, symbols, update};
 use std::alloc::{AllocError, AllocFailed, Global};
-
-/// Why a text is no script.
-#[derive(Drop)]
-pub enum ParseFault {
-    /// No script goes on with the token at this byte, or it may not end at the text's length. A fault of the tokens comes first.
-    Refused { at: usize },
-    /// There is no memory for the statements.
-    Memory,
-}
-
-/// A fault of the tokens is one of the script, at the same byte.
-impl From<LexFault> for ParseFault {
-    ghost use Rattle.std.specs.Prelude.{◌≡◌};
-    ghost use Rattle.sr_parse.specs.Faults.{fault_of};
-
-    ghost from_gives = { λ fault e. e ≡ fault_of fault };
-
-    fn from(fault: LexFault) -> ParseFault {
-        match fault {
-            LexFault::NoToken { at } => ParseFault::Refused { at },
-            LexFault::Memory => ParseFault::Memory,
-        }
-    }
-}
-
-impl From<AllocError> for ParseFault {
-    ghost use Rattle.std.specs.Prelude.{◌≡◌};
-    ghost use Rattle.sr_parse.specs.declared.parsing.ParseFault.TheVariants.{Memory};
-
-    ghost from_gives = { λ _ e. e ≡ Memory };
-
-    fn from(_refused: AllocError) -> ParseFault {
-        ParseFault::Memory
-    }
-}
-
-impl<T: Drop> From<AllocFailed<T>> for ParseFault {
-    ghost use Rattle.std.specs.Prelude.{◌≡◌};
-    ghost use Rattle.sr_parse.specs.declared.parsing.ParseFault.TheVariants.{Memory};
-
-    ghost from_gives = { λ _ e. e ≡ Memory };
-
-    fn from(_refused: AllocFailed<T>) -> ParseFault {
-        ParseFault::Memory
-    }
-}
 
 /// The statements of a script, each in its normal form.
 ///

@@ -1,10 +1,10 @@
 use Rattle.std.proofs.Common.{rules, []}
-use Rattle.sr_parse.specs.declared.keyword.Keyword.TheVariants as key
-use Rattle.sr_parse.specs.Symbols.{IsTextAt}
-use Rattle.sr_parse.specs.Productions.{Word}
+use Rattle.sr_grammar.specs.declared.keyword.Keyword.TheVariants as key
+use Rattle.sr_grammar.specs.Symbols.{IsTextAt}
+use Rattle.sr_reader.specs.Productions.{Word}
 use Rattle.sr_parse.proofs.Grants.{address_none, address_read}
-use Rattle.sr_parse.proofs.Parts.{then, first_fails, goes_first, handed}
-use Rattle.sr_parse.proofs.Starts.{word_read, word_sample, text_sample}
+use Rattle.sr_reader.proofs.Parts.{then, first_fails, goes_first, handed}
+use Rattle.sr_reader.proofs.Starts.{word_read, word_sample, text_sample}
 use Rattle.sr_parse.proofs.creating.address.Goals as goal
 
 pub returns-then-not-takes-clause-reads : goal.returns-then-not-takes-clause-reads

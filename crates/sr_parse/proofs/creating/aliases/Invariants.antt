@@ -1,7 +1,7 @@
 use Rattle.std.proofs.Common.{◌≤◌, length, AllPairs}
-use Rattle.sr_parse.specs.Triggers.{IsAlias, Differ}
-use Rattle.sr_parse.specs.Going.{Stop, is_image}
-use Rattle.sr_parse.proofs.Loops.{Filed}
+use Rattle.sr_grammar.specs.Triggers.{IsAlias, Differ}
+use Rattle.sr_grammar.specs.Going.{Stop, is_image}
+use Rattle.sr_reader.proofs.Loops.{Filed}
 use Rattle.sr_parse.proofs.creating.aliases.Given as goal
 
 abbrev pub invariant-more : goal.invariant-more

@@ -1,15 +1,15 @@
 use Rattle.std.proofs.Common.{rules, sym, ◌∙◌, subst}
-use Rattle.sr_parse.specs.declared.keyword.Keyword.TheVariants as key
-use Rattle.sr_parse.specs.Symbols.{Symbols}
-use Rattle.sr_parse.specs.Catalog.{IsPublication}
-use Rattle.sr_parse.specs.Tables.{IsTable}
-use Rattle.sr_parse.specs.Triggers.{IsTrigger}
-use Rattle.sr_parse.proofs.Statements.Form.{creates_table, creates_publication, creates_trigger}
-use Rattle.sr_parse.proofs.Forms.{Lacks}
+use Rattle.sr_grammar.specs.declared.keyword.Keyword.TheVariants as key
+use Rattle.sr_grammar.specs.Symbols.{Symbols}
+use Rattle.sr_grammar.specs.Catalog.{IsPublication}
+use Rattle.sr_grammar.specs.Tables.{IsTable}
+use Rattle.sr_grammar.specs.Triggers.{IsTrigger}
+use Rattle.sr_grammar.proofs.Statements.Form.{creates_table, creates_publication, creates_trigger}
+use Rattle.sr_reader.proofs.Conditions.{Lacks}
 use Rattle.std.proofs.Common.{refl}
-use Rattle.sr_parse.specs.Reading.{Anywhere}
-use Rattle.sr_parse.proofs.Parts.{then, handed}
-use Rattle.sr_parse.proofs.Starts.{word_read}
+use Rattle.sr_reader.specs.Reading.{Anywhere}
+use Rattle.sr_reader.proofs.Parts.{then, handed}
+use Rattle.sr_reader.proofs.Starts.{word_read}
 use Rattle.sr_parse.proofs.Defining.{formed_read, creates_read}
 use Rattle.sr_parse.proofs.creating.create.Goals as goal
 

@@ -1,12 +1,12 @@
 use Rattle.std.proofs.Common.{rules, sym, ◌∙◌, subst}
-use Rattle.sr_parse.specs.declared.keyword.Keyword.TheVariants as key
-use Rattle.sr_parse.specs.Symbols.{Symbols, IsName}
-use Rattle.sr_parse.proofs.Statements.Form.{drops_table, drops_publication, drops_trigger}
-use Rattle.sr_parse.proofs.Forms.{Lacks}
+use Rattle.sr_grammar.specs.declared.keyword.Keyword.TheVariants as key
+use Rattle.sr_grammar.specs.Symbols.{Symbols, IsName}
+use Rattle.sr_grammar.proofs.Statements.Form.{drops_table, drops_publication, drops_trigger}
+use Rattle.sr_reader.proofs.Conditions.{Lacks}
 use Rattle.std.proofs.Common.{refl}
-use Rattle.sr_parse.specs.Reading.{Anywhere}
-use Rattle.sr_parse.proofs.Parts.{then, handed}
-use Rattle.sr_parse.proofs.Starts.{word_read}
+use Rattle.sr_reader.specs.Reading.{Anywhere}
+use Rattle.sr_reader.proofs.Parts.{then, handed}
+use Rattle.sr_reader.proofs.Starts.{word_read}
 use Rattle.sr_parse.proofs.Defining.{formed_read, drops_read}
 use Rattle.sr_parse.proofs.creating.drop_statement.Goals as goal
 

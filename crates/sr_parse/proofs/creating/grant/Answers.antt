@@ -1,11 +1,11 @@
 use Rattle.std.proofs.Common.{rules}
-use Rattle.sr_parse.specs.declared.keyword.Keyword.TheVariants as key
-use Rattle.sr_parse.specs.Catalog.{IsGrant}
-use Rattle.sr_parse.proofs.Statements.Form.{grants_remote}
+use Rattle.sr_grammar.specs.declared.keyword.Keyword.TheVariants as key
+use Rattle.sr_grammar.specs.Catalog.{IsGrant}
+use Rattle.sr_grammar.proofs.Statements.Form.{grants_remote}
 use Rattle.std.proofs.Common.{refl}
-use Rattle.sr_parse.specs.Going.{Ends}
-use Rattle.sr_parse.proofs.Parts.{then, first_fails, handed}
-use Rattle.sr_parse.proofs.Starts.{word_read}
+use Rattle.sr_grammar.specs.Going.{Ends}
+use Rattle.sr_reader.proofs.Parts.{then, first_fails, handed}
+use Rattle.sr_reader.proofs.Starts.{word_read}
 use Rattle.sr_parse.proofs.Grants.{grant_sample}
 use Rattle.sr_parse.proofs.Defining.{formed_read, consolidates_read}
 use Rattle.sr_parse.proofs.creating.grant.Goals as goal

@@ -1,9 +1,9 @@
 use Rattle.std.proofs.Common.{rules, []}
-use Rattle.sr_parse.specs.Symbols.{IsName}
-use Rattle.sr_parse.specs.Catalog.{IsGrant, IsAddress}
+use Rattle.sr_grammar.specs.Symbols.{IsName}
+use Rattle.sr_grammar.specs.Catalog.{IsGrant, IsAddress}
 use Rattle.sr_parse.proofs.Grants.{grant_of, grant_to, grant_back, address_sample}
-use Rattle.sr_parse.proofs.Parts.{then, first_fails, goes_first, recast, handed}
-use Rattle.sr_parse.proofs.Starts.{name_sample}
+use Rattle.sr_reader.proofs.Parts.{then, first_fails, goes_first, recast, handed}
+use Rattle.sr_reader.proofs.Starts.{name_sample}
 use Rattle.sr_parse.proofs.creating.granted.Goals as goal
 
 pub returns-in_err-keyword-clause-reads : goal.returns-in_err-keyword-clause-reads

@@ -1,8 +1,8 @@
 use Rattle.std.proofs.Common.{rules, refl, arith}
-use Rattle.sr_parse.specs.declared.keyword.Keyword.TheVariants as key
+use Rattle.sr_grammar.specs.declared.keyword.Keyword.TheVariants as key
 use Rattle.std.proofs.lemmas.Grind.{common_steps}
-use Rattle.sr_parse.proofs.Parts.{then, first_fails, handed}
-use Rattle.sr_parse.proofs.Optionals.{lacking}
+use Rattle.sr_reader.proofs.Parts.{then, first_fails, handed}
+use Rattle.sr_reader.proofs.Optionals.{lacking}
 use Rattle.sr_parse.proofs.FirstWords.{word_defined, start_defined, stop_defined, synchronize_defined, subscription_sample}
 use Rattle.sr_parse.proofs.parsing.definition.Goals as goal
 

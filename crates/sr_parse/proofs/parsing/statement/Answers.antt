@@ -1,7 +1,7 @@
 use Rattle.std.proofs.Common.{rules, arith}
 use Rattle.std.proofs.lemmas.Grind.{common_steps}
-use Rattle.sr_parse.proofs.Parts.{handed}
-use Rattle.sr_parse.proofs.Optionals.{lacking}
+use Rattle.sr_reader.proofs.Parts.{handed}
+use Rattle.sr_reader.proofs.Optionals.{lacking}
 use Rattle.sr_parse.proofs.FirstWords.{insert_stated, update_stated, delete_stated, select_stated, commit_stated, rollback_stated, passed_stated, definition_stated}
 use Rattle.sr_parse.proofs.parsing.statement.Goals as goal
 

@@ -1,0 +1,17 @@
+pub mod Catalog
+pub mod Expressions
+pub mod Faults
+pub mod Going
+pub mod Levels
+pub mod Listing
+pub mod Literals
+pub mod Meanings
+pub mod Meant
+pub mod Normal
+pub mod NormalForms
+pub mod Places
+pub mod Scripts
+pub mod Symbols
+pub mod Tables
+pub mod Triggers
+pub mod Writing
