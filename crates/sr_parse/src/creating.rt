@@ -32,7 +32,7 @@ use sr_ast::{
 };
 use sr_base::{Kind, Name, Seq, Text, Value};
 use sr_grammar::{Keyword, Sign, Symbol};
-use sr_reader::{Broken, Reader, expr, literal, negative};
+use sr_reader::{Broken, Reader, condition, expr, literal, negative};
 use std::alloc::Global;
 
 /// Behind CREATE.
