@@ -11,8 +11,6 @@ mod acting;
 mod creating;
 mod normal;
 mod parsing;
-#[cfg(test)]
-mod tests;
 
 pub use parsing::parse;
 pub use sr_grammar::{ParseFault, a_text_spells_one_script, what_prints_is_read_so};
