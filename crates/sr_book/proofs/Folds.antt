@@ -4,7 +4,7 @@ use Rattle.sr_book.specs.Books.{new_book, with_note}
 use Rattle.sr_book.specs.declared.book.Book.{Book}
 use Rattle.sr_book.specs.declared.note.Note.{Note}
 use Rattle.sr_book.specs.declared.note.Note.TheVariants.{Confirmed, Asked, Raised, Sent}
-use Rattle.sr_book.specs.Entries.{Name, Seen, local, from_user, noted, takes, asks, booked, ask_count}
+use Rattle.sr_book.specs.Entries.{Name, Sight, local, from_user, noted, takes, asks, booked, ask_count}
 use Rattle.sr_book.specs.Histories.{taken, taken_end, asked, book_from, book_of}
 use Rattle.sr_book.specs.Rising.{top, offsets}
 use Rattle.sr_book.proofs.Offsets.{top-append, offsets-append}
@@ -49,13 +49,13 @@ note_rereceive book (Asked new place) le =
 note_rereceive book Raised le = (omega arith, omega arith)
 note_rereceive book (Sent end messages confirm) le = (le_refl book.rereceive_count, le)
 
-booked_received : {Ops : Type 0} (user : Name) (book : Book) (s : Seen Ops) →
+booked_received : {Ops : Type 0} (user : Name) (book : Book) (s : Sight Ops) →
     (booked user book s).log_received ≡ top book.log_received (offsets (takes user s))
 booked_received user book local = refl
 booked_received user book (from_user other place ops) = elim (name_test user other) [ inl t ↦ rw t.0 refl | inr t ↦ rw t refl ]
 booked_received user book (noted other note) = elim (name_test user other) [ inl t ↦ rw t.0 (note_received book note) | inr t ↦ rw t refl ]
 
-booked_resend : {Ops : Type 0} (user : Name) (book : Book) (s : Seen Ops) (count : ℕ) → count ≤ book.resend_count →
+booked_resend : {Ops : Type 0} (user : Name) (book : Book) (s : Sight Ops) (count : ℕ) → count ≤ book.resend_count →
     (top count (asks user s) ≤ (booked user book s).resend_count) × (book.resend_count ≤ (booked user book s).resend_count)
 booked_resend user book local count le = (le, le_refl book.resend_count)
 booked_resend user book (from_user other place ops) count le =
@@ -63,7 +63,7 @@ booked_resend user book (from_user other place ops) count le =
 booked_resend user book (noted other note) count le =
     elim (name_test user other) [ inl t ↦ rw t.0 (note_resend book note count le) | inr t ↦ rw t (le, le_refl book.resend_count) ]
 
-booked_rereceive : {Ops : Type 0} (user : Name) (book : Book) (s : Seen Ops) → book.rereceive_count ≤ 2 ^ 64 - 1 →
+booked_rereceive : {Ops : Type 0} (user : Name) (book : Book) (s : Sight Ops) → book.rereceive_count ≤ 2 ^ 64 - 1 →
     (book.rereceive_count ≤ (booked user book s).rereceive_count) × ((booked user book s).rereceive_count ≤ 2 ^ 64 - 1)
 booked_rereceive user book local le = (le_refl book.rereceive_count, le)
 booked_rereceive user book (from_user other place ops) le =
@@ -71,7 +71,7 @@ booked_rereceive user book (from_user other place ops) le =
 booked_rereceive user book (noted other note) le =
     elim (name_test user other) [ inl t ↦ rw t.0 (note_rereceive book note le) | inr t ↦ rw t (le_refl book.rereceive_count, le) ]
 
-module _ {Entry Ops : Type 0} (sees : Entry → Seen Ops) where
+module _ {Entry Ops : Type 0} (sees : Entry → Sight Ops) where
   pub taken-append : (user : Name) (es fs : List Entry) → taken sees user (es ++ fs) ≡ taken sees user es ++ taken sees user fs
   taken-append user [] fs = refl
   taken-append user (e ∷ es) fs = ap (λ txs. takes user (sees e) ++ txs) (taken-append user es fs)

@@ -10,16 +10,16 @@ abbrev pub Name : Type 0
 Name = List ℕ
 
 -- what a book sees of an entry of a log
-pub data Seen (Ops : Type 0) : Type 0 where
+pub data Sight (Ops : Type 0) : Type 0 where
   -- what the database did by itself: a transaction of its own, a statement, a synchronization, a passthrough
-  local : Seen Ops
+  local : Sight Ops
   -- a transaction taken from a user, with its offset in that user's log
-  from_user : Name → ℕ → Ops → Seen Ops
+  from_user : Name → ℕ → Ops → Sight Ops
   -- a note in a user's book
-  noted : Name → Note → Seen Ops
+  noted : Name → Note → Sight Ops
 
 -- what an entry takes from a user
-abbrev pub takes : {Ops : Type 0} → Name → Seen Ops → List (ℕ × Ops)
+abbrev pub takes : {Ops : Type 0} → Name → Sight Ops → List (ℕ × Ops)
 takes user local = []
 takes user (from_user other place ops) = if bytes_eq user other then (place, ops) ∷ [] else []
 takes user (noted other note) = []
@@ -32,13 +32,13 @@ ask_count Raised = []
 ask_count (Sent end messages confirm) = []
 
 -- the count of a user's ask that an entry notes
-abbrev pub asks : {Ops : Type 0} → Name → Seen Ops → List ℕ
+abbrev pub asks : {Ops : Type 0} → Name → Sight Ops → List ℕ
 asks user local = []
 asks user (from_user other place ops) = []
 asks user (noted other note) = if bytes_eq user other then ask_count note else []
 
 -- the book of a user after an entry
-abbrev pub booked : {Ops : Type 0} → Name → Book → Seen Ops → Book
+abbrev pub booked : {Ops : Type 0} → Name → Book → Sight Ops → Book
 booked user book local = book
 booked user book (from_user other place ops) = if bytes_eq user other then with_taken book place else book
 booked user book (noted other note) = if bytes_eq user other then with_note book note else book

@@ -1,10 +1,10 @@
 use Rattle.std.specs.Prelude.{ℕ, List, [], ◌∷◌, ◌++◌}
 use Rattle.sr_book.specs.Books.{new_book}
 use Rattle.sr_book.specs.declared.book.Book.{Book}
-use Rattle.sr_book.specs.Entries.{Name, Seen, takes, asks, booked}
+use Rattle.sr_book.specs.Entries.{Name, Sight, takes, asks, booked}
 use Rattle.sr_book.specs.Rising.{top, offsets}
 
-module _ {Entry Ops : Type 0} (sees : Entry → Seen Ops) where
+module _ {Entry Ops : Type 0} (sees : Entry → Sight Ops) where
   -- the transactions that a history took from a user, each with its offset in that user's log
   abbrev pub taken : Name → List Entry → List (ℕ × Ops)
   taken user [] = []

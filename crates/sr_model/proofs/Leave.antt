@@ -1,17 +1,14 @@
-use Rattle.std.proofs.Common.{◌≡◌, ℕ, zero, suc, ◌<◌, ◌≢◌, List, [], ◌∷◌, ◌++◌, length, get_or, map, refl, sym, ap, ◌∙◌, subst, inl, inr, arith, Contains, bytes_eq, true, false}
+use Rattle.std.proofs.Common.{◌≡◌, ℕ, zero, suc, ◌<◌, ◌≢◌, List, [], ◌∷◌, ◌++◌, length, get_or, map, refl, ap, ◌∙◌, subst, inl, inr, arith, Contains, bytes_eq, true}
 use Rattle.std.proofs.lemmas.List.Elements.{Contains-push_cases, Contains-append_left, Contains-append_right}
 use Rattle.sr_book.specs.declared.note.Note.{Note}
 use Rattle.sr_book.specs.declared.note.Note.TheVariants.{Confirmed, Asked, Raised, Sent}
-use Rattle.sr_book.specs.Entries.{Name, Seen, local, from_user, noted}
+use Rattle.sr_book.specs.Entries.{Name, Sight, local, from_user, noted}
 use Rattle.sr_book.proofs.Folds.{name_test, same_name}
 use Rattle.sr_msgform.specs.declared.message.Message.{Message}
-use Rattle.sr_model.specs.Parts.{Parts}
+use Rattle.sr_model.specs.Layers.{Layers}
 use Rattle.sr_model.specs.Steps.{Comes, HasPiece, IsWhole, Chain, CanNote, CanAppend, Deed, append, put, crash, CanDo, CanDoAll, history_after, messages_after, history_after_all, messages_after_all}
-use Rattle.sr_model.specs.Worlds.{World, Step, history_in, history, histories_after, happens, IsNamed, IsAllowed, AreAllowed, AreAllowedOf, steps_of, steps_by, AreAmong}
+use Rattle.sr_model.specs.Worlds.{World, Act, history_in, history, histories_after, happens, IsNamed, IsAllowed, AreAllowed, acts_by, AreAmong}
 use Rattle.sr_model.proofs.Good.{history_in-histories_after}
-
-told_apart : (a b : Name) → bytes_eq a b ≡ false → a ≢ b
-told_apart a b apart same = let one : bytes_eq a b ≡ true = rw same (same_name b) in cc
 
 module _ (fewer messages : List Message) (among : AreAmong fewer messages) where
   abbrev comes_more : (sender receiver : Name) → Comes fewer sender receiver → Comes messages sender receiver
@@ -44,21 +41,20 @@ module _ (fewer messages : List Message) (among : AreAmong fewer messages) where
   chain_more sender receiver prev upto (next ∷ windows) chain =
       (whole_more sender receiver prev next.0 next.1 chain.0, chain_more sender receiver next.0 upto windows chain.1)
 
-  module _ {Entry Ops : Type 0} (p : Parts Entry Ops) where
+  module _ {Entry Ops : Type 0} (p : Layers Entry Ops) where
     note_more : (d : Name) (es : List Entry) (user : Name) (note : Note) → CanNote p fewer d es user note → CanNote p messages d es user note
     note_more d es user (Confirmed place) can = (comes_more user d can.0, can.1, can.2)
     note_more d es user (Asked count place) can = (comes_more user d can.0, can.1, can.2, can.3)
     note_more d es user Raised can = (comes_more user d can.0, can.1)
     note_more d es user (Sent end count confirm) can = record {
       windows = can.windows;
-      some_window = can.some_window;
       chain = chain_more d user _ end.0 can.windows can.chain;
       given_there = can.given_there;
       some_message = can.some_message;
       confirms = can.confirms;
     }
 
-    append_more : (d : Name) (es : List Entry) (s : Seen Ops) → CanAppend p fewer d es s → CanAppend p messages d es s
+    append_more : (d : Name) (es : List Entry) (s : Sight Ops) → CanAppend p fewer d es s → CanAppend p messages d es s
     append_more d es local can = tt
     append_more d es (from_user user place ops) can = record {
       prev = can.prev;
@@ -74,10 +70,10 @@ module _ (fewer messages : List Message) (among : AreAmong fewer messages) where
     append_more d es (noted user note) can = note_more d es user note can
 
     -- what may be done may be done with more messages
-    pub do_more : (d : Name) (es : List Entry) (deed : Deed Entry) → CanDo p fewer d es deed → CanDo p messages d es deed
-    do_more d es (append e) can = (append_more d es (p.sees e) can.0, can.1)
-    do_more d es (put m) can = can
-    do_more d es crash can = tt
+    pub do_more : (lawful : Name → List Entry → Type 0) (d : Name) (es : List Entry) (deed : Deed Entry) → CanDo p lawful fewer d es deed → CanDo p lawful messages d es deed
+    do_more lawful d es (append e) can = (append_more d es (p.sees e) can.0, can.1)
+    do_more lawful d es (put m) can = can
+    do_more lawful d es crash can = tt
 
 -- a deed leaves the messages and may add one
 pub messages_kept : {Entry : Type 0} (messages : List Message) (deed : Deed Entry) → AreAmong messages (messages_after messages deed)
@@ -104,8 +100,8 @@ names_kept (h ∷ hs) d deed = elim (name_test d h.0) [
   | inr t ↦ rw t (ap (λ names. h.0 ∷ names) (names_kept hs d deed))
 ]
 
-pub named_kept : {Entry : Type 0} (w : World Entry) (step : Step Entry) (d : Name) → IsNamed w d → IsNamed (happens w step) d
-named_kept w step d named = rw (names_kept w.histories step.owner step.deed) named
+pub named_kept : {Entry : Type 0} (w : World Entry) (act : Act Entry) (d : Name) → IsNamed w d → IsNamed (happens w act) d
+named_kept w act d named = rw (names_kept w.histories act.owner act.deed) named
 
 -- a deed of a database that is there makes its history longer
 own_history : {Entry : Type 0} (hs : List (Name × List Entry)) (d : Name) (deed : Deed Entry) (k : ℕ) → k < length (map (λ h. h.0) hs) →
@@ -125,111 +121,53 @@ other_history : {Entry : Type 0} (hs : List (Name × List Entry)) (d : Name) (de
     history_in x (histories_after hs d deed) ≡ history_in x hs
 other_history hs d deed x other = elim (history_in-histories_after hs d deed x) [ inl same ↦ same | inr more ↦ absurd (other more.0) ]
 
-module _ {Entry Ops : Type 0} (p : Parts Entry Ops) where
+module _ {Entry Ops : Type 0} (p : Layers Entry Ops) (lawful : Name → List Entry → Type 0) where
   -- a step stays allowed when others step
-  pub still : (w : World Entry) (other step : Step Entry) → step.owner ≢ other.owner → IsAllowed p w step → IsAllowed p (happens w other) step
-  still w other step apart allowed =
-      let same : history (happens w other) step.owner ≡ history w step.owner
-      = other_history w.histories other.owner other.deed step.owner apart in (
-        named_kept w other step.owner allowed.0,
-        rw same (do_more w.messages (messages_after w.messages other.deed) (messages_kept w.messages other.deed) p step.owner (history w step.owner) step.deed allowed.1),
+  pub still : (w : World Entry) (other act : Act Entry) → act.owner ≢ other.owner → IsAllowed p lawful w act → IsAllowed p lawful (happens w other) act
+  still w other act apart allowed =
+      let same : history (happens w other) act.owner ≡ history w act.owner
+      = other_history w.histories other.owner other.deed act.owner apart in (
+        named_kept w other act.owner allowed.0,
+        rw same (do_more w.messages (messages_after w.messages other.deed) (messages_kept w.messages other.deed) p lawful act.owner (history w act.owner) act.deed allowed.1),
       )
 
-  -- a world in which a database may do at least what it may in another
-  record HasRoom (d : Name) (v w : World Entry) : Type 0 where
-    same : history w d ≡ history v d
-    among : AreAmong v.messages w.messages
-    named : IsNamed v d → IsNamed w d
-
-  room_for : (d : Name) (v w : World Entry) (step : Step Entry) → step.owner ≡ d → HasRoom d v w → IsAllowed p v step → IsAllowed p w step
-  room_for d v w step owner room allowed =
-      let same : history w step.owner ≡ history v step.owner = subst (λ name. history w name ≡ history v name) (sym owner) room.same in (
-        subst (IsNamed w) (sym owner) (room.named (subst (IsNamed v) owner allowed.0)),
-        rw same (do_more v.messages w.messages room.among p step.owner (history v step.owner) step.deed allowed.1),
-      )
-
-  own_step : (w : World Entry) (d : Name) (step : Step Entry) → step.owner ≡ d → IsNamed w d →
-      history (happens w step) d ≡ history_after (history w d) step.deed
-  own_step w d step owner named =
-      ap (λ name. history_in d (histories_after w.histories name step.deed)) owner
-      ∙ own_history w.histories d step.deed named.0 named.1 named.2
-
-  room_on : (d : Name) (v w : World Entry) (step : Step Entry) → step.owner ≡ d → HasRoom d v w → IsNamed v d →
-      HasRoom d (happens v step) (happens w step)
-  room_on d v w step owner room named = record {
-    same = own_step w d step owner (room.named named) ∙ ap (λ es. history_after es step.deed) room.same ∙ sym (own_step v d step owner named);
-    among = after_among v.messages w.messages step.deed room.among;
-    named = λ is. named_kept w step d (room.named named);
-  }
-
-  room_past : (d : Name) (v w : World Entry) (step : Step Entry) → d ≢ step.owner → HasRoom d v w → HasRoom d v (happens w step)
-  room_past d v w step other room = record {
-    same = other_history w.histories step.owner step.deed d other ∙ room.same;
-    among = λ m is. messages_kept w.messages step.deed m (room.among m is);
-    named = λ is. named_kept w step d (room.named is);
-  }
-
-  allowed_in : (d : Name) (v w : World Entry) (steps : List (Step Entry)) → HasRoom d v w → AreAllowed p v (steps_of d steps) → AreAllowedOf p d w steps
-  allowed_in d v w [] room allowed = tt
-  allowed_in d v w (step ∷ steps) room allowed = elim (name_test d step.owner) [
-    | inl t ↦
-        let here : IsAllowed p v step × AreAllowed p (happens v step) (steps_of d steps) = rw t.0 at allowed in
-        let named : IsNamed v d = subst (IsNamed v) (sym t.1) here.0.0 in (
-          (λ owner. room_for d v w step owner room here.0),
-          allowed_in d (happens v step) (happens w step) steps (room_on d v w step (sym t.1) room named) here.1,
-        )
-    | inr t ↦
-        let here : AreAllowed p v (steps_of d steps) = rw t at allowed in
-        let apart : d ≢ step.owner = λ same. told_apart d step.owner t same in (
-          (λ owner. absurd (apart (sym owner))),
-          allowed_in d v (happens w step) steps (room_past d v w step apart room) here,
-        )
-  ]
-
-  -- a list of one database's steps stays allowed when others step between
-  pub run_still : (d : Name) (w : World Entry) (steps : List (Step Entry)) → AreAllowed p w (steps_of d steps) → AreAllowedOf p d w steps
-  run_still d w steps allowed = allowed_in d w w steps (record { same = refl; among = λ m is. is; named = λ is. is }) allowed
-
-  each_allowed : (w : World Entry) (steps : List (Step Entry)) → ((d : Name) → AreAllowedOf p d w steps) → AreAllowed p w steps
-  each_allowed w [] each = tt
-  each_allowed w (step ∷ steps) each =
-      ((each step.owner).0 refl, each_allowed (happens w step) steps (λ d. (each d).1))
-
-  -- lists of steps of each database join to one
-  pub joined : (w : World Entry) (steps : List (Step Entry)) → ((d : Name) → AreAllowed p w (steps_of d steps)) → AreAllowed p w steps
-  joined w steps each = each_allowed w steps (λ d. run_still d w steps (each d))
+  own_step : (w : World Entry) (d : Name) (act : Act Entry) → act.owner ≡ d → IsNamed w d →
+      history (happens w act) d ≡ history_after (history w d) act.deed
+  own_step w d act owner named =
+      ap (λ name. history_in d (histories_after w.histories name act.deed)) owner
+      ∙ own_history w.histories d act.deed named.0 named.1 named.2
 
   -- what a database may do by its history and some messages are steps of each world that has these
   pub in_world : (messages : List Message) (d : Name) (es : List Entry) (deeds : List (Deed Entry)) (w : World Entry) → IsNamed w d →
-      history w d ≡ es → AreAmong messages w.messages → CanDoAll p messages d es deeds → AreAllowed p w (steps_by d deeds)
+      history w d ≡ es → AreAmong messages w.messages → CanDoAll p lawful messages d es deeds → AreAllowed p lawful w (acts_by d deeds)
   in_world messages d es [] w named is among can = tt
   in_world messages d es (deed ∷ deeds) w named is among can =
-      let step : Step Entry = record { owner = d; deed = deed } in (
-        (named, rw is (do_more messages w.messages among p d es deed can.0)),
-        in_world (messages_after messages deed) d (history_after es deed) deeds (happens w step) (named_kept w step d named)
-            (own_step w d step refl named ∙ ap (λ es. history_after es deed) is)
+      let act : Act Entry = record { owner = d; deed = deed } in (
+        (named, rw is (do_more messages w.messages among p lawful d es deed can.0)),
+        in_world (messages_after messages deed) d (history_after es deed) deeds (happens w act) (named_kept w act d named)
+            (own_step w d act refl named ∙ ap (λ es. history_after es deed) is)
             (after_among messages w.messages deed among) can.1,
       )
 
   -- deeds that are allowed one after the other join
-  pub deeds_join : (messages : List Message) (d : Name) (es : List Entry) (deeds more : List (Deed Entry)) → CanDoAll p messages d es deeds →
-      CanDoAll p (messages_after_all messages deeds) d (history_after_all es deeds) more → CanDoAll p messages d es (deeds ++ more)
+  pub deeds_join : (messages : List Message) (d : Name) (es : List Entry) (deeds more : List (Deed Entry)) → CanDoAll p lawful messages d es deeds →
+      CanDoAll p lawful (messages_after_all messages deeds) d (history_after_all es deeds) more → CanDoAll p lawful messages d es (deeds ++ more)
   deeds_join messages d es [] more can later = later
   deeds_join messages d es (deed ∷ deeds) more can later =
       (can.0, deeds_join (messages_after messages deed) d (history_after es deed) deeds more can.1 later)
 
   pub deeds_begin : (messages : List Message) (d : Name) (es : List Entry) (deeds more : List (Deed Entry)) →
-      CanDoAll p messages d es (deeds ++ more) → CanDoAll p messages d es deeds
+      CanDoAll p lawful messages d es (deeds ++ more) → CanDoAll p lawful messages d es deeds
   deeds_begin messages d es [] more can = tt
   deeds_begin messages d es (deed ∷ deeds) more can =
       (can.0, deeds_begin (messages_after messages deed) d (history_after es deed) deeds more can.1)
 
   -- what is allowed is allowed with more messages
   pub all_more : (fewer messages : List Message) (d : Name) (es : List Entry) (deeds : List (Deed Entry)) → AreAmong fewer messages →
-      CanDoAll p fewer d es deeds → CanDoAll p messages d es deeds
+      CanDoAll p lawful fewer d es deeds → CanDoAll p lawful messages d es deeds
   all_more fewer messages d es [] among can = tt
   all_more fewer messages d es (deed ∷ deeds) among can = (
-    do_more fewer messages among p d es deed can.0,
+    do_more fewer messages among p lawful d es deed can.0,
     all_more (messages_after fewer deed) (messages_after messages deed) d (history_after es deed) deeds
         (after_among fewer messages deed among) can.1,
   )

@@ -1,7 +1,7 @@
 use Rattle.std.proofs.Common.{◌≡◌, ℕ, ◌+◌, ◌≤◌, List, [], ◌∷◌, ◌++◌, refl, arith, le_refl}
-use Rattle.sr_model.specs.Parts.{Parts, end_from, end_of}
+use Rattle.sr_model.specs.Layers.{Layers, end_from, end_of}
 
-module _ {Entry Ops : Type 0} (p : Parts Entry Ops) where
+module _ {Entry Ops : Type 0} (p : Layers Entry Ops) where
   pub end_from-append : (place : ℕ) (es fs : List Entry) → end_from p place (es ++ fs) ≡ end_from p (end_from p place es) fs
   end_from-append place [] fs = refl
   end_from-append place (e ∷ es) fs = end_from-append (place + (p.size e + 5)) es fs

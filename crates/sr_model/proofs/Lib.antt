@@ -3,9 +3,13 @@ pub mod Lengths
 pub mod Longer
 pub mod Spelled
 pub mod Sound
+pub mod Bodies
 pub mod Lines
 pub mod Good
 pub mod Leave
+pub mod Running
 pub mod Windows
 pub mod Machinery
+pub mod Grants
+pub mod Tests
 pub mod Reached

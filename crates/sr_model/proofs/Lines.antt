@@ -4,23 +4,23 @@ use Rattle.sr_book.specs.Books.{with_note}
 use Rattle.sr_book.specs.declared.book.Book.{Book}
 use Rattle.sr_book.specs.declared.note.Note.{Note}
 use Rattle.sr_book.specs.declared.note.Note.TheVariants.{Confirmed, Asked, Raised, Sent}
-use Rattle.sr_book.specs.Entries.{Name, Seen, local, from_user, noted, takes, asks, booked, ask_count}
+use Rattle.sr_book.specs.Entries.{Name, Sight, local, from_user, noted, takes, asks, booked, ask_count}
 use Rattle.sr_book.specs.Histories.{taken, taken_end, asked, book_of}
 use Rattle.sr_book.specs.Rising.{Rises, top, offsets}
 use Rattle.sr_book.proofs.Offsets.{Rises-append, Rises-front, Rises-back, offsets-append}
 use Rattle.sr_book.proofs.Folds.{name_test, ask_test, taken_more, asked_more, book_more, asked_within, book_received}
 use Rattle.sr_msgform.specs.declared.message.Message.{Message}
-use Rattle.sr_model.specs.Parts.{Parts, Laws, IsLawful, end_of}
+use Rattle.sr_model.specs.Layers.{Layers, Laws, end_of}
 use Rattle.sr_model.specs.Truth.{IsTrueOf}
 use Rattle.sr_model.specs.Worlds.{AreInStep, IsInOrder}
 use Rattle.sr_model.proofs.Longer.{given_in, given_longer, taken_longer, true_longer, le-end_of}
 use Rattle.sr_model.proofs.Sound.{AreGood, IsSound, IsSoundNote, taken_stands}
 
 -- a history that stays, or has one lawful and sound entry more
-pub record HasMore {Entry Ops : Type 0} (p : Parts Entry Ops) (of : Name → List Entry) (d : Name) (new : List Entry) : Type 0 where
+pub record HasMore {Entry Ops : Type 0} (p : Layers Entry Ops) (lawful : Name → List Entry → Type 0) (of : Name → List Entry) (d : Name) (new : List Entry) : Type 0 where
   pub entry : Entry
   pub joined : new ≡ of d ++ entry ∷ []
-  pub lawful : IsLawful p d new
+  pub is_lawful : lawful d new
   pub sound : IsSound p of d (p.sees entry)
 
 -- a book in order, of a history that ends here
@@ -33,7 +33,7 @@ record IsBookInOrder (book : Book) (end : ℕ) : Type 0 where
 ask_new : (known count : ℕ) → known < count → nat_lt known count ≡ true
 ask_new known count above = grind arith
 
-module _ {Entry Ops : Type 0} (p : Parts Entry Ops) (laws : Laws p) (of : Name → List Entry) (messages : List Message) (good : AreGood p of messages) where
+module _ {Entry Ops : Type 0} (p : Layers Entry Ops) (lawful : Name → List Entry → Type 0) (laws : Laws p lawful) (of : Name → List Entry) (messages : List Message) (good : AreGood p lawful of messages) where
   old_in_order : (d user : Name) → IsBookInOrder (book_of p.sees user (of d)) (end_of p (of d))
   old_in_order d user =
       let old = good.books d user in
@@ -46,7 +46,7 @@ module _ {Entry Ops : Type 0} (p : Parts Entry Ops) (laws : Laws p) (of : Name �
   ask_rises d user (Sent end count confirm) sound = tt
 
   -- what a sound entry takes is the next of what the user's history gives
-  take_next : (d user : Name) (s : Seen Ops) → IsSound p of d s →
+  take_next : (d user : Name) (s : Sight Ops) → IsSound p of d s →
       (more : List (ℕ × Ops)) × (p.given user d (of user) ≡ (taken p.sees user (of d) ++ takes user s) ++ more)
   take_next d user local sound =
       let pair = good.in_step d user in
@@ -65,7 +65,7 @@ module _ {Entry Ops : Type 0} (p : Parts Entry Ops) (laws : Laws p) (of : Name �
       (pair.rest, pair.taken_first ∙ ap (λ txs. txs ++ pair.rest) (sym (append-nil (taken p.sees user (of d)))))
 
   -- what a longer history took is a beginning of what was given before
-  taken_next : (d user : Name) (new : List Entry) → (new ≡ of d) ⊎ HasMore p of d new →
+  taken_next : (d user : Name) (new : List Entry) → (new ≡ of d) ⊎ HasMore p lawful of d new →
       (more : List (ℕ × Ops)) × (p.given user d (of user) ≡ taken p.sees user new ++ more)
   taken_next d user new (inl same) = let pair = good.in_step d user in rw same (pair.rest, pair.taken_first)
   taken_next d user new (inr more) =
@@ -75,31 +75,31 @@ module _ {Entry Ops : Type 0} (p : Parts Entry Ops) (laws : Laws p) (of : Name �
       rw is next
 
   -- so its offsets rise
-  taken_rises : (d user : Name) (new : List Entry) → (new ≡ of d) ⊎ HasMore p of d new → Rises 0 (offsets (taken p.sees user new))
+  taken_rises : (d user : Name) (new : List Entry) → (new ≡ of d) ⊎ HasMore p lawful of d new → Rises 0 (offsets (taken p.sees user new))
   taken_rises d user new change =
       let next = taken_next d user new change in
       let rises : Rises 0 (offsets (taken p.sees user new) ++ offsets next.0)
-      = rw (ap offsets next.1 ∙ offsets-append (taken p.sees user new) next.0) at (given_in p laws user d (of user)).0 in
+      = rw (ap offsets next.1 ∙ offsets-append (taken p.sees user new) next.0) at (given_in p lawful laws user d (of user)).0 in
       Rises-front 0 (offsets (taken p.sees user new)) (offsets next.0) rises
 
-  taken_later : (d user : Name) (new : List Entry) → (new ≡ of d) ⊎ HasMore p of d new → taken_end p.sees user (of d) ≤ taken_end p.sees user new
+  taken_later : (d user : Name) (new : List Entry) → (new ≡ of d) ⊎ HasMore p lawful of d new → taken_end p.sees user (of d) ≤ taken_end p.sees user new
   taken_later d user new (inl same) = rw same (le_refl (taken_end p.sees user (of d)))
   taken_later d user new (inr more) =
       let rises : Rises 0 (offsets (taken p.sees user new)) = taken_rises d user new (inr more) in
       let rises' : Rises 0 (offsets (taken p.sees user (of d ++ more.entry ∷ [])))
       = subst (λ es. Rises 0 (offsets (taken p.sees user es))) more.joined rises in
-      rw more.joined (taken_longer p laws user (of d) (more.entry ∷ []) rises')
+      rw more.joined (taken_longer p lawful laws user (of d) (more.entry ∷ []) rises')
 
   -- what a changed history gives goes on from what it gave
-  given_next : (user d : Name) (new : List Entry) → (new ≡ of d) ⊎ HasMore p of d new →
+  given_next : (user d : Name) (new : List Entry) → (new ≡ of d) ⊎ HasMore p lawful of d new →
       (more : List (ℕ × Ops)) × (p.given d user new ≡ p.given d user (of d) ++ more)
   given_next user d new (inl same) = ([], ap (p.given d user) same ∙ sym (append-nil (p.given d user (of d))))
   given_next user d new (inr more) =
-      let grown = given_longer p laws d user (of d) (more.entry ∷ []) in
+      let grown = given_longer p lawful laws d user (of d) (more.entry ∷ []) in
       (grown.more, ap (p.given d user) more.joined ∙ grown.joined)
 
   -- a sound entry confirms no more than was taken
-  booked_confirmed : (d user : Name) (s : Seen Ops) → IsSound p of d s →
+  booked_confirmed : (d user : Name) (s : Sight Ops) → IsSound p of d s →
       (booked user (book_of p.sees user (of d)) s).confirm_sent ≤ taken_end p.sees d (of user)
   booked_confirmed d user local sound = (good.in_step d user).confirmed
   booked_confirmed d user (from_user other place ops) sound =
@@ -116,15 +116,15 @@ module _ {Entry Ops : Type 0} (p : Parts Entry Ops) (laws : Laws p) (of : Name �
       by_note Raised sound = (good.in_step d user).confirmed
       by_note (Sent end count confirm) sound = (good.in_step d user).confirmed
 
-  new_confirmed : (d user : Name) (new : List Entry) → (new ≡ of d) ⊎ HasMore p of d new →
+  new_confirmed : (d user : Name) (new : List Entry) → (new ≡ of d) ⊎ HasMore p lawful of d new →
       (book_of p.sees user new).confirm_sent ≤ taken_end p.sees d (of user)
   new_confirmed d user new (inl same) = rw same (good.in_step d user).confirmed
   new_confirmed d user new (inr more) =
       rw (ap (book_of p.sees user) more.joined ∙ book_more p.sees user (of d) more.entry) (booked_confirmed d user (p.sees more.entry) more.sound)
 
   -- the second and third line
-  pub in_step_kept : (d user : Name) (new_d new_user : List Entry) → (new_d ≡ of d) ⊎ HasMore p of d new_d →
-      (new_user ≡ of user) ⊎ HasMore p of user new_user → AreInStep p d user new_d new_user
+  pub in_step_kept : (d user : Name) (new_d new_user : List Entry) → (new_d ≡ of d) ⊎ HasMore p lawful of d new_d →
+      (new_user ≡ of user) ⊎ HasMore p lawful of user new_user → AreInStep p d user new_d new_user
   in_step_kept d user new_d new_user change change' =
       let next = taken_next d user new_d change in
       let given = given_next d user new_user change' in
@@ -140,7 +140,7 @@ module _ {Entry Ops : Type 0} (p : Parts Entry Ops) (laws : Laws p) (of : Name �
       taken_end p.sees user (of d) < place
   taken_past d user place ops more is =
       let rises : Rises 0 (offsets (taken p.sees user (of d)) ++ place ∷ offsets more)
-      = rw (ap offsets is ∙ offsets-append (taken p.sees user (of d)) ((place, ops) ∷ more)) at (given_in p laws user d (of user)).0 in
+      = rw (ap offsets is ∙ offsets-append (taken p.sees user (of d)) ((place, ops) ∷ more)) at (given_in p lawful laws user d (of user)).0 in
       (Rises-back 0 (offsets (taken p.sees user (of d))) (place ∷ offsets more) rises).0
 
   -- the book after a sound note is in order
@@ -148,7 +148,7 @@ module _ {Entry Ops : Type 0} (p : Parts Entry Ops) (laws : Laws p) (of : Name �
       IsBookInOrder (with_note (book_of p.sees user (of d)) note) (end_of p (of d))
   note_in_order d user (Confirmed place) sound =
       let old = good.books d user in
-      let stands : taken_end p.sees d (of user) ≤ end_of p (of d) = taken_stands p laws of messages good user d in
+      let stands : taken_end p.sees d (of user) ≤ end_of p (of d) = taken_stands p lawful laws of messages good user d in
       record {
         confirmed_sent = omega (arith, old.confirmed_sent);
         sent_stands = omega (arith, old.sent_stands, stands);
@@ -156,7 +156,7 @@ module _ {Entry Ops : Type 0} (p : Parts Entry Ops) (laws : Laws p) (of : Name �
       }
   note_in_order d user (Asked count place) sound =
       let old = good.books d user in
-      let stands : taken_end p.sees d (of user) ≤ end_of p (of d) = taken_stands p laws of messages good user d in
+      let stands : taken_end p.sees d (of user) ≤ end_of p (of d) = taken_stands p lawful laws of messages good user d in
       rw (ask_new (book_of p.sees user (of d)).resend_count count sound.1) (record {
         confirmed_sent = omega arith;
         sent_stands = omega (arith, old.confirmed_sent, old.sent_stands, stands, sound.0);
@@ -174,7 +174,7 @@ module _ {Entry Ops : Type 0} (p : Parts Entry Ops) (laws : Laws p) (of : Name �
       }
 
   -- the book after a sound entry is in order
-  booked_in_order : (d user : Name) (s : Seen Ops) → IsSound p of d s →
+  booked_in_order : (d user : Name) (s : Sight Ops) → IsSound p of d s →
       IsBookInOrder (booked user (book_of p.sees user (of d)) s) (end_of p (of d))
   booked_in_order d user local sound = old_in_order d user
   booked_in_order d user (from_user other place ops) sound =
@@ -198,7 +198,7 @@ module _ {Entry Ops : Type 0} (p : Parts Entry Ops) (laws : Laws p) (of : Name �
       ]
 
   -- the asks that a sound entry notes rise above those before
-  asks_rise : (d user : Name) (s : Seen Ops) → IsSound p of d s → Rises (top 0 (asked p.sees user (of d))) (asks user s)
+  asks_rise : (d user : Name) (s : Sight Ops) → IsSound p of d s → Rises (top 0 (asked p.sees user (of d))) (asks user s)
   asks_rise d user local sound = tt
   asks_rise d user (from_user other place ops) sound = tt
   asks_rise d user (noted other note) sound =
@@ -208,13 +208,13 @@ module _ {Entry Ops : Type 0} (p : Parts Entry Ops) (laws : Laws p) (of : Name �
       ]
 
   -- the fourth and the sixth line
-  pub books_kept : (d user : Name) (new : List Entry) → (new ≡ of d) ⊎ HasMore p of d new → IsInOrder p user new
+  pub books_kept : (d user : Name) (new : List Entry) → (new ≡ of d) ⊎ HasMore p lawful of d new → IsInOrder p user new
   books_kept d user new (inl same) = rw same (good.books d user)
   books_kept d user new (inr more) =
       let e = more.entry in
       let book : IsBookInOrder (book_of p.sees user new) (end_of p (of d))
       = rw (ap (book_of p.sees user) more.joined ∙ book_more p.sees user (of d) e) (booked_in_order d user (p.sees e) more.sound) in
-      let later : end_of p (of d) ≤ end_of p new = rw more.joined (le-end_of p laws (of d) (e ∷ [])) in
+      let later : end_of p (of d) ≤ end_of p new = rw more.joined (le-end_of p lawful laws (of d) (e ∷ [])) in
       let counts : asked p.sees user new ≡ asked p.sees user (of d) ++ asks user (p.sees e)
       = ap (asked p.sees user) more.joined ∙ asked_more p.sees user (of d) e in
       record {
@@ -225,30 +225,30 @@ module _ {Entry Ops : Type 0} (p : Parts Entry Ops) (laws : Laws p) (of : Name �
       }
 
   -- the fifth line
-  true_kept : (d : Name) (new : List Entry) (m : Message) → (new ≡ of d) ⊎ HasMore p of d new → IsTrueOf p d (of d) m → IsTrueOf p d new m
+  true_kept : (d : Name) (new : List Entry) (m : Message) → (new ≡ of d) ⊎ HasMore p lawful of d new → IsTrueOf p d (of d) m → IsTrueOf p d new m
   true_kept d new m (inl same) t = rw same t
   true_kept d new m (inr more) t =
       let rises : Rises 0 (offsets (taken p.sees m.to (of d ++ more.entry ∷ [])))
       = subst (λ es. Rises 0 (offsets (taken p.sees m.to es))) more.joined (taken_rises d m.to new (inr more)) in
-      rw more.joined (true_longer p laws d (of d) (more.entry ∷ []) m rises t)
+      rw more.joined (true_longer p lawful laws d (of d) (more.entry ∷ []) m rises t)
 
-  lawful_kept : (d : Name) (new : List Entry) → (new ≡ of d) ⊎ HasMore p of d new → IsLawful p d new
-  lawful_kept d new (inl same) = rw same (good.lawful d)
-  lawful_kept d new (inr more) = more.lawful
+  lawful_kept : (d : Name) (new : List Entry) → (new ≡ of d) ⊎ HasMore p lawful of d new → lawful d new
+  lawful_kept d new (inl same) = rw same (good.are_lawful d)
+  lawful_kept d new (inr more) = more.is_lawful
 
   -- histories that stay, or have a lawful and sound entry more, stay good
-  pub histories_kept : (new : Name → List Entry) → ((d : Name) → (new d ≡ of d) ⊎ HasMore p of d (new d)) → AreGood p new messages
+  pub histories_kept : (new : Name → List Entry) → ((d : Name) → (new d ≡ of d) ⊎ HasMore p lawful of d (new d)) → AreGood p lawful new messages
   histories_kept new changes = record {
-    lawful = λ d. lawful_kept d (new d) (changes d);
+    are_lawful = λ d. lawful_kept d (new d) (changes d);
     in_step = λ d user. in_step_kept d user (new d) (new user) (changes d) (changes user);
     books = λ d user. books_kept d user (new d) (changes d);
     are_true = λ m among. true_kept m.from (new m.from) m (changes m.from) (good.are_true m among);
   }
 
   -- a true message more is as good
-  pub message_kept : (m : Message) → IsTrueOf p m.from (of m.from) m → AreGood p of (messages ++ m ∷ [])
+  pub message_kept : (m : Message) → IsTrueOf p m.from (of m.from) m → AreGood p lawful of (messages ++ m ∷ [])
   message_kept m t = record {
-    lawful = good.lawful;
+    are_lawful = good.are_lawful;
     in_step = good.in_step;
     books = good.books;
     are_true = λ x among. elim (Contains-push_cases messages m x among) [

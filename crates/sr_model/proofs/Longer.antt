@@ -6,7 +6,7 @@ use Rattle.sr_book.specs.Rising.{Rises, top, offsets}
 use Rattle.sr_book.proofs.Offsets.{top-append, Rises-append, Rises-back, le-top, offsets-append}
 use Rattle.sr_book.proofs.Folds.{taken-append, counts_kept}
 use Rattle.sr_msgform.specs.declared.message.Message.{Message}
-use Rattle.sr_model.specs.Parts.{transaction, Parts, Laws, end_of}
+use Rattle.sr_model.specs.Layers.{transaction, Layers, Laws, end_of}
 use Rattle.sr_model.specs.Windows.{window}
 use Rattle.sr_model.specs.Truth.{members, IsTrueOf}
 use Rattle.sr_model.proofs.Offsets.{by_one_more, window_above}
@@ -19,7 +19,7 @@ pub record Grown {Ops : Type 0} (old new : List (ℕ × Ops)) (low high : ℕ) :
   pub rises : Rises low (offsets more)
   pub within : top low (offsets more) ≤ high
 
-module _ {Entry Ops : Type 0} (p : Parts Entry Ops) (laws : Laws p) where
+module _ {Entry Ops : Type 0} (p : Layers Entry Ops) (lawful : Name → List Entry → Type 0) (laws : Laws p lawful) where
   grown_more : (old new newer : List (ℕ × Ops)) (low high higher : ℕ) → Grown old new low high →
       (gave : Option Ops) → newer ≡ new ++ transaction higher gave → high < higher → Grown old newer low higher
   grown_more old new newer low high higher grown None is above = record {

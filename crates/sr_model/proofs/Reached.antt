@@ -1,10 +1,14 @@
-use Rattle.std.proofs.Common.{◌≡◌, ℕ, List, [], ◌∷◌, ◌++◌, length, slice_index, refl, sym, ap, ap₂, ◌∙◌, inl, inr, arith, le_refl, Contains, true}
+use Rattle.std.proofs.Common.{◌≡◌, ℕ, List, [], ◌∷◌, ◌++◌, length, refl, sym, ap, ap₂, ◌∙◌, inl, inr, arith, Contains, take, true}
+use Rattle.sr_book.specs.declared.note.Note.TheVariants.{Confirmed, Asked, Raised}
 use Rattle.sr_book.specs.Entries.{Name, from_user}
-use Rattle.sr_model.specs.Machines.{StepLaws, parts_of}
-use Rattle.sr_model.specs.Small.{SmallEntry, wrote, other, small_sees, small_body, small, cons, r1, there, back, small_steps, small_world}
-use Rattle.sr_model.specs.Steps.{Comes, HasPiece, IsWhole, CanTake, HasSent}
-use Rattle.sr_model.specs.Truth.{IsTrueOf}
-use Rattle.sr_model.specs.Worlds.{AreAllowed}
+use Rattle.sr_msgform.specs.declared.message.Message.{Message}
+use Rattle.sr_model.specs.Machines.{StepLaws, layers_of, lawful_by}
+use Rattle.sr_model.specs.Small.{SmallEntry, wrote, took, said, Verdict, plain, conflict, sent_of, small_sees, small_body, small, SmallFits, SmallHolds, cons, r1, r2}
+use Rattle.sr_model.specs.Small.{first_run, run_of_r2, second_run, asking_run, resending_run, taking_run, returning_run, last_run}
+use Rattle.sr_model.specs.Small.{front_piece, back_piece, for_r2, second_window, ask, resend, answer, return, small_runs, small_world}
+use Rattle.sr_model.specs.Steps.{Comes, IsWhole, CanDoAll}
+use Rattle.sr_model.specs.Runs.{AreRuns}
+use Rattle.sr_model.proofs.Tests.{all_judged, lawful_if, none_among, more_among, told, one_piece, two_pieces, taken_from, sent_by_windows}
 
 -- of two joined lists that are equal, the fronts of one length are equal, and so are the rests
 same_fronts : (a b c d : List ℕ) → length a ≡ length b → a ++ c ≡ b ++ d → (a ≡ b) × (c ≡ d)
@@ -30,107 +34,201 @@ body_once (x ∷ a) (y ∷ b) e =
     let first : x ≡ y = λ i. (place i, parts.0 i) in
     ap₂ (λ z zs. z ∷ zs) first (body_once a b parts.1)
 
--- what is seen as taken is taken so
-seen_once : (e f : SmallEntry) (user : Name) (at : ℕ) (ops : List ℕ) → small_sees e ≡ from_user user at ops → small_sees f ≡ from_user user at ops → e ≡ f
-seen_once (wrote x) f user at ops is is' = absurd (cc)
-seen_once (other s) (wrote y) user at ops is is' = absurd (cc)
-seen_once (other s) (other t) user at ops is is' = ap other (is ∙ sym is')
+-- what is seen as taken was taken so, with some verdicts
+seen_taken : (e : SmallEntry) (user : Name) (at : ℕ) (ops : List ℕ) → small_sees e ≡ from_user user at ops →
+    (verdicts : List Verdict) × (e ≡ took user at ops verdicts)
+seen_taken (wrote other x) user at ops is = absurd (cc)
+seen_taken (took other place x verdicts) user at ops is =
+    let same : other ≡ user = cc in
+    let place' : place ≡ at = cc in
+    let x' : x ≡ ops = cc in
+    (verdicts, λ i. took (same i) (place' i) (x' i) verdicts)
+seen_taken (said other note) user at ops is = absurd (cc)
 
-pub small_laws : StepLaws small
+-- what is taken so has one list of verdicts
+seen_once : (d : Name) (place : ℕ) (e f : SmallEntry) (user : Name) (at : ℕ) (ops : List ℕ) → small_sees e ≡ from_user user at ops →
+    small_sees f ≡ from_user user at ops → SmallFits d place e → SmallFits d place f → e ≡ f
+seen_once d place e f user at ops is is' fits fits' =
+    let one = seen_taken e user at ops is in
+    let other = seen_taken f user at ops is' in
+    let judged = rw one.1 at fits in
+    let judged' = rw other.1 at fits' in
+    one.1 ∙ ap (took user at ops) (judged ∙ sym judged') ∙ sym other.1
+
+pub small_laws : StepLaws small SmallFits SmallHolds
 small_laws = record {
-  holds = λ s. true;
-  at_first = λ d. refl;
-  kept = λ s place e holds fits. refl;
+  at_first = λ d. tt;
+  kept = λ s place e holds fits. tt;
   gives_fit = λ s place e user ops holds fits is. refl;
   encoded_once = λ a b fit fit' e. body_once a b e;
-  judged_once = λ s place e f user at ops is is' fits fits'. seen_once e f user at ops is is';
+  judged_once = seen_once;
 }
 
--- the window is whole once the message was put
-piece : HasPiece (there ∷ []) cons r1 0 15 3
-piece = record {
-  comes = record { message = there; among = (0, omega arith, refl); sent_by = refl; sent_to = refl };
-  of_window = record { begins = refl; ends = refl; long = refl };
-}
+-- all that each database appends, in order
+abbrev of_cons : List SmallEntry
+of_cons = wrote r1 (1 ∷ 2 ∷ 3 ∷ []) ∷ wrote r2 (6 ∷ []) ∷ sent_of r1 15 2 0 ∷ sent_of r2 30 1 0 ∷ wrote r1 (4 ∷ []) ∷ sent_of r1 75 1 0
+    ∷ said r1 (Asked 1 (record { 0 = 0 })) ∷ sent_of r1 75 1 0 ∷ said r1 (Confirmed (record { 0 = 75 }))
+    ∷ took r1 75 (7 ∷ []) (conflict ∷ []) ∷ sent_of r1 150 1 75 ∷ []
 
-whole : IsWhole (there ∷ []) cons r1 0 15 (15 ∷ 1 ∷ 7 ∷ [])
-unfolding piece
-whole = record {
-  some_piece = piece;
-  covered = λ place below. record { piece = piece; from_start = omega arith; to_end = below; is_byte = ap (slice_index (15 ∷ 1 ∷ 7 ∷ [])) (omega arith) };
-}
+abbrev of_r1 : List SmallEntry
+of_r1 = said cons Raised ∷ sent_of cons 0 1 0 ∷ took cons 15 (1 ∷ 2 ∷ 3 ∷ []) (plain ∷ plain ∷ plain ∷ [])
+    ∷ took cons 75 (4 ∷ []) (plain ∷ []) ∷ wrote cons (7 ∷ []) ∷ sent_of cons 75 1 75 ∷ took cons 150 (107 ∷ []) (plain ∷ []) ∷ []
 
--- the message is true of what was committed, and the answer of what was taken
-there_true : IsTrueOf (parts_of small) cons (wrote (7 ∷ []) ∷ []) there
-there_true = record {
-  sent_by = refl;
-  ends_at = refl;
-  stands = le_refl 15;
-  total = refl;
-  fragment = refl;
-  whole = λ two. absurd (omega arith);
-  confirm = le_refl 0;
-  ask_offset = le_refl 0;
-  ask_count = le_refl 0;
-  resend_count = le_refl 0;
-}
+-- the first of them are lawful
+cons_lawful : (k : ℕ) → all_judged cons (take k of_cons) ≡ true → lawful_by small SmallFits cons (take k of_cons)
+cons_lawful k is = lawful_if cons (take k of_cons) is
 
-back_true : IsTrueOf (parts_of small) r1 (other (from_user cons 15 (7 ∷ [])) ∷ []) back
-back_true = record {
-  sent_by = refl;
-  ends_at = refl;
-  stands = omega arith;
-  total = refl;
-  fragment = refl;
-  whole = λ two. absurd (omega arith);
-  confirm = le_refl 15;
-  ask_offset = omega arith;
-  ask_count = le_refl 0;
-  resend_count = le_refl 0;
-}
+r1_lawful : (k : ℕ) → all_judged r1 (take k of_r1) ≡ true → lawful_by small SmallFits r1 (take k of_r1)
+r1_lawful k is = lawful_if r1 (take k of_r1) is
 
-sent : HasSent (parts_of small) (there ∷ []) cons (wrote (7 ∷ []) ∷ []) r1 15 1 0
-sent = record {
-  windows = (15, 15 ∷ 1 ∷ 7 ∷ []) ∷ [];
-  some_window = omega arith;
-  chain = (whole, refl);
-  given_there = inr (omega arith, (0, omega arith, refl));
-  some_message = le_refl 1;
-  confirms = refl;
-}
+-- the messages in the order in which they are put
+abbrev all_put : List Message
+all_put = front_piece ∷ back_piece ∷ for_r2 ∷ second_window ∷ ask ∷ resend ∷ answer ∷ return ∷ []
 
-take : CanTake (parts_of small) (there ∷ []) r1 [] cons 15 (7 ∷ [])
-take = record {
-  prev = 0;
-  upto = 15;
-  transactions = (15, 7 ∷ []) ∷ [];
-  rest = [];
-  is_whole = whole;
-  are_fit = λ k d below. refl;
-  reached = le_refl 0;
-  ahead = omega arith;
-  first = refl;
-}
-
--- each step is allowed
-pub small_allowed : AreAllowed (parts_of small) small_world small_steps
-small_allowed =
-    let cons_named : Contains (cons ∷ r1 ∷ []) cons = (0, omega arith, refl) in
-    let r1_named : Contains (cons ∷ r1 ∷ []) r1 = (1, omega arith, refl) in
-    let came : Comes (there ∷ back ∷ []) r1 cons
-    = record { message = back; among = (1, omega arith, refl); sent_by = refl; sent_to = refl } in (
-      (cons_named, (tt, refl)),
+-- cons commits twice, and sends two fragments to r1 and a window to r2
+first_can : CanDoAll (layers_of small) (lawful_by small SmallFits) [] cons [] first_run.deeds
+first_can =
+    let pieces : List Message = take 2 all_put in
+    let all : List Message = take 3 all_put in
+    let one : IsWhole pieces cons r1 0 15 (15 ∷ 3 ∷ 1 ∷ 2 ∷ 3 ∷ [])
+    = two_pieces pieces front_piece back_piece (0, omega arith, refl) (1, omega arith, refl) refl refl refl refl refl refl refl refl in
+    let two : IsWhole all cons r2 0 30 (30 ∷ 1 ∷ 6 ∷ []) = one_piece all for_r2 (2, omega arith, refl) refl refl in
+    let note_one = sent_by_windows pieces cons (take 2 of_cons) r1 15 2 0 ((15, 15 ∷ 3 ∷ 1 ∷ 2 ∷ 3 ∷ []) ∷ []) (one, refl)
+    (inr (omega arith, (0, omega arith, refl))) refl refl in
+    let note_two = sent_by_windows all cons (take 3 of_cons) r2 30 1 0 ((30, 30 ∷ 1 ∷ 6 ∷ []) ∷ []) (two, refl)
+    (inr (omega arith, (0, omega arith, refl))) refl refl in
+    let put_front = told cons (take 2 of_cons) front_piece refl refl refl refl refl (λ two. absurd (omega arith)) refl refl refl refl in
+    let put_back = told cons (take 2 of_cons) back_piece refl refl refl refl refl (λ two. absurd (omega arith)) refl refl refl refl in
+    let put_two = told cons (take 3 of_cons) for_r2 refl refl refl refl refl (λ two. refl) refl refl refl refl in (
+      (tt, cons_lawful 1 refl),
       (
-        (cons_named, there_true),
+        (tt, cons_lawful 2 refl),
         (
-          (cons_named, (sent, refl)),
+          put_front,
           (
-            (r1_named, (take, refl)),
+            put_back,
+            ((note_one, cons_lawful 3 refl), (put_two, ((note_two, cons_lawful 4 refl), tt))),
+          ),
+        ),
+      ),
+    )
+
+-- r2 takes its window
+r2_can : CanDoAll (layers_of small) (lawful_by small SmallFits) run_of_r2.known r2 [] run_of_r2.deeds
+r2_can =
+    let whole : IsWhole (for_r2 ∷ []) cons r2 0 30 (30 ∷ 1 ∷ 6 ∷ []) = one_piece (for_r2 ∷ []) for_r2 (0, omega arith, refl) refl refl in
+    let take_it = taken_from (for_r2 ∷ []) r2 [] cons 30 (6 ∷ []) 0 30 ((30, 6 ∷ []) ∷ []) [] whole refl refl refl in
+    ((take_it, lawful_if r2 (took cons 30 (6 ∷ []) (plain ∷ []) ∷ []) refl), tt)
+
+-- cons sends the next window
+second_can : CanDoAll (layers_of small) (lawful_by small SmallFits) [] cons (take 4 of_cons) second_run.deeds
+second_can =
+    let whole : IsWhole (second_window ∷ []) cons r1 15 75 (75 ∷ 1 ∷ 4 ∷ [])
+    = one_piece (second_window ∷ []) second_window (0, omega arith, refl) refl refl in
+    let put_it = told cons (take 5 of_cons) second_window refl refl refl refl refl (λ two. refl) refl refl refl refl in
+    let note_it = sent_by_windows (second_window ∷ []) cons (take 5 of_cons) r1 75 1 0 ((75, 75 ∷ 1 ∷ 4 ∷ []) ∷ []) (whole, refl)
+    (inr (omega arith, (1, omega arith, refl))) refl refl in
+    ((tt, cons_lawful 5 refl), (put_it, ((note_it, cons_lawful 6 refl), tt)))
+
+-- r1 has seen the second window alone, and asks
+asking_can : CanDoAll (layers_of small) (lawful_by small SmallFits) asking_run.known r1 [] asking_run.deeds
+asking_can =
+    let came : Comes (second_window ∷ []) cons r1 = record { message = second_window; among = (0, omega arith, refl); sent_by = refl; sent_to = refl } in
+    let put_it = told r1 (take 1 of_r1) ask refl refl refl refl refl (λ two. refl) refl refl refl refl in
+    let note_it = sent_by_windows (second_window ∷ ask ∷ []) r1 (take 1 of_r1) cons 0 1 0 [] refl (inl refl) refl refl in
+    (((came, omega arith), r1_lawful 1 refl), (put_it, ((note_it, r1_lawful 2 refl), tt)))
+
+-- cons notes the ask and sends both windows again
+resending_can : CanDoAll (layers_of small) (lawful_by small SmallFits) resending_run.known cons (take 6 of_cons) resending_run.deeds
+resending_can =
+    let came : Comes (ask ∷ []) r1 cons = record { message = ask; among = (0, omega arith, refl); sent_by = refl; sent_to = refl } in
+    let whole : IsWhole (ask ∷ resend ∷ []) cons r1 0 75 resend.fragment = one_piece (ask ∷ resend ∷ []) resend (1, omega arith, refl) refl refl in
+    let put_it = told cons (take 7 of_cons) resend refl refl refl refl refl (λ two. refl) refl refl refl refl in
+    let note_it = sent_by_windows (ask ∷ resend ∷ []) cons (take 7 of_cons) r1 75 1 0 ((75, resend.fragment) ∷ []) (whole, refl)
+    (inr (omega arith, (1, omega arith, refl))) refl refl in
+    (((came, refl, refl, omega arith), cons_lawful 7 refl), (put_it, ((note_it, cons_lawful 8 refl), tt)))
+
+-- r1 takes from the fragments and from the window that was sent again, crashes, commits and answers
+taking_can : CanDoAll (layers_of small) (lawful_by small SmallFits) taking_run.known r1 (take 2 of_r1) taking_run.deeds
+taking_can =
+    let known : List Message = taking_run.known in
+    let all : List Message = known ++ answer ∷ [] in
+    let one : IsWhole known cons r1 0 15 (15 ∷ 3 ∷ 1 ∷ 2 ∷ 3 ∷ [])
+    = two_pieces known front_piece back_piece (1, omega arith, refl) (2, omega arith, refl) refl refl refl refl refl refl refl refl in
+    let again : IsWhole known cons r1 0 75 resend.fragment = one_piece known resend (3, omega arith, refl) refl refl in
+    let own : IsWhole all r1 cons 0 75 (75 ∷ 1 ∷ 7 ∷ []) = one_piece all answer (4, omega arith, refl) refl refl in
+    let take_one = taken_from known r1 (take 2 of_r1) cons 15 (1 ∷ 2 ∷ 3 ∷ []) 0 15 ((15, 1 ∷ 2 ∷ 3 ∷ []) ∷ []) [] one refl refl refl in
+    let take_two = taken_from known r1 (take 3 of_r1) cons 75 (4 ∷ []) 0 75 ((15, 1 ∷ 2 ∷ 3 ∷ []) ∷ (75, 4 ∷ []) ∷ []) [] again refl refl refl in
+    let put_it = told r1 (take 5 of_r1) answer refl refl refl refl refl (λ two. refl) refl refl refl refl in
+    let note_it = sent_by_windows all r1 (take 5 of_r1) cons 75 1 75 ((75, 75 ∷ 1 ∷ 7 ∷ []) ∷ []) (own, refl)
+    (inr (omega arith, (0, omega arith, refl))) refl refl in
+    ((take_one, r1_lawful 3 refl), ((take_two, r1_lawful 4 refl), (tt, ((tt, r1_lawful 5 refl), (put_it, ((note_it, r1_lawful 6 refl), tt))))))
+
+-- cons notes what r1 confirmed, takes what r1 committed, and gives back what the conflict gives
+returning_can : CanDoAll (layers_of small) (lawful_by small SmallFits) returning_run.known cons (take 8 of_cons) returning_run.deeds
+returning_can =
+    let known : List Message = returning_run.known in
+    let all : List Message = known ++ return ∷ [] in
+    let came : Comes known r1 cons = record { message = answer; among = (1, omega arith, refl); sent_by = refl; sent_to = refl } in
+    let whole : IsWhole known r1 cons 0 75 (75 ∷ 1 ∷ 7 ∷ []) = one_piece known answer (1, omega arith, refl) refl refl in
+    let own : IsWhole all cons r1 75 150 (150 ∷ 1 ∷ 107 ∷ []) = one_piece all return (2, omega arith, refl) refl refl in
+    let take_it = taken_from known cons (take 9 of_cons) r1 75 (7 ∷ []) 0 75 ((75, 7 ∷ []) ∷ []) [] whole refl refl refl in
+    let put_it = told cons (take 10 of_cons) return refl refl refl refl refl (λ two. refl) refl refl refl refl in
+    let note_it = sent_by_windows all cons (take 10 of_cons) r1 150 1 75 ((150, 150 ∷ 1 ∷ 107 ∷ []) ∷ []) (own, refl)
+    (inr (omega arith, (2, omega arith, refl))) refl refl in
+    (((came, refl, inl (omega arith)), cons_lawful 9 refl), ((take_it, cons_lawful 10 refl), (put_it, ((note_it, cons_lawful 11 refl), tt))))
+
+-- r1 takes that
+last_can : CanDoAll (layers_of small) (lawful_by small SmallFits) last_run.known r1 (take 6 of_r1) last_run.deeds
+last_can =
+    let whole : IsWhole (return ∷ []) cons r1 75 150 (150 ∷ 1 ∷ 107 ∷ []) = one_piece (return ∷ []) return (0, omega arith, refl) refl refl in
+    let take_it = taken_from (return ∷ []) r1 (take 6 of_r1) cons 150 (107 ∷ []) 75 150 ((150, 107 ∷ []) ∷ []) [] whole refl refl refl in
+    ((take_it, r1_lawful 7 refl), tt)
+
+-- each is a run of the world that those before it leave
+pub small_are_runs : AreRuns (layers_of small) (lawful_by small SmallFits) small_world small_runs
+small_are_runs =
+    let cons_named : Contains (cons ∷ r1 ∷ r2 ∷ []) cons = (0, omega arith, refl) in
+    let r1_named : Contains (cons ∷ r1 ∷ r2 ∷ []) r1 = (1, omega arith, refl) in
+    let r2_named : Contains (cons ∷ r1 ∷ r2 ∷ []) r2 = (2, omega arith, refl) in (
+      record { named = cons_named; had_been_put = none_among []; can = first_can },
+      (
+        record { named = r2_named; had_been_put = more_among for_r2 [] (take 3 all_put) (2, omega arith, refl) (none_among (take 3 all_put)); can = r2_can },
+        (
+          record { named = cons_named; had_been_put = none_among (take 3 all_put); can = second_can },
+          (
+            record {
+              named = r1_named;
+              had_been_put = more_among second_window [] (take 4 all_put) (3, omega arith, refl) (none_among (take 4 all_put));
+              can = asking_can;
+            },
             (
-              (r1_named, back_true),
+              record { named = cons_named; had_been_put = more_among ask [] (take 5 all_put) (4, omega arith, refl) (none_among (take 5 all_put)); can = resending_can },
               (
-                (cons_named, ((came, refl, inl (omega arith)), refl)),
-                tt,
+                record {
+                  named = r1_named;
+                  had_been_put = more_among second_window (front_piece ∷ back_piece ∷ resend ∷ []) (take 6 all_put) (3, omega arith, refl)
+                      (more_among front_piece (back_piece ∷ resend ∷ []) (take 6 all_put) (0, omega arith, refl)
+                      (more_among back_piece (resend ∷ []) (take 6 all_put) (1, omega arith, refl)
+                      (more_among resend [] (take 6 all_put) (5, omega arith, refl) (none_among (take 6 all_put)))));
+                  can = taking_can;
+                },
+                (
+                  record {
+                    named = cons_named;
+                    had_been_put = more_among ask (answer ∷ []) (take 7 all_put) (4, omega arith, refl)
+                        (more_among answer [] (take 7 all_put) (6, omega arith, refl) (none_among (take 7 all_put)));
+                    can = returning_can;
+                  },
+                  (
+                    record {
+                      named = r1_named;
+                      had_been_put = more_among return [] all_put (7, omega arith, refl) (none_among all_put);
+                      can = last_can;
+                    },
+                    tt,
+                  ),
+                ),
               ),
             ),
           ),

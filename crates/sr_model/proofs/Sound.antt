@@ -1,12 +1,12 @@
 use Rattle.std.proofs.Common.{◌≡◌, ℕ, zero, suc, ◌<◌, ◌≤◌, List, [], ◌∷◌, ◌++◌, length, get_or, Contains, ap, ◌∙◌, subst, inl, inr, arith}
 use Rattle.sr_book.specs.declared.note.Note.{Note}
 use Rattle.sr_book.specs.declared.note.Note.TheVariants.{Confirmed, Asked, Raised, Sent}
-use Rattle.sr_book.specs.Entries.{Name, Seen, local, from_user, noted}
+use Rattle.sr_book.specs.Entries.{Name, Sight, local, from_user, noted}
 use Rattle.sr_book.specs.Histories.{taken, taken_end, book_of}
 use Rattle.sr_book.specs.Rising.{Rises, top, offsets}
 use Rattle.sr_book.proofs.Offsets.{top-append, Rises-back, le-top, offsets-append}
 use Rattle.sr_msgform.specs.declared.message.Message.{Message}
-use Rattle.sr_model.specs.Parts.{Parts, Laws, IsLawful, end_of}
+use Rattle.sr_model.specs.Layers.{Layers, Laws, end_of}
 use Rattle.sr_model.specs.Windows.{window, past}
 use Rattle.sr_model.specs.Steps.{Comes, CanTake, CanNote, CanAppend}
 use Rattle.sr_model.specs.Truth.{IsTrueOf}
@@ -16,21 +16,21 @@ use Rattle.sr_model.proofs.Longer.{given_in}
 use Rattle.sr_model.proofs.Spelled.{spelled}
 
 -- the lines of a good world, over histories by name
-pub record AreGood {Entry Ops : Type 0} (p : Parts Entry Ops) (of : Name → List Entry) (messages : List Message) : Type 0 where
-  pub lawful : (d : Name) → IsLawful p d (of d)
+pub record AreGood {Entry Ops : Type 0} (p : Layers Entry Ops) (lawful : Name → List Entry → Type 0) (of : Name → List Entry) (messages : List Message) : Type 0 where
+  pub are_lawful : (d : Name) → lawful d (of d)
   pub in_step : (d user : Name) → AreInStep p d user (of d) (of user)
   pub books : (d user : Name) → IsInOrder p user (of d)
   pub are_true : (m : Message) → Contains messages m → IsTrueOf p m.from (of m.from) m
 
 -- what an entry of a database does that keeps a good world good, by the histories before it
-abbrev pub IsSoundNote : {Entry Ops : Type 0} (p : Parts Entry Ops) (of : Name → List Entry) (d user : Name) → Note → Type 0
+abbrev pub IsSoundNote : {Entry Ops : Type 0} (p : Layers Entry Ops) (of : Name → List Entry) (d user : Name) → Note → Type 0
 IsSoundNote p of d user (Confirmed place) = place.0 ≤ taken_end p.sees d (of user)
 IsSoundNote p of d user (Asked count place) = (place.0 ≤ taken_end p.sees d (of user)) × ((book_of p.sees user (of d)).resend_count < count)
 IsSoundNote p of d user Raised = Unit {0}
 IsSoundNote p of d user (Sent end count confirm) = ((book_of p.sees user (of d)).log_sent ≤ end.0) × (end.0 ≤ end_of p (of d))
     × (confirm.0 ≡ (book_of p.sees user (of d)).log_received)
 
-abbrev pub IsSound : {Entry Ops : Type 0} (p : Parts Entry Ops) (of : Name → List Entry) (d : Name) → Seen Ops → Type 0
+abbrev pub IsSound : {Entry Ops : Type 0} (p : Layers Entry Ops) (of : Name → List Entry) (d : Name) → Sight Ops → Type 0
 IsSound p of d local = Unit {0}
 IsSound {Ops} p of d (from_user user place ops) = (more : List (ℕ × Ops)) × (p.given user d (of user) ≡ taken p.sees user (of d) ++ (place, ops) ∷ more)
 IsSound p of d (noted user note) = IsSoundNote p of d user note
@@ -41,7 +41,7 @@ contains_at low [] x k rises within is = absurd (omega arith)
 contains_at low (y ∷ ys) x zero rises within is = let up : y ≤ top y ys = le-top y ys rises.1 in omega (arith, is)
 contains_at low (y ∷ ys) x (suc k) rises within is = contains_at y ys x k rises.1 (omega arith) is
 
-module _ {Entry Ops : Type 0} (p : Parts Entry Ops) (laws : Laws p) (of : Name → List Entry) (messages : List Message) (good : AreGood p of messages) where
+module _ {Entry Ops : Type 0} (p : Layers Entry Ops) (lawful : Name → List Entry → Type 0) (laws : Laws p lawful) (of : Name → List Entry) (messages : List Message) (good : AreGood p lawful of messages) where
   came_true : (user d : Name) (came : Comes messages user d) → IsTrueOf p user (of user) came.message
   came_true user d came = subst (λ name. IsTrueOf p name (of name) came.message) came.sent_by (good.are_true came.message came.among)
 
@@ -49,7 +49,7 @@ module _ {Entry Ops : Type 0} (p : Parts Entry Ops) (laws : Laws p) (of : Name �
   given_split : (d user : Name) (rest : List (ℕ × Ops)) → p.given user d (of user) ≡ taken p.sees user (of d) ++ rest →
       Rises 0 (offsets (taken p.sees user (of d)) ++ offsets rest)
   given_split d user rest is =
-      rw (ap offsets is ∙ offsets-append (taken p.sees user (of d)) rest) at (given_in p laws user d (of user)).0
+      rw (ap offsets is ∙ offsets-append (taken p.sees user (of d)) rest) at (given_in p lawful laws user d (of user)).0
 
   -- what was taken of a history ends within it
   pub taken_stands : (d user : Name) → taken_end p.sees user (of d) ≤ end_of p (of user)
@@ -61,7 +61,7 @@ module _ {Entry Ops : Type 0} (p : Parts Entry Ops) (laws : Laws p) (of : Name �
       ∙ top-append 0 (offsets (taken p.sees user (of d))) (offsets pair.rest) in
       let last : taken_end p.sees user (of d) ≤ top (taken_end p.sees user (of d)) (offsets pair.rest)
       = le-top (taken_end p.sees user (of d)) (offsets pair.rest) (Rises-back 0 (offsets (taken p.sees user (of d))) (offsets pair.rest) rises) in
-      let within = (given_in p laws user d (of user)).1 in
+      let within = (given_in p lawful laws user d (of user)).1 in
       omega (arith, split, last, within)
 
   -- a take that is allowed takes the next transaction of what the user's history gives
@@ -70,7 +70,7 @@ module _ {Entry Ops : Type 0} (p : Parts Entry Ops) (laws : Laws p) (of : Name �
   take_sound d user place ops can =
       let pair = good.in_step d user in
       let same : can.transactions ≡ window can.prev can.upto (p.given user d (of user))
-      = spelled p laws messages user d (of user) can.prev can.upto can.transactions can.is_whole (came_true user d) can.are_fit (good.lawful user) in
+      = spelled p lawful laws messages user d (of user) can.prev can.upto can.transactions can.is_whole (came_true user d) can.are_fit (good.are_lawful user) in
       let first : past (taken_end p.sees user (of d)) (window can.prev can.upto (taken p.sees user (of d) ++ pair.rest)) ≡ (place, ops) ∷ can.rest
       = rw (← pair.taken_first, ← same) can.first in
       let next = window_next (taken p.sees user (of d)) pair.rest can.prev can.upto (place, ops) can.rest
@@ -80,7 +80,7 @@ module _ {Entry Ops : Type 0} (p : Parts Entry Ops) (laws : Laws p) (of : Name �
   -- an end that was given lies within the history
   given_stands : (d user : Name) (place : ℕ) → Contains (offsets (p.given d user (of d))) place → place ≤ end_of p (of d)
   given_stands d user place among =
-      let given = given_in p laws d user (of d) in
+      let given = given_in p lawful laws d user (of d) in
       let last : place ≤ top 0 (offsets (p.given d user (of d)))
       = contains_at 0 (offsets (p.given d user (of d))) place among.0 given.0 among.1 among.2 in
       omega (arith, given.1)
@@ -101,7 +101,7 @@ module _ {Entry Ops : Type 0} (p : Parts Entry Ops) (laws : Laws p) (of : Name �
       ]
 
   -- what a database may append is sound
-  pub append_sound : (d : Name) (s : Seen Ops) → CanAppend p messages d (of d) s → IsSound p of d s
+  pub append_sound : (d : Name) (s : Sight Ops) → CanAppend p messages d (of d) s → IsSound p of d s
   append_sound d local can = tt
   append_sound d (from_user user place ops) can = take_sound d user place ops can
   append_sound d (noted user note) can = note_sound d user note can

@@ -5,7 +5,7 @@ use Rattle.sr_book.specs.Rising.{Rises, top, offsets}
 use Rattle.sr_book.proofs.Offsets.{le-top, top-append, offsets-append}
 use Rattle.sr_book.proofs.Folds.{same_name, taken_more}
 use Rattle.sr_msgform.specs.declared.message.Message.{Message}
-use Rattle.sr_model.specs.Parts.{Parts, AreFit}
+use Rattle.sr_model.specs.Layers.{Layers, AreFit}
 use Rattle.sr_model.specs.Windows.{past}
 use Rattle.sr_model.specs.Steps.{IsWhole, CanTake, CanDoAll, append, Take, AreLawfulAfter}
 use Rattle.sr_model.proofs.Offsets.{le_or_lt, past_test, not_past_test}
@@ -41,7 +41,7 @@ past_first r low upto (first ∷ txs) tx more rises within e =
     ]
 
 -- entries that take transactions took just these
-pub taken_of_takes : {Entry Ops : Type 0} (p : Parts Entry Ops) (user : Name) (txs : List (ℕ × Ops)) (new : List Entry) →
+pub taken_of_takes : {Entry Ops : Type 0} (p : Layers Entry Ops) (user : Name) (txs : List (ℕ × Ops)) (new : List Entry) →
     Take p user txs new → taken p.sees user new ≡ txs
 taken_of_takes p user [] [] take = refl
 taken_of_takes p user [] (e ∷ new) take = absurd (cc)
@@ -51,15 +51,15 @@ taken_of_takes p user (tx ∷ txs) (e ∷ new) take =
     let take' : Take p user txs new = cc in
     rw (sees, same_name user) (ap (λ more. tx ∷ more) (taken_of_takes p user txs new take'))
 
-module _ {Entry Ops : Type 0} (p : Parts Entry Ops) (messages : List Message) (d user : Name) (prev upto : ℕ) (txs : List (ℕ × Ops))
+module _ {Entry Ops : Type 0} (p : Layers Entry Ops) (lawful : Name → List Entry → Type 0) (messages : List Message) (d user : Name) (prev upto : ℕ) (txs : List (ℕ × Ops))
     (whole : IsWhole messages user d prev upto (p.encode txs)) (fit : AreFit p txs) (rises : Rises prev (offsets txs))
     (within : top prev (offsets txs) ≤ upto) where
   -- a window taken to its end is a list of takes, each allowed
   pub window_takes : (es new : List Entry) (more : List (ℕ × Ops)) → prev ≤ taken_end p.sees user es → past (taken_end p.sees user es) txs ≡ more →
-      Take p user more new → AreLawfulAfter p d es new → CanDoAll p messages d es (map append new)
-  window_takes es [] more reached is take lawful = tt
-  window_takes es (e ∷ new) [] reached is take lawful = absurd (cc)
-  window_takes es (e ∷ new) (tx ∷ more) reached is take lawful =
+      Take p user more new → AreLawfulAfter lawful d es new → CanDoAll p lawful messages d es (map append new)
+  window_takes es [] more reached is take keeps = tt
+  window_takes es (e ∷ new) [] reached is take keeps = absurd (cc)
+  window_takes es (e ∷ new) (tx ∷ more) reached is take keeps =
       let sees : p.sees e ≡ from_user user tx.0 tx.1 = cc in
       let take' : Take p user more new = cc in
       let first = past_first (taken_end p.sees user es) prev upto txs tx more rises within is in
@@ -78,6 +78,6 @@ module _ {Entry Ops : Type 0} (p : Parts Entry Ops) (messages : List Message) (d
       let end : taken_end p.sees user (es ++ e ∷ []) ≡ tx.0
       = ap (λ them. top 0 (offsets them)) (taken_more p.sees user es e ∙ ap (λ them. taken p.sees user es ++ them) takes_it)
       ∙ ap (top 0) (offsets-append (taken p.sees user es) (tx ∷ [])) ∙ top-append 0 (offsets (taken p.sees user es)) (tx.0 ∷ []) in (
-        (rw sees can, lawful.0),
-        window_takes (es ++ e ∷ []) new more (omega (arith, reached, first.0, end)) (rw end first.2) take' lawful.1,
+        (rw sees can, keeps.0),
+        window_takes (es ++ e ∷ []) new more (omega (arith, reached, first.0, end)) (rw end first.2) take' keeps.1,
       )

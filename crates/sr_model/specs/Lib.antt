@@ -1,7 +1,8 @@
 pub mod Machines
-pub mod Parts
+pub mod Layers
 pub mod Steps
 pub mod Truth
 pub mod Worlds
+pub mod Runs
 pub mod Small
 pub mod Windows

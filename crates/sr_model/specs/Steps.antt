@@ -1,11 +1,11 @@
 use Rattle.std.specs.Prelude.{◌≡◌, ℕ, ◌+◌, ◌-◌, ◌<◌, ◌≤◌, ◌⊎◌, List, [], ◌∷◌, ◌++◌, length, map, slice_index, Contains}
 use Rattle.sr_book.specs.declared.note.Note.{Note}
 use Rattle.sr_book.specs.declared.note.Note.TheVariants.{Confirmed, Asked, Raised, Sent}
-use Rattle.sr_book.specs.Entries.{Name, Seen, local, from_user, noted}
+use Rattle.sr_book.specs.Entries.{Name, Sight, local, from_user, noted}
 use Rattle.sr_book.specs.Histories.{taken_end, book_of}
 use Rattle.sr_book.specs.Rising.{offsets}
 use Rattle.sr_msgform.specs.declared.message.Message.{Message}
-use Rattle.sr_model.specs.Parts.{Parts, AreFit, IsLawful}
+use Rattle.sr_model.specs.Layers.{Layers, AreFit}
 use Rattle.sr_model.specs.Windows.{past}
 use Rattle.sr_model.specs.Truth.{IsTrueOf}
 
@@ -46,7 +46,7 @@ Chain messages sender receiver prev upto [] = prev ≡ upto
 Chain messages sender receiver prev upto (next ∷ windows) =
     IsWhole messages sender receiver prev next.0 next.1 × Chain messages sender receiver next.0 upto windows
 
-module _ {Entry Ops : Type 0} (p : Parts Entry Ops) where
+module _ {Entry Ops : Type 0} (p : Layers Entry Ops) where
   -- a transaction of a user may be taken: it is the first past what was taken, in a whole window that begins no later
   pub record CanTake (messages : List Message) (d : Name) (es : List Entry) (user : Name) (place : ℕ) (ops : Ops) : Type 0 where
     pub prev : ℕ
@@ -59,10 +59,9 @@ module _ {Entry Ops : Type 0} (p : Parts Entry Ops) where
     pub ahead : taken_end p.sees user es < upto
     pub first : past (taken_end p.sees user es) transactions ≡ (place, ops) ∷ rest
 
-  -- messages may be noted as sent: whole windows lead from what was sent to here
+  -- messages may be noted as sent: whole windows lead from what was sent to here; none is wanted where that is here
   pub record HasSent (messages : List Message) (d : Name) (es : List Entry) (user : Name) (upto count confirm : ℕ) : Type 0 where
     pub windows : List (ℕ × List ℕ)
-    pub some_window : 0 < length windows
     pub chain : Chain messages d user (book_of p.sees user es).log_sent upto windows
     pub given_there : (upto ≡ (book_of p.sees user es).log_sent)
         ⊎ (((book_of p.sees user es).log_sent < upto) × Contains (offsets (p.given d user es)) upto)
@@ -79,19 +78,19 @@ module _ {Entry Ops : Type 0} (p : Parts Entry Ops) where
   CanNote messages d es user (Sent end count confirm) = HasSent messages d es user end.0 count confirm.0
 
   -- what a database may append, by its history and the messages alone
-  abbrev pub CanAppend : List Message → Name → List Entry → Seen Ops → Type 0
+  abbrev pub CanAppend : List Message → Name → List Entry → Sight Ops → Type 0
   CanAppend messages d es local = Unit {0}
   CanAppend messages d es (from_user user place ops) = CanTake messages d es user place ops
   CanAppend messages d es (noted user note) = CanNote messages d es user note
 
 -- entries that take these transactions of a user, in order
-abbrev pub Take : {Entry Ops : Type 0} → Parts Entry Ops → Name → List (ℕ × Ops) → List Entry → Type 0
+abbrev pub Take : {Entry Ops : Type 0} → Layers Entry Ops → Name → List (ℕ × Ops) → List Entry → Type 0
 Take p user txs new = map p.sees new ≡ map (λ tx. from_user user tx.0 tx.1) txs
 
 -- each of these entries keeps the history of a database lawful, one after the other
-abbrev pub AreLawfulAfter : {Entry Ops : Type 0} → Parts Entry Ops → Name → List Entry → List Entry → Type 0
-AreLawfulAfter p d es [] = Unit {0}
-AreLawfulAfter p d es (e ∷ new) = IsLawful p d (es ++ e ∷ []) × AreLawfulAfter p d (es ++ e ∷ []) new
+abbrev pub AreLawfulAfter : {Entry : Type 0} → (Name → List Entry → Type 0) → Name → List Entry → List Entry → Type 0
+AreLawfulAfter lawful d es [] = Unit {0}
+AreLawfulAfter lawful d es (e ∷ new) = lawful d (es ++ e ∷ []) × AreLawfulAfter lawful d (es ++ e ∷ []) new
 
 -- what a database does: an entry (a commit, a take, a note, a note of what was sent), a message put, a crash
 pub data Deed (Entry : Type 0) : Type 0 where
@@ -120,10 +119,10 @@ abbrev pub messages_after_all : {Entry : Type 0} → List Message → List (Deed
 messages_after_all messages [] = messages
 messages_after_all messages (deed ∷ deeds) = messages_after_all (messages_after messages deed) deeds
 
-module _ {Entry Ops : Type 0} (p : Parts Entry Ops) where
+module _ {Entry Ops : Type 0} (p : Layers Entry Ops) (lawful : Name → List Entry → Type 0) where
   -- a database may do this, by its history and the messages alone
   abbrev pub CanDo : List Message → Name → List Entry → Deed Entry → Type 0
-  CanDo messages d es (append e) = CanAppend p messages d es (p.sees e) × IsLawful p d (es ++ e ∷ [])
+  CanDo messages d es (append e) = CanAppend p messages d es (p.sees e) × lawful d (es ++ e ∷ [])
   CanDo messages d es (put m) = IsTrueOf p d es m
   CanDo messages d es crash = Unit {0}
 

@@ -3,10 +3,10 @@ use Rattle.sr_book.specs.Entries.{Name}
 use Rattle.sr_book.specs.Histories.{taken_end, book_of}
 use Rattle.sr_book.specs.Rising.{top, offsets}
 use Rattle.sr_msgform.specs.declared.message.Message.{Message}
-use Rattle.sr_model.specs.Parts.{Parts, end_of}
+use Rattle.sr_model.specs.Layers.{Layers, end_of}
 use Rattle.sr_model.specs.Windows.{window}
 
-module _ {Entry Ops : Type 0} (p : Parts Entry Ops) where
+module _ {Entry Ops : Type 0} (p : Layers Entry Ops) where
   -- the transactions in a message's window, of what the history of a database gives the receiver
   abbrev pub members : Name → List Entry → Message → List (ℕ × Ops)
   members d es m = window m.prev.0 m.upto.0 (p.given d m.to es)

@@ -1,10 +1,10 @@
-use Rattle.std.specs.Prelude.{◌≡◌, ℕ, ◌≤◌, List, [], ◌∷◌, ◌++◌, map, filter, if◌then◌else◌, Contains}
+use Rattle.std.specs.Prelude.{◌≡◌, ℕ, ◌≤◌, List, [], ◌∷◌, ◌++◌, map, if◌then◌else◌, Contains}
 use Rattle.std.specs.Str.{bytes_eq}
 use Rattle.sr_book.specs.Entries.{Name}
 use Rattle.sr_book.specs.Histories.{taken, taken_end, book_of, asked}
 use Rattle.sr_book.specs.Rising.{Rises}
 use Rattle.sr_msgform.specs.declared.message.Message.{Message}
-use Rattle.sr_model.specs.Parts.{Parts, IsLawful, end_of}
+use Rattle.sr_model.specs.Layers.{Layers, end_of}
 use Rattle.sr_model.specs.Steps.{Deed, CanDo, history_after, messages_after}
 use Rattle.sr_model.specs.Truth.{IsTrueOf}
 
@@ -13,8 +13,8 @@ pub record World (Entry : Type 0) : Type 0 where
   pub histories : List (Name × List Entry)
   pub messages : List Message
 
--- a database and what it does
-pub record Step (Entry : Type 0) : Type 0 where
+-- a step: a database and what it does
+pub record Act (Entry : Type 0) : Type 0 where
   pub owner : Name
   pub deed : Deed Entry
 
@@ -35,16 +35,16 @@ histories_after (h ∷ hs) d deed = if bytes_eq d h.0
     else h ∷ histories_after hs d deed
 
 -- the world after a step
-abbrev pub happens : {Entry : Type 0} → World Entry → Step Entry → World Entry
-happens w step = record {
-  histories = histories_after w.histories step.owner step.deed;
-  messages = messages_after w.messages step.deed;
+abbrev pub happens : {Entry : Type 0} → World Entry → Act Entry → World Entry
+happens w act = record {
+  histories = histories_after w.histories act.owner act.deed;
+  messages = messages_after w.messages act.deed;
 }
 
 -- the world after some steps
-abbrev pub after_all : {Entry : Type 0} → World Entry → List (Step Entry) → World Entry
+abbrev pub after_all : {Entry : Type 0} → World Entry → List (Act Entry) → World Entry
 after_all w [] = w
-after_all w (step ∷ steps) = after_all (happens w step) steps
+after_all w (act ∷ acts) = after_all (happens w act) acts
 
 -- databases of these names with empty histories, and no message
 abbrev pub fresh_world : {Entry : Type 0} → List Name → World Entry
@@ -58,29 +58,11 @@ IsNamed w d = Contains (map (λ h. h.0) w.histories) d
 abbrev pub AreAmong : List Message → List Message → Type 0
 AreAmong fewer messages = (m : Message) → Contains fewer m → Contains messages m
 
--- the steps of one database among these
-abbrev pub steps_of : {Entry : Type 0} → Name → List (Step Entry) → List (Step Entry)
-steps_of d steps = filter (λ step. bytes_eq d step.owner) steps
-
 -- deeds of one database as steps
-abbrev pub steps_by : {Entry : Type 0} → Name → List (Deed Entry) → List (Step Entry)
-steps_by d deeds = map (λ deed. record { owner = d; deed = deed }) deeds
+abbrev pub acts_by : {Entry : Type 0} → Name → List (Deed Entry) → List (Act Entry)
+acts_by d deeds = map (λ deed. record { owner = d; deed = deed }) deeds
 
-module _ {Entry Ops : Type 0} (p : Parts Entry Ops) where
-  -- a step is allowed: its database is there, and may do this by its history and the messages
-  abbrev pub IsAllowed : World Entry → Step Entry → Type 0
-  IsAllowed w step = IsNamed w step.owner × CanDo p w.messages step.owner (history w step.owner) step.deed
-
-  -- each step is allowed at its moment
-  abbrev pub AreAllowed : World Entry → List (Step Entry) → Type 0
-  AreAllowed w [] = Unit {0}
-  AreAllowed w (step ∷ steps) = IsAllowed w step × AreAllowed (happens w step) steps
-
-  -- each step of this database is allowed at its moment
-  abbrev pub AreAllowedOf : Name → World Entry → List (Step Entry) → Type 0
-  AreAllowedOf d w [] = Unit {0}
-  AreAllowedOf d w (step ∷ steps) = (step.owner ≡ d → IsAllowed w step) × AreAllowedOf d (happens w step) steps
-
+module _ {Entry Ops : Type 0} (p : Layers Entry Ops) where
   -- of a database's history and that of a user: it took a beginning of what the user's history gives it,
   -- and what its book has as confirmed by the user is at most what the user took
   pub record AreInStep (d user : Name) (es us : List Entry) : Type 0 where
@@ -95,13 +77,23 @@ module _ {Entry Ops : Type 0} (p : Parts Entry Ops) where
     pub confirmed_received : (book_of p.sees user es).confirm_received ≤ (book_of p.sees user es).log_received
     pub asks_rise : Rises 0 (asked p.sees user es)
 
+module _ {Entry Ops : Type 0} (p : Layers Entry Ops) (lawful : Name → List Entry → Type 0) where
+  -- a step is allowed: its database is there, and may do this by its history and the messages
+  abbrev pub IsAllowed : World Entry → Act Entry → Type 0
+  IsAllowed w act = IsNamed w act.owner × CanDo p lawful w.messages act.owner (history w act.owner) act.deed
+
+  -- each step is allowed at its moment
+  abbrev pub AreAllowed : World Entry → List (Act Entry) → Type 0
+  AreAllowed w [] = Unit {0}
+  AreAllowed w (act ∷ acts) = IsAllowed w act × AreAllowed (happens w act) acts
+
   -- a good world
   pub record IsGood (w : World Entry) : Type 0 where
     -- every history keeps every rule
-    pub lawful : (d : Name) → IsLawful p d (history w d)
+    pub are_lawful : (d : Name) → lawful d (history w d)
     -- every database took a beginning of what each partner gives it, and no confirm passes what was taken
-    pub in_step : (d user : Name) → AreInStep d user (history w d) (history w user)
+    pub in_step : (d user : Name) → AreInStep p d user (history w d) (history w user)
     -- every book is in order
-    pub books : (d user : Name) → IsInOrder user (history w d)
+    pub books : (d user : Name) → IsInOrder p user (history w d)
     -- every message is true of its sender's history
     pub messages : (m : Message) → Contains w.messages m → IsTrueOf p m.from (history w m.from) m

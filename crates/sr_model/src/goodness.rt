@@ -1,49 +1,69 @@
 //! Good worlds stay good.
 
-ghost use Rattle.std.specs.Prelude.{◌≡◌, ℕ, ◌≤◌, List, Contains};
+ghost use Rattle.std.specs.Prelude.{◌≡◌, ℕ, ◌<◌, ◌≤◌, List, Contains};
 ghost use Rattle.sr_msgform.specs.declared.message.Message.{Message};
 ghost use Rattle.sr_book.specs.Entries.{Name, from_user};
 ghost use Rattle.sr_book.specs.Histories.{taken_end, book_of};
-ghost use Rattle.sr_model.specs.Parts.{Parts, Laws, end_of};
-ghost use Rattle.sr_model.specs.Steps.{append};
-ghost use Rattle.sr_model.specs.Worlds.{World, Step, fresh_world, history, happens, after_all, IsAllowed, AreAllowed, IsGood};
+ghost use Rattle.sr_book.specs.Rising.{top, offsets};
+ghost use Rattle.sr_model.specs.Layers.{Layers, Laws, end_of};
+ghost use Rattle.sr_model.specs.Steps.{append, IsWhole, CanTake};
+ghost use Rattle.sr_model.specs.Windows.{window};
+ghost use Rattle.sr_model.specs.Worlds.{World, Act, fresh_world, history, happens, after_all, IsAllowed, AreAllowed, IsGood};
+
+use crate::below::Rules;
 
 /// Each step that is allowed keeps each line of a good world.
-pub fn stays_good<Entry, Ops>()
-    ensures { (p : Parts Entry Ops) (laws : Laws p) (w : World Entry) (step : Step Entry) →
-        IsGood p w → IsAllowed p w step → IsGood p (happens w step) }
+pub fn stays_good<R: Rules>()
+    ensures { (p : Layers R.Entry R.Ops) (laws : Laws p R.lawful) (w : World R.Entry) (act : Act R.Entry) →
+        IsGood p R.lawful w → IsAllowed p R.lawful w act → IsGood p R.lawful (happens w act) }
 {}
 
 /// Databases with empty histories and no message are a good world.
-pub fn fresh_is_good<Entry, Ops>()
-    ensures { (p : Parts Entry Ops) (laws : Laws p) (names : List Name) → IsGood p (fresh_world names) }
+pub fn fresh_is_good<R: Rules>()
+    ensures { (p : Layers R.Entry R.Ops) (laws : Laws p R.lawful) (names : List Name) → IsGood p R.lawful (fresh_world names) }
 {}
 
 /// Whatever allowed steps are taken from a good world, or from a fresh one, the world is good.
-pub fn always_good<Entry, Ops>()
-    ensures from_good { (p : Parts Entry Ops) (laws : Laws p) (w : World Entry) (steps : List (Step Entry)) →
-        IsGood p w → AreAllowed p w steps → IsGood p (after_all w steps) }
-    ensures from_fresh { (p : Parts Entry Ops) (laws : Laws p) (names : List Name) (steps : List (Step Entry)) →
-        AreAllowed p (fresh_world names) steps → IsGood p (after_all (fresh_world names) steps) }
+pub fn always_good<R: Rules>()
+    ensures from_good { (p : Layers R.Entry R.Ops) (laws : Laws p R.lawful) (w : World R.Entry) (acts : List (Act R.Entry)) →
+        IsGood p R.lawful w → AreAllowed p R.lawful w acts → IsGood p R.lawful (after_all w acts) }
+    ensures from_fresh { (p : Layers R.Entry R.Ops) (laws : Laws p R.lawful) (names : List Name) (acts : List (Act R.Entry)) →
+        AreAllowed p R.lawful (fresh_world names) acts → IsGood p R.lawful (after_all (fresh_world names) acts) }
 {}
 
 /// Two takes of one partner that are allowed in a good world are one entry, whichever windows they come from.
-pub fn one_take<Entry, Ops>()
-    ensures { (p : Parts Entry Ops) (laws : Laws p) (w : World Entry) (d user : Name)
-        (e f : Entry) (place place' : ℕ) (ops ops' : Ops) → IsGood p w →
+pub fn one_take<R: Rules>()
+    ensures { (p : Layers R.Entry R.Ops) (laws : Laws p R.lawful) (w : World R.Entry) (d user : Name)
+        (e f : R.Entry) (place place' : ℕ) (ops ops' : R.Ops) → IsGood p R.lawful w →
         p.sees e ≡ from_user user place ops → p.sees f ≡ from_user user place' ops' →
-        IsAllowed p w (record { owner = d; deed = append e }) →
-        IsAllowed p w (record { owner = d; deed = append f }) → e ≡ f }
+        IsAllowed p R.lawful w (record { owner = d; deed = append e }) →
+        IsAllowed p R.lawful w (record { owner = d; deed = append f }) → e ≡ f }
+{}
+
+/// In a good world the bytes of every whole window from one database to another are the body of exactly the transactions that the
+/// sender gives the receiver in that window, and the last of these ends it (an empty one ends where it begins). Where it begins no
+/// later than the receiver has taken, and ends past that, some transaction may be taken from it.
+pub fn whole_body<R: Rules>()
+    ensures body { (p : Layers R.Entry R.Ops) (w : World R.Entry) (d user : Name) (prev upto : ℕ) (bytes : List ℕ) →
+        IsGood p R.lawful w → IsWhole w.messages user d prev upto bytes →
+        bytes ≡ p.encode (window prev upto (p.given user d (history w user))) }
+    ensures last { (p : Layers R.Entry R.Ops) (w : World R.Entry) (d user : Name) (prev upto : ℕ) (bytes : List ℕ) →
+        IsGood p R.lawful w → IsWhole w.messages user d prev upto bytes →
+        top prev (offsets (window prev upto (p.given user d (history w user)))) ≡ upto }
+    ensures taken { (p : Layers R.Entry R.Ops) (laws : Laws p R.lawful) (w : World R.Entry) (d user : Name) (prev upto : ℕ)
+        (bytes : List ℕ) → IsGood p R.lawful w → IsWhole w.messages user d prev upto bytes →
+        prev ≤ taken_end p.sees user (history w d) → taken_end p.sees user (history w d) < upto →
+        (place : ℕ) × (ops : R.Ops) × CanTake p w.messages d (history w d) user place ops }
 {}
 
 /// In a good world nobody has taken, and no message says, what lies past the end of the history that it is of.
-pub fn nothing_passes<Entry, Ops>()
-    ensures taken { (p : Parts Entry Ops) (laws : Laws p) (w : World Entry) (d user : Name) → IsGood p w →
+pub fn nothing_passes<R: Rules>()
+    ensures taken { (p : Layers R.Entry R.Ops) (laws : Laws p R.lawful) (w : World R.Entry) (d user : Name) → IsGood p R.lawful w →
         taken_end p.sees user (history w d) ≤ end_of p (history w user) }
-    ensures upto { (p : Parts Entry Ops) (laws : Laws p) (w : World Entry) (m : Message) → IsGood p w →
+    ensures upto { (p : Layers R.Entry R.Ops) (laws : Laws p R.lawful) (w : World R.Entry) (m : Message) → IsGood p R.lawful w →
         Contains w.messages m → m.upto.0 ≤ end_of p (history w m.from) }
-    ensures confirm { (p : Parts Entry Ops) (laws : Laws p) (w : World Entry) (m : Message) → IsGood p w →
+    ensures confirm { (p : Layers R.Entry R.Ops) (laws : Laws p R.lawful) (w : World R.Entry) (m : Message) → IsGood p R.lawful w →
         Contains w.messages m → m.confirm.0 ≤ end_of p (history w m.to) }
-    ensures ask { (p : Parts Entry Ops) (laws : Laws p) (w : World Entry) (m : Message) → IsGood p w →
+    ensures ask { (p : Layers R.Entry R.Ops) (laws : Laws p R.lawful) (w : World R.Entry) (m : Message) → IsGood p R.lawful w →
         Contains w.messages m → m.ask_offset.0 ≤ end_of p (history w m.to) }
 {}

@@ -4,20 +4,22 @@ ghost use Rattle.std.specs.Prelude.{ℕ, ◌≤◌, List, ◌++◌};
 ghost use Rattle.sr_msgform.specs.declared.message.Message.{Message};
 ghost use Rattle.sr_book.specs.Entries.{Name};
 ghost use Rattle.sr_book.specs.Histories.{taken};
-ghost use Rattle.sr_model.specs.Parts.{Parts, Laws, end_of};
+ghost use Rattle.sr_model.specs.Layers.{Layers, Laws, end_of};
 ghost use Rattle.sr_book.specs.Rising.{Rises, top, offsets};
 ghost use Rattle.sr_model.specs.Truth.{IsTrueOf};
 
+use crate::below::Rules;
+
 /// What a history gives a user has rising offsets above 0, and ends within the history.
-pub fn given_rises<Entry, Ops>()
-    ensures rises { (p : Parts Entry Ops) (laws : Laws p) (d user : Name) (es : List Entry) →
+pub fn given_rises<R: Rules>()
+    ensures rises { (p : Layers R.Entry R.Ops) (laws : Laws p R.lawful) (d user : Name) (es : List R.Entry) →
         Rises 0 (offsets (p.given d user es)) }
-    ensures within { (p : Parts Entry Ops) (laws : Laws p) (d user : Name) (es : List Entry) →
+    ensures within { (p : Layers R.Entry R.Ops) (laws : Laws p R.lawful) (d user : Name) (es : List R.Entry) →
         top 0 (offsets (p.given d user es)) ≤ end_of p es }
 {}
 
 /// A message that is true of a history stays true of each longer one in which the offsets taken from its receiver rise.
-pub fn true_longer<Entry, Ops>()
-    ensures { (p : Parts Entry Ops) (laws : Laws p) (d : Name) (es more : List Entry) (m : Message) →
+pub fn true_longer<R: Rules>()
+    ensures { (p : Layers R.Entry R.Ops) (laws : Laws p R.lawful) (d : Name) (es more : List R.Entry) (m : Message) →
         Rises 0 (offsets (taken p.sees m.to (es ++ more))) → IsTrueOf p d es m → IsTrueOf p d (es ++ more) m }
 {}

@@ -1,17 +1,32 @@
 //! A small world that goes, so that no law and no condition of a step is empty.
 
-ghost use Rattle.std.specs.Prelude.{◌≡◌, [], ◌∷◌};
+ghost use Rattle.std.specs.Prelude.{◌≡◌, List, [], ◌∷◌, length};
 ghost use Rattle.sr_book.specs.Histories.{taken, book_of};
-ghost use Rattle.sr_model.specs.Machines.{StepLaws, parts_of};
-ghost use Rattle.sr_model.specs.Small.{small, small_world, small_steps, cons, r1};
+ghost use Rattle.sr_model.specs.Layers.{Laws};
+ghost use Rattle.sr_model.specs.Machines.{StepLaws, layers_of, lawful_by};
+ghost use Rattle.sr_model.specs.Small.{small, SmallFits, SmallHolds, small_world, small_runs, small_acts, cons, r1, r2};
+ghost use Rattle.sr_model.specs.Runs.{AreRuns};
 ghost use Rattle.sr_model.specs.Worlds.{history, after_all, AreAllowed, IsGood};
 
-/// A commit, a put, the note of it, the take at the other database, its answer and the note of what that confirms are allowed
-/// steps. The world is then good, the other database has taken the transaction, and the first one knows that it was received.
+/// Three databases, eight runs, 28 steps: commits, windows for two users, one of them in two fragments; a window that is found before
+/// the one it follows, the ask for that one, its note, and both sent again as one window; takes from the fragments and from the window
+/// sent again, which begins before what was taken; a crash; an answer that confirms; a take that conflicts, and gives its origin
+/// something back, which is sent and taken. They are runs, each step is allowed, and the world is then good. Each database has taken
+/// all that it was given, and the books tell what was sent, confirmed, asked for and raised.
 pub fn small_world_goes()
-    ensures laws { StepLaws small }
-    ensures allowed { AreAllowed (parts_of small) small_world small_steps }
-    ensures good { IsGood (parts_of small) (after_all small_world small_steps) }
-    ensures taken { taken small.sees cons (history (after_all small_world small_steps) r1) ≡ (15, 7 ∷ []) ∷ [] }
-    ensures confirmed { (book_of small.sees r1 (history (after_all small_world small_steps) cons)).confirm_sent ≡ 15 }
+    ensures laws { StepLaws small SmallFits SmallHolds }
+    ensures runs { AreRuns (layers_of small) (lawful_by small SmallFits) small_world small_runs }
+    ensures steps { length small_acts ≡ 28 }
+    ensures allowed { AreAllowed (layers_of small) (lawful_by small SmallFits) small_world small_acts }
+    ensures good { IsGood (layers_of small) (lawful_by small SmallFits) (after_all small_world small_acts) }
+    ensures taken { taken small.sees cons (history (after_all small_world small_acts) r1)
+        ≡ (15, 1 ∷ 2 ∷ 3 ∷ []) ∷ (75, 4 ∷ []) ∷ (150, 107 ∷ []) ∷ [] }
+    ensures taken_by_r2 { taken small.sees cons (history (after_all small_world small_acts) r2) ≡ (30, 6 ∷ []) ∷ [] }
+    ensures taken_by_cons { taken small.sees r1 (history (after_all small_world small_acts) cons) ≡ (75, 7 ∷ []) ∷ [] }
+    ensures given { (layers_of small).given cons r1 (history (after_all small_world small_acts) cons)
+        ≡ (15, 1 ∷ 2 ∷ 3 ∷ []) ∷ (75, 4 ∷ []) ∷ (150, 107 ∷ []) ∷ [] }
+    ensures confirmed { (book_of small.sees r1 (history (after_all small_world small_acts) cons)).confirm_sent ≡ 75 }
+    ensures sent { (book_of small.sees r1 (history (after_all small_world small_acts) cons)).log_sent ≡ 150 }
+    ensures asked { (book_of small.sees r1 (history (after_all small_world small_acts) cons)).resend_count ≡ 1 }
+    ensures raised { (book_of small.sees cons (history (after_all small_world small_acts) r1)).rereceive_count ≡ 1 }
 {}

@@ -1,14 +1,12 @@
 use Rattle.std.specs.Prelude.{◌≡◌, ℕ, ◌+◌, Bool, List, [], ◌∷◌, ◌++◌, Option, Some, None, All, IsTrue}
-use Rattle.sr_book.specs.Entries.{Name, Seen, from_user}
+use Rattle.sr_book.specs.Entries.{Name, Sight, from_user}
 
 -- what the world needs of the layers below: of their entries, and of the ops that a transaction has
-pub record Parts (Entry Ops : Type 0) : Type 0 where
+pub record Layers (Entry Ops : Type 0) : Type 0 where
   -- what the world sees of an entry
-  pub sees : Entry → Seen Ops
+  pub sees : Entry → Sight Ops
   -- the length of an entry's body in bytes
   pub size : Entry → ℕ
-  -- whether the history of a database of this name keeps every rule of the layers below
-  pub is_lawful : Name → List Entry → Bool
   -- what the history of a database gives a user: each transaction with its offset, in order
   pub given : Name → Name → List Entry → List (ℕ × Ops)
   -- the body of a message with these transactions
@@ -21,7 +19,7 @@ abbrev pub transaction : {Ops : Type 0} → ℕ → Option Ops → List (ℕ × 
 transaction place None = []
 transaction place (Some ops) = (place, ops) ∷ []
 
-module _ {Entry Ops : Type 0} (p : Parts Entry Ops) where
+module _ {Entry Ops : Type 0} (p : Layers Entry Ops) where
   -- the end of a history that goes on from an offset: an entry ends the length of its body and five bytes later
   abbrev pub end_from : ℕ → List Entry → ℕ
   end_from place [] = place
@@ -35,24 +33,20 @@ module _ {Entry Ops : Type 0} (p : Parts Entry Ops) where
   abbrev pub AreFit : List (ℕ × Ops) → Type 0
   AreFit txs = All (λ tx. IsTrue (p.is_fit tx)) txs
 
-  -- the history of a database keeps every rule
-  abbrev pub IsLawful : Name → List Entry → Type 0
-  IsLawful d es = IsTrue (p.is_lawful d es)
-
--- the laws of the layers below, all that the theorems cite
-pub record Laws {Entry Ops : Type 0} (p : Parts Entry Ops) : Type 0 where
+-- the laws of the layers below, all that the theorems cite; `lawful`: the history of a database of this name keeps every rule
+pub record Laws {Entry Ops : Type 0} (p : Layers Entry Ops) (lawful : Name → List Entry → Type 0) : Type 0 where
   -- nothing gives nothing
   pub given_none : (d user : Name) → p.given d user [] ≡ []
   -- an entry more gives nothing more, or one transaction that ends where the entry does
   pub given_more : (d user : Name) (es : List Entry) (e : Entry) →
       (gave : Option Ops) × (p.given d user (es ++ e ∷ []) ≡ p.given d user es ++ transaction (end_of p (es ++ e ∷ [])) gave)
   -- nothing keeps every rule
-  pub lawful_none : (d : Name) → IsLawful p d []
+  pub lawful_none : (d : Name) → lawful d []
   -- what a lawful history gives has a spelling: of its fields, not of its length
-  pub given_fit : (d user : Name) (es : List Entry) → IsLawful p d es → AreFit p (p.given d user es)
+  pub given_fit : (d user : Name) (es : List Entry) → lawful d es → AreFit p (p.given d user es)
   -- of transactions that have a spelling, no two lists have one body
   pub encoded_once : (a b : List (ℕ × Ops)) → AreFit p a → AreFit p b → p.encode a ≡ p.encode b → a ≡ b
   -- what a taken transaction comes to is settled by the history before it
   pub judged_once : (d : Name) (es : List Entry) (e f : Entry) (user : Name) (place : ℕ) (ops : Ops) →
       p.sees e ≡ from_user user place ops → p.sees f ≡ from_user user place ops →
-      IsLawful p d (es ++ e ∷ []) → IsLawful p d (es ++ f ∷ []) → e ≡ f
+      lawful d (es ++ e ∷ []) → lawful d (es ++ f ∷ []) → e ≡ f
