@@ -41,7 +41,8 @@ module _ {Entry Ops : Type 0} (p : Layers Entry Ops) (lawful : Name → List Ent
   from_histories w good = record { are_lawful = good.are_lawful; in_step = good.in_step; books = good.books; messages = good.are_true }
 
   changes : (w : World Entry) (d : Name) (e : Entry) → IsGood p lawful w → CanDo p lawful w.messages d (history w d) (append e) → (x : Name) →
-      (history_in x (histories_after w.histories d (append e)) ≡ history w x) ⊎ HasMore p lawful (history w) x (history_in x (histories_after w.histories d (append e)))
+      (history_in x (histories_after w.histories d (append e)) ≡ history w x)
+      ⊎ HasMore p lawful (history w) x (history_in x (histories_after w.histories d (append e)))
   changes w d e good can x =
       elim (history_in-histories_after w.histories d (append e) x) [
         | inl same ↦ inl same

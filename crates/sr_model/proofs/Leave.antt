@@ -1,4 +1,5 @@
-use Rattle.std.proofs.Common.{◌≡◌, ℕ, zero, suc, ◌<◌, ◌≢◌, List, [], ◌∷◌, ◌++◌, length, get_or, map, refl, ap, ◌∙◌, subst, inl, inr, arith, Contains, bytes_eq, true}
+use Rattle.std.proofs.Common.{◌≡◌, ℕ, zero, suc, ◌<◌, ◌≢◌, List, [], ◌∷◌, ◌++◌, length, get_or, map, refl, ap, ◌∙◌, subst, inl, inr, arith, Contains}
+use Rattle.std.proofs.Common.{bytes_eq, true}
 use Rattle.std.proofs.lemmas.List.Elements.{Contains-push_cases, Contains-append_left, Contains-append_right}
 use Rattle.sr_book.specs.declared.note.Note.{Note}
 use Rattle.sr_book.specs.declared.note.Note.TheVariants.{Confirmed, Asked, Raised, Sent}
@@ -6,7 +7,8 @@ use Rattle.sr_book.specs.Entries.{Name, Sight, local, from_user, noted}
 use Rattle.sr_book.proofs.Folds.{name_test, same_name}
 use Rattle.sr_msgform.specs.declared.message.Message.{Message}
 use Rattle.sr_model.specs.Layers.{Layers}
-use Rattle.sr_model.specs.Steps.{Comes, HasPiece, IsWhole, Chain, CanNote, CanAppend, Deed, append, put, crash, CanDo, CanDoAll, history_after, messages_after, history_after_all, messages_after_all}
+use Rattle.sr_model.specs.Steps.{Comes, HasPiece, IsWhole, Chain, CanNote, CanAppend, Deed, append, put, crash, CanDo, CanDoAll, history_after}
+use Rattle.sr_model.specs.Steps.{messages_after, history_after_all, messages_after_all}
 use Rattle.sr_model.specs.Worlds.{World, Act, history_in, history, histories_after, happens, IsNamed, IsAllowed, AreAllowed, acts_by, AreAmong}
 use Rattle.sr_model.proofs.Good.{history_in-histories_after}
 
@@ -19,10 +21,12 @@ module _ (fewer messages : List Message) (among : AreAmong fewer messages) where
     sent_to = came.sent_to;
   }
 
-  abbrev piece_more : (sender receiver : Name) (prev upto total : ℕ) → HasPiece fewer sender receiver prev upto total → HasPiece messages sender receiver prev upto total
+  abbrev piece_more : (sender receiver : Name) (prev upto total : ℕ) → HasPiece fewer sender receiver prev upto total →
+      HasPiece messages sender receiver prev upto total
   piece_more sender receiver prev upto total piece = record { comes = comes_more sender receiver piece.comes; of_window = piece.of_window }
 
-  whole_more : (sender receiver : Name) (prev upto : ℕ) (body : List ℕ) → IsWhole fewer sender receiver prev upto body → IsWhole messages sender receiver prev upto body
+  whole_more : (sender receiver : Name) (prev upto : ℕ) (body : List ℕ) → IsWhole fewer sender receiver prev upto body →
+      IsWhole messages sender receiver prev upto body
   whole_more sender receiver prev upto body whole = record {
     some_piece = piece_more sender receiver prev upto (length body) whole.some_piece;
     covered = λ place below.
@@ -70,7 +74,8 @@ module _ (fewer messages : List Message) (among : AreAmong fewer messages) where
     append_more d es (noted user note) can = note_more d es user note can
 
     -- what may be done may be done with more messages
-    pub do_more : (lawful : Name → List Entry → Type 0) (d : Name) (es : List Entry) (deed : Deed Entry) → CanDo p lawful fewer d es deed → CanDo p lawful messages d es deed
+    pub do_more : (lawful : Name → List Entry → Type 0) (d : Name) (es : List Entry) (deed : Deed Entry) → CanDo p lawful fewer d es deed →
+        CanDo p lawful messages d es deed
     do_more lawful d es (append e) can = (append_more d es (p.sees e) can.0, can.1)
     do_more lawful d es (put m) can = can
     do_more lawful d es crash can = tt
@@ -128,7 +133,8 @@ module _ {Entry Ops : Type 0} (p : Layers Entry Ops) (lawful : Name → List Ent
       let same : history (happens w other) act.owner ≡ history w act.owner
       = other_history w.histories other.owner other.deed act.owner apart in (
         named_kept w other act.owner allowed.0,
-        rw same (do_more w.messages (messages_after w.messages other.deed) (messages_kept w.messages other.deed) p lawful act.owner (history w act.owner) act.deed allowed.1),
+        rw same (do_more w.messages (messages_after w.messages other.deed) (messages_kept w.messages other.deed) p lawful act.owner
+            (history w act.owner) act.deed allowed.1),
       )
 
   own_step : (w : World Entry) (d : Name) (act : Act Entry) → act.owner ≡ d → IsNamed w d →

@@ -1,4 +1,5 @@
-use Rattle.std.proofs.Common.{◌≡◌, ℕ, ◌<◌, ◌≤◌, ◌⊎◌, List, [], ◌∷◌, ◌++◌, sym, ap, ◌∙◌, subst, inl, inr, arith, append_assoc, append-nil, le_refl, nat_lt, true}
+use Rattle.std.proofs.Common.{◌≡◌, ℕ, ◌<◌, ◌≤◌, ◌⊎◌, List, [], ◌∷◌, ◌++◌, sym, ap, ◌∙◌, subst, inl, inr, arith, append_assoc, append-nil, le_refl}
+use Rattle.std.proofs.Common.{nat_lt, true}
 use Rattle.std.proofs.lemmas.List.Elements.{Contains-push_cases}
 use Rattle.sr_book.specs.Books.{with_note}
 use Rattle.sr_book.specs.declared.book.Book.{Book}
@@ -17,7 +18,8 @@ use Rattle.sr_model.proofs.Longer.{given_in, given_longer, taken_longer, true_lo
 use Rattle.sr_model.proofs.Sound.{AreGood, IsSound, IsSoundNote, taken_stands}
 
 -- a history that stays, or has one lawful and sound entry more
-pub record HasMore {Entry Ops : Type 0} (p : Layers Entry Ops) (lawful : Name → List Entry → Type 0) (of : Name → List Entry) (d : Name) (new : List Entry) : Type 0 where
+pub record HasMore {Entry Ops : Type 0} (p : Layers Entry Ops) (lawful : Name → List Entry → Type 0) (of : Name →
+    List Entry) (d : Name) (new : List Entry) : Type 0 where
   pub entry : Entry
   pub joined : new ≡ of d ++ entry ∷ []
   pub is_lawful : lawful d new
@@ -33,7 +35,8 @@ record IsBookInOrder (book : Book) (end : ℕ) : Type 0 where
 ask_new : (known count : ℕ) → known < count → nat_lt known count ≡ true
 ask_new known count above = grind arith
 
-module _ {Entry Ops : Type 0} (p : Layers Entry Ops) (lawful : Name → List Entry → Type 0) (laws : Laws p lawful) (of : Name → List Entry) (messages : List Message) (good : AreGood p lawful of messages) where
+module _ {Entry Ops : Type 0} (p : Layers Entry Ops) (lawful : Name → List Entry → Type 0) (laws : Laws p lawful) (of : Name →
+    List Entry) (messages : List Message) (good : AreGood p lawful of messages) where
   old_in_order : (d user : Name) → IsBookInOrder (book_of p.sees user (of d)) (end_of p (of d))
   old_in_order d user =
       let old = good.books d user in
@@ -112,7 +115,10 @@ module _ {Entry Ops : Type 0} (p : Layers Entry Ops) (lawful : Name → List Ent
     where
       by_note : (note : Note) → IsSoundNote p of d user note → (with_note (book_of p.sees user (of d)) note).confirm_sent ≤ taken_end p.sees d (of user)
       by_note (Confirmed place) sound = omega (arith, (good.in_step d user).confirmed)
-      by_note (Asked count place) sound = elim (ask_test (book_of p.sees user (of d)).resend_count count) [ inl t ↦ rw t.0 (good.in_step d user).confirmed | inr t ↦ rw t.0 (good.in_step d user).confirmed ]
+      by_note (Asked count place) sound = elim (ask_test (book_of p.sees user (of d)).resend_count count) [
+        | inl t ↦ rw t.0 (good.in_step d user).confirmed
+        | inr t ↦ rw t.0 (good.in_step d user).confirmed
+      ]
       by_note Raised sound = (good.in_step d user).confirmed
       by_note (Sent end count confirm) sound = (good.in_step d user).confirmed
 
@@ -221,7 +227,8 @@ module _ {Entry Ops : Type 0} (p : Layers Entry Ops) (lawful : Name → List Ent
         confirmed_sent = book.confirmed_sent;
         sent_stands = omega (arith, book.sent_stands, later);
         confirmed_received = book.confirmed_received;
-        asks_rise = rw counts (Rises-append 0 (asked p.sees user (of d)) (asks user (p.sees e)) (good.books d user).asks_rise (asks_rise d user (p.sees e) more.sound));
+        asks_rise = rw counts (Rises-append 0 (asked p.sees user (of d)) (asks user (p.sees e)) (good.books d user).asks_rise
+            (asks_rise d user (p.sees e) more.sound));
       }
 
   -- the fifth line

@@ -69,7 +69,8 @@ module _ {State Entry Ops : Type 0} (m : Machine State Entry Ops) where
           Holds s → Fits s place e → AreFit (layers_of m) (transaction (place + (m.size e + 5)) gave)
       gave_fit s place e user None is holds fits = All-nil (λ tx. IsTrue (m.is_fit tx))
       gave_fit s place e user (Some ops) is holds fits =
-          All-cons (λ tx. IsTrue (m.is_fit tx)) (place + (m.size e + 5), ops) [] (laws.gives_fit s place e user ops holds fits is) (All-nil (λ tx. IsTrue (m.is_fit tx)))
+          All-cons (λ tx. IsTrue (m.is_fit tx)) (place + (m.size e + 5), ops) [] (laws.gives_fit s place e user ops holds fits is)
+          (All-nil (λ tx. IsTrue (m.is_fit tx)))
 
       given_fit : (s : State) (place : ℕ) (user : Name) (es : List Entry) → Holds s → lawful_from m Fits s place es →
           AreFit (layers_of m) (given_from m s place user es)

@@ -1,4 +1,5 @@
-use Rattle.std.proofs.Common.{◌≡◌, ℕ, ◌<◌, ◌≤◌, ◌⊎◌, true, false, ◌&&◌, nat_lt, nat_le, List, [], ◌∷◌, ◌++◌, refl, sym, ap, ◌∙◌, subst, inl, inr, arith, append_assoc, append-nil, le_refl}
+use Rattle.std.proofs.Common.{◌≡◌, ℕ, ◌<◌, ◌≤◌, ◌⊎◌, true, false, ◌&&◌, nat_lt, nat_le, List, [], ◌∷◌, ◌++◌, refl, sym, ap, ◌∙◌, subst, inl, inr}
+use Rattle.std.proofs.Common.{arith, append_assoc, append-nil, le_refl}
 use Rattle.std.proofs.lemmas.List.Elements.{filter-append}
 use Rattle.sr_book.specs.Rising.{Rises, top, offsets}
 use Rattle.sr_book.proofs.Offsets.{le-top, Rises-front, Rises-back}
@@ -33,7 +34,8 @@ window_above prev upto low (tx ∷ txs) le rises =
     rw (above_test prev upto tx.0 above) (window_above prev upto tx.0 txs le' rises.1)
 
 -- a window begins after what lies at most at its beginning
-pub window_below : {Ops : Type 0} (prev upto low : ℕ) (txs : List (ℕ × Ops)) → Rises low (offsets txs) → top low (offsets txs) ≤ prev → window prev upto txs ≡ []
+pub window_below : {Ops : Type 0} (prev upto low : ℕ) (txs : List (ℕ × Ops)) → Rises low (offsets txs) → top low (offsets txs) ≤ prev →
+    window prev upto txs ≡ []
 window_below prev upto low [] rises le = refl
 window_below prev upto low (tx ∷ txs) rises le =
     let on : tx.0 ≤ top tx.0 (offsets txs) = le-top tx.0 (offsets txs) rises.1 in

@@ -3,7 +3,8 @@ use Rattle.sr_book.specs.declared.note.Note.TheVariants.{Confirmed, Asked, Raise
 use Rattle.sr_book.specs.Entries.{Name, from_user}
 use Rattle.sr_msgform.specs.declared.message.Message.{Message}
 use Rattle.sr_model.specs.Machines.{StepLaws, layers_of, lawful_by}
-use Rattle.sr_model.specs.Small.{SmallEntry, wrote, took, said, Verdict, plain, conflict, sent_of, small_sees, small_body, small, SmallFits, SmallHolds, cons, r1, r2}
+use Rattle.sr_model.specs.Small.{SmallEntry, wrote, took, said, Verdict, plain, conflict, sent_of, small_sees, small_body, small, SmallFits}
+use Rattle.sr_model.specs.Small.{SmallHolds, cons, r1, r2}
 use Rattle.sr_model.specs.Small.{first_run, run_of_r2, second_run, asking_run, resending_run, taking_run, returning_run, last_run}
 use Rattle.sr_model.specs.Small.{front_piece, back_piece, for_r2, second_window, ask, resend, answer, return, small_runs, small_world}
 use Rattle.sr_model.specs.Steps.{Comes, IsWhole, CanDoAll}
@@ -203,7 +204,11 @@ small_are_runs =
               can = asking_can;
             },
             (
-              record { named = cons_named; had_been_put = more_among ask [] (take 5 all_put) (4, omega arith, refl) (none_among (take 5 all_put)); can = resending_can },
+              record {
+                named = cons_named;
+                had_been_put = more_among ask [] (take 5 all_put) (4, omega arith, refl) (none_among (take 5 all_put));
+                can = resending_can;
+              },
               (
                 record {
                   named = r1_named;

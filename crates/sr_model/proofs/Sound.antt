@@ -16,7 +16,8 @@ use Rattle.sr_model.proofs.Longer.{given_in}
 use Rattle.sr_model.proofs.Spelled.{spelled}
 
 -- the lines of a good world, over histories by name
-pub record AreGood {Entry Ops : Type 0} (p : Layers Entry Ops) (lawful : Name → List Entry → Type 0) (of : Name → List Entry) (messages : List Message) : Type 0 where
+pub record AreGood {Entry Ops : Type 0} (p : Layers Entry Ops) (lawful : Name → List Entry → Type 0) (of : Name →
+    List Entry) (messages : List Message) : Type 0 where
   pub are_lawful : (d : Name) → lawful d (of d)
   pub in_step : (d user : Name) → AreInStep p d user (of d) (of user)
   pub books : (d user : Name) → IsInOrder p user (of d)
@@ -41,7 +42,8 @@ contains_at low [] x k rises within is = absurd (omega arith)
 contains_at low (y ∷ ys) x zero rises within is = let up : y ≤ top y ys = le-top y ys rises.1 in omega (arith, is)
 contains_at low (y ∷ ys) x (suc k) rises within is = contains_at y ys x k rises.1 (omega arith) is
 
-module _ {Entry Ops : Type 0} (p : Layers Entry Ops) (lawful : Name → List Entry → Type 0) (laws : Laws p lawful) (of : Name → List Entry) (messages : List Message) (good : AreGood p lawful of messages) where
+module _ {Entry Ops : Type 0} (p : Layers Entry Ops) (lawful : Name → List Entry → Type 0) (laws : Laws p lawful) (of : Name →
+    List Entry) (messages : List Message) (good : AreGood p lawful of messages) where
   came_true : (user d : Name) (came : Comes messages user d) → IsTrueOf p user (of user) came.message
   came_true user d came = subst (λ name. IsTrueOf p name (of name) came.message) came.sent_by (good.are_true came.message came.among)
 

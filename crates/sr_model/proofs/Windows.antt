@@ -51,7 +51,8 @@ taken_of_takes p user (tx ∷ txs) (e ∷ new) take =
     let take' : Take p user txs new = cc in
     rw (sees, same_name user) (ap (λ more. tx ∷ more) (taken_of_takes p user txs new take'))
 
-module _ {Entry Ops : Type 0} (p : Layers Entry Ops) (lawful : Name → List Entry → Type 0) (messages : List Message) (d user : Name) (prev upto : ℕ) (txs : List (ℕ × Ops))
+module _ {Entry Ops : Type 0} (p : Layers Entry Ops) (lawful : Name → List Entry →
+    Type 0) (messages : List Message) (d user : Name) (prev upto : ℕ) (txs : List (ℕ × Ops))
     (whole : IsWhole messages user d prev upto (p.encode txs)) (fit : AreFit p txs) (rises : Rises prev (offsets txs))
     (within : top prev (offsets txs) ≤ upto) where
   -- a window taken to its end is a list of takes, each allowed

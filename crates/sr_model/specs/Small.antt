@@ -85,6 +85,10 @@ SmallFits d place (said user note) = Unit {0}
 abbrev pub SmallHolds : Name → Type 0
 SmallHolds d = Unit {0}
 
+-- every user is granted
+abbrev pub SmallKnows : Name → Name → Type 0
+SmallKnows d user = Unit {0}
+
 -- a message that confirms nothing, asks for nothing and answers no ask
 abbrev pub piece : Name → Name → ℕ → ℕ → ℕ → ℕ → List ℕ → Message
 piece sender receiver prev upto total start fragment = record {

@@ -1,12 +1,43 @@
 //! A small world that goes, so that no law and no condition of a step is empty.
 
-ghost use Rattle.std.specs.Prelude.{◌≡◌, List, [], ◌∷◌, length};
+ghost use Rattle.std.specs.Prelude.{◌≡◌, ℕ, List, [], ◌∷◌, length};
+ghost use Rattle.sr_book.specs.Entries.{Name};
 ghost use Rattle.sr_book.specs.Histories.{taken, book_of};
 ghost use Rattle.sr_model.specs.Layers.{Laws};
 ghost use Rattle.sr_model.specs.Machines.{StepLaws, layers_of, lawful_by};
-ghost use Rattle.sr_model.specs.Small.{small, SmallFits, SmallHolds, small_world, small_runs, small_acts, cons, r1, r2};
+ghost use Rattle.sr_model.specs.Small.{SmallEntry, small, SmallFits, SmallHolds, SmallKnows, small_world, small_runs, small_acts, cons, r1, r2};
 ghost use Rattle.sr_model.specs.Runs.{AreRuns};
 ghost use Rattle.sr_model.specs.Worlds.{history, after_all, AreAllowed, IsGood};
+
+use crate::below::{Rules, StepRules};
+use crate::folded::has_laws;
+use crate::goodness::always_good;
+use crate::runs::runs_good;
+
+/// Stands for the entries and rules of the small world.
+struct SmallRules;
+
+impl Rules for SmallRules {
+    ghost Entry = { SmallEntry };
+
+    ghost Ops = { List ℕ };
+
+    ghost lawful = { lawful_by small SmallFits };
+}
+
+impl StepRules for SmallRules {
+    ghost State = { Name };
+
+    ghost Entry = { SmallEntry };
+
+    ghost Ops = { List ℕ };
+
+    ghost Fits = { SmallFits };
+
+    ghost Holds = { SmallHolds };
+
+    ghost Knows = { SmallKnows };
+}
 
 /// Three databases, eight runs, 28 steps: commits, windows for two users, one of them in two fragments; a window that is found before
 /// the one it follows, the ask for that one, its note, and both sent again as one window; takes from the fragments and from the window
@@ -29,4 +60,8 @@ pub fn small_world_goes()
     ensures sent { (book_of small.sees r1 (history (after_all small_world small_acts) cons)).log_sent ≡ 150 }
     ensures asked { (book_of small.sees r1 (history (after_all small_world small_acts) cons)).resend_count ≡ 1 }
     ensures raised { (book_of small.sees cons (history (after_all small_world small_acts) r1)).rereceive_count ≡ 1 }
-{}
+{
+    has_laws::<SmallRules>();
+    runs_good::<SmallRules>();
+    always_good::<SmallRules>();
+}
