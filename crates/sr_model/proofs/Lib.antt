@@ -4,6 +4,7 @@ pub mod Longer
 pub mod Spelled
 pub mod Sound
 pub mod Bodies
+pub mod Chains
 pub mod Lines
 pub mod Good
 pub mod Leave

@@ -16,13 +16,13 @@ by_one_more P none more xs = by_more_on P more [] xs none
 pub le_or_lt : (a b : ℕ) → (a ≤ b) ⊎ (b < a)
 le_or_lt a b = grind arith
 
-above_test : (prev upto x : ℕ) → upto < x → (nat_lt prev x && nat_le x upto) ≡ false
+pub above_test : (prev upto x : ℕ) → upto < x → (nat_lt prev x && nat_le x upto) ≡ false
 above_test prev upto x above = grind arith
 
-below_test : (prev upto x : ℕ) → x ≤ prev → (nat_lt prev x && nat_le x upto) ≡ false
+pub below_test : (prev upto x : ℕ) → x ≤ prev → (nat_lt prev x && nat_le x upto) ≡ false
 below_test prev upto x below = grind arith
 
-within_test : (prev upto x : ℕ) → prev < x → x ≤ upto → (nat_lt prev x && nat_le x upto) ≡ true
+pub within_test : (prev upto x : ℕ) → prev < x → x ≤ upto → (nat_lt prev x && nat_le x upto) ≡ true
 within_test prev upto x above below = grind arith
 
 -- a window ends before what rises above its end

@@ -1,4 +1,4 @@
-use Rattle.std.specs.Prelude.{◌≡◌, ℕ, ◌+◌, ◌-◌, ◌<◌, ◌≤◌, ◌⊎◌, List, [], ◌∷◌, ◌++◌, length, map, slice_index, Contains}
+use Rattle.std.specs.Prelude.{◌≡◌, ℕ, ◌+◌, ◌-◌, ◌<◌, ◌≤◌, ◌⊎◌, List, [], ◌∷◌, ◌++◌, length, map, flat_map, slice_index, Contains}
 use Rattle.sr_book.specs.declared.note.Note.{Note}
 use Rattle.sr_book.specs.declared.note.Note.TheVariants.{Confirmed, Asked, Raised, Sent}
 use Rattle.sr_book.specs.Entries.{Name, Sight, local, from_user, noted}
@@ -47,6 +47,12 @@ Chain messages sender receiver prev upto (next ∷ windows) =
     IsWhole messages sender receiver prev next.0 next.1 × Chain messages sender receiver next.0 upto windows
 
 module _ {Entry Ops : Type 0} (p : Layers Entry Ops) where
+  -- windows have the bodies of lists of transactions, which joined in order are these
+  pub record Covers (windows : List (ℕ × List ℕ)) (transactions : List (ℕ × Ops)) : Type 0 where
+    pub lists : List (List (ℕ × Ops))
+    pub bodies : map p.encode lists ≡ map (λ next. next.1) windows
+    pub joined : flat_map (λ list. list) lists ≡ transactions
+
   -- a transaction of a user may be taken: it is the first past what was taken, in a whole window that begins no later
   pub record CanTake (messages : List Message) (d : Name) (es : List Entry) (user : Name) (place : ℕ) (ops : Ops) : Type 0 where
     pub prev : ℕ

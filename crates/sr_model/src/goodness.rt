@@ -2,11 +2,13 @@
 
 ghost use Rattle.std.specs.Prelude.{◌≡◌, ℕ, ◌<◌, ◌≤◌, List, Contains};
 ghost use Rattle.sr_msgform.specs.declared.message.Message.{Message};
-ghost use Rattle.sr_book.specs.Entries.{Name, from_user};
+ghost use Rattle.sr_base.specs.declared.offset.Offset.{Offset};
+ghost use Rattle.sr_book.specs.declared.note.Note.TheVariants.{Sent};
+ghost use Rattle.sr_book.specs.Entries.{Name, from_user, noted};
 ghost use Rattle.sr_book.specs.Histories.{taken_end, book_of};
 ghost use Rattle.sr_book.specs.Rising.{top, offsets};
 ghost use Rattle.sr_model.specs.Layers.{Layers, Laws, end_of};
-ghost use Rattle.sr_model.specs.Steps.{append, IsWhole, CanTake};
+ghost use Rattle.sr_model.specs.Steps.{append, IsWhole, Chain, Covers, CanTake};
 ghost use Rattle.sr_model.specs.Windows.{window};
 ghost use Rattle.sr_model.specs.Worlds.{World, Act, fresh_world, history, happens, after_all, IsAllowed, AreAllowed, IsGood};
 
@@ -54,6 +56,19 @@ pub fn whole_body<R: Rules>()
         (bytes : List ℕ) → IsGood p R.lawful w → IsWhole w.messages user d prev upto bytes →
         prev ≤ taken_end p.sees user (history w d) → taken_end p.sees user (history w d) < upto →
         (place : ℕ) × (ops : R.Ops) × CanTake p w.messages d (history w d) user place ops }
+{}
+
+/// In a good world the windows of a chain from one database to another have, without gap or overlap, all that the sender gives the
+/// receiver from the chain's beginning to its end. So what is noted as sent was put.
+pub fn chain_covers<R: Rules>()
+    ensures covers { (p : Layers R.Entry R.Ops) (laws : Laws p R.lawful) (w : World R.Entry) (d user : Name) (prev upto : ℕ)
+        (windows : List (ℕ × List ℕ)) → IsGood p R.lawful w → Chain w.messages d user prev upto windows →
+        Covers p windows (window prev upto (p.given d user (history w d))) }
+    ensures sent { (p : Layers R.Entry R.Ops) (laws : Laws p R.lawful) (w : World R.Entry) (d user : Name) (e : R.Entry)
+        (end confirm : Offset) (count : ℕ) → IsGood p R.lawful w → p.sees e ≡ noted user (Sent end count confirm) →
+        IsAllowed p R.lawful w (record { owner = d; deed = append e }) →
+        (windows : List (ℕ × List ℕ)) × Chain w.messages d user (book_of p.sees user (history w d)).log_sent end.0 windows
+        × Covers p windows (window (book_of p.sees user (history w d)).log_sent end.0 (p.given d user (history w d))) }
 {}
 
 /// In a good world nobody has taken, and no message says, what lies past the end of the history that it is of.

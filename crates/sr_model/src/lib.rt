@@ -20,7 +20,9 @@ pub use below::{Rules, StepRules};
 pub use ends::end_grows;
 pub use folded::{books_begin_at_grants, given_grows, has_laws, lawful_grows, state_grows};
 pub use freedom::{run_good, run_still_allowed, runs_join, still_allowed, window_taken};
-pub use goodness::{always_good, fresh_is_good, nothing_passes, one_take, stays_good, whole_body};
+pub use goodness::{
+    always_good, chain_covers, fresh_is_good, nothing_passes, one_take, stays_good, whole_body,
+};
 pub use outlook::{given_rises, true_longer};
 pub use runs::runs_good;
 pub use sample::small_world_goes;
