@@ -1,10 +1,10 @@
-ghost use Rattle.std.specs.Prelude.{OnOk};
+ghost use Rattle.std.specs.Prelude.{◌≡◌, OnOk};
 ghost use Rattle.sr_exec.specs.Conditions.{RowsFit};
 
 use sr_ast::{Dml, Stmt};
 use sr_base::name_of;
 use sr_catalog::{Catalog, DdlFault, DmlFault};
-use sr_exec::{apply, exec, rows_stay_fitting};
+use sr_exec::{Changes, apply, exec, rows_stay_fitting};
 use sr_rows::Rows;
 use std::alloc::{AllocError, AllocFailed, Global};
 
@@ -28,6 +28,13 @@ impl<T: Drop> From<AllocFailed<T>> for Stopped {
     }
 }
 
+/// The answer to a statement on rows.
+#[derive(Drop)]
+pub enum Answer {
+    Changed(Changes),
+    Refused(DmlFault),
+}
+
 /// How many rows the statements of a script insert, update and delete. All tables are made first; a COMMIT keeps what was done.
 pub fn changed_rows(alloc: Global, script: &[Stmt]) -> Result<u64, Stopped> {
     let catalogs = catalogs(alloc, script)?;
@@ -37,13 +44,18 @@ pub fn changed_rows(alloc: Global, script: &[Stmt]) -> Result<u64, Stopped> {
     }
 }
 
+/// The catalog of a new database.
+pub fn new_catalog(alloc: Global) -> Result<Catalog, Stopped> {
+    match name_of(alloc, b"cons") {
+        Ok(publisher) => Ok(Catalog::new(alloc, publisher)),
+        Err(_) => Err(Stopped::Memory),
+    }
+}
+
 /// An empty catalog, and the one after each table that the script creates.
 fn catalogs(alloc: Global, script: &[Stmt]) -> Result<Vec<Catalog>, Stopped> {
-    let Ok(publisher) = name_of(alloc, b"cons") else {
-        return Err(Stopped::Memory);
-    };
     let mut catalogs = Vec::new(alloc);
-    catalogs.push(Catalog::new(alloc, publisher))?;
+    catalogs.push(new_catalog(alloc)?)?;
     for statement in script {
         if let Stmt::CreateTable(_) = statement {
             go_on(alloc, &mut catalogs, statement)?;
@@ -88,7 +100,10 @@ fn step(alloc: Global, catalog: &Catalog, rows: &mut Rows, statement: &Stmt) -> 
     ensures rows { OnOk result (RowsFit catalog.now rows.new.rows) }
 {
     match statement {
-        Stmt::Dml(statement) => on_rows(alloc, catalog, rows, statement),
+        Stmt::Dml(statement) => match on_rows(alloc, catalog, rows, statement)? {
+            Answer::Changed(changes) => Ok(changes.count),
+            Answer::Refused(_) => Err(Stopped::Refused),
+        },
         Stmt::Commit => {
             rows.mark();
             Ok(0)
@@ -97,22 +112,24 @@ fn step(alloc: Global, catalog: &Catalog, rows: &mut Rows, statement: &Stmt) -> 
     }
 }
 
-fn on_rows(
+/// What a statement on rows changes, or why it is refused; its changes are applied.
+pub fn on_rows(
     alloc: Global,
     catalog: &Catalog,
     rows: &mut Rows,
     statement: &Dml,
-) -> Result<u64, Stopped>
+) -> Result<Answer, Stopped>
     requires rows { RowsFit catalog.now rows.old.rows }
     ensures rows { OnOk result (RowsFit catalog.now rows.new.rows) }
+    ensures marked { rows.new.marked ≡ rows.old.marked }
 {
     rows_stay_fitting();
     match exec(alloc, catalog, rows, statement) {
         Ok(changes) => {
             apply(alloc, catalog, rows, changes.list.as_slice())?;
-            Ok(changes.count)
+            Ok(Answer::Changed(changes))
         }
         Err(DmlFault::Memory) => Err(Stopped::Memory),
-        Err(_) => Err(Stopped::Refused),
+        Err(fault) => Ok(Answer::Refused(fault)),
     }
 }

@@ -1,12 +1,18 @@
 //! `scriptbench`: reads standard input as a script and says how many statements it has, or the byte at which it is refused. With the
 //! word `run` it then makes the tables of the script and executes its INSERTs, UPDATEs and DELETEs in memory, and says how many rows
-//! these inserted, updated and deleted.
+//! these inserted, updated and deleted. With the word `answers` it says what each statement is answered, section by section (`answers`).
 //!
-//! It is there to measure the SQL front and the statements on rows before the program uses them: it keeps no database.
+//! It is there to measure and to try the SQL front, the catalog and the statements on rows before the program uses them: it keeps no
+//! database.
 #![tactic(auto)]
 
+mod answers;
 mod execution;
+mod reloading;
+mod rows;
+mod saying;
 
+use answers::answers;
 use execution::{Stopped, changed_rows};
 use sr_ast::Stmt;
 use sr_base::Text;
@@ -26,6 +32,9 @@ fn main(rt: HostRuntime) -> ExitCode {
     let Some(text) = input(rt) else {
         return ExitCode::from(FAILED);
     };
+    if has_word(rt, "answers") {
+        return ExitCode::from(answered(rt, text.as_str()));
+    }
     match parse(rt.alloc(), &text) {
         Ok(script) => ExitCode::from(told(rt, script.as_slice())),
         Err(ParseFault::Refused { at }) => {
@@ -50,7 +59,7 @@ fn told(rt: HostRuntime, script: &[Stmt]) -> u8 {
     if println!(rt; "{} statements", script.len()).is_err() {
         return FAILED;
     }
-    if !is_run(rt) {
+    if !has_word(rt, "run") {
         return 0;
     }
     match changed_rows(rt.alloc(), script) {
@@ -63,14 +72,33 @@ fn told(rt: HostRuntime, script: &[Stmt]) -> u8 {
     }
 }
 
-/// Whether the word `run` was given.
-fn is_run(rt: HostRuntime) -> bool {
+/// Says what each statement is answered; answers the status.
+fn answered(rt: HostRuntime, text: &str) -> u8 {
+    match answers(rt.alloc(), text) {
+        Ok(lines) => said(rt, lines),
+        Err(_) => FAILED,
+    }
+}
+
+/// Writes lines; answers the status.
+fn said(rt: HostRuntime, lines: Vec<u8>) -> u8 {
+    let Ok(lines) = String::from_utf8(lines) else {
+        return FAILED;
+    };
+    match print!(rt; "{lines}") {
+        Ok(_) => 0,
+        Err(_) => FAILED,
+    }
+}
+
+/// Whether this word was given first.
+fn has_word(rt: HostRuntime, wanted: &str) -> bool {
     let Ok(mut words) = env::args(&rt) else {
         return false;
     };
     let _ = words.next();
     match words.next() {
-        Some(word) => word.as_str() == "run",
+        Some(word) => word.as_str() == wanted,
         None => false,
     }
 }

@@ -17,8 +17,6 @@ mod print_stmt;
 mod printing;
 mod query;
 mod stmt;
-#[cfg(test)]
-mod tests;
 
 pub use action::{Action, Actions};
 pub use classes::{Class, NotTyped, Scope, class_of};

@@ -44,6 +44,3 @@ pub use seq::Seq;
 pub use text::Text;
 pub use value::{Kind, Value};
 pub use writing::{write_name, write_row, write_text, write_u32, write_u64, write_value};
-
-#[cfg(test)]
-mod tests;

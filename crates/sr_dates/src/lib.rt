@@ -11,6 +11,3 @@ mod literal;
 pub use day_reading::day_of;
 pub use fitting::fit;
 pub use literal::write_literal;
-
-#[cfg(test)]
-mod tests;

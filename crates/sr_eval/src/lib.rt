@@ -10,8 +10,6 @@ mod fault;
 mod laws;
 mod meaning;
 mod number;
-#[cfg(test)]
-mod tests;
 mod truth;
 mod worth;
 

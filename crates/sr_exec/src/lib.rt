@@ -22,8 +22,6 @@ mod moving;
 mod names;
 mod settling;
 mod storing;
-#[cfg(test)]
-mod tests;
 mod updating;
 
 pub use applying::apply;

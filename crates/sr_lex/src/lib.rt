@@ -12,8 +12,6 @@ mod lexer;
 mod lexing;
 mod number;
 mod quoted;
-#[cfg(test)]
-mod tests;
 mod token;
 
 pub use fault::LexFault;

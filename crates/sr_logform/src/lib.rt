@@ -4,7 +4,5 @@
 #![tactic(auto)]
 
 mod change;
-#[cfg(test)]
-mod tests;
 
 pub use change::Change;

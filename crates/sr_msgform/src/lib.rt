@@ -17,6 +17,3 @@ pub use message::Message;
 pub use reading::read_message;
 pub use rules::message_length;
 pub use writing::write_message;
-
-#[cfg(test)]
-mod tests;

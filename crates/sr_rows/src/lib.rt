@@ -8,8 +8,6 @@ mod laws;
 mod rows;
 mod table;
 mod tables;
-#[cfg(test)]
-mod tests;
 mod undo;
 
 pub use laws::a_table_is_walked_in_the_order_of_its_keys;

@@ -1,50 +1,9 @@
-use crate::{day_of, fit, write_literal};
-use sr_base::{Day, Key, Kind, NoMemory, Seq, Text, Value, compare, order};
+//! Values in order, compared, in columns and as literals.
+
+use sr_base::{Key, Kind, NoMemory, Seq, Text, Value, compare, order};
+use sr_dates::{day_of, fit, write_literal};
 use std::alloc::Global;
 use std::cmp::Ordering;
-
-/// Days since 1970-01-01, by the `datetime` of Python.
-#[test]
-fn texts_of_dates_name_their_days(rt: HostRuntime) {
-    for (text, days) in [
-        ("0001-01-01", -719162),
-        ("1582-10-10", -141432),
-        ("1600-02-29", -135081),
-        ("1900-02-28", -25509),
-        ("1969-12-31", -1),
-        ("1970-01-01", 0),
-        ("2000-02-29", 11016),
-        ("2024-02-29", 19782),
-        ("9999-12-31", 2932896),
-    ] {
-        assert!(rt; names(text, days), "{text}");
-    }
-    for text in [
-        "",
-        "0000-12-31",
-        "1900-02-29",
-        "2023-02-29",
-        "2023-13-01",
-        "2023-00-10",
-        "2023-04-31",
-        "2023-04-00",
-        "2023-4-30",
-        "2023-04-30 ",
-        "+023-04-30",
-        "2023/04/30",
-        "20230430",
-        "2023-04-3x",
-    ] {
-        assert!(rt; day_of(text.as_bytes()).is_none(), "{text}");
-    }
-}
-
-fn names(text: &str, days: i32) -> bool {
-    match day_of(text.as_bytes()) {
-        Some(day) => day.days() == days,
-        None => false,
-    }
-}
 
 /// A value by the text that it is printed as: `'..` a text, `@..` a date, `..L` a BIGINT.
 fn value(alloc: Global, text: &str) -> Result<Value, NoMemory> {

@@ -1,5 +1,8 @@
-use crate::Rows;
-use sr_base::{Key, Name, NoMemory, Row, Seq, Value, name_of};
+//! Rows with a mark, and changes of rows.
+
+use sr_base::{Copied, Key, Name, NoMemory, Row, Seq, Value, name_of};
+use sr_logform::Change;
+use sr_rows::Rows;
 use std::alloc::{AllocError, Global};
 
 fn name(alloc: Global, text: &str) -> Result<Name, NoMemory> {
@@ -108,5 +111,19 @@ fn undo_goes_back_to_the_mark(rt: HostRuntime) -> Result<(), NoMemory> {
         let found = answer(alloc, &mut rows, &name, key, &step)?;
         assert_eq!(rt; found, want, "at {table} {key}");
     }
+    Ok(())
+}
+
+#[test]
+fn a_change_is_copied(rt: HostRuntime) -> Result<(), NoMemory> {
+    let alloc = rt.alloc();
+    let change = Change {
+        table: name(alloc, "cust")?,
+        before: None,
+        after: Some(Row::new(values(alloc, 7)?)),
+    };
+    let copy = change.copy(alloc)?;
+    assert!(rt; copy.table.bytes() == b"cust".as_slice());
+    assert_eq!(rt; (before(copy.before), before(copy.after)), (0, 7));
     Ok(())
 }

@@ -1,0 +1,28 @@
+//! Rows under another catalog.
+
+ghost use Rattle.std.specs.Prelude.{◌≡◌, IfOk, OnOk};
+ghost use Rattle.sr_exec.specs.Conditions.{RowsFit};
+
+use crate::execution::{Stopped, on_rows};
+use crate::rows::insertion;
+use sr_catalog::Catalog;
+use sr_exec::rows_stay_fitting;
+use sr_rows::Rows;
+use std::alloc::Global;
+
+/// Those of the rows whose table stands in the catalog, also at the mark. Each is inserted anew, so that it fits its table there.
+pub fn reloaded(alloc: Global, catalog: &Catalog, rows: &Rows) -> Result<Rows, Stopped>
+    ensures rows { IfOk result (λ held. RowsFit catalog.now held.rows) }
+    ensures marked { IfOk result (λ held. RowsFit catalog.now held.marked) }
+{
+    rows_stay_fitting();
+    let mut held = Rows::new(alloc);
+    let mut left = catalog.tables();
+    'tables: while let Some((table, rest)) = left.split_first() {
+        let statement = insertion(alloc, rows, &table.name)?;
+        on_rows(alloc, catalog, &mut held, &statement)?;
+        left = rest;
+    }
+    held.mark();
+    Ok(held)
+}

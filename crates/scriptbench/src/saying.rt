@@ -1,0 +1,113 @@
+//! What statements are answered, in words: the faults with their values, the changes with their rows.
+
+use crate::execution::Stopped;
+use sr_base::{Name, Row, Value};
+use sr_catalog::{DdlFault, DmlFault};
+use sr_dates::write_literal;
+use sr_exec::Changes;
+use std::alloc::Global;
+
+/// Appends a text.
+pub fn say(out: &mut Vec<u8>, text: &str) -> Result<(), Stopped> {
+    out.extend_from_slice(text.as_bytes())?;
+    Ok(())
+}
+
+/// Appends a word and a name.
+pub fn say_name(out: &mut Vec<u8>, word: &str, name: &Name) -> Result<(), Stopped> {
+    say(out, word)?;
+    out.extend_from_slice(name.bytes())?;
+    Ok(())
+}
+
+fn say_names(out: &mut Vec<u8>, word: &str, first: &Name, second: &Name) -> Result<(), Stopped> {
+    say_name(out, word, first)?;
+    say_name(out, " ", second)
+}
+
+/// Appends values as literals, with this text between them.
+pub fn say_values(
+    alloc: Global,
+    out: &mut Vec<u8>,
+    values: &[Value],
+    between: &str,
+) -> Result<(), Stopped> {
+    let mut before = "";
+    for value in values {
+        say(out, before)?;
+        write_literal(alloc, value, out)?;
+        before = between;
+    }
+    Ok(())
+}
+
+/// Appends values in parentheses.
+fn say_list(
+    alloc: Global,
+    out: &mut Vec<u8>,
+    word: &str,
+    values: &[Value],
+) -> Result<(), Stopped> {
+    say(out, word)?;
+    say(out, "(")?;
+    say_values(alloc, out, values, ", ")?;
+    say(out, ")")
+}
+
+fn say_row(
+    alloc: Global,
+    out: &mut Vec<u8>,
+    sign: &str,
+    row: &Option<Row>,
+) -> Result<(), Stopped> {
+    match row {
+        Some(row) => say_list(alloc, out, sign, row.values()),
+        None => Ok(()),
+    }
+}
+
+/// Appends the number of rows, and of each change the row before behind `-` and the row after behind `+`.
+pub fn say_changes(alloc: Global, out: &mut Vec<u8>, changes: &Changes) -> Result<(), Stopped> {
+    let count = format!(in alloc; "{} rows", changes.count)?;
+    say(out, count.as_str())?;
+    for change in changes.list.as_slice() {
+        say_row(alloc, out, " -", &change.before)?;
+        say_row(alloc, out, " +", &change.after)?;
+    }
+    Ok(())
+}
+
+/// Appends why a statement that changes the catalog is refused.
+pub fn say_ddl_fault(alloc: Global, out: &mut Vec<u8>, fault: &DdlFault) -> Result<(), Stopped> {
+    match fault {
+        DdlFault::Exists { name } => say_name(out, "Exists ", name),
+        DdlFault::Missing { name } => say_name(out, "Missing ", name),
+        DdlFault::BadType { name } => say_name(out, "BadType ", name),
+        DdlFault::NoKey { table } => say_name(out, "NoKey ", table),
+        DdlFault::KeyNotInArticle { table, column } => {
+            say_names(out, "KeyNotInArticle ", table, column)
+        }
+        DdlFault::TwiceSubscribed { user, table } => {
+            say_names(out, "TwiceSubscribed ", user, table)
+        }
+        DdlFault::InUse { name } => say_name(out, "InUse ", name),
+        DdlFault::TooMany { limit } => {
+            let line = format!(in alloc; "TooMany {limit}")?;
+            say(out, line.as_str())
+        }
+        DdlFault::Memory => Err(Stopped::Memory),
+    }
+}
+
+/// Appends why a statement on rows is refused.
+pub fn say_dml_fault(alloc: Global, out: &mut Vec<u8>, fault: &DmlFault) -> Result<(), Stopped> {
+    match fault {
+        DmlFault::NoTable { name } => say_name(out, "NoTable ", name),
+        DmlFault::NoColumn { name } => say_name(out, "NoColumn ", name),
+        DmlFault::BadValue { name } => say_name(out, "BadValue ", name),
+        DmlFault::Null { name } => say_name(out, "Null ", name),
+        DmlFault::Duplicate { key } => say_list(alloc, out, "Duplicate ", key.values()),
+        DmlFault::Overflow => say(out, "Overflow"),
+        DmlFault::Memory => Err(Stopped::Memory),
+    }
+}
