@@ -176,8 +176,9 @@ fn binary_typing(operator: Binary, left: Typing, right: Typing) -> Typing
     }
 }
 
-fn value_class(value: &Value) -> Class
-    ensures { result ≡ value_class value.now }
+/// The class of a value; NULL has each.
+pub fn value_class(value: &Value) -> Class
+    ensures class { result ≡ value_class value.now }
 {
     match value {
         Value::Null => Class::Any,
@@ -188,8 +189,9 @@ fn value_class(value: &Value) -> Class
     }
 }
 
-fn kind_class(kind: Kind) -> Class
-    ensures { result ≡ kind_class kind }
+/// The class of a column of this kind.
+pub fn kind_class(kind: Kind) -> Class
+    ensures class { result ≡ kind_class kind }
 {
     match kind {
         Kind::Int => Class::Number,
@@ -247,8 +249,9 @@ fn unary_class(operator: Unary, class: Class) -> Option<Class>
     }
 }
 
-fn is_comparable(left: Class, right: Class) -> bool
-    ensures { result ≡ is_comparable left right }
+/// Whether two classes may be compared: they are one class, and no truth.
+pub fn is_comparable(left: Class, right: Class) -> bool
+    ensures comparable { result ≡ is_comparable left right }
 {
     match left {
         Class::Truth => false,

@@ -19,7 +19,7 @@ mod query;
 mod stmt;
 
 pub use action::{Action, Actions};
-pub use classes::{Class, NotTyped, Scope, class_of};
+pub use classes::{Class, NotTyped, Scope, class_of, is_comparable, kind_class, value_class};
 pub use create::{
     ArticleRule, ColumnRule, CreatePublication, CreateTable, CreateTrigger, Grant, Image,
     SubscriptionRule,

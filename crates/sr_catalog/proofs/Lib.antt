@@ -1,16 +1,2 @@
-pub mod Made
-pub mod Places
 pub mod Printings
 pub mod Refusals
-pub mod ReplayCauses
-pub mod ReplayLists
-pub mod ReplayNexts
-pub mod ReplayPublications
-pub mod ReplayStarts
-pub mod ReplaySubscriptions
-pub mod ReplayTables
-pub mod ReplayTriggers
-pub mod ReplayUsers
-pub mod Replays
-pub mod Sizes
-pub mod Standing

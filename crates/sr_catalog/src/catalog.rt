@@ -1,16 +1,15 @@
 ghost use Rattle.std.specs.Prelude.{◌≡◌, IfOk};
 ghost use Rattle.std.specs.Option.{option_copied};
-ghost use Rattle.sr_catalog.specs.Catalogs.{nothing_but};
-ghost use Rattle.sr_catalog.specs.Names.{named, taken};
-ghost use Rattle.sr_catalog.specs.Scripts.{IsMade};
+ghost use Rattle.sr_change.specs.Changes.{IsChange};
+ghost use Rattle.sr_replay.specs.Scripts.{IsMade};
+ghost use Rattle.sr_schema.specs.Catalogs.{nothing_but};
+ghost use Rattle.sr_schema.specs.Members.{publication_name, table_name, user_name};
+ghost use Rattle.sr_schema.specs.Names.{named};
 
-use crate::named::Named;
-use crate::publication::Publication;
-use crate::subscription::Subscription;
-use crate::table::Table;
-use crate::trigger::Trigger;
-use crate::user::User;
-use sr_base::{Copied, Name, NoMemory, Seq};
+use sr_ast::Stmt;
+use sr_base::{Copied, Name, NoMemory};
+use sr_change::{apply, refusal};
+use sr_schema::{DdlFault, Publication, Schema, Subscription, Table, Trigger, User};
 use std::alloc::Global;
 use std::marker::Model;
 
@@ -18,148 +17,115 @@ use std::marker::Model;
 /// the publisher and the lists, each in order of creation.
 #[derive(Drop)]
 pub struct Catalog {
-    pub(crate) publisher: Name,
-    pub(crate) users: Named<User>,
-    pub(crate) tables: Named<Table>,
-    pub(crate) publications: Named<Publication>,
-    pub(crate) triggers: Named<Trigger>,
-    pub(crate) subscriptions: Seq<Subscription>,
+    pub(crate) schema: Schema,
 }
 
 impl Model for Catalog {
-    ghost use Rattle.std.specs.Coded.{codes};
-    ghost use Rattle.sr_ast.specs.Terms.{term_code};
-    ghost use Rattle.sr_ast.specs.Chains.{chain_code};
-    ghost use Rattle.sr_catalog.specs.Catalogs.{Lists};
+    ghost use Rattle.sr_schema.specs.Catalogs.{Lists};
 
     ghost Value = { Lists };
 
-    ghost coded = { Prim.hlevel (codes, term_code, chain_code) };
-
-    ghost view = { λ c. record {
-      publisher = c.publisher;
-      users = c.users;
-      tables = c.tables;
-      publications = c.publications;
-      triggers = c.triggers;
-      subscriptions = c.subscriptions;
-    } };
+    ghost view = { λ c. c.schema };
 }
 
 impl Catalog {
     /// The catalog of a new database: nothing but its publisher. It takes no memory.
-    #[tactic(auto, using(crate::proofs::Made::new_made))]
+    #[tactic(auto, using(sr_replay::proofs::Made::new_made))]
     pub fn new(alloc: Global, publisher: Name) -> Catalog
         ensures new { result ≡ nothing_but publisher }
         ensures made { IsMade result }
     {
         Catalog {
-            publisher,
-            users: Named::new(alloc),
-            tables: Named::new(alloc),
-            publications: Named::new(alloc),
-            triggers: Named::new(alloc),
-            subscriptions: Seq::empty(alloc),
+            schema: Schema::new(alloc, publisher),
         }
+    }
+
+    /// The catalog after a statement.
+    ///
+    /// It takes the statements that change the catalog. SYNCHRONIZE and PASSTHROUGH FOR are only checked, and answer an equal
+    /// catalog, as any other statement does. A refused statement answers the first fault that applies, in the order of `DdlFault`;
+    /// of several places of one fault the leftmost.
+    #[tactic(auto, using(crate::proofs::Refusals::refused, sr_replay::proofs::Made::changed))]
+    pub fn change(&self, alloc: Global, stmt: &Stmt) -> Result<Catalog, DdlFault>
+        ensures change { IsChange self.now stmt.now result }
+        ensures made { IfOk result (λ after. IsMade self.now → IsMade after) }
+    {
+        if let Some(fault) = refusal(&self.schema, alloc, stmt)? {
+            return Err(fault);
+        }
+        let mut schema = self.schema.copy(alloc)?;
+        apply(&mut schema, alloc, stmt)?;
+        Ok(Catalog { schema })
     }
 
     /// The publisher.
     pub fn publisher(&self) -> &Name
         ensures publisher { result.now ≡ self.now.publisher }
     {
-        &self.publisher
+        self.schema.publisher()
     }
 
     /// The table of this name. It takes constant time.
     pub fn table(&self, name: &Name) -> Option<&Table>
-        ensures table { option_copied result ≡ named (λ t. t.name) name.now self.now.tables }
+        ensures table { option_copied result ≡ named table_name name.now self.now.tables }
     {
-        self.tables.get(name)
+        self.schema.table(name)
     }
 
     /// The user of this name. It takes constant time.
     pub fn user(&self, name: &Name) -> Option<&User>
-        ensures user { option_copied result ≡ named (λ u. u.name) name.now self.now.users }
+        ensures user { option_copied result ≡ named user_name name.now self.now.users }
     {
-        self.users.get(name)
+        self.schema.user(name)
+    }
+
+    /// The publication of this name. It takes constant time.
+    pub fn publication(&self, name: &Name) -> Option<&Publication>
+        ensures publication { option_copied result ≡ named publication_name name.now self.now.publications }
+    {
+        self.schema.publication(name)
     }
 
     /// The users in order of grant.
     pub fn users(&self) -> &[User]
         ensures users { result.now ≡ self.now.users }
     {
-        self.users.as_slice()
+        self.schema.users()
     }
 
     /// The tables in order of creation.
     pub fn tables(&self) -> &[Table]
         ensures tables { result.now ≡ self.now.tables }
     {
-        self.tables.as_slice()
+        self.schema.tables()
     }
 
     /// The publications in order of creation.
     pub fn publications(&self) -> &[Publication]
         ensures publications { result.now ≡ self.now.publications }
     {
-        self.publications.as_slice()
+        self.schema.publications()
     }
 
     /// The triggers in order of creation.
     pub fn triggers(&self) -> &[Trigger]
         ensures triggers { result.now ≡ self.now.triggers }
     {
-        self.triggers.as_slice()
+        self.schema.triggers()
     }
 
     /// The subscriptions in order of creation.
     pub fn subscriptions(&self) -> &[Subscription]
         ensures subscriptions { result.now ≡ self.now.subscriptions }
     {
-        self.subscriptions.as_slice()
-    }
-
-    /// The publication of this name. It takes constant time.
-    pub fn publication(&self, name: &Name) -> Option<&Publication>
-        ensures publication { option_copied result ≡ named (λ p. p.name) name.now self.now.publications }
-    {
-        self.publications.get(name)
-    }
-
-    pub(crate) fn has_table(&self, name: &Name) -> bool
-        ensures taken { result ≡ taken (λ t. t.name) name.now self.now.tables }
-    {
-        self.tables.holds(name)
-    }
-
-    pub(crate) fn has_user(&self, name: &Name) -> bool
-        ensures taken { result ≡ taken (λ u. u.name) name.now self.now.users }
-    {
-        self.users.holds(name)
-    }
-
-    pub(crate) fn has_publication(&self, name: &Name) -> bool
-        ensures taken { result ≡ taken (λ p. p.name) name.now self.now.publications }
-    {
-        self.publications.holds(name)
-    }
-
-    pub(crate) fn has_trigger(&self, name: &Name) -> bool
-        ensures taken { result ≡ taken (λ t. t.name) name.now self.now.triggers }
-    {
-        self.triggers.holds(name)
+        self.schema.subscriptions()
     }
 }
 
 impl Copied for Catalog {
     fn copy(&self, alloc: Global) -> Result<Catalog, NoMemory> {
         Ok(Catalog {
-            publisher: self.publisher.copy(alloc)?,
-            users: self.users.copy(alloc)?,
-            tables: self.tables.copy(alloc)?,
-            publications: self.publications.copy(alloc)?,
-            triggers: self.triggers.copy(alloc)?,
-            subscriptions: self.subscriptions.copy(alloc)?,
+            schema: self.schema.copy(alloc)?,
         })
     }
 }

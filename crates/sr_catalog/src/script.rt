@@ -1,44 +1,24 @@
 //! The statements that make a catalog from a new one.
 
-ghost use Rattle.std.specs.Prelude.{◌≡◌, ◌∷◌, ◌++◌, [], map, filter, Some, IfOk, OnOk, bytes_eq};
+ghost use Rattle.std.specs.Prelude.{◌≡◌, ◌++◌, map, filter, Some, IfOk, OnOk};
 ghost use Rattle.sr_ast.specs.Layout.{printed};
 ghost use Rattle.sr_ast.specs.declared.stmt.Stmt.{Stmt};
-ghost use Rattle.sr_catalog.specs.Catalogs.{nothing_but};
-ghost use Rattle.sr_catalog.specs.Scripts.{
-  given_address,
-  grant_rule,
-  grant_of,
-  column_rule,
-  create_table_of,
-  article_rule,
-  create_publication_of,
-  subscription_rule,
-  create_subscription_of,
-  start_of,
-  trigger_stmt,
-  statements,
-  replayed,
-  IsMade,
-};
+ghost use Rattle.sr_schema.specs.Catalogs.{nothing_but};
+ghost use Rattle.sr_replay.specs.Scripts.{given_address, grant_rule, grant_of, column_rule, create_table_of, article_rule, create_publication_of, subscription_rule, create_subscription_of, start_of, trigger_stmt, statements, replayed, IsMade};
 
 use crate::catalog::Catalog;
-use crate::publication::{Article, Publication};
-use crate::publications::key_names;
-use crate::subscription::Subscription;
-use crate::table::{Column, Table};
-use crate::trigger::Trigger;
-use crate::user::User;
 use sr_ast::{
     ArticleRule, ColumnRule, CreatePublication, CreateTable, Grant, Stmt, SubscriptionRule, print,
 };
 use sr_base::{Copied, NoMemory, Seq, Text, text_of};
+use sr_schema::{Article, Column, Publication, Subscription, Table, Trigger, User, key_names};
 use std::alloc::{AllocError, Global};
 
 impl Catalog {
     /// The statements that make this catalog from a new one, as they print: grants, tables, publications with their articles' columns
     /// written out, triggers, subscriptions and starts, each kind in order of creation. A grant has no address where it is the user's
     /// name. Where accepted statements have made this catalog of a new one, these are accepted too, and make it again.
-    #[tactic(auto, using(crate::proofs::Printings::joined, crate::proofs::Made::again))]
+    #[tactic(auto, using(crate::proofs::Printings::joined, sr_replay::proofs::Made::again))]
     pub fn script(&self, alloc: Global) -> Result<Vec<Text>, NoMemory>
         ensures texts { IfOk result (λ texts. texts.items ≡ map printed (statements self.now)) }
         ensures makes { IsMade self.now → replayed (nothing_but self.now.publisher) (statements self.now) ≡ Some self.now }
@@ -98,7 +78,7 @@ fn add_starts(
     Ok(())
 }
 
-#[tactic(auto, unfolding(crate::specs::Scripts::start_of))]
+#[tactic(auto, unfolding(sr_replay::specs::Scripts::start_of))]
 fn start_text(alloc: Global, subscription: &Subscription) -> Result<Text, NoMemory>
     ensures { IfOk result (λ text. text ≡ printed (start_of subscription.now)) }
 {
@@ -122,7 +102,7 @@ fn subscription_rule(
 impl Made for Subscription {
     ghost stmt_of = { create_subscription_of };
 
-    #[tactic(auto, unfolding(crate::specs::Scripts::create_subscription_of))]
+    #[tactic(auto, unfolding(sr_replay::specs::Scripts::create_subscription_of))]
     fn stmt(&self, alloc: Global) -> Result<Stmt, NoMemory> {
         Ok(Stmt::CreateSubscription(subscription_rule(alloc, self)?))
     }
@@ -139,7 +119,7 @@ impl Made for Trigger {
 impl Made for User {
     ghost stmt_of = { grant_of };
 
-    #[tactic(auto, unfolding(crate::specs::Scripts::grant_of))]
+    #[tactic(auto, unfolding(sr_replay::specs::Scripts::grant_of))]
     fn stmt(&self, alloc: Global) -> Result<Stmt, NoMemory> {
         let rule = grant_rule(alloc, self)?;
         if self.above {
@@ -175,7 +155,7 @@ fn given_address(alloc: Global, user: &User) -> Result<Option<Text>, NoMemory>
 impl Made for Table {
     ghost stmt_of = { create_table_of };
 
-    #[tactic(auto, unfolding(crate::specs::Scripts::create_table_of))]
+    #[tactic(auto, unfolding(sr_replay::specs::Scripts::create_table_of))]
     fn stmt(&self, alloc: Global) -> Result<Stmt, NoMemory> {
         let columns = column_rules(alloc, self.columns.as_slice())?;
         let key = key_names(alloc, self)?;
@@ -206,7 +186,7 @@ fn column_rules(alloc: Global, columns: &[Column]) -> Result<Seq<ColumnRule>, No
 impl Made for Publication {
     ghost stmt_of = { create_publication_of };
 
-    #[tactic(auto, unfolding(crate::specs::Scripts::create_publication_of))]
+    #[tactic(auto, unfolding(sr_replay::specs::Scripts::create_publication_of))]
     fn stmt(&self, alloc: Global) -> Result<Stmt, NoMemory> {
         let articles = article_rules(alloc, self.articles.as_slice())?;
         Ok(Stmt::CreatePublication(CreatePublication {

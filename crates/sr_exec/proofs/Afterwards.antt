@@ -11,8 +11,8 @@ use Rattle.sr_rows.specs.Walks.{Entry, table_rows}
 use Rattle.sr_rows.proofs.Gathering.{exact_places}
 use Rattle.sr_rows.proofs.Listing.{get-table_rows, table_rows-rise, each_found}
 use Rattle.sr_logform.specs.declared.change.Change.{Change}
-use Rattle.sr_catalog.specs.Catalogs.{Lists}
-use Rattle.sr_catalog.specs.declared.table.Table.{Table}
+use Rattle.sr_schema.specs.Catalogs.{Lists}
+use Rattle.sr_schema.specs.declared.table.Table.{Table}
 use Rattle.sr_exec.specs.Applying.{place_of, without_row, with_row, applied_in, applied}
 use Rattle.sr_exec.specs.Conditions.{TableFits}
 use Rattle.sr_exec.specs.Holding.{under, one_of, is_same_row, keys_of, doubled, changes_at, changes_of}

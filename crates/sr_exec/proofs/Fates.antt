@@ -11,8 +11,8 @@ use Rattle.sr_ast.specs.declared.expr.Expr.{Expr}
 use Rattle.sr_rows.specs.Marks.{RowMap, rows_of_table}
 use Rattle.sr_rows.specs.Walks.{Entry, table_rows, Rises}
 use Rattle.sr_rows.proofs.Listing.{table_rows-rise}
-use Rattle.sr_catalog.specs.declared.table.Table.{Table}
-use Rattle.sr_catalog.specs.declared.fault.DmlFault.{DmlFault}
+use Rattle.sr_schema.specs.declared.table.Table.{Table}
+use Rattle.sr_schema.specs.declared.fault.DmlFault.{DmlFault}
 use Rattle.sr_exec.specs.declared.fate.Fate.{Fate}
 use Rattle.sr_exec.specs.declared.fate.Fate.TheVariants.{Stays, Goes, Becomes}
 use Rattle.sr_exec.specs.Edits.{Edited, is_taken, AreEdits, settled, picked, taken_of, put_of, Picks, with_pick, picks_of}

@@ -2,7 +2,7 @@
 use Rattle.std.proofs.Common.{◌≡◌, ℕ, map, List, [], ◌∷◌, Option, Some, None, Result, Ok, Err, refl}
 use Rattle.std.specs.Option.{ok_or}
 use Rattle.sr_base.specs.declared.value.Value.{Value}
-use Rattle.sr_catalog.specs.declared.table.Column.{Column}
+use Rattle.sr_schema.specs.declared.table.Column.{Column}
 use Rattle.sr_eval.specs.Bounds.{IsRowOf}
 use Rattle.sr_exec.specs.Conditions.{IsRow}
 use Rattle.sr_exec.specs.Edits.{prefixed}

@@ -30,9 +30,9 @@ use Rattle.sr_eval.proofs.Plain.{plain_have_values}
 use Rattle.sr_rows.specs.Marks.{RowMap, rows_of_table}
 use Rattle.sr_rows.specs.Walks.{Entry, table_rows, Rises}
 use Rattle.sr_rows.proofs.Listing.{each_found, get-table_rows, table_rows-rise}
-use Rattle.sr_catalog.specs.declared.table.Column.{Column}
-use Rattle.sr_catalog.specs.declared.table.Table.{Table}
-use Rattle.sr_catalog.specs.declared.fault.DmlFault.{DmlFault}
+use Rattle.sr_schema.specs.declared.table.Column.{Column}
+use Rattle.sr_schema.specs.declared.table.Table.{Table}
+use Rattle.sr_schema.specs.declared.fault.DmlFault.{DmlFault}
 use Rattle.sr_exec.specs.declared.fate.Fate.TheVariants.{Stays}
 use Rattle.sr_exec.specs.Checks.{Scope, scope_of}
 use Rattle.sr_exec.specs.Conditions.{IsRow, TableFits}

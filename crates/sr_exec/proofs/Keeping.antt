@@ -15,10 +15,10 @@ use Rattle.sr_ast.specs.declared.query.Insert.{Insert}
 use Rattle.sr_eval.specs.Comparisons.{is_null}
 use Rattle.sr_eval.specs.Meanings.{Meaning, meaning, cell_of}
 use Rattle.sr_rows.specs.Walks.{Entry}
-use Rattle.sr_catalog.specs.declared.table.Column.{Column}
-use Rattle.sr_catalog.specs.declared.table.Table.{Table}
-use Rattle.sr_catalog.specs.declared.fault.DmlFault.{DmlFault}
-use Rattle.sr_catalog.specs.declared.fault.DmlFault.TheVariants as fault
+use Rattle.sr_schema.specs.declared.table.Column.{Column}
+use Rattle.sr_schema.specs.declared.table.Table.{Table}
+use Rattle.sr_schema.specs.declared.fault.DmlFault.{DmlFault}
+use Rattle.sr_schema.specs.declared.fault.DmlFault.TheVariants as fault
 use Rattle.sr_exec.specs.declared.fate.Fate.{Fate}
 use Rattle.sr_exec.specs.declared.fate.Fate.TheVariants.{Stays, Goes, Becomes}
 use Rattle.sr_exec.specs.Checks.{Scope, scope_of}

@@ -14,8 +14,8 @@ use Rattle.sr_rows.specs.Marks.{RowMap, rows_of_table}
 use Rattle.sr_rows.specs.Walks.{Entry, table_rows, Rises}
 use Rattle.sr_rows.proofs.Listing.{rises, get-table_rows, table_rows-rise}
 use Rattle.sr_logform.specs.declared.change.Change.{Change}
-use Rattle.sr_catalog.specs.declared.fault.DmlFault.{DmlFault}
-use Rattle.sr_catalog.specs.declared.fault.DmlFault.TheVariants.{Duplicate}
+use Rattle.sr_schema.specs.declared.fault.DmlFault.{DmlFault}
+use Rattle.sr_schema.specs.declared.fault.DmlFault.TheVariants.{Duplicate}
 use Rattle.sr_exec.specs.declared.edit.Edit.{Edit}
 use Rattle.sr_exec.specs.Edits.{Edited, edit_at, is_taken, AreEdits, before_changes, with_edit, settled}
 use Rattle.sr_exec.specs.Holding.{under, are_two, one_of, keys_of, with_change, changes_at, undoubled, held}

@@ -4,8 +4,8 @@ use Rattle.std.specs.FinMap as map_of
 use Rattle.sr_base.specs.declared.value.Value.{Value as Cell}
 use Rattle.sr_rows.specs.Marks.{Place, RowMap}
 use Rattle.sr_logform.specs.declared.change.Change.{Change}
-use Rattle.sr_catalog.specs.Catalogs.{Lists}
-use Rattle.sr_catalog.specs.declared.table.Table.{Table}
+use Rattle.sr_schema.specs.Catalogs.{Lists}
+use Rattle.sr_schema.specs.declared.table.Table.{Table}
 use Rattle.sr_exec.specs.Statements.{key_of, table_named}
 
 -- where a row of a table stands: under its key

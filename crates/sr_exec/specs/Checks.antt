@@ -7,8 +7,8 @@ use Rattle.sr_ast.specs.Exprs.{term_of}
 use Rattle.sr_ast.specs.Classes.{class_in, unknown_in as unknown_in_term}
 use Rattle.sr_ast.specs.declared.expr.Expr.{Expr}
 use Rattle.sr_eval.specs.Bounds.{gives_value, gives_truth}
-use Rattle.sr_catalog.specs.declared.table.Column.{Column}
-use Rattle.sr_catalog.specs.declared.table.Table.{Table}
+use Rattle.sr_schema.specs.declared.table.Column.{Column}
+use Rattle.sr_schema.specs.declared.table.Table.{Table}
 use Rattle.sr_exec.specs.Sequences.{or_else}
 
 -- columns with their aliases and types

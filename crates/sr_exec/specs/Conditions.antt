@@ -4,11 +4,11 @@ use Rattle.sr_dates.specs.Fitting.{fitted}
 use Rattle.sr_base.specs.declared.value.Value.{Value as Cell}
 use Rattle.sr_eval.specs.Comparisons.{is_null}
 use Rattle.sr_rows.specs.Marks.{RowMap, rows_of_table}
-use Rattle.sr_catalog.specs.Catalogs.{Lists}
-use Rattle.sr_catalog.specs.declared.table.Column.{Column}
-use Rattle.sr_catalog.specs.declared.table.Table.{Table}
-use Rattle.sr_catalog.specs.declared.fault.DmlFault.{DmlFault}
-use Rattle.sr_catalog.specs.declared.fault.DmlFault.TheVariants.{Memory}
+use Rattle.sr_schema.specs.Catalogs.{Lists}
+use Rattle.sr_schema.specs.declared.table.Column.{Column}
+use Rattle.sr_schema.specs.declared.table.Table.{Table}
+use Rattle.sr_schema.specs.declared.fault.DmlFault.{DmlFault}
+use Rattle.sr_schema.specs.declared.fault.DmlFault.TheVariants.{Memory}
 use Rattle.sr_exec.specs.Statements.{key_of, table_named}
 
 -- a row fits the columns: one value each, fitting leaves it as it is, and no NOT NULL column holds NULL

@@ -5,13 +5,13 @@ use Rattle.sr_base.specs.declared.value.Value.{Value as Cell}
 use Rattle.sr_base.specs.Order.{key_cmp}
 use Rattle.sr_rows.specs.Walks.{Entry}
 use Rattle.sr_logform.specs.declared.change.Change.{Change}
-use Rattle.sr_catalog.specs.declared.fault.DmlFault.{DmlFault}
-use Rattle.sr_catalog.specs.declared.fault.DmlFault.TheVariants.{Duplicate}
+use Rattle.sr_schema.specs.declared.fault.DmlFault.{DmlFault}
+use Rattle.sr_schema.specs.declared.fault.DmlFault.TheVariants.{Duplicate}
 use Rattle.sr_exec.specs.declared.edit.Edit.{Edit}
 use Rattle.sr_exec.specs.declared.edit.Edit.TheVariants.{Gone, New, Moved, Twice}
 use Rattle.sr_exec.specs.declared.fate.Fate.{Fate}
 use Rattle.sr_exec.specs.declared.fate.Fate.TheVariants.{Stays, Goes, Becomes}
-use Rattle.sr_catalog.specs.declared.table.Table.{Table}
+use Rattle.sr_schema.specs.declared.table.Table.{Table}
 use Rattle.sr_exec.specs.Holding.{under, with_change}
 use Rattle.sr_ast.specs.declared.expr.Expr.{Expr}
 use Rattle.sr_exec.specs.Sequences.{front}

@@ -11,8 +11,8 @@ use Rattle.sr_eval.specs.Bounds.{is_plain}
 use Rattle.sr_ast.specs.declared.expr.Expr.{Expr}
 use Rattle.sr_ast.specs.declared.operator.Binary.{Binary}
 use Rattle.sr_ast.specs.declared.operator.Binary.TheVariants.{And, Equal}
-use Rattle.sr_catalog.specs.declared.table.Column.{Column}
-use Rattle.sr_catalog.specs.declared.table.Table.{Table}
+use Rattle.sr_schema.specs.declared.table.Column.{Column}
+use Rattle.sr_schema.specs.declared.table.Table.{Table}
 use Rattle.sr_exec.specs.Edits.{Picks, with_pick}
 use Rattle.sr_exec.specs.Sequences.{or_else}
 use Rattle.sr_exec.specs.Statements.{fate_of}

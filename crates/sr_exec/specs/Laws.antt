@@ -7,8 +7,8 @@ use Rattle.sr_ast.specs.declared.query.Dml.{Dml}
 use Rattle.sr_rows.specs.Marks.{RowMap, rows_of_table}
 use Rattle.sr_rows.specs.Walks.{Entry, table_rows}
 use Rattle.sr_logform.specs.declared.change.Change.{Change}
-use Rattle.sr_catalog.specs.Catalogs.{Lists}
-use Rattle.sr_catalog.specs.declared.table.Table.{Table}
+use Rattle.sr_schema.specs.Catalogs.{Lists}
+use Rattle.sr_schema.specs.declared.table.Table.{Table}
 use Rattle.sr_exec.specs.declared.changes.Changes.{Changes}
 use Rattle.sr_exec.specs.Applying.{applied}
 use Rattle.sr_exec.specs.Conditions.{TableFits, RowsFit}

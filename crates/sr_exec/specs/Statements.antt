@@ -13,12 +13,12 @@ use Rattle.sr_eval.specs.Meanings.{Meaning, meaning, is_true}
 use Rattle.sr_rows.specs.Marks.{RowMap}
 use Rattle.sr_rows.specs.Walks.{Entry, table_rows}
 use Rattle.sr_logform.specs.declared.change.Change.{Change}
-use Rattle.sr_catalog.specs.Catalogs.{Lists}
-use Rattle.sr_catalog.specs.Names.{named}
-use Rattle.sr_catalog.specs.declared.table.Column.{Column}
-use Rattle.sr_catalog.specs.declared.table.Table.{Table}
-use Rattle.sr_catalog.specs.declared.fault.DmlFault.{DmlFault}
-use Rattle.sr_catalog.specs.declared.fault.DmlFault.TheVariants.{NoTable, NoColumn, BadValue, Overflow}
+use Rattle.sr_schema.specs.Catalogs.{Lists}
+use Rattle.sr_schema.specs.Names.{named}
+use Rattle.sr_schema.specs.declared.table.Column.{Column}
+use Rattle.sr_schema.specs.declared.table.Table.{Table}
+use Rattle.sr_schema.specs.declared.fault.DmlFault.{DmlFault}
+use Rattle.sr_schema.specs.declared.fault.DmlFault.TheVariants.{NoTable, NoColumn, BadValue, Overflow}
 use Rattle.sr_exec.specs.declared.changes.Changes.{Changes}
 use Rattle.sr_exec.specs.declared.fate.Fate.{Fate}
 use Rattle.sr_exec.specs.declared.fate.Fate.TheVariants.{Stays, Goes, Becomes}

@@ -7,9 +7,9 @@ use Rattle.sr_ast.specs.Exprs.{term_of}
 use Rattle.sr_ast.specs.declared.expr.Expr.{Expr}
 use Rattle.sr_eval.specs.Meanings.{Meaning, meaning, cell_of}
 use Rattle.sr_eval.specs.Meanings.Meaning.{value}
-use Rattle.sr_catalog.specs.declared.table.Column.{Column}
-use Rattle.sr_catalog.specs.declared.fault.DmlFault.{DmlFault}
-use Rattle.sr_catalog.specs.declared.fault.DmlFault.TheVariants as fault
+use Rattle.sr_schema.specs.declared.table.Column.{Column}
+use Rattle.sr_schema.specs.declared.fault.DmlFault.{DmlFault}
+use Rattle.sr_schema.specs.declared.fault.DmlFault.TheVariants as fault
 use Rattle.sr_exec.specs.Checks.{Scope}
 use Rattle.sr_exec.specs.Sequences.{front}
 

@@ -1,8 +1,8 @@
 use Rattle.std.proofs.Common.{◌≡◌, ◌++◌, map, length, None, Result, Ok, List, rules, sym, ap, ◌∙◌}
 use Rattle.sr_base.specs.declared.value.Value.{Value}
 use Rattle.sr_ast.specs.declared.query.Insert.{Insert}
-use Rattle.sr_catalog.specs.declared.table.Table.{Table}
-use Rattle.sr_catalog.specs.declared.fault.DmlFault.{DmlFault}
+use Rattle.sr_schema.specs.declared.table.Table.{Table}
+use Rattle.sr_schema.specs.declared.fault.DmlFault.{DmlFault}
 use Rattle.sr_rows.specs.Walks.{Entry, table_rows}
 use Rattle.sr_exec.specs.declared.changes.Changes.{Changes}
 use Rattle.sr_exec.specs.Holding.{held}

@@ -2,7 +2,7 @@ use Rattle.std.proofs.Common.{◌≡◌, ◌≢◌, Some, Ok, Err, MatchResult, 
 use Rattle.std.specs.Option.{option_copied}
 use Rattle.sr_rows.specs.Marks.{rows_of_table}
 use Rattle.sr_rows.specs.Walks.{table_rows}
-use Rattle.sr_catalog.specs.declared.fault.DmlFault.TheVariants.{Memory}
+use Rattle.sr_schema.specs.declared.fault.DmlFault.TheVariants.{Memory}
 use Rattle.sr_exec.specs.Edits.{Picks, picks_of}
 use Rattle.sr_exec.specs.Fixing.{only_key, one_pick}
 use Rattle.sr_exec.proofs.Fixed.{only_picks}

@@ -1,5 +1,5 @@
 use Rattle.std.proofs.Common.{◌≡◌, ◌++◌, map, length}
-use Rattle.sr_catalog.specs.declared.table.Column.{Column}
+use Rattle.sr_schema.specs.declared.table.Column.{Column}
 use Rattle.sr_exec.proofs.names.all_names.Given as goal
 
 abbrev pub invariant-columns : goal.invariant-columns

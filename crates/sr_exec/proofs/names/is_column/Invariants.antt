@@ -1,6 +1,6 @@
 use Rattle.std.proofs.Common.{◌≡◌, length, bytes_eq}
 use Rattle.std.specs.List.{list_any}
-use Rattle.sr_catalog.specs.declared.table.Column.{Column}
+use Rattle.sr_schema.specs.declared.table.Column.{Column}
 use Rattle.sr_exec.proofs.names.is_column.Given as goal
 
 abbrev pub invariant-columns : goal.invariant-columns

@@ -1,6 +1,6 @@
 use Rattle.std.proofs.Common.{◌≡◌, Option, Some, None, Err, refl, sym, ap, ◌∙◌}
 use Rattle.std.specs.Option.{ok_or}
-use Rattle.sr_catalog.specs.declared.fault.DmlFault.TheVariants.{BadValue}
+use Rattle.sr_schema.specs.declared.fault.DmlFault.TheVariants.{BadValue}
 use Rattle.sr_exec.specs.Storing.{fitting}
 use Rattle.sr_exec.proofs.storing.fitting.Goals as goal
 

@@ -1,0 +1,4 @@
+pub mod Publications
+pub mod Subscriptions
+pub mod Tables
+pub mod Users

@@ -1,0 +1,327 @@
+//! What speaks against CREATE PUBLICATION and DROP PUBLICATION, and the publication that is made.
+
+ghost use Rattle.std.specs.Prelude.{◌≡◌, [], None, cond, nat_eq, length, nat_le, nat_lt, option_map, IfOk, bytes_eq};
+ghost use Rattle.std.specs.Option.{option_copied};
+ghost use Rattle.std.specs.List.{list_any};
+ghost use Rattle.sr_schema.specs.Firsts.{first_of, first_among, where_true, has, first_absent};
+ghost use Rattle.sr_schema.specs.Names.{taken};
+ghost use Rattle.sr_schema.specs.Members.{has_column, publication_name, key_names};
+ghost use Rattle.sr_ddl.specs.Publications.{twice_in_articles, absent_column, absent_in, is_bad_where, is_bad_by, is_bad_article, key_outside, table_in, columns_of, article_of, publication_of, create_publication_causes, drop_publication_causes};
+
+use sr_ast::{ArticleRule, CreatePublication, Expr, Scope};
+use sr_base::{Copied, Name, NoMemory, Seq};
+use sr_schema::{
+    Article, Causes, Publication, Schema, Seen, Subscription, Table, class_in, column_names, first,
+    first_absent, first_absent_column, first_name, first_twice, has_arithmetic, is_condition,
+    is_empty, is_operator, key_names, limit_where, owned, paired, scope_of, unknown_in, where_true,
+};
+use std::alloc::Global;
+
+#[tactic(auto, unfolding(crate::specs::Publications::create_publication_causes))]
+pub fn create_publication_causes(
+    schema: &Schema,
+    alloc: Global,
+    rule: &CreatePublication,
+) -> Result<Causes, NoMemory>
+    ensures { IfOk result (λ causes. causes ≡ create_publication_causes schema.now rule.now) }
+{
+    let exists = exists(schema, alloc, rule)?;
+    let missing = first_absent_in(schema, alloc, rule)?;
+    let bad_type = first_bad_article(schema, alloc, rule)?;
+    let key_outside = first_key_outside(schema, alloc, rule)?;
+    Ok(Causes {
+        exists,
+        missing,
+        bad_type,
+        key_outside,
+        too_many: too_many(schema, rule),
+        ..Causes::none()
+    })
+}
+
+fn exists(
+    schema: &Schema,
+    alloc: Global,
+    rule: &CreatePublication,
+) -> Result<Option<Name>, NoMemory>
+    ensures { IfOk result (λ found. found ≡ first_of (where_true (taken publication_name rule.now.name schema.now.publications) rule.now.name) (twice_in_articles [] rule.now.articles)) }
+{
+    let taken = where_true(schema.has_publication(&rule.name), &rule.name);
+    let twice = twice_in_articles(alloc, rule.articles.as_slice())?;
+    owned(alloc, first(taken, twice))
+}
+
+/// 256 publications already, or more than 64 articles.
+fn too_many(schema: &Schema, rule: &CreatePublication) -> Option<u64>
+    ensures { result ≡ first_of (where_true (nat_le 256 (length schema.now.publications)) 256) (where_true (nat_lt 64 (length rule.now.articles)) 64) }
+{
+    if 256 <= schema.publications().len() {
+        return Some(256);
+    }
+    limit_where(64 < rule.articles.as_slice().len(), 64)
+}
+
+/// The first table that an article before has already, or column that an article names twice.
+fn twice_in_articles(alloc: Global, articles: &[ArticleRule]) -> Result<Option<&Name>, NoMemory>
+    ensures { IfOk result (λ found. option_copied found ≡ twice_in_articles [] articles.now) }
+{
+    let mut seen = Seen::new(alloc);
+    let mut rest = articles;
+    'articles: while let Some((article, after)) = rest.split_first() {
+        if seen.again(alloc, &article.table)? {
+            return Ok(Some(&article.table));
+        }
+        if let Some(column) = first_twice(alloc, article.columns.as_slice())? {
+            return Ok(Some(column));
+        }
+        rest = after;
+    }
+    Ok(None)
+}
+
+/// What the first article names that is not there.
+fn first_absent_in(
+    schema: &Schema,
+    alloc: Global,
+    rule: &CreatePublication,
+) -> Result<Option<Name>, NoMemory>
+    ensures { IfOk result (λ found. found ≡ first_among (λ a. absent_in a (table_in schema.now a)) rule.now.articles) }
+{
+    let mut rest = rule.articles.as_slice();
+    'articles: while let Some((article, after)) = rest.split_first() {
+        if let Some(name) = absent_in(alloc, article, schema.table(&article.table))? {
+            return Ok(Some(name));
+        }
+        rest = after;
+    }
+    Ok(None)
+}
+
+#[tactic(auto, unfolding(crate::specs::Publications::absent_in))]
+fn absent_in(
+    alloc: Global,
+    article: &ArticleRule,
+    table: Option<&Table>,
+) -> Result<Option<Name>, NoMemory>
+    ensures { IfOk result (λ found. found ≡ absent_in article.now (option_copied table.entry)) }
+{
+    match table {
+        None => Ok(Some(article.table.copy(alloc)?)),
+        Some(table) => absent_in_table(alloc, article, table),
+    }
+}
+
+fn absent_in_table(
+    alloc: Global,
+    article: &ArticleRule,
+    table: &Table,
+) -> Result<Option<Name>, NoMemory>
+    ensures { IfOk result (λ found. found ≡ first_of (first_absent (has_column table.now) article.now.columns) (first_of (absent_column table.now article.now.condition) (absent_column table.now article.now.by))) }
+{
+    let column = first_absent_column(alloc, table, article.columns.as_slice())?;
+    let condition = absent_column(alloc, table, &article.condition)?;
+    let by = absent_column(alloc, table, &article.by)?;
+    Ok(first_name(column, first_name(condition, by)))
+}
+
+/// The leftmost column in an expression that the table lacks.
+#[tactic(auto, unfolding(crate::specs::Publications::absent_column))]
+fn absent_column(
+    alloc: Global,
+    table: &Table,
+    expr: &Option<Expr>,
+) -> Result<Option<Name>, NoMemory>
+    ensures { IfOk result (λ found. found ≡ absent_column table.now expr.now) }
+{
+    match expr {
+        None => Ok(None),
+        Some(expr) => unknown_in(alloc, &scope_of(alloc, table)?, expr),
+    }
+}
+
+/// The table of the first article with a bad WHERE or SUBSCRIBE BY.
+fn first_bad_article(
+    schema: &Schema,
+    alloc: Global,
+    rule: &CreatePublication,
+) -> Result<Option<Name>, NoMemory>
+    ensures { IfOk result (λ found. found ≡ first_among (λ a. where_true (is_bad_article a (table_in schema.now a)) a.table) rule.now.articles) }
+{
+    let mut rest = rule.articles.as_slice();
+    'articles: while let Some((article, after)) = rest.split_first() {
+        if is_bad_article(alloc, article, schema.table(&article.table))? {
+            return Ok(Some(article.table.copy(alloc)?));
+        }
+        rest = after;
+    }
+    Ok(None)
+}
+
+#[tactic(auto, unfolding(crate::specs::Publications::is_bad_article))]
+fn is_bad_article(
+    alloc: Global,
+    article: &ArticleRule,
+    table: Option<&Table>,
+) -> Result<bool, NoMemory>
+    ensures { IfOk result (λ bad. bad ≡ is_bad_article article.now (option_copied table.entry)) }
+{
+    let Some(table) = table else {
+        return Ok(false);
+    };
+    let bad = is_bad_where(alloc, table, &article.condition)?;
+    Ok(bad || is_bad_by(&article.by))
+}
+
+/// Whether a WHERE has arithmetic, or is no truth.
+#[tactic(auto, unfolding(crate::specs::Publications::is_bad_where))]
+fn is_bad_where(alloc: Global, table: &Table, condition: &Option<Expr>) -> Result<bool, NoMemory>
+    ensures { IfOk result (λ bad. bad ≡ is_bad_where table.now condition.now) }
+{
+    match condition {
+        None => Ok(false),
+        Some(expr) => {
+            let class = class_in(alloc, &scope_of(alloc, table)?, expr)?;
+            Ok(has_arithmetic(expr) || !is_condition(class))
+        }
+    }
+}
+
+/// Whether a SUBSCRIBE BY is no column and no literal.
+fn is_bad_by(by: &Option<Expr>) -> bool
+    ensures { result ≡ is_bad_by by.now }
+{
+    match by {
+        None => false,
+        Some(expr) => is_operator(expr),
+    }
+}
+
+/// The first article's table and key column that its columns lack.
+fn first_key_outside(
+    schema: &Schema,
+    alloc: Global,
+    rule: &CreatePublication,
+) -> Result<Option<(Name, Name)>, NoMemory>
+    ensures { IfOk result (λ found. found ≡ first_among (λ a. key_outside a (table_in schema.now a)) rule.now.articles) }
+{
+    let mut rest = rule.articles.as_slice();
+    'articles: while let Some((article, after)) = rest.split_first() {
+        if let Some(place) = key_outside(alloc, article, schema.table(&article.table))? {
+            return Ok(Some(place));
+        }
+        rest = after;
+    }
+    Ok(None)
+}
+
+#[tactic(auto, unfolding(crate::specs::Publications::key_outside))]
+fn key_outside(
+    alloc: Global,
+    article: &ArticleRule,
+    table: Option<&Table>,
+) -> Result<Option<(Name, Name)>, NoMemory>
+    ensures { IfOk result (λ found. found ≡ key_outside article.now (option_copied table.entry)) }
+{
+    match table {
+        None => Ok(None),
+        Some(table) => key_outside_columns(alloc, article, table),
+    }
+}
+
+fn key_outside_columns(
+    alloc: Global,
+    article: &ArticleRule,
+    table: &Table,
+) -> Result<Option<(Name, Name)>, NoMemory>
+    ensures { IfOk result (λ found. found ≡ cond (nat_eq (length article.now.columns) 0) None (option_map (λ n. (article.now.table, n)) (first_absent (has article.now.columns) (key_names table.now)))) }
+{
+    if is_empty(article.columns.as_slice()) {
+        return Ok(None);
+    }
+    key_lacking(alloc, article, table)
+}
+
+fn key_lacking(
+    alloc: Global,
+    article: &ArticleRule,
+    table: &Table,
+) -> Result<Option<(Name, Name)>, NoMemory>
+    ensures { IfOk result (λ found. found ≡ option_map (λ n. (article.now.table, n)) (first_absent (has article.now.columns) (key_names table.now))) }
+{
+    let key = key_names(alloc, table)?;
+    let lacking = first_absent(&article.columns, key.as_slice());
+    paired(alloc, &article.table, lacking)
+}
+
+/// The publication that CREATE PUBLICATION makes.
+#[tactic(auto, unfolding(crate::specs::Publications::publication_of))]
+pub fn publication_of(
+    schema: &Schema,
+    alloc: Global,
+    rule: &CreatePublication,
+) -> Result<Publication, NoMemory>
+    ensures { IfOk result (λ publication. publication ≡ publication_of schema.now rule.now) }
+{
+    let mut articles = Vec::new(alloc);
+    let mut rest = rule.articles.as_slice();
+    'articles: while let Some((article, after)) = rest.split_first() {
+        articles.push(article_of(schema, alloc, article)?)?;
+        rest = after;
+    }
+    Ok(Publication {
+        name: rule.name.copy(alloc)?,
+        articles: Seq::from_vec(articles),
+    })
+}
+
+fn article_of(schema: &Schema, alloc: Global, rule: &ArticleRule) -> Result<Article, NoMemory>
+    ensures { IfOk result (λ article. article ≡ article_of schema.now rule.now) }
+{
+    Ok(Article {
+        table: rule.table.copy(alloc)?,
+        columns: columns_of(alloc, rule, schema.table(&rule.table))?,
+        condition: rule.condition.copy(alloc)?,
+        by: rule.by.copy(alloc)?,
+    })
+}
+
+/// The columns of an article: as written, or all that its table has.
+fn columns_of(
+    alloc: Global,
+    rule: &ArticleRule,
+    table: Option<&Table>,
+) -> Result<Seq<Name>, NoMemory>
+    ensures { IfOk result (λ columns. columns ≡ columns_of rule.now (option_copied table.entry)) }
+{
+    let Some(table) = table else {
+        return rule.columns.copy(alloc);
+    };
+    if rule.columns.as_slice().len() != 0 {
+        return rule.columns.copy(alloc);
+    }
+    column_names(alloc, table)
+}
+
+#[tactic(auto, unfolding(crate::specs::Publications::drop_publication_causes))]
+pub fn drop_publication_causes(
+    schema: &Schema,
+    alloc: Global,
+    name: &Name,
+) -> Result<Causes, NoMemory>
+    ensures { IfOk result (λ causes. causes ≡ drop_publication_causes schema.now name.now) }
+{
+    let missing = owned(alloc, where_true(!schema.has_publication(name), name))?;
+    let subscribed = is_subscribed(schema.subscriptions(), name);
+    let in_use = owned(alloc, where_true(subscribed, name))?;
+    Ok(Causes {
+        missing,
+        in_use,
+        ..Causes::none()
+    })
+}
+
+fn is_subscribed(subscriptions: &[Subscription], name: &Name) -> bool
+    ensures { result ≡ list_any (λ s. bytes_eq name.now s.publication) subscriptions.now }
+{
+    subscriptions.iter().any(|subscription| name.bytes() == subscription.publication.bytes())
+}

@@ -1,0 +1,398 @@
+//! What speaks against the statements on subscriptions, and what they leave.
+
+ghost use Rattle.std.specs.Prelude.{◌≡◌, ◌&&◌, not, filter, map, nat_le, length, IfOk, bytes_eq};
+ghost use Rattle.std.specs.Option.{option_copied};
+ghost use Rattle.std.specs.List.{list_any};
+ghost use Rattle.sr_ast.specs.Exprs.{term_of};
+ghost use Rattle.sr_schema.specs.Firsts.{where_true};
+ghost use Rattle.sr_schema.specs.Names.{named};
+ghost use Rattle.sr_schema.specs.Members.{publication_name, table_name};
+ghost use Rattle.sr_ddl.specs.Subscriptions.{is_same_value, is_of, is_there, is_started, has_both, missing_either, missing_unless, articles_of, class_of_column, column_class, by_class, differs, is_bad_value, create_subscription_causes, has_article, is_elsewhere, twice_subscribed, start_causes, stop_causes, synchronize_causes, drop_subscription_causes, subscription_of, marked};
+
+use crate::grants::is_remote;
+use sr_ast::{Class, Expr, SubscriptionRule, is_comparable, kind_class, value_class};
+use sr_base::{Copied, Name, NoMemory, Seq, Value};
+use sr_schema::{
+    Article, Causes, Column, Publication, Schema, Subscription, Table, first, is_full, item_named,
+    limit_where, owned, paired, where_true,
+};
+use std::alloc::Global;
+
+fn is_same_value(one: &Option<Value>, other: &Option<Value>) -> bool
+    ensures { result ≡ is_same_value one.now other.now }
+{
+    match one {
+        None => match other {
+            None => true,
+            Some(_) => false,
+        },
+        Some(one) => match other {
+            None => false,
+            Some(other) => one == other,
+        },
+    }
+}
+
+/// Whether a subscription is the one of a statement.
+pub fn is_of(rule: &SubscriptionRule, subscription: &Subscription) -> bool
+    ensures { result ≡ is_of rule.now subscription.now }
+{
+    rule.publication.bytes() == subscription.publication.bytes()
+        && (rule.user.bytes() == subscription.user.bytes()
+            && is_same_value(&rule.value, &subscription.value))
+}
+
+fn is_there(schema: &Schema, rule: &SubscriptionRule) -> bool
+    ensures { result ≡ is_there schema.now rule.now }
+{
+    schema
+        .subscriptions()
+        .iter()
+        .any(|subscription| is_of(rule, subscription))
+}
+
+fn is_started(schema: &Schema, rule: &SubscriptionRule) -> bool
+    ensures { result ≡ is_started schema.now rule.now }
+{
+    schema.subscriptions().iter().any(|subscription| is_of(rule, subscription)
+        && subscription.started)
+}
+
+/// Its publication or its user, where it is not there.
+fn missing_either<'a>(schema: &Schema, rule: &'a SubscriptionRule) -> Option<&'a Name>
+    ensures { option_copied result ≡ missing_either schema.now rule.now }
+{
+    let publication = where_true(
+        !schema.has_publication(&rule.publication),
+        &rule.publication,
+    );
+    let user = where_true(!schema.has_user(&rule.user), &rule.user);
+    first(publication, user)
+}
+
+/// Its publication or its user, or else the publication for the subscription itself.
+fn missing_unless<'a>(found: bool, schema: &Schema, rule: &'a SubscriptionRule) -> Option<&'a Name>
+    ensures { option_copied result ≡ missing_unless found schema.now rule.now }
+{
+    let either = missing_either(schema, rule);
+    first(either, where_true(!found, &rule.publication))
+}
+
+fn articles_of(publication: Option<&Publication>) -> &[Article]
+    ensures { result.now ≡ articles_of (option_copied publication.entry) }
+{
+    match publication {
+        None => &[],
+        Some(publication) => publication.articles.as_slice(),
+    }
+}
+
+#[tactic(auto, unfolding(crate::specs::Subscriptions::create_subscription_causes))]
+pub fn create_subscription_causes(
+    schema: &Schema,
+    alloc: Global,
+    rule: &SubscriptionRule,
+) -> Result<Causes, NoMemory>
+    ensures { IfOk result (λ causes. causes ≡ create_subscription_causes schema.now rule.now) }
+{
+    let exists = exists(schema, alloc, rule)?;
+    let missing = owned(alloc, missing_either(schema, rule))?;
+    let bad_type = bad_value(schema, alloc, rule)?;
+    Ok(Causes {
+        exists,
+        missing,
+        bad_type,
+        too_many: too_many(schema.subscriptions()),
+        ..Causes::none()
+    })
+}
+
+/// The publication, where it and the user are there, and so is the subscription.
+fn exists(schema: &Schema, alloc: Global, rule: &SubscriptionRule) -> Result<Option<Name>, NoMemory>
+    ensures { IfOk result (λ found. found ≡ where_true (has_both schema.now rule.now && is_there schema.now rule.now) rule.now.publication) }
+{
+    let both = has_both(schema, rule);
+    let there = is_there(schema, rule);
+    owned(alloc, where_true(both && there, &rule.publication))
+}
+
+fn has_both(schema: &Schema, rule: &SubscriptionRule) -> bool
+    ensures { result ≡ has_both schema.now rule.now }
+{
+    let publication = schema.has_publication(&rule.publication);
+    let user = schema.has_user(&rule.user);
+    publication && user
+}
+
+/// The publication, where the value does not go with it.
+fn bad_value(
+    schema: &Schema,
+    alloc: Global,
+    rule: &SubscriptionRule,
+) -> Result<Option<Name>, NoMemory>
+    ensures { IfOk result (λ found. found ≡ where_true (is_bad_value schema.now rule.now rule.now.value) rule.now.publication) }
+{
+    let bad = is_bad_value(schema, rule);
+    owned(alloc, where_true(bad, &rule.publication))
+}
+
+/// 65,536 subscriptions already.
+fn too_many(subscriptions: &[Subscription]) -> Option<u64>
+    ensures { result ≡ where_true (nat_le 65536 (length subscriptions.now)) 65536 }
+{
+    limit_where(is_full(subscriptions.len(), 65536), 65536)
+}
+
+/// Whether a subscription's value does not go with an article of its publication.
+fn is_bad_value(schema: &Schema, rule: &SubscriptionRule) -> bool
+    ensures { result ≡ is_bad_value schema.now rule.now rule.now.value }
+{
+    match &rule.value {
+        None => false,
+        Some(value) => has_other_class(
+            schema,
+            value,
+            articles_of(schema.publication(&rule.publication)),
+        ),
+    }
+}
+
+fn has_other_class(schema: &Schema, value: &Value, articles: &[Article]) -> bool
+    ensures { result ≡ list_any (λ a. differs (named table_name a.table schema.now.tables) value.now a.by) articles.now }
+{
+    let mut rest = articles;
+    'articles: while let Some((article, after)) = rest.split_first() {
+        if differs(schema.table(&article.table), value, &article.by) {
+            return true;
+        }
+        rest = after;
+    }
+    false
+}
+
+/// Whether a value's class differs from that of a SUBSCRIBE BY; NULL has each class.
+#[tactic(auto, unfolding(crate::specs::Subscriptions::differs))]
+fn differs(table: Option<&Table>, value: &Value, by: &Option<Expr>) -> bool
+    ensures { result ≡ differs (option_copied table.entry) value.now by.now }
+{
+    match by {
+        None => false,
+        Some(expr) => !is_comparable(value_class(value), by_class(table, expr)),
+    }
+}
+
+/// The class of a SUBSCRIBE BY, which is a literal or a column.
+fn by_class(table: Option<&Table>, expr: &Expr) -> Class
+    ensures { result ≡ by_class (option_copied table.entry) (term_of expr.now) }
+{
+    match expr {
+        Expr::Literal(value) => value_class(value),
+        Expr::Column(_, name) => column_class(table, name),
+        Expr::Unary(_, _) => Class::Any,
+        Expr::Binary(_, _, _) => Class::Any,
+    }
+}
+
+fn column_class(table: Option<&Table>, name: &Name) -> Class
+    ensures { result ≡ column_class (option_copied table.entry) name.now }
+{
+    match table {
+        None => Class::Any,
+        Some(table) => class_of_column(item_named(name, table.columns.as_slice())),
+    }
+}
+
+fn class_of_column(column: Option<&Column>) -> Class
+    ensures { result ≡ class_of_column (option_copied column.entry) }
+{
+    match column {
+        None => Class::Any,
+        Some(column) => kind_class(column.kind),
+    }
+}
+
+fn has_article(publication: Option<&Publication>, table: &Name) -> bool
+    ensures { result ≡ has_article (option_copied publication.entry) table.now }
+{
+    articles_of(publication)
+        .iter()
+        .any(|article| table.bytes() == article.table.bytes())
+}
+
+/// A started subscription of this user to another publication that has the table.
+fn is_elsewhere(
+    schema: &Schema,
+    rule: &SubscriptionRule,
+    table: &Name,
+    subscription: &Subscription,
+) -> bool
+    ensures { result ≡ is_elsewhere schema.now rule.now table.now subscription.now }
+{
+    subscription.started
+        && (rule.user.bytes() == subscription.user.bytes()
+            && is_another_with(schema, rule, table, subscription))
+}
+
+/// Whether a subscription is to another publication, which has the table.
+fn is_another_with(
+    schema: &Schema,
+    rule: &SubscriptionRule,
+    table: &Name,
+    subscription: &Subscription,
+) -> bool
+    ensures { result ≡ (not (bytes_eq rule.now.publication subscription.now.publication) && has_article (named publication_name subscription.now.publication schema.now.publications) table.now) }
+{
+    rule.publication.bytes() != subscription.publication.bytes()
+        && has_article(schema.publication(&subscription.publication), table)
+}
+
+fn is_subscribed_elsewhere(schema: &Schema, rule: &SubscriptionRule, table: &Name) -> bool
+    ensures { result ≡ list_any (is_elsewhere schema.now rule.now table.now) schema.now.subscriptions }
+{
+    let mut rest = schema.subscriptions();
+    'subscriptions: while let Some((subscription, after)) = rest.split_first() {
+        if is_elsewhere(schema, rule, table, subscription) {
+            return true;
+        }
+        rest = after;
+    }
+    false
+}
+
+/// The first table of the publication that such a subscription has already.
+#[tactic(auto, unfolding(crate::specs::Subscriptions::twice_subscribed))]
+fn twice_subscribed<'a>(schema: &'a Schema, rule: &SubscriptionRule) -> Option<&'a Name>
+    ensures { option_copied result ≡ twice_subscribed schema.now rule.now }
+{
+    let mut rest = articles_of(schema.publication(&rule.publication));
+    'articles: while let Some((article, after)) = rest.split_first() {
+        if is_subscribed_elsewhere(schema, rule, &article.table) {
+            return Some(&article.table);
+        }
+        rest = after;
+    }
+    None
+}
+
+#[tactic(auto, unfolding(crate::specs::Subscriptions::start_causes))]
+pub fn start_causes(
+    schema: &Schema,
+    alloc: Global,
+    rule: &SubscriptionRule,
+) -> Result<Causes, NoMemory>
+    ensures { IfOk result (λ causes. causes ≡ start_causes schema.now rule.now) }
+{
+    let found = is_there(schema, rule);
+    let missing = owned(alloc, missing_unless(found, schema, rule))?;
+    let twice = paired(alloc, &rule.user, twice_subscribed(schema, rule))?;
+    Ok(Causes {
+        missing,
+        twice,
+        ..Causes::none()
+    })
+}
+
+#[tactic(auto, unfolding(crate::specs::Subscriptions::stop_causes))]
+pub fn stop_causes(
+    schema: &Schema,
+    alloc: Global,
+    rule: &SubscriptionRule,
+) -> Result<Causes, NoMemory>
+    ensures { IfOk result (λ causes. causes ≡ stop_causes schema.now rule.now) }
+{
+    let found = is_started(schema, rule);
+    let missing = owned(alloc, missing_unless(found, schema, rule))?;
+    Ok(Causes::only_missing(missing))
+}
+
+#[tactic(auto, unfolding(crate::specs::Subscriptions::synchronize_causes))]
+pub fn synchronize_causes(
+    schema: &Schema,
+    alloc: Global,
+    rule: &SubscriptionRule,
+) -> Result<Causes, NoMemory>
+    ensures { IfOk result (λ causes. causes ≡ synchronize_causes schema.now rule.now) }
+{
+    let found = is_started(schema, rule);
+    let missing = missing_unless(found, schema, rule);
+    let remote = is_remote(schema.user(&rule.user));
+    let missing = owned(alloc, first(missing, where_true(!remote, &rule.user)))?;
+    Ok(Causes::only_missing(missing))
+}
+
+#[tactic(auto, unfolding(crate::specs::Subscriptions::drop_subscription_causes))]
+pub fn drop_subscription_causes(
+    schema: &Schema,
+    alloc: Global,
+    rule: &SubscriptionRule,
+) -> Result<Causes, NoMemory>
+    ensures { IfOk result (λ causes. causes ≡ drop_subscription_causes schema.now rule.now) }
+{
+    let missing = missing_unless(is_there(schema, rule), schema, rule);
+    let missing = owned(alloc, missing)?;
+    Ok(Causes::only_missing(missing))
+}
+
+/// The subscription that CREATE SUBSCRIPTION makes.
+pub fn subscription_of(alloc: Global, rule: &SubscriptionRule) -> Result<Subscription, NoMemory>
+    ensures { IfOk result (λ subscription. subscription ≡ subscription_of rule.now) }
+{
+    Ok(Subscription {
+        publication: rule.publication.copy(alloc)?,
+        value: rule.value.copy(alloc)?,
+        user: rule.user.copy(alloc)?,
+        started: false,
+    })
+}
+
+/// The subscriptions after START or STOP of one.
+pub fn all_marked(
+    alloc: Global,
+    started: bool,
+    rule: &SubscriptionRule,
+    subscriptions: &[Subscription],
+) -> Result<Seq<Subscription>, NoMemory>
+    ensures { IfOk result (λ after. after ≡ map (marked started rule.now) subscriptions.now) }
+{
+    let mut copies = Vec::new(alloc);
+    let mut rest = subscriptions;
+    'subscriptions: while let Some((subscription, after)) = rest.split_first() {
+        copies.push(marked(alloc, started, rule, subscription)?)?;
+        rest = after;
+    }
+    Ok(Seq::from_vec(copies))
+}
+
+fn marked(
+    alloc: Global,
+    started: bool,
+    rule: &SubscriptionRule,
+    subscription: &Subscription,
+) -> Result<Subscription, NoMemory>
+    ensures { IfOk result (λ after. after ≡ marked started rule.now subscription.now) }
+{
+    let mut copy = subscription.copy(alloc)?;
+    if is_of(rule, subscription) {
+        copy.started = started;
+    }
+    Ok(copy)
+}
+
+/// The subscriptions without one.
+pub fn all_but(
+    alloc: Global,
+    rule: &SubscriptionRule,
+    subscriptions: &[Subscription],
+) -> Result<Seq<Subscription>, NoMemory>
+    ensures { IfOk result (λ after. after ≡ filter (λ s. not (is_of rule.now s)) subscriptions.now) }
+{
+    let mut copies = Vec::new(alloc);
+    let mut rest = subscriptions;
+    'subscriptions: while let Some((subscription, after)) = rest.split_first() {
+        if !is_of(rule, subscription) {
+            copies.push(subscription.copy(alloc)?)?;
+        }
+        rest = after;
+    }
+    Ok(Seq::from_vec(copies))
+}

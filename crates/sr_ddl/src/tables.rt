@@ -1,0 +1,119 @@
+//! What speaks against CREATE TABLE, and the table that is made.
+
+ghost use Rattle.std.specs.Prelude.{◌≡◌, ◌||◌, nat_eq, nat_le, nat_lt, length, filter_map, map, IfOk};
+ghost use Rattle.sr_schema.specs.Firsts.{first_of, where_true, first_twice, first_absent};
+ghost use Rattle.sr_schema.specs.Names.{place_of, taken};
+ghost use Rattle.sr_schema.specs.Members.{table_name};
+ghost use Rattle.sr_ddl.specs.Tables.{rule_name, column_of, table_of, create_table_causes};
+
+use sr_ast::{ColumnRule, CreateTable};
+use sr_base::{Copied, Name, NoMemory, Seq};
+use sr_schema::{
+    Causes, Column, Publication, Schema, Table, first, first_absent, first_twice, first_twice_of,
+    is_empty, limit_where, owned, where_true,
+};
+use std::alloc::Global;
+
+#[tactic(auto, unfolding(crate::specs::Tables::create_table_causes))]
+pub fn create_table_causes(
+    schema: &Schema,
+    alloc: Global,
+    table: &CreateTable,
+) -> Result<Causes, NoMemory>
+    ensures { IfOk result (λ causes. causes ≡ create_table_causes schema.now table.now) }
+{
+    let exists = exists(schema, alloc, table)?;
+    let missing = missing(alloc, table)?;
+    let no_key = no_key(alloc, table)?;
+    let many = is_too_many(schema.tables().len(), table.columns.as_slice().len());
+    Ok(Causes {
+        exists,
+        missing,
+        no_key,
+        too_many: limit_where(many, 256),
+        ..Causes::none()
+    })
+}
+
+fn exists(schema: &Schema, alloc: Global, table: &CreateTable) -> Result<Option<Name>, NoMemory>
+    ensures { IfOk result (λ found. found ≡ first_of (where_true (taken table_name table.now.name schema.now.tables) table.now.name) (first_of (first_twice (map rule_name table.now.columns)) (first_twice table.now.key))) }
+{
+    let taken = where_true(schema.has_table(&table.name), &table.name);
+    let column = first_twice_of(alloc, table.columns.as_slice())?;
+    let key = first_twice(alloc, table.key.as_slice())?;
+    owned(alloc, first(taken, first(column, key)))
+}
+
+fn missing(alloc: Global, table: &CreateTable) -> Result<Option<Name>, NoMemory>
+    ensures { IfOk result (λ found. found ≡ first_absent (λ n. taken rule_name n table.now.columns) table.now.key) }
+{
+    owned(alloc, first_absent(&table.columns, table.key.as_slice()))
+}
+
+fn no_key(alloc: Global, table: &CreateTable) -> Result<Option<Name>, NoMemory>
+    ensures { IfOk result (λ found. found ≡ where_true (nat_eq (length table.now.key) 0) table.now.name) }
+{
+    owned(
+        alloc,
+        where_true(is_empty(table.key.as_slice()), &table.name),
+    )
+}
+
+/// 256 tables already, or more than 256 columns.
+fn is_too_many(tables: usize, columns: usize) -> bool
+    ensures { result ≡ (nat_le 256 tables || nat_lt 256 columns) }
+{
+    256 <= tables || 256 < columns
+}
+
+/// The table that CREATE TABLE makes.
+#[tactic(auto, unfolding(crate::specs::Tables::table_of))]
+pub fn table_of(alloc: Global, rule: &CreateTable) -> Result<Table, NoMemory>
+    ensures { IfOk result (λ table. table ≡ table_of rule.now) }
+{
+    let columns = columns_of(alloc, rule.columns.as_slice())?;
+    let key = places_of(alloc, rule.columns.as_slice(), rule.key.as_slice())?;
+    Ok(Table {
+        name: rule.name.copy(alloc)?,
+        columns,
+        key,
+    })
+}
+
+fn columns_of(alloc: Global, rules: &[ColumnRule]) -> Result<Seq<Column>, NoMemory>
+    ensures { IfOk result (λ columns. columns ≡ map column_of rules.now) }
+{
+    let mut columns = Vec::new(alloc);
+    let mut rest = rules;
+    'rules: while let Some((rule, after)) = rest.split_first() {
+        columns.push(Column {
+            name: rule.name.copy(alloc)?,
+            kind: rule.kind,
+            not_null: rule.not_null,
+        })?;
+        rest = after;
+    }
+    Ok(Seq::from_vec(columns))
+}
+
+fn places_of(alloc: Global, rules: &[ColumnRule], key: &[Name]) -> Result<Seq<usize>, NoMemory>
+    ensures { IfOk result (λ places. places ≡ filter_map (λ n. place_of rule_name n rules.now) key.now) }
+{
+    let mut places = Vec::new(alloc);
+    let mut rest = key;
+    'key: while let Some((name, after)) = rest.split_first() {
+        if let Some(place) = place_of(rules, name) {
+            places.push(place)?;
+        }
+        rest = after;
+    }
+    Ok(Seq::from_vec(places))
+}
+
+fn place_of(rules: &[ColumnRule], name: &Name) -> Option<usize>
+    ensures { result ≡ place_of rule_name name.now rules.now }
+{
+    rules
+        .iter()
+        .position(|rule| name.bytes() == rule.name.bytes())
+}

@@ -1,0 +1,12 @@
+pub mod Made
+pub mod ReplayCauses
+pub mod ReplayLists
+pub mod ReplayNexts
+pub mod ReplayPublications
+pub mod ReplayStarts
+pub mod ReplaySubscriptions
+pub mod ReplayTables
+pub mod ReplayTriggers
+pub mod ReplayUsers
+pub mod Replays
+pub mod Standing

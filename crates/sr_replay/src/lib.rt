@@ -1,0 +1,8 @@
+//! Laws of the catalogs that accepted statements have made of a new one: their own statements are accepted, and make them again.
+//!
+//! It stands on sr_change, and has no code but the laws.
+#![tactic(auto)]
+
+mod laws;
+
+pub use laws::{accepted_statements_make_it, statements_make_it_again};

@@ -1,0 +1,6 @@
+pub mod Catalogs
+pub mod Causes
+pub mod Expressions
+pub mod Firsts
+pub mod Members
+pub mod Names

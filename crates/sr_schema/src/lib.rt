@@ -1,0 +1,38 @@
+//! What a database knows beside its rows: its tables, users, publications, triggers and subscriptions under their names, how they are
+//! looked up, and the faults by which statements are refused.
+//!
+//! It stands on sr_ast. Contracts see a schema as its lists in order of creation. The contract that matters most is that of
+//! `Named::get`: what is found under a name is the first thing of that name.
+#![tactic(auto)]
+
+mod altered;
+mod causes;
+mod columns;
+mod exprs;
+mod fault;
+mod firsts;
+mod named;
+mod publication;
+mod schema;
+mod subscription;
+mod table;
+mod trigger;
+mod user;
+
+pub use causes::Causes;
+pub use columns::{column_names, first_absent_column, key_names, scope_of};
+pub use exprs::{
+    add_refs, class_in, has_arithmetic, is_condition, is_operator, is_value, unknown_in,
+};
+pub use fault::{DdlFault, DmlFault};
+pub use firsts::{
+    Seen, first, first_absent, first_name, first_twice, first_twice_of, is_empty, is_full, is_taken,
+    item_named, limit_where, owned, paired, where_true,
+};
+pub use named::{HasName, Named, item_at};
+pub use publication::{Article, Publication};
+pub use schema::Schema;
+pub use subscription::Subscription;
+pub use table::{Column, Table};
+pub use trigger::Trigger;
+pub use user::User;
