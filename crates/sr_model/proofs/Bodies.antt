@@ -19,7 +19,8 @@ some_past r low (tx ∷ txs) le above = elim (le_or_lt tx.0 r) [
   | inr ahead ↦ (tx, past r txs, rw (past_test r tx.0 ahead) refl)
 ]
 
-module _ {Entry Ops : Type 0} (p : Layers Entry Ops) (lawful : Name → List Entry → Type 0) (w : World Entry) (d user : Name)
+module _ {Entry Ops : Type 0} (p : Layers Entry Ops) (HasSpelling : (ℕ × Ops) → Type 0) (lawful : Name → List Entry →
+    Type 0) (w : World Entry) (d user : Name)
     (prev upto : ℕ) (bytes : List ℕ) (good : IsGood p lawful w) (whole : IsWhole w.messages user d prev upto bytes) where
   came_true : (came : Comes w.messages user d) → IsTrueOf p user (history w user) came.message
   came_true came = subst (λ name. IsTrueOf p name (history w name) came.message) came.sent_by (good.messages came.message came.among)
@@ -32,8 +33,8 @@ module _ {Entry Ops : Type 0} (p : Layers Entry Ops) (lawful : Name → List Ent
   whole_last = last_given p w.messages user d (history w user) prev upto bytes whole came_true
 
   -- and where it begins no later than was taken, and ends past that, some transaction may be taken from it
-  pub whole_taken : Laws p lawful → prev ≤ taken_end p.sees user (history w d) → taken_end p.sees user (history w d) < upto →
-      (place : ℕ) × (ops : Ops) × CanTake p w.messages d (history w d) user place ops
+  pub whole_taken : Laws p HasSpelling lawful → prev ≤ taken_end p.sees user (history w d) → taken_end p.sees user (history w d) < upto →
+      (place : ℕ) × (ops : Ops) × CanTake p HasSpelling w.messages d (history w d) user place ops
   whole_taken laws reached ahead =
       let them : List (ℕ × Ops) = window prev upto (p.given user d (history w user)) in
       let above : taken_end p.sees user (history w d) < top prev (offsets them) = omega (arith, ahead, whole_last) in
@@ -46,7 +47,7 @@ module _ {Entry Ops : Type 0} (p : Layers Entry Ops) (lawful : Name → List Ent
           transactions = them;
           rest = next.1;
           is_whole = subst (λ body. IsWhole w.messages user d prev upto body) whole_bytes whole;
-          are_fit = window_fit p lawful laws user d (history w user) prev upto (good.are_lawful user);
+          have_spellings = window_fit p HasSpelling lawful laws user d (history w user) prev upto (good.are_lawful user);
           reached = reached;
           ahead = ahead;
           first = next.2;

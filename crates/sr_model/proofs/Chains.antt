@@ -65,16 +65,17 @@ window_rises prev upto low base (tx ∷ txs) under rises =
       | inr beyond ↦ rw (above_test prev upto tx.0 beyond) (window_rises prev upto tx.0 base txs under' rises.1)
     ]
 
-module _ {Entry Ops : Type 0} (p : Layers Entry Ops) (lawful : Name → List Entry → Type 0) (laws : Laws p lawful) (w : World Entry) (d user : Name)
+module _ {Entry Ops : Type 0} (p : Layers Entry Ops) (HasSpelling : (ℕ × Ops) → Type 0) (lawful : Name → List Entry →
+    Type 0) (laws : Laws p HasSpelling lawful) (w : World Entry) (d user : Name)
     (good : IsGood p lawful w) where
   rising : Rises 0 (offsets (p.given d user (history w d)))
-  rising = (given_in p lawful laws d user (history w d)).0
+  rising = (given_in p HasSpelling lawful laws d user (history w d)).0
 
   -- the windows of a chain lead forward
   chain_le : (prev upto : ℕ) (windows : List (ℕ × List ℕ)) → Chain w.messages d user prev upto windows → prev ≤ upto
   chain_le prev upto [] chain = omega (arith, chain)
   chain_le prev upto (next ∷ windows) chain =
-      let last = whole_last p lawful w user d prev next.0 next.1 good chain.0 in
+      let last = whole_last p HasSpelling lawful w user d prev next.0 next.1 good chain.0 in
       let up : prev ≤ top prev (offsets (window prev next.0 (p.given d user (history w d))))
       = le-top prev (offsets (window prev next.0 (p.given d user (history w d))))
       (window_rises prev next.0 0 prev (p.given d user (history w d)) (inr (le_refl prev)) rising) in
@@ -91,12 +92,12 @@ module _ {Entry Ops : Type 0} (p : Layers Entry Ops) (lawful : Name → List Ent
   chain_covers prev upto (next ∷ windows) chain =
       let given : List (ℕ × Ops) = p.given d user (history w d) in
       let later = chain_covers next.0 upto windows chain.1 in
-      let last = whole_last p lawful w user d prev next.0 next.1 good chain.0 in
+      let last = whole_last p HasSpelling lawful w user d prev next.0 next.1 good chain.0 in
       let up : prev ≤ top prev (offsets (window prev next.0 given))
       = le-top prev (offsets (window prev next.0 given)) (window_rises prev next.0 0 prev given (inr (le_refl prev)) rising) in
       record {
         lists = window prev next.0 given ∷ later.lists;
-        bodies = ap₂ (λ body them. body ∷ them) (sym (whole_bytes p lawful w user d prev next.0 next.1 good chain.0)) later.bodies;
+        bodies = ap₂ (λ body them. body ∷ them) (sym (whole_bytes p HasSpelling lawful w user d prev next.0 next.1 good chain.0)) later.bodies;
         joined = ap (λ them. window prev next.0 given ++ them) later.joined
             ∙ window_joined prev next.0 upto 0 given (omega (arith, last, up)) (chain_le next.0 upto windows chain.1) rising;
       }

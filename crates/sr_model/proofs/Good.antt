@@ -33,14 +33,15 @@ unchanged : {Entry : Type 0} (hs : List (Name × List Entry)) (d : Name) (deed :
     history_after (history_in x hs) deed ≡ history_in x hs → history_in x (histories_after hs d deed) ≡ history_in x hs
 unchanged hs d deed x same = elim (history_in-histories_after hs d deed x) [ inl is ↦ is | inr is ↦ is.1 ∙ same ]
 
-module _ {Entry Ops : Type 0} (p : Layers Entry Ops) (lawful : Name → List Entry → Type 0) (laws : Laws p lawful) where
+module _ {Entry Ops : Type 0} (p : Layers Entry Ops) (HasSpelling : (ℕ × Ops) → Type 0) (lawful : Name → List Entry →
+    Type 0) (laws : Laws p HasSpelling lawful) where
   to_histories : (w : World Entry) → IsGood p lawful w → AreGood p lawful (history w) w.messages
   to_histories w good = record { are_lawful = good.are_lawful; in_step = good.in_step; books = good.books; are_true = good.messages }
 
   from_histories : (w : World Entry) → AreGood p lawful (history w) w.messages → IsGood p lawful w
   from_histories w good = record { are_lawful = good.are_lawful; in_step = good.in_step; books = good.books; messages = good.are_true }
 
-  changes : (w : World Entry) (d : Name) (e : Entry) → IsGood p lawful w → CanDo p lawful w.messages d (history w d) (append e) → (x : Name) →
+  changes : (w : World Entry) (d : Name) (e : Entry) → IsGood p lawful w → CanDo p HasSpelling lawful w.messages d (history w d) (append e) → (x : Name) →
       (history_in x (histories_after w.histories d (append e)) ≡ history w x)
       ⊎ HasMore p lawful (history w) x (history_in x (histories_after w.histories d (append e)))
   changes w d e good can x =
@@ -54,34 +55,34 @@ module _ {Entry Ops : Type 0} (p : Layers Entry Ops) (lawful : Name → List Ent
               joined = more.1;
               is_lawful = rw is (subst (λ name. lawful name (history w d ++ e ∷ [])) (sym more.0) can.1);
               sound = subst (λ name. IsSound p (history w) name (p.sees e)) (sym more.0)
-                  (append_sound p lawful laws (history w) w.messages (to_histories w good) d (p.sees e) can.0);
+                  (append_sound p HasSpelling lawful laws (history w) w.messages (to_histories w good) d (p.sees e) can.0);
             })
       ]
 
   -- what a database does, where it may, keeps a good world good
-  pub deed_kept : (w : World Entry) (d : Name) (deed : Deed Entry) → IsGood p lawful w → CanDo p lawful w.messages d (history w d) deed →
+  pub deed_kept : (w : World Entry) (d : Name) (deed : Deed Entry) → IsGood p lawful w → CanDo p HasSpelling lawful w.messages d (history w d) deed →
       IsGood p lawful (happens w (record { owner = d; deed = deed }))
   deed_kept w d (append e) good can =
       from_histories (happens w (record { owner = d; deed = append e }))
-      (histories_kept p lawful laws (history w) w.messages (to_histories w good)
+      (histories_kept p HasSpelling lawful laws (history w) w.messages (to_histories w good)
       (λ x. history_in x (histories_after w.histories d (append e))) (changes w d e good can))
   deed_kept w d (put m) good can =
       let new : Name → List Entry = λ x. history_in x (histories_after w.histories d (put m)) in
       let same : (x : Name) → new x ≡ history w x = λ x. unchanged w.histories d (put m) x refl in
       let kept : AreGood p lawful new w.messages
-      = histories_kept p lawful laws (history w) w.messages (to_histories w good) new (λ x. inl (same x)) in
+      = histories_kept p HasSpelling lawful laws (history w) w.messages (to_histories w good) new (λ x. inl (same x)) in
       let t : IsTrueOf p m.from (new m.from) m = rw (same m.from) (subst (λ name. IsTrueOf p name (history w name) m) (sym can.sent_by) can) in
-      from_histories (happens w (record { owner = d; deed = put m })) (message_kept p lawful laws new w.messages kept m t)
+      from_histories (happens w (record { owner = d; deed = put m })) (message_kept p HasSpelling lawful laws new w.messages kept m t)
   deed_kept w d crash good can =
       from_histories (happens w (record { owner = d; deed = crash }))
-      (histories_kept p lawful laws (history w) w.messages (to_histories w good)
+      (histories_kept p HasSpelling lawful laws (history w) w.messages (to_histories w good)
       (λ x. history_in x (histories_after w.histories d crash)) (λ x. inl (unchanged w.histories d crash x refl)))
 
   -- each step keeps each line of a good world
-  pub stays : (w : World Entry) (act : Act Entry) → IsGood p lawful w → IsAllowed p lawful w act → IsGood p lawful (happens w act)
+  pub stays : (w : World Entry) (act : Act Entry) → IsGood p lawful w → IsAllowed p HasSpelling lawful w act → IsGood p lawful (happens w act)
   stays w act good allowed = deed_kept w act.owner act.deed good allowed.1
 
-  pub stay : (w : World Entry) (acts : List (Act Entry)) → IsGood p lawful w → AreAllowed p lawful w acts → IsGood p lawful (after_all w acts)
+  pub stay : (w : World Entry) (acts : List (Act Entry)) → IsGood p lawful w → AreAllowed p HasSpelling lawful w acts → IsGood p lawful (after_all w acts)
   stay w [] good allowed = good
   stay w (act ∷ acts) good allowed = stay (happens w act) acts (stays w act good allowed.0) allowed.1
 
@@ -100,16 +101,16 @@ module _ {Entry Ops : Type 0} (p : Layers Entry Ops) (lawful : Name → List Ent
   -- a fresh world is good
   pub fresh : (names : List Name) → IsGood p lawful (fresh_world names)
   fresh names = from_histories (fresh_world names)
-      (histories_kept p lawful laws (λ d. []) [] nothing_is_good (λ d. history_in d (map (λ name. (name, [])) names)) (λ d. inl (empty names d)))
+      (histories_kept p HasSpelling lawful laws (λ d. []) [] nothing_is_good (λ d. history_in d (map (λ name. (name, [])) names)) (λ d. inl (empty names d)))
 
   -- two takes of one partner that are allowed are one entry
   pub one_take : (w : World Entry) (d user : Name) (e f : Entry) (place place' : ℕ) (ops ops' : Ops) → IsGood p lawful w →
       p.sees e ≡ from_user user place ops → p.sees f ≡ from_user user place' ops' →
-      CanDo p lawful w.messages d (history w d) (append e) → CanDo p lawful w.messages d (history w d) (append f) → e ≡ f
+      CanDo p HasSpelling lawful w.messages d (history w d) (append e) → CanDo p HasSpelling lawful w.messages d (history w d) (append f) → e ≡ f
   one_take w d user e f place place' ops ops' good is is' can can' =
       let good' = to_histories w good in
-      let take = take_sound p lawful laws (history w) w.messages good' d user place ops (rw is at can.0) in
-      let take' = take_sound p lawful laws (history w) w.messages good' d user place' ops' (rw is' at can'.0) in
+      let take = take_sound p HasSpelling lawful laws (history w) w.messages good' d user place ops (rw is at can.0) in
+      let take' = take_sound p HasSpelling lawful laws (history w) w.messages good' d user place' ops' (rw is' at can'.0) in
       let same : (place, ops) ∷ take.0 ≡ (place', ops') ∷ take'.0
       = append_cancel_left (taken p.sees user (history w d)) ((place, ops) ∷ take.0) ((place', ops') ∷ take'.0) (sym take.1 ∙ take'.1) in
       let first : ◌≡◌ {A = ℕ × Ops} (place', ops') (place, ops) = cc in
@@ -119,11 +120,11 @@ module _ {Entry Ops : Type 0} (p : Layers Entry Ops) (lawful : Name → List Ent
   -- no message confirms or asks for what its receiver does not have
   pub confirm_stands : (w : World Entry) (m : Message) → IsGood p lawful w → Contains w.messages m → m.confirm.0 ≤ end_of p (history w m.to)
   confirm_stands w m good among =
-      omega (arith, (good.messages m among).confirm, taken_stands p lawful laws (history w) w.messages (to_histories w good) m.from m.to)
+      omega (arith, (good.messages m among).confirm, taken_stands p HasSpelling lawful laws (history w) w.messages (to_histories w good) m.from m.to)
 
   pub ask_stands : (w : World Entry) (m : Message) → IsGood p lawful w → Contains w.messages m → m.ask_offset.0 ≤ end_of p (history w m.to)
   ask_stands w m good among =
-      omega (arith, (good.messages m among).ask_offset, taken_stands p lawful laws (history w) w.messages (to_histories w good) m.from m.to)
+      omega (arith, (good.messages m among).ask_offset, taken_stands p HasSpelling lawful laws (history w) w.messages (to_histories w good) m.from m.to)
 
   pub taken_within : (w : World Entry) (d user : Name) → IsGood p lawful w → taken_end p.sees user (history w d) ≤ end_of p (history w user)
-  taken_within w d user good = taken_stands p lawful laws (history w) w.messages (to_histories w good) d user
+  taken_within w d user good = taken_stands p HasSpelling lawful laws (history w) w.messages (to_histories w good) d user

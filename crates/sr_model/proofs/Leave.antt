@@ -58,27 +58,29 @@ module _ (fewer messages : List Message) (among : AreAmong fewer messages) where
       confirms = can.confirms;
     }
 
-    append_more : (d : Name) (es : List Entry) (s : Sight Ops) → CanAppend p fewer d es s → CanAppend p messages d es s
-    append_more d es local can = tt
-    append_more d es (from_user user place ops) can = record {
+    append_more : (HasSpelling : (ℕ × Ops) → Type 0) (d : Name) (es : List Entry) (s : Sight Ops) → CanAppend p HasSpelling fewer d es s →
+        CanAppend p HasSpelling messages d es s
+    append_more HasSpelling d es local can = tt
+    append_more HasSpelling d es (from_user user place ops) can = record {
       prev = can.prev;
       upto = can.upto;
       transactions = can.transactions;
       rest = can.rest;
       is_whole = whole_more user d can.prev can.upto (p.encode can.transactions) can.is_whole;
-      are_fit = can.are_fit;
+      have_spellings = can.have_spellings;
       reached = can.reached;
       ahead = can.ahead;
       first = can.first;
     }
-    append_more d es (noted user note) can = note_more d es user note can
+    append_more HasSpelling d es (noted user note) can = note_more d es user note can
 
     -- what may be done may be done with more messages
-    pub do_more : (lawful : Name → List Entry → Type 0) (d : Name) (es : List Entry) (deed : Deed Entry) → CanDo p lawful fewer d es deed →
-        CanDo p lawful messages d es deed
-    do_more lawful d es (append e) can = (append_more d es (p.sees e) can.0, can.1)
-    do_more lawful d es (put m) can = can
-    do_more lawful d es crash can = tt
+    pub do_more : (HasSpelling : (ℕ × Ops) → Type 0) (lawful : Name → List Entry → Type 0) (d : Name)
+        (es : List Entry) (deed : Deed Entry) → CanDo p HasSpelling lawful fewer d es deed →
+        CanDo p HasSpelling lawful messages d es deed
+    do_more HasSpelling lawful d es (append e) can = (append_more HasSpelling d es (p.sees e) can.0, can.1)
+    do_more HasSpelling lawful d es (put m) can = can
+    do_more HasSpelling lawful d es crash can = tt
 
 -- a deed leaves the messages and may add one
 pub messages_kept : {Entry : Type 0} (messages : List Message) (deed : Deed Entry) → AreAmong messages (messages_after messages deed)
@@ -126,14 +128,15 @@ other_history : {Entry : Type 0} (hs : List (Name × List Entry)) (d : Name) (de
     history_in x (histories_after hs d deed) ≡ history_in x hs
 other_history hs d deed x other = elim (history_in-histories_after hs d deed x) [ inl same ↦ same | inr more ↦ absurd (other more.0) ]
 
-module _ {Entry Ops : Type 0} (p : Layers Entry Ops) (lawful : Name → List Entry → Type 0) where
+module _ {Entry Ops : Type 0} (p : Layers Entry Ops) (HasSpelling : (ℕ × Ops) → Type 0) (lawful : Name → List Entry → Type 0) where
   -- a step stays allowed when others step
-  pub still : (w : World Entry) (other act : Act Entry) → act.owner ≢ other.owner → IsAllowed p lawful w act → IsAllowed p lawful (happens w other) act
+  pub still : (w : World Entry) (other act : Act Entry) → act.owner ≢ other.owner → IsAllowed p HasSpelling lawful w act →
+      IsAllowed p HasSpelling lawful (happens w other) act
   still w other act apart allowed =
       let same : history (happens w other) act.owner ≡ history w act.owner
       = other_history w.histories other.owner other.deed act.owner apart in (
         named_kept w other act.owner allowed.0,
-        rw same (do_more w.messages (messages_after w.messages other.deed) (messages_kept w.messages other.deed) p lawful act.owner
+        rw same (do_more w.messages (messages_after w.messages other.deed) (messages_kept w.messages other.deed) p HasSpelling lawful act.owner
             (history w act.owner) act.deed allowed.1),
       )
 
@@ -145,35 +148,38 @@ module _ {Entry Ops : Type 0} (p : Layers Entry Ops) (lawful : Name → List Ent
 
   -- what a database may do by its history and some messages are steps of each world that has these
   pub in_world : (messages : List Message) (d : Name) (es : List Entry) (deeds : List (Deed Entry)) (w : World Entry) → IsNamed w d →
-      history w d ≡ es → AreAmong messages w.messages → CanDoAll p lawful messages d es deeds → AreAllowed p lawful w (acts_by d deeds)
+      history w d ≡ es → AreAmong messages w.messages → CanDoAll p HasSpelling lawful messages d es deeds →
+      AreAllowed p HasSpelling lawful w (acts_by d deeds)
   in_world messages d es [] w named is among can = tt
   in_world messages d es (deed ∷ deeds) w named is among can =
       let act : Act Entry = record { owner = d; deed = deed } in (
-        (named, rw is (do_more messages w.messages among p lawful d es deed can.0)),
+        (named, rw is (do_more messages w.messages among p HasSpelling lawful d es deed can.0)),
         in_world (messages_after messages deed) d (history_after es deed) deeds (happens w act) (named_kept w act d named)
             (own_step w d act refl named ∙ ap (λ es. history_after es deed) is)
             (after_among messages w.messages deed among) can.1,
       )
 
   -- deeds that are allowed one after the other join
-  pub deeds_join : (messages : List Message) (d : Name) (es : List Entry) (deeds more : List (Deed Entry)) → CanDoAll p lawful messages d es deeds →
-      CanDoAll p lawful (messages_after_all messages deeds) d (history_after_all es deeds) more → CanDoAll p lawful messages d es (deeds ++ more)
+  pub deeds_join : (messages : List Message) (d : Name) (es : List Entry) (deeds more : List (Deed Entry)) →
+      CanDoAll p HasSpelling lawful messages d es deeds →
+      CanDoAll p HasSpelling lawful (messages_after_all messages deeds) d (history_after_all es deeds) more →
+      CanDoAll p HasSpelling lawful messages d es (deeds ++ more)
   deeds_join messages d es [] more can later = later
   deeds_join messages d es (deed ∷ deeds) more can later =
       (can.0, deeds_join (messages_after messages deed) d (history_after es deed) deeds more can.1 later)
 
   pub deeds_begin : (messages : List Message) (d : Name) (es : List Entry) (deeds more : List (Deed Entry)) →
-      CanDoAll p lawful messages d es (deeds ++ more) → CanDoAll p lawful messages d es deeds
+      CanDoAll p HasSpelling lawful messages d es (deeds ++ more) → CanDoAll p HasSpelling lawful messages d es deeds
   deeds_begin messages d es [] more can = tt
   deeds_begin messages d es (deed ∷ deeds) more can =
       (can.0, deeds_begin (messages_after messages deed) d (history_after es deed) deeds more can.1)
 
   -- what is allowed is allowed with more messages
   pub all_more : (fewer messages : List Message) (d : Name) (es : List Entry) (deeds : List (Deed Entry)) → AreAmong fewer messages →
-      CanDoAll p lawful fewer d es deeds → CanDoAll p lawful messages d es deeds
+      CanDoAll p HasSpelling lawful fewer d es deeds → CanDoAll p HasSpelling lawful messages d es deeds
   all_more fewer messages d es [] among can = tt
   all_more fewer messages d es (deed ∷ deeds) among can = (
-    do_more fewer messages among p lawful d es deed can.0,
+    do_more fewer messages among p HasSpelling lawful d es deed can.0,
     all_more (messages_after fewer deed) (messages_after messages deed) d (history_after es deed) deeds
         (after_among fewer messages deed among) can.1,
   )

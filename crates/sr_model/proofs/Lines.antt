@@ -35,7 +35,8 @@ record IsBookInOrder (book : Book) (end : ℕ) : Type 0 where
 ask_new : (known count : ℕ) → known < count → nat_lt known count ≡ true
 ask_new known count above = grind arith
 
-module _ {Entry Ops : Type 0} (p : Layers Entry Ops) (lawful : Name → List Entry → Type 0) (laws : Laws p lawful) (of : Name →
+module _ {Entry Ops : Type 0} (p : Layers Entry Ops) (HasSpelling : (ℕ × Ops) → Type 0) (lawful : Name → List Entry →
+    Type 0) (laws : Laws p HasSpelling lawful) (of : Name →
     List Entry) (messages : List Message) (good : AreGood p lawful of messages) where
   old_in_order : (d user : Name) → IsBookInOrder (book_of p.sees user (of d)) (end_of p (of d))
   old_in_order d user =
@@ -82,7 +83,7 @@ module _ {Entry Ops : Type 0} (p : Layers Entry Ops) (lawful : Name → List Ent
   taken_rises d user new change =
       let next = taken_next d user new change in
       let rises : Rises 0 (offsets (taken p.sees user new) ++ offsets next.0)
-      = rw (ap offsets next.1 ∙ offsets-append (taken p.sees user new) next.0) at (given_in p lawful laws user d (of user)).0 in
+      = rw (ap offsets next.1 ∙ offsets-append (taken p.sees user new) next.0) at (given_in p HasSpelling lawful laws user d (of user)).0 in
       Rises-front 0 (offsets (taken p.sees user new)) (offsets next.0) rises
 
   taken_later : (d user : Name) (new : List Entry) → (new ≡ of d) ⊎ HasMore p lawful of d new → taken_end p.sees user (of d) ≤ taken_end p.sees user new
@@ -91,14 +92,14 @@ module _ {Entry Ops : Type 0} (p : Layers Entry Ops) (lawful : Name → List Ent
       let rises : Rises 0 (offsets (taken p.sees user new)) = taken_rises d user new (inr more) in
       let rises' : Rises 0 (offsets (taken p.sees user (of d ++ more.entry ∷ [])))
       = subst (λ es. Rises 0 (offsets (taken p.sees user es))) more.joined rises in
-      rw more.joined (taken_longer p lawful laws user (of d) (more.entry ∷ []) rises')
+      rw more.joined (taken_longer p HasSpelling lawful laws user (of d) (more.entry ∷ []) rises')
 
   -- what a changed history gives goes on from what it gave
   given_next : (user d : Name) (new : List Entry) → (new ≡ of d) ⊎ HasMore p lawful of d new →
       (more : List (ℕ × Ops)) × (p.given d user new ≡ p.given d user (of d) ++ more)
   given_next user d new (inl same) = ([], ap (p.given d user) same ∙ sym (append-nil (p.given d user (of d))))
   given_next user d new (inr more) =
-      let grown = given_longer p lawful laws d user (of d) (more.entry ∷ []) in
+      let grown = given_longer p HasSpelling lawful laws d user (of d) (more.entry ∷ []) in
       (grown.more, ap (p.given d user) more.joined ∙ grown.joined)
 
   -- a sound entry confirms no more than was taken
@@ -146,7 +147,7 @@ module _ {Entry Ops : Type 0} (p : Layers Entry Ops) (lawful : Name → List Ent
       taken_end p.sees user (of d) < place
   taken_past d user place ops more is =
       let rises : Rises 0 (offsets (taken p.sees user (of d)) ++ place ∷ offsets more)
-      = rw (ap offsets is ∙ offsets-append (taken p.sees user (of d)) ((place, ops) ∷ more)) at (given_in p lawful laws user d (of user)).0 in
+      = rw (ap offsets is ∙ offsets-append (taken p.sees user (of d)) ((place, ops) ∷ more)) at (given_in p HasSpelling lawful laws user d (of user)).0 in
       (Rises-back 0 (offsets (taken p.sees user (of d))) (place ∷ offsets more) rises).0
 
   -- the book after a sound note is in order
@@ -154,7 +155,7 @@ module _ {Entry Ops : Type 0} (p : Layers Entry Ops) (lawful : Name → List Ent
       IsBookInOrder (with_note (book_of p.sees user (of d)) note) (end_of p (of d))
   note_in_order d user (Confirmed place) sound =
       let old = good.books d user in
-      let stands : taken_end p.sees d (of user) ≤ end_of p (of d) = taken_stands p lawful laws of messages good user d in
+      let stands : taken_end p.sees d (of user) ≤ end_of p (of d) = taken_stands p HasSpelling lawful laws of messages good user d in
       record {
         confirmed_sent = omega (arith, old.confirmed_sent);
         sent_stands = omega (arith, old.sent_stands, stands);
@@ -162,7 +163,7 @@ module _ {Entry Ops : Type 0} (p : Layers Entry Ops) (lawful : Name → List Ent
       }
   note_in_order d user (Asked count place) sound =
       let old = good.books d user in
-      let stands : taken_end p.sees d (of user) ≤ end_of p (of d) = taken_stands p lawful laws of messages good user d in
+      let stands : taken_end p.sees d (of user) ≤ end_of p (of d) = taken_stands p HasSpelling lawful laws of messages good user d in
       rw (ask_new (book_of p.sees user (of d)).resend_count count sound.1) (record {
         confirmed_sent = omega arith;
         sent_stands = omega (arith, old.confirmed_sent, old.sent_stands, stands, sound.0);
@@ -220,7 +221,7 @@ module _ {Entry Ops : Type 0} (p : Layers Entry Ops) (lawful : Name → List Ent
       let e = more.entry in
       let book : IsBookInOrder (book_of p.sees user new) (end_of p (of d))
       = rw (ap (book_of p.sees user) more.joined ∙ book_more p.sees user (of d) e) (booked_in_order d user (p.sees e) more.sound) in
-      let later : end_of p (of d) ≤ end_of p new = rw more.joined (le-end_of p lawful laws (of d) (e ∷ [])) in
+      let later : end_of p (of d) ≤ end_of p new = rw more.joined (le-end_of p HasSpelling lawful laws (of d) (e ∷ [])) in
       let counts : asked p.sees user new ≡ asked p.sees user (of d) ++ asks user (p.sees e)
       = ap (asked p.sees user) more.joined ∙ asked_more p.sees user (of d) e in
       record {
@@ -237,7 +238,7 @@ module _ {Entry Ops : Type 0} (p : Layers Entry Ops) (lawful : Name → List Ent
   true_kept d new m (inr more) t =
       let rises : Rises 0 (offsets (taken p.sees m.to (of d ++ more.entry ∷ [])))
       = subst (λ es. Rises 0 (offsets (taken p.sees m.to es))) more.joined (taken_rises d m.to new (inr more)) in
-      rw more.joined (true_longer p lawful laws d (of d) (more.entry ∷ []) m rises t)
+      rw more.joined (true_longer p HasSpelling lawful laws d (of d) (more.entry ∷ []) m rises t)
 
   lawful_kept : (d : Name) (new : List Entry) → (new ≡ of d) ⊎ HasMore p lawful of d new → lawful d new
   lawful_kept d new (inl same) = rw same (good.are_lawful d)

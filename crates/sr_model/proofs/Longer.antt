@@ -19,7 +19,8 @@ pub record Grown {Ops : Type 0} (old new : List (ℕ × Ops)) (low high : ℕ) :
   pub rises : Rises low (offsets more)
   pub within : top low (offsets more) ≤ high
 
-module _ {Entry Ops : Type 0} (p : Layers Entry Ops) (lawful : Name → List Entry → Type 0) (laws : Laws p lawful) where
+module _ {Entry Ops : Type 0} (p : Layers Entry Ops) (HasSpelling : (ℕ × Ops) → Type 0) (lawful : Name → List Entry →
+    Type 0) (laws : Laws p HasSpelling lawful) where
   grown_more : (old new newer : List (ℕ × Ops)) (low high higher : ℕ) → Grown old new low high →
       (gave : Option Ops) → newer ≡ new ++ transaction higher gave → high < higher → Grown old newer low higher
   grown_more old new newer low high higher grown None is above = record {

@@ -1,7 +1,7 @@
-use Rattle.std.proofs.Common.{◌≡◌, ◌↔◌, ℕ, ◌+◌, List, [], ◌∷◌, ◌++◌, Option, Some, None, IsTrue, refl, sym, ap, ◌∙◌, append_assoc, append-nil}
+use Rattle.std.proofs.Common.{◌≡◌, ◌↔◌, ℕ, ◌+◌, List, [], ◌∷◌, ◌++◌, Option, Some, None, All, refl, sym, ap, ◌∙◌, append_assoc, append-nil}
 use Rattle.std.proofs.lemmas.List.Elements.{All-nil, All-cons, All-append}
 use Rattle.sr_book.specs.Entries.{Name, from_user}
-use Rattle.sr_model.specs.Layers.{transaction, Laws, AreFit, end_from}
+use Rattle.sr_model.specs.Layers.{transaction, Laws, end_from}
 use Rattle.sr_model.specs.Machines.{Machine, StepLaws, state_from, lawful_from, lawful_by, given_from, layers_of}
 
 module _ {State Entry Ops : Type 0} (m : Machine State Entry Ops) where
@@ -58,7 +58,7 @@ module _ {State Entry Ops : Type 0} (m : Machine State Entry Ops) where
       λ both. lawful_whole s place es (e ∷ []) both.0 (both.1, tt),
     )
 
-    module _ (Holds : State → Type 0) (laws : StepLaws m Fits Holds) where
+    module _ (HasSpelling : (ℕ × Ops) → Type 0) (Holds : State → Type 0) (laws : StepLaws m HasSpelling Fits Holds) where
       pub holds_from : (s : State) (place : ℕ) (es : List Entry) → Holds s → lawful_from m Fits s place es → Holds (state_from m s es)
       holds_from s place [] holds lawful = holds
       holds_from s place (e ∷ es) holds lawful =
@@ -66,17 +66,17 @@ module _ {State Entry Ops : Type 0} (m : Machine State Entry Ops) where
 
       -- what an entry gives is fit
       gave_fit : (s : State) (place : ℕ) (e : Entry) (user : Name) (gave : Option Ops) → m.gives s e user ≡ gave →
-          Holds s → Fits s place e → AreFit (layers_of m) (transaction (place + (m.size e + 5)) gave)
-      gave_fit s place e user None is holds fits = All-nil (λ tx. IsTrue (m.is_fit tx))
+          Holds s → Fits s place e → All HasSpelling (transaction (place + (m.size e + 5)) gave)
+      gave_fit s place e user None is holds fits = All-nil HasSpelling
       gave_fit s place e user (Some ops) is holds fits =
-          All-cons (λ tx. IsTrue (m.is_fit tx)) (place + (m.size e + 5), ops) [] (laws.gives_fit s place e user ops holds fits is)
-          (All-nil (λ tx. IsTrue (m.is_fit tx)))
+          All-cons HasSpelling (place + (m.size e + 5), ops) [] (laws.gives_fit s place e user ops holds fits is)
+          (All-nil HasSpelling)
 
       given_fit : (s : State) (place : ℕ) (user : Name) (es : List Entry) → Holds s → lawful_from m Fits s place es →
-          AreFit (layers_of m) (given_from m s place user es)
-      given_fit s place user [] holds lawful = All-nil (λ tx. IsTrue (m.is_fit tx))
+          All HasSpelling (given_from m s place user es)
+      given_fit s place user [] holds lawful = All-nil HasSpelling
       given_fit s place user (e ∷ es) holds lawful =
-          All-append (λ tx. IsTrue (m.is_fit tx)) (transaction (place + (m.size e + 5)) (m.gives s e user))
+          All-append HasSpelling (transaction (place + (m.size e + 5)) (m.gives s e user))
           (given_from m (m.next s e) (place + (m.size e + 5)) user es)
           (gave_fit s place e user (m.gives s e user) refl holds lawful.0)
           (given_fit (m.next s e) (place + (m.size e + 5)) user es (laws.kept s place e holds lawful.0) lawful.1)
@@ -89,7 +89,7 @@ module _ {State Entry Ops : Type 0} (m : Machine State Entry Ops) where
           (lawful_parts s place es (e ∷ []) lawful).1.0 (lawful_parts s place es (f ∷ []) lawful').1.0
 
       -- the laws of one step are the laws of the whole history
-      pub whole_laws : Laws (layers_of m) (lawful_by m Fits)
+      pub whole_laws : Laws (layers_of m) HasSpelling (lawful_by m Fits)
       whole_laws = record {
         given_none = λ d user. refl;
         given_more = λ d user es e. (m.gives (state_from m (m.fresh d) es) e user, given_from-more (m.fresh d) 0 user es e);

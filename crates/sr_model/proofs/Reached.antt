@@ -3,7 +3,7 @@ use Rattle.sr_book.specs.declared.note.Note.TheVariants.{Confirmed, Asked, Raise
 use Rattle.sr_book.specs.Entries.{Name, from_user}
 use Rattle.sr_msgform.specs.declared.message.Message.{Message}
 use Rattle.sr_model.specs.Machines.{StepLaws, layers_of, lawful_by}
-use Rattle.sr_model.specs.Small.{SmallEntry, wrote, took, said, Verdict, plain, conflict, sent_of, small_sees, small_body, small, SmallFits}
+use Rattle.sr_model.specs.Small.{SmallHasSpelling, SmallEntry, wrote, took, said, Verdict, plain, conflict, sent_of, small_sees, small_body, small, SmallFits}
 use Rattle.sr_model.specs.Small.{SmallHolds, cons, r1, r2}
 use Rattle.sr_model.specs.Small.{first_run, run_of_r2, second_run, asking_run, resending_run, taking_run, returning_run, last_run}
 use Rattle.sr_model.specs.Small.{front_piece, back_piece, for_r2, second_window, ask, resend, answer, return, small_runs, small_world}
@@ -56,11 +56,11 @@ seen_once d place e f user at ops is is' fits fits' =
     let judged' = rw other.1 at fits' in
     one.1 ∙ ap (took user at ops) (judged ∙ sym judged') ∙ sym other.1
 
-pub small_laws : StepLaws small SmallFits SmallHolds
+pub small_laws : StepLaws small SmallHasSpelling SmallFits SmallHolds
 small_laws = record {
   at_first = λ d. tt;
   kept = λ s place e holds fits. tt;
-  gives_fit = λ s place e user ops holds fits is. refl;
+  gives_fit = λ s place e user ops holds fits is. tt;
   encoded_once = λ a b fit fit' e. body_once a b e;
   judged_once = seen_once;
 }
@@ -87,7 +87,7 @@ abbrev all_put : List Message
 all_put = front_piece ∷ back_piece ∷ for_r2 ∷ second_window ∷ ask ∷ resend ∷ answer ∷ return ∷ []
 
 -- cons commits twice, and sends two fragments to r1 and a window to r2
-first_can : CanDoAll (layers_of small) (lawful_by small SmallFits) [] cons [] first_run.deeds
+first_can : CanDoAll (layers_of small) SmallHasSpelling (lawful_by small SmallFits) [] cons [] first_run.deeds
 first_can =
     let pieces : List Message = take 2 all_put in
     let all : List Message = take 3 all_put in
@@ -115,14 +115,14 @@ first_can =
     )
 
 -- r2 takes its window
-r2_can : CanDoAll (layers_of small) (lawful_by small SmallFits) run_of_r2.known r2 [] run_of_r2.deeds
+r2_can : CanDoAll (layers_of small) SmallHasSpelling (lawful_by small SmallFits) run_of_r2.known r2 [] run_of_r2.deeds
 r2_can =
     let whole : IsWhole (for_r2 ∷ []) cons r2 0 30 (30 ∷ 1 ∷ 6 ∷ []) = one_piece (for_r2 ∷ []) for_r2 (0, omega arith, refl) refl refl in
     let take_it = taken_from (for_r2 ∷ []) r2 [] cons 30 (6 ∷ []) 0 30 ((30, 6 ∷ []) ∷ []) [] whole refl refl refl in
     ((take_it, lawful_if r2 (took cons 30 (6 ∷ []) (plain ∷ []) ∷ []) refl), tt)
 
 -- cons sends the next window
-second_can : CanDoAll (layers_of small) (lawful_by small SmallFits) [] cons (take 4 of_cons) second_run.deeds
+second_can : CanDoAll (layers_of small) SmallHasSpelling (lawful_by small SmallFits) [] cons (take 4 of_cons) second_run.deeds
 second_can =
     let whole : IsWhole (second_window ∷ []) cons r1 15 75 (75 ∷ 1 ∷ 4 ∷ [])
     = one_piece (second_window ∷ []) second_window (0, omega arith, refl) refl refl in
@@ -132,7 +132,7 @@ second_can =
     ((tt, cons_lawful 5 refl), (put_it, ((note_it, cons_lawful 6 refl), tt)))
 
 -- r1 has seen the second window alone, and asks
-asking_can : CanDoAll (layers_of small) (lawful_by small SmallFits) asking_run.known r1 [] asking_run.deeds
+asking_can : CanDoAll (layers_of small) SmallHasSpelling (lawful_by small SmallFits) asking_run.known r1 [] asking_run.deeds
 asking_can =
     let came : Comes (second_window ∷ []) cons r1 = record { message = second_window; among = (0, omega arith, refl); sent_by = refl; sent_to = refl } in
     let put_it = told r1 (take 1 of_r1) ask refl refl refl refl refl (λ two. refl) refl refl refl refl in
@@ -140,7 +140,7 @@ asking_can =
     (((came, omega arith), r1_lawful 1 refl), (put_it, ((note_it, r1_lawful 2 refl), tt)))
 
 -- cons notes the ask and sends both windows again
-resending_can : CanDoAll (layers_of small) (lawful_by small SmallFits) resending_run.known cons (take 6 of_cons) resending_run.deeds
+resending_can : CanDoAll (layers_of small) SmallHasSpelling (lawful_by small SmallFits) resending_run.known cons (take 6 of_cons) resending_run.deeds
 resending_can =
     let came : Comes (ask ∷ []) r1 cons = record { message = ask; among = (0, omega arith, refl); sent_by = refl; sent_to = refl } in
     let whole : IsWhole (ask ∷ resend ∷ []) cons r1 0 75 resend.fragment = one_piece (ask ∷ resend ∷ []) resend (1, omega arith, refl) refl refl in
@@ -150,7 +150,7 @@ resending_can =
     (((came, refl, refl, omega arith), cons_lawful 7 refl), (put_it, ((note_it, cons_lawful 8 refl), tt)))
 
 -- r1 takes from the fragments and from the window that was sent again, crashes, commits and answers
-taking_can : CanDoAll (layers_of small) (lawful_by small SmallFits) taking_run.known r1 (take 2 of_r1) taking_run.deeds
+taking_can : CanDoAll (layers_of small) SmallHasSpelling (lawful_by small SmallFits) taking_run.known r1 (take 2 of_r1) taking_run.deeds
 taking_can =
     let known : List Message = taking_run.known in
     let all : List Message = known ++ answer ∷ [] in
@@ -166,7 +166,7 @@ taking_can =
     ((take_one, r1_lawful 3 refl), ((take_two, r1_lawful 4 refl), (tt, ((tt, r1_lawful 5 refl), (put_it, ((note_it, r1_lawful 6 refl), tt))))))
 
 -- cons notes what r1 confirmed, takes what r1 committed, and gives back what the conflict gives
-returning_can : CanDoAll (layers_of small) (lawful_by small SmallFits) returning_run.known cons (take 8 of_cons) returning_run.deeds
+returning_can : CanDoAll (layers_of small) SmallHasSpelling (lawful_by small SmallFits) returning_run.known cons (take 8 of_cons) returning_run.deeds
 returning_can =
     let known : List Message = returning_run.known in
     let all : List Message = known ++ return ∷ [] in
@@ -180,14 +180,14 @@ returning_can =
     (((came, refl, inl (omega arith)), cons_lawful 9 refl), ((take_it, cons_lawful 10 refl), (put_it, ((note_it, cons_lawful 11 refl), tt))))
 
 -- r1 takes that
-last_can : CanDoAll (layers_of small) (lawful_by small SmallFits) last_run.known r1 (take 6 of_r1) last_run.deeds
+last_can : CanDoAll (layers_of small) SmallHasSpelling (lawful_by small SmallFits) last_run.known r1 (take 6 of_r1) last_run.deeds
 last_can =
     let whole : IsWhole (return ∷ []) cons r1 75 150 (150 ∷ 1 ∷ 107 ∷ []) = one_piece (return ∷ []) return (0, omega arith, refl) refl refl in
     let take_it = taken_from (return ∷ []) r1 (take 6 of_r1) cons 150 (107 ∷ []) 75 150 ((150, 107 ∷ []) ∷ []) [] whole refl refl refl in
     ((take_it, r1_lawful 7 refl), tt)
 
 -- each is a run of the world that those before it leave
-pub small_are_runs : AreRuns (layers_of small) (lawful_by small SmallFits) small_world small_runs
+pub small_are_runs : AreRuns (layers_of small) SmallHasSpelling (lawful_by small SmallFits) small_world small_runs
 small_are_runs =
     let cons_named : Contains (cons ∷ r1 ∷ r2 ∷ []) cons = (0, omega arith, refl) in
     let r1_named : Contains (cons ∷ r1 ∷ r2 ∷ []) r1 = (1, omega arith, refl) in

@@ -1,4 +1,4 @@
-use Rattle.std.proofs.Common.{◌≡◌, List, [], ◌∷◌, ◌++◌, refl, sym, ◌∙◌}
+use Rattle.std.proofs.Common.{◌≡◌, ℕ, List, [], ◌∷◌, ◌++◌, refl, sym, ◌∙◌}
 use Rattle.sr_book.specs.Entries.{Name}
 use Rattle.sr_msgform.specs.declared.message.Message.{Message}
 use Rattle.sr_model.specs.Layers.{Layers, Laws}
@@ -17,44 +17,45 @@ pub after_acts : {Entry : Type 0} (w : World Entry) (runs : List (Run Entry)) �
 after_acts w [] = refl
 after_acts w (r ∷ runs) = after_acts (after_run w r) runs ∙ sym (after_all-append w (acts_by r.owner r.deeds) (acts_of_runs runs))
 
-module _ {Entry Ops : Type 0} (p : Layers Entry Ops) (lawful : Name → List Entry → Type 0) where
-  allowed-append : (w : World Entry) (acts more : List (Act Entry)) → AreAllowed p lawful w acts →
-      AreAllowed p lawful (after_all w acts) more → AreAllowed p lawful w (acts ++ more)
+module _ {Entry Ops : Type 0} (p : Layers Entry Ops) (HasSpelling : (ℕ × Ops) → Type 0) (lawful : Name → List Entry → Type 0) where
+  allowed-append : (w : World Entry) (acts more : List (Act Entry)) → AreAllowed p HasSpelling lawful w acts →
+      AreAllowed p HasSpelling lawful (after_all w acts) more → AreAllowed p HasSpelling lawful w (acts ++ more)
   allowed-append w [] more front back = back
   allowed-append w (act ∷ acts) more front back = (front.0, allowed-append (happens w act) acts more front.1 back)
 
   -- what a run did are allowed steps
-  run_allowed : (w : World Entry) (r : Run Entry) → IsRun p lawful w r → AreAllowed p lawful w (acts_by r.owner r.deeds)
-  run_allowed w r is = in_world p lawful r.known r.owner (history w r.owner) r.deeds w is.named refl is.had_been_put is.can
+  run_allowed : (w : World Entry) (r : Run Entry) → IsRun p HasSpelling lawful w r → AreAllowed p HasSpelling lawful w (acts_by r.owner r.deeds)
+  run_allowed w r is = in_world p HasSpelling lawful r.known r.owner (history w r.owner) r.deeds w is.named refl is.had_been_put is.can
 
-  pub runs_allowed : (w : World Entry) (runs : List (Run Entry)) → AreRuns p lawful w runs → AreAllowed p lawful w (acts_of_runs runs)
+  pub runs_allowed : (w : World Entry) (runs : List (Run Entry)) → AreRuns p HasSpelling lawful w runs → AreAllowed p HasSpelling lawful w (acts_of_runs runs)
   runs_allowed w [] are = tt
   runs_allowed w (r ∷ runs) are =
       allowed-append w (acts_by r.owner r.deeds) (acts_of_runs runs) (run_allowed w r are.0) (runs_allowed (after_run w r) runs are.1)
 
   -- a run that breaks off is a run
   runs_begin : (w : World Entry) (runs : List (Run Entry)) (owner : Name) (known : List Message) (deeds more : List (Deed Entry)) →
-      AreRuns p lawful w (runs ++ record { owner = owner; known = known; deeds = deeds ++ more } ∷ []) →
-      AreRuns p lawful w (runs ++ record { owner = owner; known = known; deeds = deeds } ∷ [])
+      AreRuns p HasSpelling lawful w (runs ++ record { owner = owner; known = known; deeds = deeds ++ more } ∷ []) →
+      AreRuns p HasSpelling lawful w (runs ++ record { owner = owner; known = known; deeds = deeds } ∷ [])
   runs_begin w [] owner known deeds more are = (
     record {
       named = are.0.named;
       had_been_put = are.0.had_been_put;
-      can = deeds_begin p lawful known owner (history w owner) deeds more are.0.can;
+      can = deeds_begin p HasSpelling lawful known owner (history w owner) deeds more are.0.can;
     },
     tt,
   )
   runs_begin w (r ∷ runs) owner known deeds more are = (are.0, runs_begin (after_run w r) runs owner known deeds more are.1)
 
-  module _ (laws : Laws p lawful) where
-    pub runs_stay : (w : World Entry) (runs : List (Run Entry)) → IsGood p lawful w → AreRuns p lawful w runs → IsGood p lawful (after_runs w runs)
+  module _ (laws : Laws p HasSpelling lawful) where
+    pub runs_stay : (w : World Entry) (runs : List (Run Entry)) → IsGood p lawful w → AreRuns p HasSpelling lawful w runs →
+        IsGood p lawful (after_runs w runs)
     runs_stay w [] good are = good
     runs_stay w (r ∷ runs) good are =
-        runs_stay (after_run w r) runs (stay p lawful laws w (acts_by r.owner r.deeds) good (run_allowed w r are.0)) are.1
+        runs_stay (after_run w r) runs (stay p HasSpelling lawful laws w (acts_by r.owner r.deeds) good (run_allowed w r are.0)) are.1
 
     -- and so they do where the last one breaks off
     pub beginnings_stay : (w : World Entry) (runs : List (Run Entry)) (owner : Name) (known : List Message) (deeds more : List (Deed Entry)) →
-        IsGood p lawful w → AreRuns p lawful w (runs ++ record { owner = owner; known = known; deeds = deeds ++ more } ∷ []) →
+        IsGood p lawful w → AreRuns p HasSpelling lawful w (runs ++ record { owner = owner; known = known; deeds = deeds ++ more } ∷ []) →
         IsGood p lawful (after_runs w (runs ++ record { owner = owner; known = known; deeds = deeds } ∷ []))
     beginnings_stay w runs owner known deeds more good are =
         runs_stay w (runs ++ record { owner = owner; known = known; deeds = deeds } ∷ []) good (runs_begin w runs owner known deeds more are)

@@ -42,7 +42,8 @@ contains_at low [] x k rises within is = absurd (omega arith)
 contains_at low (y ∷ ys) x zero rises within is = let up : y ≤ top y ys = le-top y ys rises.1 in omega (arith, is)
 contains_at low (y ∷ ys) x (suc k) rises within is = contains_at y ys x k rises.1 (omega arith) is
 
-module _ {Entry Ops : Type 0} (p : Layers Entry Ops) (lawful : Name → List Entry → Type 0) (laws : Laws p lawful) (of : Name →
+module _ {Entry Ops : Type 0} (p : Layers Entry Ops) (HasSpelling : (ℕ × Ops) → Type 0) (lawful : Name → List Entry →
+    Type 0) (laws : Laws p HasSpelling lawful) (of : Name →
     List Entry) (messages : List Message) (good : AreGood p lawful of messages) where
   came_true : (user d : Name) (came : Comes messages user d) → IsTrueOf p user (of user) came.message
   came_true user d came = subst (λ name. IsTrueOf p name (of name) came.message) came.sent_by (good.are_true came.message came.among)
@@ -51,7 +52,7 @@ module _ {Entry Ops : Type 0} (p : Layers Entry Ops) (lawful : Name → List Ent
   given_split : (d user : Name) (rest : List (ℕ × Ops)) → p.given user d (of user) ≡ taken p.sees user (of d) ++ rest →
       Rises 0 (offsets (taken p.sees user (of d)) ++ offsets rest)
   given_split d user rest is =
-      rw (ap offsets is ∙ offsets-append (taken p.sees user (of d)) rest) at (given_in p lawful laws user d (of user)).0
+      rw (ap offsets is ∙ offsets-append (taken p.sees user (of d)) rest) at (given_in p HasSpelling lawful laws user d (of user)).0
 
   -- what was taken of a history ends within it
   pub taken_stands : (d user : Name) → taken_end p.sees user (of d) ≤ end_of p (of user)
@@ -63,16 +64,16 @@ module _ {Entry Ops : Type 0} (p : Layers Entry Ops) (lawful : Name → List Ent
       ∙ top-append 0 (offsets (taken p.sees user (of d))) (offsets pair.rest) in
       let last : taken_end p.sees user (of d) ≤ top (taken_end p.sees user (of d)) (offsets pair.rest)
       = le-top (taken_end p.sees user (of d)) (offsets pair.rest) (Rises-back 0 (offsets (taken p.sees user (of d))) (offsets pair.rest) rises) in
-      let within = (given_in p lawful laws user d (of user)).1 in
+      let within = (given_in p HasSpelling lawful laws user d (of user)).1 in
       omega (arith, split, last, within)
 
   -- a take that is allowed takes the next transaction of what the user's history gives
-  pub take_sound : (d user : Name) (place : ℕ) (ops : Ops) → CanTake p messages d (of d) user place ops →
+  pub take_sound : (d user : Name) (place : ℕ) (ops : Ops) → CanTake p HasSpelling messages d (of d) user place ops →
       (more : List (ℕ × Ops)) × (p.given user d (of user) ≡ taken p.sees user (of d) ++ (place, ops) ∷ more)
   take_sound d user place ops can =
       let pair = good.in_step d user in
       let same : can.transactions ≡ window can.prev can.upto (p.given user d (of user))
-      = spelled p lawful laws messages user d (of user) can.prev can.upto can.transactions can.is_whole (came_true user d) can.are_fit (good.are_lawful user) in
+      = spelled p HasSpelling lawful laws messages user d (of user) can.prev can.upto can.transactions can.is_whole (came_true user d) can.have_spellings (good.are_lawful user) in
       let first : past (taken_end p.sees user (of d)) (window can.prev can.upto (taken p.sees user (of d) ++ pair.rest)) ≡ (place, ops) ∷ can.rest
       = rw (← pair.taken_first, ← same) can.first in
       let next = window_next (taken p.sees user (of d)) pair.rest can.prev can.upto (place, ops) can.rest
@@ -82,7 +83,7 @@ module _ {Entry Ops : Type 0} (p : Layers Entry Ops) (lawful : Name → List Ent
   -- an end that was given lies within the history
   given_stands : (d user : Name) (place : ℕ) → Contains (offsets (p.given d user (of d))) place → place ≤ end_of p (of d)
   given_stands d user place among =
-      let given = given_in p lawful laws d user (of d) in
+      let given = given_in p HasSpelling lawful laws d user (of d) in
       let last : place ≤ top 0 (offsets (p.given d user (of d)))
       = contains_at 0 (offsets (p.given d user (of d))) place among.0 given.0 among.1 among.2 in
       omega (arith, given.1)
@@ -103,7 +104,7 @@ module _ {Entry Ops : Type 0} (p : Layers Entry Ops) (lawful : Name → List Ent
       ]
 
   -- what a database may append is sound
-  pub append_sound : (d : Name) (s : Sight Ops) → CanAppend p messages d (of d) s → IsSound p of d s
+  pub append_sound : (d : Name) (s : Sight Ops) → CanAppend p HasSpelling messages d (of d) s → IsSound p of d s
   append_sound d local can = tt
   append_sound d (from_user user place ops) can = take_sound d user place ops can
   append_sound d (noted user note) can = note_sound d user note can

@@ -1,9 +1,9 @@
-use Rattle.std.proofs.Common.{◌≡◌, ℕ, ◌+◌, ◌-◌, ◌<◌, ◌≤◌, List, length, take, drop, get_or, IsTrue, sym, ap, ◌∙◌, arith, get_or-take, get_or-drop, ext_get_or}
+use Rattle.std.proofs.Common.{◌≡◌, ℕ, ◌+◌, ◌-◌, ◌<◌, ◌≤◌, List, length, take, drop, get_or, All, sym, ap, ◌∙◌, arith, get_or-take, get_or-drop, ext_get_or}
 use Rattle.std.proofs.lemmas.List.Elements.{All-filter}
 use Rattle.sr_book.specs.Entries.{Name}
 use Rattle.sr_book.specs.Rising.{top, offsets}
 use Rattle.sr_msgform.specs.declared.message.Message.{Message}
-use Rattle.sr_model.specs.Layers.{Layers, Laws, AreFit}
+use Rattle.sr_model.specs.Layers.{Layers, Laws}
 use Rattle.sr_model.specs.Windows.{window}
 use Rattle.sr_model.specs.Steps.{Comes, IsOfWindow, HasPiece, IsWhole}
 use Rattle.sr_model.specs.Truth.{members, IsTrueOf}
@@ -60,15 +60,15 @@ module _ {Entry Ops : Type 0} (p : Layers Entry Ops) where
         ∙ ap (λ low. top low (offsets (members p user us piece.comes.message))) (sym piece.of_window.begins)
         ∙ t.ends_at ∙ piece.of_window.ends
 
-  module _ (lawful : Name → List Entry → Type 0) (laws : Laws p lawful) where
+  module _ (HasSpelling : (ℕ × Ops) → Type 0) (lawful : Name → List Entry → Type 0) (laws : Laws p HasSpelling lawful) where
     -- what a lawful history gives in a window has a spelling
-    pub window_fit : (user d : Name) (us : List Entry) (prev upto : ℕ) → lawful user us → AreFit p (window prev upto (p.given user d us))
-    window_fit user d us prev upto keeps = All-filter _ (λ tx. IsTrue (p.is_fit tx)) (p.given user d us) (laws.given_fit user d us keeps)
+    pub window_fit : (user d : Name) (us : List Entry) (prev upto : ℕ) → lawful user us → All HasSpelling (window prev upto (p.given user d us))
+    window_fit user d us prev upto keeps = All-filter _ HasSpelling (p.given user d us) (laws.given_fit user d us keeps)
 
     -- pieces that are true and cover a window spell what the sender's history gives in it
     pub spelled : (messages : List Message) (user d : Name) (us : List Entry) (prev upto : ℕ) (txs : List (ℕ × Ops)) →
         IsWhole messages user d prev upto (p.encode txs) → ((came : Comes messages user d) → IsTrueOf p user us came.message) →
-        AreFit p txs → lawful user us → txs ≡ window prev upto (p.given user d us)
+        All HasSpelling txs → lawful user us → txs ≡ window prev upto (p.given user d us)
     spelled messages user d us prev upto txs is_whole are_true fit keeps =
         laws.encoded_once txs (window prev upto (p.given user d us)) fit (window_fit user d us prev upto keeps)
         (bytes_given messages user d us prev upto (p.encode txs) is_whole are_true)

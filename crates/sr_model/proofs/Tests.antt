@@ -7,7 +7,7 @@ use Rattle.sr_book.specs.Rising.{top, offsets}
 use Rattle.sr_msgform.specs.declared.message.Message.{Message}
 use Rattle.sr_model.specs.Layers.{end_of}
 use Rattle.sr_model.specs.Machines.{layers_of, lawful_from, given_from}
-use Rattle.sr_model.specs.Small.{Verdict, plain, conflict, SmallEntry, wrote, took, said, verdict_on, small_body, small, SmallFits}
+use Rattle.sr_model.specs.Small.{Verdict, plain, conflict, SmallEntry, wrote, took, said, verdict_on, small_body, small, SmallHasSpelling, SmallFits}
 use Rattle.sr_model.specs.Steps.{HasPiece, IsWhole, Chain, CanTake, HasSent}
 use Rattle.sr_model.specs.Truth.{members, IsTrueOf}
 use Rattle.sr_model.specs.Windows.{past}
@@ -153,14 +153,14 @@ two_pieces messages m n first second from to prev upto starts goes_on long long'
 pub taken_from : (messages : List Message) (d : Name) (es : List SmallEntry) (user : Name) (place : ℕ) (ops : List ℕ) (prev upto : ℕ)
     (txs rest : List (ℕ × List ℕ)) → IsWhole messages user d prev upto (small_body txs) →
     nat_le prev (taken_end small.sees user es) ≡ true → nat_lt (taken_end small.sees user es) upto ≡ true →
-    past (taken_end small.sees user es) txs ≡ (place, ops) ∷ rest → CanTake (layers_of small) messages d es user place ops
+    past (taken_end small.sees user es) txs ≡ (place, ops) ∷ rest → CanTake (layers_of small) SmallHasSpelling messages d es user place ops
 taken_from messages d es user place ops prev upto txs rest whole reached ahead first = record {
   prev = prev;
   upto = upto;
   transactions = txs;
   rest = rest;
   is_whole = whole;
-  are_fit = λ k d below. refl;
+  have_spellings = λ k d below. tt;
   reached = le_if prev (taken_end small.sees user es) reached;
   ahead = lt_if (taken_end small.sees user es) upto ahead;
   first = first;

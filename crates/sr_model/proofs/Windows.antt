@@ -1,11 +1,11 @@
-use Rattle.std.proofs.Common.{◌≡◌, ℕ, ◌<◌, ◌≤◌, List, [], ◌∷◌, ◌++◌, map, refl, sym, ap, ◌∙◌, inl, inr, arith}
+use Rattle.std.proofs.Common.{All, ◌≡◌, ℕ, ◌<◌, ◌≤◌, List, [], ◌∷◌, ◌++◌, map, refl, sym, ap, ◌∙◌, inl, inr, arith}
 use Rattle.sr_book.specs.Entries.{Name, from_user, takes}
 use Rattle.sr_book.specs.Histories.{taken, taken_end}
 use Rattle.sr_book.specs.Rising.{Rises, top, offsets}
 use Rattle.sr_book.proofs.Offsets.{le-top, top-append, offsets-append}
 use Rattle.sr_book.proofs.Folds.{same_name, taken_more}
 use Rattle.sr_msgform.specs.declared.message.Message.{Message}
-use Rattle.sr_model.specs.Layers.{Layers, AreFit}
+use Rattle.sr_model.specs.Layers.{Layers}
 use Rattle.sr_model.specs.Windows.{past}
 use Rattle.sr_model.specs.Steps.{IsWhole, CanTake, CanDoAll, append, Take, AreLawfulAfter}
 use Rattle.sr_model.proofs.Offsets.{le_or_lt, past_test, not_past_test}
@@ -51,26 +51,26 @@ taken_of_takes p user (tx ∷ txs) (e ∷ new) take =
     let take' : Take p user txs new = cc in
     rw (sees, same_name user) (ap (λ more. tx ∷ more) (taken_of_takes p user txs new take'))
 
-module _ {Entry Ops : Type 0} (p : Layers Entry Ops) (lawful : Name → List Entry →
-    Type 0) (messages : List Message) (d user : Name) (prev upto : ℕ) (txs : List (ℕ × Ops))
-    (whole : IsWhole messages user d prev upto (p.encode txs)) (fit : AreFit p txs) (rises : Rises prev (offsets txs))
+module _ {Entry Ops : Type 0} (p : Layers Entry Ops) (HasSpelling : (ℕ × Ops) → Type 0)
+    (lawful : Name → List Entry → Type 0) (messages : List Message) (d user : Name) (prev upto : ℕ) (txs : List (ℕ × Ops))
+    (whole : IsWhole messages user d prev upto (p.encode txs)) (fit : All HasSpelling txs) (rises : Rises prev (offsets txs))
     (within : top prev (offsets txs) ≤ upto) where
   -- a window taken to its end is a list of takes, each allowed
   pub window_takes : (es new : List Entry) (more : List (ℕ × Ops)) → prev ≤ taken_end p.sees user es → past (taken_end p.sees user es) txs ≡ more →
-      Take p user more new → AreLawfulAfter lawful d es new → CanDoAll p lawful messages d es (map append new)
+      Take p user more new → AreLawfulAfter lawful d es new → CanDoAll p HasSpelling lawful messages d es (map append new)
   window_takes es [] more reached is take keeps = tt
   window_takes es (e ∷ new) [] reached is take keeps = absurd (cc)
   window_takes es (e ∷ new) (tx ∷ more) reached is take keeps =
       let sees : p.sees e ≡ from_user user tx.0 tx.1 = cc in
       let take' : Take p user more new = cc in
       let first = past_first (taken_end p.sees user es) prev upto txs tx more rises within is in
-      let can : CanTake p messages d es user tx.0 tx.1 = record {
+      let can : CanTake p HasSpelling messages d es user tx.0 tx.1 = record {
         prev = prev;
         upto = upto;
         transactions = txs;
         rest = more;
         is_whole = whole;
-        are_fit = fit;
+        have_spellings = fit;
         reached = reached;
         ahead = omega (arith, first.0, first.1);
         first = is;

@@ -1,4 +1,4 @@
-use Rattle.std.specs.Prelude.{◌≡◌, ℕ, ◌+◌, Bool, List, [], ◌∷◌, ◌++◌, Option, Some, None, All, IsTrue}
+use Rattle.std.specs.Prelude.{◌≡◌, ℕ, ◌+◌, List, [], ◌∷◌, ◌++◌, Option, Some, None, All}
 use Rattle.sr_book.specs.Entries.{Name, Sight, from_user}
 
 -- what the world needs of the layers below: of their entries, and of the ops that a transaction has
@@ -11,8 +11,6 @@ pub record Layers (Entry Ops : Type 0) : Type 0 where
   pub given : Name → Name → List Entry → List (ℕ × Ops)
   -- the body of a message with these transactions
   pub encode : List (ℕ × Ops) → List ℕ
-  -- whether each field of a transaction fits its place in a body
-  pub is_fit : (ℕ × Ops) → Bool
 
 -- the transaction that an entry ends at this offset and gives, where it gives ops
 abbrev pub transaction : {Ops : Type 0} → ℕ → Option Ops → List (ℕ × Ops)
@@ -29,12 +27,10 @@ module _ {Entry Ops : Type 0} (p : Layers Entry Ops) where
   abbrev pub end_of : List Entry → ℕ
   end_of es = end_from 0 es
 
-  -- each transaction has a spelling
-  abbrev pub AreFit : List (ℕ × Ops) → Type 0
-  AreFit txs = All (λ tx. IsTrue (p.is_fit tx)) txs
-
--- the laws of the layers below, all that the theorems cite; `lawful`: the history of a database of this name keeps every rule
-pub record Laws {Entry Ops : Type 0} (p : Layers Entry Ops) (lawful : Name → List Entry → Type 0) : Type 0 where
+-- the laws of the layers below, all that the theorems cite; `HasSpelling`: each field of a transaction fits its place in a body;
+-- `lawful`: the history of a database of this name keeps every rule
+pub record Laws {Entry Ops : Type 0} (p : Layers Entry Ops) (HasSpelling : (ℕ × Ops) → Type 0)
+    (lawful : Name → List Entry → Type 0) : Type 0 where
   -- nothing gives nothing
   pub given_none : (d user : Name) → p.given d user [] ≡ []
   -- an entry more gives nothing more, or one transaction that ends where the entry does
@@ -43,9 +39,9 @@ pub record Laws {Entry Ops : Type 0} (p : Layers Entry Ops) (lawful : Name → L
   -- nothing keeps every rule
   pub lawful_none : (d : Name) → lawful d []
   -- what a lawful history gives has a spelling: of its fields, not of its length
-  pub given_fit : (d user : Name) (es : List Entry) → lawful d es → AreFit p (p.given d user es)
+  pub given_fit : (d user : Name) (es : List Entry) → lawful d es → All HasSpelling (p.given d user es)
   -- of transactions that have a spelling, no two lists have one body
-  pub encoded_once : (a b : List (ℕ × Ops)) → AreFit p a → AreFit p b → p.encode a ≡ p.encode b → a ≡ b
+  pub encoded_once : (a b : List (ℕ × Ops)) → All HasSpelling a → All HasSpelling b → p.encode a ≡ p.encode b → a ≡ b
   -- what a taken transaction comes to is settled by the history before it
   pub judged_once : (d : Name) (es : List Entry) (e f : Entry) (user : Name) (place : ℕ) (ops : Ops) →
       p.sees e ≡ from_user user place ops → p.sees f ≡ from_user user place ops →

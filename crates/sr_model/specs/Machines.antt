@@ -1,4 +1,4 @@
-use Rattle.std.specs.Prelude.{◌≡◌, ℕ, ◌+◌, Bool, List, [], ◌∷◌, ◌++◌, Option, Some, All, IsTrue}
+use Rattle.std.specs.Prelude.{◌≡◌, ℕ, ◌+◌, List, [], ◌∷◌, ◌++◌, Option, Some, All}
 use Rattle.sr_book.specs.Entries.{Name, Sight, from_user, noted}
 use Rattle.sr_book.specs.declared.note.Note.{Note}
 use Rattle.sr_model.specs.Layers.{transaction, Layers}
@@ -14,7 +14,6 @@ pub record Machine (State Entry Ops : Type 0) : Type 0 where
   -- what an entry gives a user, by the state before it
   pub gives : State → Entry → Name → Option Ops
   pub encode : List (ℕ × Ops) → List ℕ
-  pub is_fit : (ℕ × Ops) → Bool
 
 module _ {State Entry Ops : Type 0} (m : Machine State Entry Ops) where
   -- the state after some entries
@@ -39,7 +38,6 @@ module _ {State Entry Ops : Type 0} (m : Machine State Entry Ops) where
     size = m.size;
     given = λ d user es. given_from (m.fresh d) 0 user es;
     encode = m.encode;
-    is_fit = m.is_fit;
   }
 
   module _ (Fits : State → ℕ → Entry → Type 0) where
@@ -52,17 +50,17 @@ module _ {State Entry Ops : Type 0} (m : Machine State Entry Ops) where
     abbrev pub lawful_by : Name → List Entry → Type 0
     lawful_by d es = lawful_from (m.fresh d) 0 es
 
--- the laws of one step, all that a fold owes; `Fits`: an entry keeps every rule in this state and after this offset;
+-- the laws of one step, all that a fold owes; `HasSpelling`: each field of a transaction fits its place in a body; `Fits`: an entry keeps every rule in this state and after this offset;
 -- `Holds`: what is so of every state on the way
-pub record StepLaws {State Entry Ops : Type 0} (m : Machine State Entry Ops) (Fits : State → ℕ → Entry → Type 0)
-    (Holds : State → Type 0) : Type 0 where
+pub record StepLaws {State Entry Ops : Type 0} (m : Machine State Entry Ops) (HasSpelling : (ℕ × Ops) → Type 0)
+    (Fits : State → ℕ → Entry → Type 0) (Holds : State → Type 0) : Type 0 where
   pub at_first : (d : Name) → Holds (m.fresh d)
   pub kept : (s : State) (place : ℕ) (e : Entry) → Holds s → Fits s place e → Holds (m.next s e)
   -- what an entry gives has a spelling
   pub gives_fit : (s : State) (place : ℕ) (e : Entry) (user : Name) (ops : Ops) → Holds s → Fits s place e →
-      m.gives s e user ≡ Some ops → IsTrue (m.is_fit (place + (m.size e + 5), ops))
+      m.gives s e user ≡ Some ops → HasSpelling (place + (m.size e + 5), ops)
   -- of transactions that have a spelling, no two lists have one body
-  pub encoded_once : (a b : List (ℕ × Ops)) → All (λ tx. IsTrue (m.is_fit tx)) a → All (λ tx. IsTrue (m.is_fit tx)) b →
+  pub encoded_once : (a b : List (ℕ × Ops)) → All HasSpelling a → All HasSpelling b →
       m.encode a ≡ m.encode b → a ≡ b
   -- what a taken transaction comes to is settled by the state before it
   pub judged_once : (s : State) (place : ℕ) (e f : Entry) (user : Name) (at : ℕ) (ops : Ops) →

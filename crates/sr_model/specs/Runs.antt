@@ -1,4 +1,4 @@
-use Rattle.std.specs.Prelude.{List, [], ◌∷◌, ◌++◌}
+use Rattle.std.specs.Prelude.{ℕ, List, [], ◌∷◌, ◌++◌}
 use Rattle.sr_book.specs.Entries.{Name}
 use Rattle.sr_msgform.specs.declared.message.Message.{Message}
 use Rattle.sr_model.specs.Layers.{Layers}
@@ -25,12 +25,12 @@ abbrev pub acts_of_runs : {Entry : Type 0} → List (Run Entry) → List (Act En
 acts_of_runs [] = []
 acts_of_runs (r ∷ runs) = acts_by r.owner r.deeds ++ acts_of_runs runs
 
-module _ {Entry Ops : Type 0} (p : Layers Entry Ops) (lawful : Name → List Entry → Type 0) where
+module _ {Entry Ops : Type 0} (p : Layers Entry Ops) (HasSpelling : (ℕ × Ops) → Type 0) (lawful : Name → List Entry → Type 0) where
   -- a run of a database of this world: the messages that it knew had been put, and all that it did is allowed by its history and these
   pub record IsRun (w : World Entry) (r : Run Entry) : Type 0 where
     pub named : IsNamed w r.owner
     pub had_been_put : AreAmong r.known w.messages
-    pub can : CanDoAll p lawful r.known r.owner (history w r.owner) r.deeds
+    pub can : CanDoAll p HasSpelling lawful r.known r.owner (history w r.owner) r.deeds
 
   -- each is a run of the world that those before it leave
   abbrev pub AreRuns : World Entry → List (Run Entry) → Type 0

@@ -1,4 +1,4 @@
-use Rattle.std.specs.Prelude.{◌≡◌, ℕ, ◌+◌, true, ◌&&◌, nat_le, List, [], ◌∷◌, ◌++◌, length, map, if◌then◌else◌, Option, Some, None}
+use Rattle.std.specs.Prelude.{◌≡◌, ℕ, ◌+◌, ◌&&◌, nat_le, List, [], ◌∷◌, ◌++◌, length, map, if◌then◌else◌, Option, Some, None}
 use Rattle.std.specs.Str.{bytes_eq}
 use Rattle.sr_book.specs.declared.note.Note.{Note}
 use Rattle.sr_book.specs.declared.note.Note.TheVariants.{Confirmed, Asked, Raised, Sent}
@@ -72,8 +72,11 @@ small = record {
   size = λ e. 10;
   gives = λ d e user. small_gives e user;
   encode = small_body;
-  is_fit = λ tx. true;
 }
+
+-- every transaction has a spelling
+abbrev pub SmallHasSpelling : (ℕ × List ℕ) → Type 0
+SmallHasSpelling tx = Unit {0}
 
 -- an entry keeps every rule: what was taken has the verdicts on its ops
 abbrev pub SmallFits : Name → ℕ → SmallEntry → Type 0

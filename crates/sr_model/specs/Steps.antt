@@ -1,11 +1,11 @@
-use Rattle.std.specs.Prelude.{◌≡◌, ℕ, ◌+◌, ◌-◌, ◌<◌, ◌≤◌, ◌⊎◌, List, [], ◌∷◌, ◌++◌, length, map, flat_map, slice_index, Contains}
+use Rattle.std.specs.Prelude.{◌≡◌, ℕ, ◌+◌, ◌-◌, ◌<◌, ◌≤◌, ◌⊎◌, List, [], ◌∷◌, ◌++◌, All, length, map, flat_map, slice_index, Contains}
 use Rattle.sr_book.specs.declared.note.Note.{Note}
 use Rattle.sr_book.specs.declared.note.Note.TheVariants.{Confirmed, Asked, Raised, Sent}
 use Rattle.sr_book.specs.Entries.{Name, Sight, local, from_user, noted}
 use Rattle.sr_book.specs.Histories.{taken_end, book_of}
 use Rattle.sr_book.specs.Rising.{offsets}
 use Rattle.sr_msgform.specs.declared.message.Message.{Message}
-use Rattle.sr_model.specs.Layers.{Layers, AreFit}
+use Rattle.sr_model.specs.Layers.{Layers}
 use Rattle.sr_model.specs.Windows.{past}
 use Rattle.sr_model.specs.Truth.{IsTrueOf}
 
@@ -53,18 +53,6 @@ module _ {Entry Ops : Type 0} (p : Layers Entry Ops) where
     pub bodies : map p.encode lists ≡ map (λ next. next.1) windows
     pub joined : flat_map (λ list. list) lists ≡ transactions
 
-  -- a transaction of a user may be taken: it is the first past what was taken, in a whole window that begins no later
-  pub record CanTake (messages : List Message) (d : Name) (es : List Entry) (user : Name) (place : ℕ) (ops : Ops) : Type 0 where
-    pub prev : ℕ
-    pub upto : ℕ
-    pub transactions : List (ℕ × Ops)
-    pub rest : List (ℕ × Ops)
-    pub is_whole : IsWhole messages user d prev upto (p.encode transactions)
-    pub are_fit : AreFit p transactions
-    pub reached : prev ≤ taken_end p.sees user es
-    pub ahead : taken_end p.sees user es < upto
-    pub first : past (taken_end p.sees user es) transactions ≡ (place, ops) ∷ rest
-
   -- messages may be noted as sent: whole windows lead from what was sent to here; none is wanted where that is here
   pub record HasSent (messages : List Message) (d : Name) (es : List Entry) (user : Name) (upto count confirm : ℕ) : Type 0 where
     pub windows : List (ℕ × List ℕ)
@@ -83,11 +71,24 @@ module _ {Entry Ops : Type 0} (p : Layers Entry Ops) where
   CanNote messages d es user Raised = (came : Comes messages user d) × (taken_end p.sees user es < came.message.upto.0)
   CanNote messages d es user (Sent end count confirm) = HasSent messages d es user end.0 count confirm.0
 
+module _ {Entry Ops : Type 0} (p : Layers Entry Ops) (HasSpelling : (ℕ × Ops) → Type 0) where
+  -- a transaction of a user may be taken: it is the first past what was taken, in a whole window that begins no later
+  pub record CanTake (messages : List Message) (d : Name) (es : List Entry) (user : Name) (place : ℕ) (ops : Ops) : Type 0 where
+    pub prev : ℕ
+    pub upto : ℕ
+    pub transactions : List (ℕ × Ops)
+    pub rest : List (ℕ × Ops)
+    pub is_whole : IsWhole messages user d prev upto (p.encode transactions)
+    pub have_spellings : All HasSpelling transactions
+    pub reached : prev ≤ taken_end p.sees user es
+    pub ahead : taken_end p.sees user es < upto
+    pub first : past (taken_end p.sees user es) transactions ≡ (place, ops) ∷ rest
+
   -- what a database may append, by its history and the messages alone
   abbrev pub CanAppend : List Message → Name → List Entry → Sight Ops → Type 0
   CanAppend messages d es local = Unit {0}
   CanAppend messages d es (from_user user place ops) = CanTake messages d es user place ops
-  CanAppend messages d es (noted user note) = CanNote messages d es user note
+  CanAppend messages d es (noted user note) = CanNote p messages d es user note
 
 -- entries that take these transactions of a user, in order
 abbrev pub Take : {Entry Ops : Type 0} → Layers Entry Ops → Name → List (ℕ × Ops) → List Entry → Type 0
@@ -125,10 +126,10 @@ abbrev pub messages_after_all : {Entry : Type 0} → List Message → List (Deed
 messages_after_all messages [] = messages
 messages_after_all messages (deed ∷ deeds) = messages_after_all (messages_after messages deed) deeds
 
-module _ {Entry Ops : Type 0} (p : Layers Entry Ops) (lawful : Name → List Entry → Type 0) where
+module _ {Entry Ops : Type 0} (p : Layers Entry Ops) (HasSpelling : (ℕ × Ops) → Type 0) (lawful : Name → List Entry → Type 0) where
   -- a database may do this, by its history and the messages alone
   abbrev pub CanDo : List Message → Name → List Entry → Deed Entry → Type 0
-  CanDo messages d es (append e) = CanAppend p messages d es (p.sees e) × lawful d (es ++ e ∷ [])
+  CanDo messages d es (append e) = CanAppend p HasSpelling messages d es (p.sees e) × lawful d (es ++ e ∷ [])
   CanDo messages d es (put m) = IsTrueOf p d es m
   CanDo messages d es crash = Unit {0}
 

@@ -78,15 +78,6 @@ module _ {Entry Ops : Type 0} (p : Layers Entry Ops) where
     pub asks_rise : Rises 0 (asked p.sees user es)
 
 module _ {Entry Ops : Type 0} (p : Layers Entry Ops) (lawful : Name → List Entry → Type 0) where
-  -- a step is allowed: its database is there, and may do this by its history and the messages
-  abbrev pub IsAllowed : World Entry → Act Entry → Type 0
-  IsAllowed w act = IsNamed w act.owner × CanDo p lawful w.messages act.owner (history w act.owner) act.deed
-
-  -- each step is allowed at its moment
-  abbrev pub AreAllowed : World Entry → List (Act Entry) → Type 0
-  AreAllowed w [] = Unit {0}
-  AreAllowed w (act ∷ acts) = IsAllowed w act × AreAllowed (happens w act) acts
-
   -- a good world
   pub record IsGood (w : World Entry) : Type 0 where
     -- every history keeps every rule
@@ -97,3 +88,13 @@ module _ {Entry Ops : Type 0} (p : Layers Entry Ops) (lawful : Name → List Ent
     pub books : (d user : Name) → IsInOrder p user (history w d)
     -- every message is true of its sender's history
     pub messages : (m : Message) → Contains w.messages m → IsTrueOf p m.from (history w m.from) m
+
+module _ {Entry Ops : Type 0} (p : Layers Entry Ops) (HasSpelling : (ℕ × Ops) → Type 0) (lawful : Name → List Entry → Type 0) where
+  -- a step is allowed: its database is there, and may do this by its history and the messages
+  abbrev pub IsAllowed : World Entry → Act Entry → Type 0
+  IsAllowed w act = IsNamed w act.owner × CanDo p HasSpelling lawful w.messages act.owner (history w act.owner) act.deed
+
+  -- each step is allowed at its moment
+  abbrev pub AreAllowed : World Entry → List (Act Entry) → Type 0
+  AreAllowed w [] = Unit {0}
+  AreAllowed w (act ∷ acts) = IsAllowed w act × AreAllowed (happens w act) acts

@@ -1,18 +1,21 @@
-//! What the layers below are: of which kind their entries and ops are, and when a history keeps every rule.
+//! What the layers below are: of which kind their entries and ops are, which transactions have a spelling, and when a history keeps every rule.
 //!
-//! Both may be anything, and a rule any fact: each function of this crate that has `R: Rules` or `F: StepRules` holds of every one.
+//! Each may be anything, and a rule any fact: each function of this crate that has `R: Rules` or `F: StepRules` holds of every one.
 //! A layer that joins the real ones has a type without data that stands for them, writes the `impl` for it, and calls the function at that type.
 
 ghost use Rattle.std.specs.Prelude.{ℕ, List};
 ghost use Rattle.sr_book.specs.Entries.{Name};
 
-/// The entries of databases and the rules of their histories.
+/// The entries of databases, the spelling of what they give, and the rules of their histories.
 pub trait Rules {
     /// What an entry is.
     ghost Entry: { Type 0 };
 
     /// What the ops of a transaction are.
     ghost Ops: { Type 0 };
+
+    /// Each field of a transaction fits its place in a message's body.
+    ghost HasSpelling: { (ℕ × Ops) → Type 0 };
 
     /// The history of a database of this name keeps every rule of the layers below.
     ghost lawful: { Name → List Entry → Type 0 };
@@ -28,6 +31,9 @@ pub trait StepRules {
 
     /// What the ops of a transaction are.
     ghost Ops: { Type 0 };
+
+    /// Each field of a transaction fits its place in a message's body.
+    ghost HasSpelling: { (ℕ × Ops) → Type 0 };
 
     /// An entry keeps every rule, in this state and after this offset.
     ghost Fits: { State → ℕ → Entry → Type 0 };

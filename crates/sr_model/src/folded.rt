@@ -11,7 +11,7 @@ use crate::below::StepRules;
 
 /// Where a machine that reads one entry after the other keeps the laws of a step, its folds keep the laws of whole histories.
 pub fn has_laws<F: StepRules>()
-    ensures { (m : Machine F.State F.Entry F.Ops) → StepLaws m F.Fits F.Holds → Laws (layers_of m) (lawful_by m F.Fits) }
+    ensures { (m : Machine F.State F.Entry F.Ops) → StepLaws m F.HasSpelling F.Fits F.Holds → Laws (layers_of m) F.HasSpelling (lawful_by m F.Fits) }
 {}
 
 /// The state: that before, of no entry; one step further with one entry more; of two histories joined, that of the second from
@@ -34,7 +34,7 @@ pub fn lawful_grows<F: StepRules>()
     ensures joined { (m : Machine F.State F.Entry F.Ops) (s : F.State) (place : ℕ) (es fs : List F.Entry) →
         lawful_from m F.Fits s place (es ++ fs)
         ↔ (lawful_from m F.Fits s place es × lawful_from m F.Fits (state_from m s es) (end_from (layers_of m) place es) fs) }
-    ensures holds { (m : Machine F.State F.Entry F.Ops) (laws : StepLaws m F.Fits F.Holds) (s : F.State) (place : ℕ)
+    ensures holds { (m : Machine F.State F.Entry F.Ops) (laws : StepLaws m F.HasSpelling F.Fits F.Holds) (s : F.State) (place : ℕ)
         (es : List F.Entry) → F.Holds s → lawful_from m F.Fits s place es → F.Holds (state_from m s es) }
 {}
 

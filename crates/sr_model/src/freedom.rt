@@ -1,10 +1,10 @@
 //! What a database may do, it may do whatever the others do.
 
-ghost use Rattle.std.specs.Prelude.{◌≡◌, ◌≢◌, ℕ, ◌≤◌, List, ◌++◌, map};
+ghost use Rattle.std.specs.Prelude.{◌≡◌, ◌≢◌, ℕ, ◌≤◌, List, ◌++◌, All, map};
 ghost use Rattle.sr_msgform.specs.declared.message.Message.{Message};
 ghost use Rattle.sr_book.specs.Entries.{Name};
 ghost use Rattle.sr_book.specs.Histories.{taken, taken_end};
-ghost use Rattle.sr_model.specs.Layers.{Layers, Laws, AreFit};
+ghost use Rattle.sr_model.specs.Layers.{Layers, Laws};
 ghost use Rattle.sr_book.specs.Rising.{Rises, top, offsets};
 ghost use Rattle.sr_model.specs.Windows.{past};
 ghost use Rattle.sr_model.specs.Steps.{Deed, append, CanDoAll, IsWhole, Take, AreLawfulAfter};
@@ -17,26 +17,26 @@ use crate::below::Rules;
 /// A step stays allowed when another database steps first.
 pub fn still_allowed<R: Rules>()
     ensures { (p : Layers R.Entry R.Ops) (w : World R.Entry) (other act : Act R.Entry) → act.owner ≢ other.owner →
-        IsAllowed p R.lawful w act → IsAllowed p R.lawful (happens w other) act }
+        IsAllowed p R.HasSpelling R.lawful w act → IsAllowed p R.HasSpelling R.lawful (happens w other) act }
 {}
 
 /// Deeds that a history and some messages allow, one after the other, are allowed with more messages too.
 pub fn run_still_allowed<R: Rules>()
     ensures { (p : Layers R.Entry R.Ops) (fewer messages : List Message) (d : Name) (es : List R.Entry)
-        (deeds : List (Deed R.Entry)) → AreAmong fewer messages → CanDoAll p R.lawful fewer d es deeds →
-        CanDoAll p R.lawful messages d es deeds }
+        (deeds : List (Deed R.Entry)) → AreAmong fewer messages → CanDoAll p R.HasSpelling R.lawful fewer d es deeds →
+        CanDoAll p R.HasSpelling R.lawful messages d es deeds }
 {}
 
 /// Deeds that one history and some messages allow, and then others that what these leave allows, are together allowed;
 /// and of deeds that are allowed each beginning is.
 pub fn runs_join<R: Rules>()
     ensures joined { (p : Layers R.Entry R.Ops) (messages : List Message) (d : Name) (es : List R.Entry)
-        (deeds more : List (Deed R.Entry)) → CanDoAll p R.lawful messages d es deeds →
-        CanDoAll p R.lawful (messages_after_all messages deeds) d (history_after_all es deeds) more →
-        CanDoAll p R.lawful messages d es (deeds ++ more) }
+        (deeds more : List (Deed R.Entry)) → CanDoAll p R.HasSpelling R.lawful messages d es deeds →
+        CanDoAll p R.HasSpelling R.lawful (messages_after_all messages deeds) d (history_after_all es deeds) more →
+        CanDoAll p R.HasSpelling R.lawful messages d es (deeds ++ more) }
     ensures beginning { (p : Layers R.Entry R.Ops) (messages : List Message) (d : Name) (es : List R.Entry)
-        (deeds more : List (Deed R.Entry)) → CanDoAll p R.lawful messages d es (deeds ++ more) →
-        CanDoAll p R.lawful messages d es deeds }
+        (deeds more : List (Deed R.Entry)) → CanDoAll p R.HasSpelling R.lawful messages d es (deeds ++ more) →
+        CanDoAll p R.HasSpelling R.lawful messages d es deeds }
 {}
 
 /// Deeds of a database that its history and some messages allow are allowed steps of every world that has this history, and
@@ -44,10 +44,10 @@ pub fn runs_join<R: Rules>()
 pub fn run_good<R: Rules>()
     ensures allowed { (p : Layers R.Entry R.Ops) (messages : List Message) (d : Name) (es : List R.Entry)
         (deeds : List (Deed R.Entry)) (w : World R.Entry) → IsNamed w d → history w d ≡ es → AreAmong messages w.messages →
-        CanDoAll p R.lawful messages d es deeds → AreAllowed p R.lawful w (acts_by d deeds) }
-    ensures good { (p : Layers R.Entry R.Ops) (laws : Laws p R.lawful) (messages : List Message) (d : Name) (es : List R.Entry)
+        CanDoAll p R.HasSpelling R.lawful messages d es deeds → AreAllowed p R.HasSpelling R.lawful w (acts_by d deeds) }
+    ensures good { (p : Layers R.Entry R.Ops) (laws : Laws p R.HasSpelling R.lawful) (messages : List Message) (d : Name) (es : List R.Entry)
         (deeds : List (Deed R.Entry)) (w : World R.Entry) → IsNamed w d → history w d ≡ es → AreAmong messages w.messages →
-        CanDoAll p R.lawful messages d es deeds → IsGood p R.lawful w → IsGood p R.lawful (after_all w (acts_by d deeds)) }
+        CanDoAll p R.HasSpelling R.lawful messages d es deeds → IsGood p R.lawful w → IsGood p R.lawful (after_all w (acts_by d deeds)) }
 {}
 
 /// A whole window that begins at what was taken, or before it, is taken to its end by allowed takes: one for each of its
@@ -55,10 +55,10 @@ pub fn run_good<R: Rules>()
 /// just these.
 pub fn window_taken<R: Rules>()
     ensures allowed { (p : Layers R.Entry R.Ops) (messages : List Message) (d user : Name) (prev upto : ℕ)
-        (txs : List (ℕ × R.Ops)) (es new : List R.Entry) → IsWhole messages user d prev upto (p.encode txs) → AreFit p txs →
+        (txs : List (ℕ × R.Ops)) (es new : List R.Entry) → IsWhole messages user d prev upto (p.encode txs) → All R.HasSpelling txs →
         Rises prev (offsets txs) → top prev (offsets txs) ≤ upto → prev ≤ taken_end p.sees user es →
         Take p user (past (taken_end p.sees user es) txs) new → AreLawfulAfter R.lawful d es new →
-        CanDoAll p R.lawful messages d es (map append new) }
+        CanDoAll p R.HasSpelling R.lawful messages d es (map append new) }
     ensures taken { (p : Layers R.Entry R.Ops) (user : Name) (txs : List (ℕ × R.Ops)) (es new : List R.Entry) →
         Take p user txs new → taken p.sees user (es ++ new) ≡ taken p.sees user es ++ txs }
 {}

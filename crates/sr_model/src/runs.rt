@@ -13,13 +13,13 @@ use crate::below::Rules;
 /// Whatever runs come, each allowed by its database's history and by messages that had been put when it fetched last: a good world
 /// stays good, also where the last run breaks off anywhere; and the runs are one list of allowed steps, run after run.
 pub fn runs_good<R: Rules>()
-    ensures good { (p : Layers R.Entry R.Ops) (laws : Laws p R.lawful) (w : World R.Entry) (runs : List (Run R.Entry)) →
-        IsGood p R.lawful w → AreRuns p R.lawful w runs → IsGood p R.lawful (after_runs w runs) }
-    ensures beginning { (p : Layers R.Entry R.Ops) (laws : Laws p R.lawful) (w : World R.Entry) (runs : List (Run R.Entry))
+    ensures good { (p : Layers R.Entry R.Ops) (laws : Laws p R.HasSpelling R.lawful) (w : World R.Entry) (runs : List (Run R.Entry)) →
+        IsGood p R.lawful w → AreRuns p R.HasSpelling R.lawful w runs → IsGood p R.lawful (after_runs w runs) }
+    ensures beginning { (p : Layers R.Entry R.Ops) (laws : Laws p R.HasSpelling R.lawful) (w : World R.Entry) (runs : List (Run R.Entry))
         (owner : Name) (known : List Message) (deeds more : List (Deed R.Entry)) → IsGood p R.lawful w →
-        AreRuns p R.lawful w (runs ++ record { owner = owner; known = known; deeds = deeds ++ more } ∷ []) →
+        AreRuns p R.HasSpelling R.lawful w (runs ++ record { owner = owner; known = known; deeds = deeds ++ more } ∷ []) →
         IsGood p R.lawful (after_runs w (runs ++ record { owner = owner; known = known; deeds = deeds } ∷ [])) }
-    ensures steps { (p : Layers R.Entry R.Ops) (w : World R.Entry) (runs : List (Run R.Entry)) → AreRuns p R.lawful w runs →
-        AreAllowed p R.lawful w (acts_of_runs runs) }
+    ensures steps { (p : Layers R.Entry R.Ops) (w : World R.Entry) (runs : List (Run R.Entry)) → AreRuns p R.HasSpelling R.lawful w runs →
+        AreAllowed p R.HasSpelling R.lawful w (acts_of_runs runs) }
     ensures world { (w : World R.Entry) (runs : List (Run R.Entry)) → after_runs w runs ≡ after_all w (acts_of_runs runs) }
 {}

@@ -5,7 +5,7 @@ ghost use Rattle.sr_book.specs.Entries.{Name};
 ghost use Rattle.sr_book.specs.Histories.{taken, book_of};
 ghost use Rattle.sr_model.specs.Layers.{Laws};
 ghost use Rattle.sr_model.specs.Machines.{StepLaws, layers_of, lawful_by};
-ghost use Rattle.sr_model.specs.Small.{SmallEntry, small, SmallFits, SmallHolds, SmallKnows, small_world, small_runs, small_acts, cons, r1, r2};
+ghost use Rattle.sr_model.specs.Small.{SmallEntry, small, SmallHasSpelling, SmallFits, SmallHolds, SmallKnows, small_world, small_runs, small_acts, cons, r1, r2};
 ghost use Rattle.sr_model.specs.Runs.{AreRuns};
 ghost use Rattle.sr_model.specs.Worlds.{history, after_all, AreAllowed, IsGood};
 
@@ -22,6 +22,8 @@ impl Rules for SmallRules {
 
     ghost Ops = { List ℕ };
 
+    ghost HasSpelling = { SmallHasSpelling };
+
     ghost lawful = { lawful_by small SmallFits };
 }
 
@@ -31,6 +33,8 @@ impl StepRules for SmallRules {
     ghost Entry = { SmallEntry };
 
     ghost Ops = { List ℕ };
+
+    ghost HasSpelling = { SmallHasSpelling };
 
     ghost Fits = { SmallFits };
 
@@ -45,10 +49,10 @@ impl StepRules for SmallRules {
 /// something back, which is sent and taken. They are runs, each step is allowed, and the world is then good. Each database has taken
 /// all that it was given, and the books tell what was sent, confirmed, asked for and raised.
 pub fn small_world_goes()
-    ensures laws { StepLaws small SmallFits SmallHolds }
-    ensures runs { AreRuns (layers_of small) (lawful_by small SmallFits) small_world small_runs }
+    ensures laws { StepLaws small SmallHasSpelling SmallFits SmallHolds }
+    ensures runs { AreRuns (layers_of small) SmallHasSpelling (lawful_by small SmallFits) small_world small_runs }
     ensures steps { length small_acts ≡ 28 }
-    ensures allowed { AreAllowed (layers_of small) (lawful_by small SmallFits) small_world small_acts }
+    ensures allowed { AreAllowed (layers_of small) SmallHasSpelling (lawful_by small SmallFits) small_world small_acts }
     ensures good { IsGood (layers_of small) (lawful_by small SmallFits) (after_all small_world small_acts) }
     ensures taken { taken small.sees cons (history (after_all small_world small_acts) r1)
         ≡ (15, 1 ∷ 2 ∷ 3 ∷ []) ∷ (75, 4 ∷ []) ∷ (150, 107 ∷ []) ∷ [] }

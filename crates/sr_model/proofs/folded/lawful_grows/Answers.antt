@@ -8,4 +8,4 @@ pub returns-clause-joined : goal.returns-clause-joined
 returns-clause-joined g c = λ m. lawful_from-append m g.F.StepRules.Fits
 
 pub returns-clause-holds : goal.returns-clause-holds
-returns-clause-holds g c = λ m laws. holds_from m g.F.StepRules.Fits g.F.StepRules.Holds laws
+returns-clause-holds g c = λ m laws. holds_from m g.F.StepRules.Fits g.F.StepRules.HasSpelling g.F.StepRules.Holds laws

@@ -4,8 +4,8 @@ use Rattle.sr_model.proofs.Leave.{in_world}
 use Rattle.sr_model.proofs.freedom.run_good.Goals as goal
 
 pub returns-clause-allowed : goal.returns-clause-allowed
-returns-clause-allowed g c = λ p. in_world p g.R.Rules.lawful
+returns-clause-allowed g c = λ p. in_world p g.R.Rules.HasSpelling g.R.Rules.lawful
 
 pub returns-clause-good : goal.returns-clause-good
 returns-clause-good g c = λ p laws messages d es deeds w named is among can good.
-    stay p g.R.Rules.lawful laws w (acts_by d deeds) good (in_world p g.R.Rules.lawful messages d es deeds w named is among can)
+    stay p g.R.Rules.HasSpelling g.R.Rules.lawful laws w (acts_by d deeds) good (in_world p g.R.Rules.HasSpelling g.R.Rules.lawful messages d es deeds w named is among can)

@@ -6,7 +6,7 @@ use Rattle.sr_model.proofs.freedom.window_taken.Goals as goal
 
 pub returns-clause-allowed : goal.returns-clause-allowed
 returns-clause-allowed g c = λ p messages d user prev upto txs es new whole fit rises within reached take keeps.
-    window_takes p g.R.Rules.lawful messages d user prev upto txs whole fit rises within es new _ reached refl take keeps
+    window_takes p g.R.Rules.HasSpelling g.R.Rules.lawful messages d user prev upto txs whole fit rises within es new _ reached refl take keeps
 
 pub returns-clause-taken : goal.returns-clause-taken
 returns-clause-taken g c = λ p user txs es new take.
