@@ -5,6 +5,7 @@ pub mod Columns
 pub mod Ended
 pub mod Expressing
 pub mod Following
+pub mod Keywords
 pub mod Lexemes
 pub mod Listed
 pub mod Lists

@@ -1,5 +1,5 @@
 -- Where a production may end.
-use Rattle.std.specs.Prelude.{◌≡◌, Bool, true, false, ◌||◌, [], ◌∷◌, Option, Some, None, Result, Ok, Err, ◌⊎◌}
+use Rattle.std.specs.Prelude.{◌≡◌, Bool, true, false, ◌||◌, [], ◌∷◌, Option, Some, None, ◌⊎◌}
 use Rattle.sr_grammar.specs.declared.keyword.Keyword.TheVariants as key
 use Rattle.sr_grammar.specs.declared.symbol.Sign.TheVariants as sign
 use Rattle.sr_grammar.specs.declared.symbol.Symbol.{Symbol}

@@ -2,6 +2,7 @@ pub mod Catalog
 pub mod Expressions
 pub mod Faults
 pub mod Going
+pub mod Keywords
 pub mod Levels
 pub mod Listing
 pub mod Literals

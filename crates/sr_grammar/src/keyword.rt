@@ -1,5 +1,7 @@
-ghost use Rattle.std.specs.Prelude.{◌≡◌, ◌↔◌, IsTrue, IfSome, None};
-ghost use Rattle.sr_grammar.specs.Meanings.{lower, spelling, IsKeyword, IsNoKeyword};
+ghost use Rattle.std.specs.Prelude.{◌≡◌, true, map, IfSome, None};
+ghost use Rattle.sr_grammar.specs.declared.keyword.Keyword.{Keyword};
+ghost use Rattle.sr_grammar.specs.Keywords.{IsTable, are_spelled, has};
+ghost use Rattle.sr_grammar.specs.Meanings.{IsKeyword, IsNoKeyword};
 
 /// A key word of the grammar.
 #[derive(Clone, Copy, PartialEq, Eq)]
@@ -75,174 +77,138 @@ pub enum Keyword {
     Is,
 }
 
-/// The key words.
-const KEYWORDS: [Keyword; 69] = [
-    Keyword::Create,
-    Keyword::Table,
-    Keyword::Primary,
-    Keyword::Key,
-    Keyword::Not,
-    Keyword::Null,
-    Keyword::Integer,
-    Keyword::Int,
-    Keyword::Bigint,
-    Keyword::Varchar,
-    Keyword::Date,
-    Keyword::Drop,
-    Keyword::Publication,
-    Keyword::Where,
-    Keyword::Subscribe,
-    Keyword::By,
-    Keyword::Grant,
-    Keyword::Remote,
-    Keyword::To,
-    Keyword::Type,
-    Keyword::File,
-    Keyword::Address,
-    Keyword::Consolidate,
-    Keyword::Start,
-    Keyword::Stop,
-    Keyword::Synchronize,
-    Keyword::Subscription,
-    Keyword::For,
-    Keyword::Trigger,
-    Keyword::Resolve,
-    Keyword::Update,
-    Keyword::Of,
-    Keyword::On,
-    Keyword::Referencing,
-    Keyword::Old,
-    Keyword::New,
-    Keyword::As,
-    Keyword::Each,
-    Keyword::Row,
-    Keyword::Begin,
-    Keyword::Declare,
-    Keyword::End,
-    Keyword::Set,
-    Keyword::Insert,
-    Keyword::Into,
-    Keyword::Values,
-    Keyword::If,
-    Keyword::Then,
-    Keyword::Else,
-    Keyword::Delete,
-    Keyword::From,
-    Keyword::Select,
-    Keyword::Count,
-    Keyword::Sum,
-    Keyword::Min,
-    Keyword::Max,
-    Keyword::Inner,
-    Keyword::Join,
-    Keyword::Order,
-    Keyword::Asc,
-    Keyword::Desc,
-    Keyword::Commit,
-    Keyword::Work,
-    Keyword::Rollback,
-    Keyword::Passthrough,
-    Keyword::Only,
-    Keyword::Or,
-    Keyword::And,
-    Keyword::Is,
+/// The key words by their first letters, each with its spelling.
+const KEYWORDS: [&[(Keyword, &[u8])]; 26] = [
+    &[
+        (Keyword::Address, b"ADDRESS"),
+        (Keyword::And, b"AND"),
+        (Keyword::As, b"AS"),
+        (Keyword::Asc, b"ASC"),
+    ],
+    &[
+        (Keyword::Begin, b"BEGIN"),
+        (Keyword::Bigint, b"BIGINT"),
+        (Keyword::By, b"BY"),
+    ],
+    &[
+        (Keyword::Commit, b"COMMIT"),
+        (Keyword::Consolidate, b"CONSOLIDATE"),
+        (Keyword::Count, b"COUNT"),
+        (Keyword::Create, b"CREATE"),
+    ],
+    &[
+        (Keyword::Date, b"DATE"),
+        (Keyword::Declare, b"DECLARE"),
+        (Keyword::Delete, b"DELETE"),
+        (Keyword::Desc, b"DESC"),
+        (Keyword::Drop, b"DROP"),
+    ],
+    &[
+        (Keyword::Each, b"EACH"),
+        (Keyword::Else, b"ELSE"),
+        (Keyword::End, b"END"),
+    ],
+    &[
+        (Keyword::File, b"FILE"),
+        (Keyword::For, b"FOR"),
+        (Keyword::From, b"FROM"),
+    ],
+    &[(Keyword::Grant, b"GRANT")],
+    &[],
+    &[
+        (Keyword::If, b"IF"),
+        (Keyword::Inner, b"INNER"),
+        (Keyword::Insert, b"INSERT"),
+        (Keyword::Int, b"INT"),
+        (Keyword::Integer, b"INTEGER"),
+        (Keyword::Into, b"INTO"),
+        (Keyword::Is, b"IS"),
+    ],
+    &[(Keyword::Join, b"JOIN")],
+    &[(Keyword::Key, b"KEY")],
+    &[],
+    &[(Keyword::Max, b"MAX"), (Keyword::Min, b"MIN")],
+    &[
+        (Keyword::New, b"NEW"),
+        (Keyword::Not, b"NOT"),
+        (Keyword::Null, b"NULL"),
+    ],
+    &[
+        (Keyword::Of, b"OF"),
+        (Keyword::Old, b"OLD"),
+        (Keyword::On, b"ON"),
+        (Keyword::Only, b"ONLY"),
+        (Keyword::Or, b"OR"),
+        (Keyword::Order, b"ORDER"),
+    ],
+    &[
+        (Keyword::Passthrough, b"PASSTHROUGH"),
+        (Keyword::Primary, b"PRIMARY"),
+        (Keyword::Publication, b"PUBLICATION"),
+    ],
+    &[],
+    &[
+        (Keyword::Referencing, b"REFERENCING"),
+        (Keyword::Remote, b"REMOTE"),
+        (Keyword::Resolve, b"RESOLVE"),
+        (Keyword::Rollback, b"ROLLBACK"),
+        (Keyword::Row, b"ROW"),
+    ],
+    &[
+        (Keyword::Select, b"SELECT"),
+        (Keyword::Set, b"SET"),
+        (Keyword::Start, b"START"),
+        (Keyword::Stop, b"STOP"),
+        (Keyword::Subscribe, b"SUBSCRIBE"),
+        (Keyword::Subscription, b"SUBSCRIPTION"),
+        (Keyword::Sum, b"SUM"),
+        (Keyword::Synchronize, b"SYNCHRONIZE"),
+    ],
+    &[
+        (Keyword::Table, b"TABLE"),
+        (Keyword::Then, b"THEN"),
+        (Keyword::To, b"TO"),
+        (Keyword::Trigger, b"TRIGGER"),
+        (Keyword::Type, b"TYPE"),
+    ],
+    &[(Keyword::Update, b"UPDATE")],
+    &[(Keyword::Values, b"VALUES"), (Keyword::Varchar, b"VARCHAR")],
+    &[(Keyword::Where, b"WHERE"), (Keyword::Work, b"WORK")],
+    &[],
+    &[],
+    &[],
 ];
 
-/// The key word that a word is, without regard to the case of its letters.
+/// The key word that a word is, without regard to the case of its letters. Its first letter leaves eight key words or fewer.
 pub fn keyword_of(word: &[u8]) -> Option<Keyword>
     ensures found { IfSome result (λ keyword. IsKeyword word.now keyword) }
     ensures none { result ≡ None → IsNoKeyword word.now }
 {
-    let mut rest = KEYWORDS.as_slice();
-    'keywords: while let Some((keyword, after)) = rest.split_first() {
-        if is(word, spelled(*keyword)) {
-            return Some(*keyword);
+    found_in(&KEYWORDS, word)
+}
+
+/// The key word that a word is, by a table.
+fn found_in(table: &[&[(Keyword, &[u8])]], word: &[u8]) -> Option<Keyword>
+    requires { IsTable (map (λ row. map (λ entry. (entry.0, entry.1.now)) row.now) table.now) }
+    ensures found { IfSome result (λ keyword. IsKeyword word.now keyword) }
+    ensures none { result ≡ None → IsNoKeyword word.now }
+{
+    let first = word.first()?;
+    let place = first.to_ascii_lowercase().checked_sub(b'a')?;
+    let row = table.get(place as usize)?;
+    found_among(row, word)
+}
+
+/// The key word that a word is, where it is one of these.
+fn found_among(entries: &[(Keyword, &[u8])], word: &[u8]) -> Option<Keyword>
+    requires { are_spelled (map (λ entry. (entry.0, entry.1.now)) entries.now) ≡ true }
+    ensures found { IfSome result (λ keyword. IsKeyword word.now keyword) }
+    ensures none { result ≡ None → (k : Keyword) → has (map (λ entry. (entry.0, entry.1.now)) entries.now) k ≡ true → IsKeyword word.now k → ⊥ }
+{
+    'entries: for entry in entries {
+        if word.eq_ignore_ascii_case(entry.1) {
+            return Some(entry.0);
         }
-        rest = after;
     }
     None
-}
-
-/// Whether a word is a key word, given in upper case.
-fn is(word: &[u8], upper: &[u8]) -> bool
-    ensures same { IsTrue result ↔ (lower word.now ≡ lower upper.now) }
-{
-    word.eq_ignore_ascii_case(upper)
-}
-
-/// How a key word is spelled.
-fn spelled(keyword: Keyword) -> &'static [u8]
-    ensures spelling { result.now ≡ spelling keyword }
-{
-    match keyword {
-        Keyword::Create => b"CREATE",
-        Keyword::Table => b"TABLE",
-        Keyword::Primary => b"PRIMARY",
-        Keyword::Key => b"KEY",
-        Keyword::Not => b"NOT",
-        Keyword::Null => b"NULL",
-        Keyword::Integer => b"INTEGER",
-        Keyword::Int => b"INT",
-        Keyword::Bigint => b"BIGINT",
-        Keyword::Varchar => b"VARCHAR",
-        Keyword::Date => b"DATE",
-        Keyword::Drop => b"DROP",
-        Keyword::Publication => b"PUBLICATION",
-        Keyword::Where => b"WHERE",
-        Keyword::Subscribe => b"SUBSCRIBE",
-        Keyword::By => b"BY",
-        Keyword::Grant => b"GRANT",
-        Keyword::Remote => b"REMOTE",
-        Keyword::To => b"TO",
-        Keyword::Type => b"TYPE",
-        Keyword::File => b"FILE",
-        Keyword::Address => b"ADDRESS",
-        Keyword::Consolidate => b"CONSOLIDATE",
-        Keyword::Start => b"START",
-        Keyword::Stop => b"STOP",
-        Keyword::Synchronize => b"SYNCHRONIZE",
-        Keyword::Subscription => b"SUBSCRIPTION",
-        Keyword::For => b"FOR",
-        Keyword::Trigger => b"TRIGGER",
-        Keyword::Resolve => b"RESOLVE",
-        Keyword::Update => b"UPDATE",
-        Keyword::Of => b"OF",
-        Keyword::On => b"ON",
-        Keyword::Referencing => b"REFERENCING",
-        Keyword::Old => b"OLD",
-        Keyword::New => b"NEW",
-        Keyword::As => b"AS",
-        Keyword::Each => b"EACH",
-        Keyword::Row => b"ROW",
-        Keyword::Begin => b"BEGIN",
-        Keyword::Declare => b"DECLARE",
-        Keyword::End => b"END",
-        Keyword::Set => b"SET",
-        Keyword::Insert => b"INSERT",
-        Keyword::Into => b"INTO",
-        Keyword::Values => b"VALUES",
-        Keyword::If => b"IF",
-        Keyword::Then => b"THEN",
-        Keyword::Else => b"ELSE",
-        Keyword::Delete => b"DELETE",
-        Keyword::From => b"FROM",
-        Keyword::Select => b"SELECT",
-        Keyword::Count => b"COUNT",
-        Keyword::Sum => b"SUM",
-        Keyword::Min => b"MIN",
-        Keyword::Max => b"MAX",
-        Keyword::Inner => b"INNER",
-        Keyword::Join => b"JOIN",
-        Keyword::Order => b"ORDER",
-        Keyword::Asc => b"ASC",
-        Keyword::Desc => b"DESC",
-        Keyword::Commit => b"COMMIT",
-        Keyword::Work => b"WORK",
-        Keyword::Rollback => b"ROLLBACK",
-        Keyword::Passthrough => b"PASSTHROUGH",
-        Keyword::Only => b"ONLY",
-        Keyword::Or => b"OR",
-        Keyword::And => b"AND",
-        Keyword::Is => b"IS",
-    }
 }

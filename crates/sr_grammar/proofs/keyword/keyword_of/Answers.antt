@@ -1,6 +1,6 @@
-use Rattle.std.proofs.Common.{rules}
-use Rattle.sr_grammar.proofs.Words.{MayBe-start}
+use Rattle.std.proofs.Common.{refl}
+use Rattle.sr_grammar.specs.declared.keyword.Keyword.TheVariants as key
 use Rattle.sr_grammar.proofs.keyword.keyword_of.Goals as goal
 
-pub keywords-init : goal.keywords-init
-keywords-init c = MayBe-start _ _ (search rules)
+pub found_in-requires : goal.found_in-requires
+found_in-requires c = record { spelled = refl; listed = elim [ key.Create ↦ refl | _ ↦ refl ] }
