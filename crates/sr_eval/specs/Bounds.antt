@@ -1,35 +1,9 @@
--- When an expression may be evaluated over a row.
-use Rattle.std.specs.Prelude.{◌≡◌, ℕ, Bool, true, false, ◌&&◌, List, [], ◌∷◌, Option, Some, None}
+-- The columns and values that an expression is evaluated over.
+use Rattle.std.specs.Prelude.{◌≡◌, ℕ, List, [], ◌∷◌, ◌++◌, Option, Some}
 use Rattle.sr_dates.specs.Fitting.{fitted}
 use Rattle.sr_base.specs.declared.value.Value.{Value as Cell}
 use Rattle.sr_base.specs.declared.value.Kind.{Kind}
-use Rattle.sr_ast.specs.Terms.{Term}
-use Rattle.sr_ast.specs.Terms.Term.{literal, column, unary, binary}
-use Rattle.sr_ast.specs.Classes.{is_truth}
-use Rattle.sr_ast.specs.declared.classes.Class.{Class}
-use Rattle.sr_ast.specs.declared.classes.Class.TheVariants.{Number, Text, Date, Truth, Any}
-use Rattle.sr_ast.specs.declared.operator.Unary.{Unary}
-use Rattle.sr_ast.specs.declared.operator.Unary.TheVariants.{Not, IsNull, IsNotNull, Negate}
-use Rattle.sr_ast.specs.declared.operator.Binary.{Binary}
-use Rattle.sr_ast.specs.declared.operator.Binary.TheVariants.{Or, And, Equal, Unequal, Less, AtMost, Greater, AtLeast, Add, Subtract, Multiply}
-
--- a class that values have: any but truth
-abbrev pub is_value_class : Class → Bool
-is_value_class Number = true
-is_value_class Text = true
-is_value_class Date = true
-is_value_class Truth = false
-is_value_class Any = true
-
--- the expression has a class, and its value is no truth
-abbrev pub gives_value : Option Class → Bool
-gives_value (Some c) = is_value_class c
-gives_value None = false
-
--- the expression has a class, and may stand where a truth is needed
-abbrev pub gives_truth : Option Class → Bool
-gives_truth (Some c) = is_truth c
-gives_truth None = false
+use Rattle.sr_eval.specs.declared.bound.Bound.{Bound}
 
 -- each column has one value, which fits it as it is
 abbrev pub IsRowOf : List (Option (List ℕ) × List ℕ × Kind) → List Cell → Type 0
@@ -38,28 +12,17 @@ IsRowOf [] (v ∷ values) = ⊥
 IsRowOf (c ∷ columns) [] = ⊥
 IsRowOf (c ∷ columns) (v ∷ values) = (fitted v c.2 ≡ Some v) × IsRowOf columns values
 
-abbrev pub is_plain_unary : Unary → Bool
-is_plain_unary Not = true
-is_plain_unary IsNull = true
-is_plain_unary IsNotNull = true
-is_plain_unary Negate = false
+-- the columns of several sources, one source after the other
+abbrev pub columns_of : List Bound → List (Option (List ℕ) × List ℕ × Kind)
+columns_of [] = []
+columns_of (source ∷ sources) = source.scope.now ++ columns_of sources
 
-abbrev pub is_plain_binary : Binary → Bool
-is_plain_binary Or = true
-is_plain_binary And = true
-is_plain_binary Equal = true
-is_plain_binary Unequal = true
-is_plain_binary Less = true
-is_plain_binary AtMost = true
-is_plain_binary Greater = true
-is_plain_binary AtLeast = true
-is_plain_binary Add = false
-is_plain_binary Subtract = false
-is_plain_binary Multiply = false
+-- their values
+abbrev pub values_of : List Bound → List Cell
+values_of [] = []
+values_of (source ∷ sources) = source.values.now ++ values_of sources
 
--- no operator of the expression is arithmetic
-abbrev pub is_plain : Term → Bool
-is_plain (literal v) = true
-is_plain (column table name) = true
-is_plain (unary op a) = is_plain_unary op && is_plain a
-is_plain (binary op a b) = is_plain_binary op && (is_plain a && is_plain b)
+-- each source has a row of its columns
+abbrev pub AreRows : List Bound → Type 0
+AreRows [] = Unit {0}
+AreRows (source ∷ sources) = IsRowOf source.scope.now source.values.now × AreRows sources

@@ -4,4 +4,5 @@ pub mod Laws
 pub mod Meanings
 pub mod Numbers
 pub mod Truths
+pub mod Uses
 pub mod Worths

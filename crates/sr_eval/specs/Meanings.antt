@@ -1,9 +1,9 @@
 -- What an expression means over a row.
-use Rattle.std.specs.Prelude.{◌≡◌, ℕ, Bool, true, false, not, cond, ◌+ℤ◌, ◌-ℤ◌, ◌*ℤ◌, List, [], ◌∷◌, Option, Some, None, IsSome, Result, Ok, Err}
+use Rattle.std.specs.Prelude.{◌≡◌, ℕ, Bool, true, false, not, cond, ◌+ℤ◌, ◌-ℤ◌, ◌*ℤ◌, List, [], ◌∷◌, Option, Some, None, IsSome, IsTrue, Result, Ok, Err}
 use Rattle.std.specs.Option.{option_map}
 use Rattle.std.specs.Ordering.{is_eq, is_ne, is_lt, is_le, is_gt, is_ge}
 use Rattle.sr_base.specs.declared.value.Value.{Value as Cell}
-use Rattle.sr_base.specs.declared.value.Value.TheVariants.{Null}
+use Rattle.sr_base.specs.declared.value.Value.TheVariants.{Null, Int, Big, Str, Date}
 use Rattle.sr_base.specs.declared.value.Kind.{Kind}
 use Rattle.sr_ast.specs.Terms.{Term}
 use Rattle.sr_ast.specs.Terms.Term.{literal, column, unary, binary}
@@ -40,6 +40,12 @@ abbrev pub value_at : List (Option (List ℕ) × List ℕ × Kind) → List Cell
 value_at [] values table reference = Null
 value_at (c ∷ columns) [] table reference = Null
 value_at (c ∷ columns) (v ∷ values) table reference = cond (is_meant c.0 c.1 table reference) v (value_at columns values table reference)
+
+-- the same value, where these columns have one that the reference means
+abbrev pub found_at : List (Option (List ℕ) × List ℕ × Kind) → List Cell → Option (List ℕ) → List ℕ → Option Cell
+found_at [] values table reference = None
+found_at (c ∷ columns) [] table reference = None
+found_at (c ∷ columns) (v ∷ values) table reference = cond (is_meant c.0 c.1 table reference) (Some v) (found_at columns values table reference)
 
 -- NOT, IS NULL, IS NOT NULL and -
 abbrev pub unary_meaning : Unary → Meaning → Option Meaning
@@ -87,14 +93,24 @@ is_true (Some (truth True)) = true
 is_true (Some (truth False)) = false
 is_true (Some (truth Unknown)) = false
 
--- what `eval` answers: the value, or Overflow where there is none
+-- whether there is a value, and it is a text
+abbrev pub is_text : Option Meaning → Bool
+is_text None = false
+is_text (Some (value Null)) = false
+is_text (Some (value (Int n))) = false
+is_text (Some (value (Big n))) = false
+is_text (Some (value (Str text))) = true
+is_text (Some (value (Date day))) = false
+is_text (Some (truth t)) = false
+
+-- what `eval` answers: the value, or Overflow where there is none; a text may want memory
 abbrev pub IsEvaluated : Result Cell EvalFault → Option Meaning → Type 0
 IsEvaluated (Ok v) found = found ≡ Some (value v)
 IsEvaluated (Err Overflow) found = found ≡ None
-IsEvaluated (Err Memory) found = Unit {0}
+IsEvaluated (Err Memory) found = IsTrue (is_text found)
 
--- what `holds` answers: whether there is a value that is true, or Overflow where there is no value
+-- what `holds` answers: whether there is a value that is true, or Overflow where there is no value; it takes no memory
 abbrev pub IsHeld : Result Bool EvalFault → Option Meaning → Type 0
 IsHeld (Ok held) found = (held ≡ is_true found) × IsSome found
 IsHeld (Err Overflow) found = found ≡ None
-IsHeld (Err Memory) found = Unit {0}
+IsHeld (Err Memory) found = ⊥

@@ -1,38 +1,61 @@
-ghost use Rattle.std.specs.Prelude.{◌≡◌, ◌≢◌, IsTrue};
+ghost use Rattle.std.specs.Prelude.{◌≡◌, IsTrue};
 ghost use Rattle.sr_ast.specs.Exprs.{term_of};
 ghost use Rattle.sr_ast.specs.Classes.{class_in};
-ghost use Rattle.sr_eval.specs.Bounds.{gives_value, gives_truth, IsRowOf, is_plain};
+ghost use Rattle.sr_eval.specs.Uses.{gives_value, gives_truth, is_plain};
+ghost use Rattle.sr_eval.specs.Bounds.{IsRowOf, AreRows, columns_of, values_of};
 ghost use Rattle.sr_eval.specs.Meanings.{meaning, is_true, IsEvaluated, IsHeld};
+ghost use Rattle.sr_eval.specs.Worths.{meant};
+ghost use Rattle.sr_eval.specs.Meanings.Meaning.{value as a_value};
 
+use crate::bound::Bound;
 use crate::fault::EvalFault;
 use crate::meaning::meaning;
 use crate::truth::Truth;
 use crate::worth::Worth;
-use sr_ast::{Expr, Scope};
+use sr_ast::Expr;
 use sr_base::{Copied, Value};
 use std::alloc::Global;
-
-/// The columns that an expression may name, and a row's values of them, one each.
-#[derive(Clone, Copy)]
-pub struct Bound<'a> {
-    pub scope: &'a Scope,
-    pub values: &'a [Value],
-}
+use std::slice;
 
 /// The value of an expression over a row.
 ///
 /// It is NULL where an operand of arithmetic is. `Overflow` exactly where a number passes the end of its type anywhere in the
 /// expression. A text is copied; nothing else takes memory. Each column that is named takes one pass over the scope.
+#[tactic(auto, using(crate::proofs::Sources::of_one_source))]
 pub fn eval(alloc: Global, expr: &Expr, row: &Bound) -> Result<Value, EvalFault>
     requires typed { IsTrue (gives_value (class_in row.now.scope.now (term_of expr.now))) }
     requires fits { IsRowOf row.now.scope.now row.now.values.now }
     ensures value { IsEvaluated result (meaning row.now.scope.now row.now.values.now (term_of expr.now)) }
 {
-    match meaning(expr, row.scope.as_slice(), row.values) {
-        Some(Worth::Held(value)) => Ok(value.copy(alloc)?),
+    eval_over(alloc, expr, slice::from_ref(row))
+}
+
+/// The value of an expression over several sources, each with a row: as `eval` says, over the columns of all.
+///
+/// No value is copied but a text that is the answer.
+pub fn eval_over(alloc: Global, expr: &Expr, sources: &[Bound]) -> Result<Value, EvalFault>
+    requires typed { IsTrue (gives_value (class_in (columns_of sources.now) (term_of expr.now))) }
+    requires fit { AreRows sources.now }
+    ensures value { IsEvaluated result (meaning (columns_of sources.now) (values_of sources.now) (term_of expr.now)) }
+{
+    match meaning(expr, sources) {
+        Some(Worth::Held(value)) => held(alloc, value),
         Some(Worth::Made(value)) => Ok(value),
         Some(Worth::Judged(_)) => Ok(Value::Null),
         None => Err(EvalFault::Overflow),
+    }
+}
+
+/// A copy of a value. Only a text takes memory.
+fn held(alloc: Global, value: &Value) -> Result<Value, EvalFault>
+    ensures value { IsEvaluated result (Some (a_value value.now)) }
+{
+    match value {
+        Value::Null => Ok(Value::Null),
+        Value::Int(number) => Ok(Value::Int(*number)),
+        Value::Big(number) => Ok(Value::Big(*number)),
+        Value::Str(text) => Ok(Value::Str(text.copy(alloc)?)),
+        Value::Date(day) => Ok(Value::Date(*day)),
     }
 }
 
@@ -40,13 +63,22 @@ pub fn eval(alloc: Global, expr: &Expr, row: &Bound) -> Result<Value, EvalFault>
 ///
 /// `Overflow` exactly where a number passes the end of its type anywhere in the condition, whatever the rest of it is. It
 /// takes no memory. Each column that is named takes one pass over the scope.
+#[tactic(auto, using(crate::proofs::Sources::of_one_source))]
 pub fn holds(_alloc: Global, expr: &Expr, row: &Bound) -> Result<bool, EvalFault>
     requires typed { IsTrue (gives_truth (class_in row.now.scope.now (term_of expr.now))) }
     requires fits { IsRowOf row.now.scope.now row.now.values.now }
     ensures held { IsHeld result (meaning row.now.scope.now row.now.values.now (term_of expr.now)) }
-    ensures memory { result ≢ Err EvalFault.Memory }
 {
-    match meaning(expr, row.scope.as_slice(), row.values) {
+    holds_over(expr, slice::from_ref(row))
+}
+
+/// Whether a condition is true over several sources, each with a row: as `holds` says, over the columns of all.
+pub fn holds_over(expr: &Expr, sources: &[Bound]) -> Result<bool, EvalFault>
+    requires typed { IsTrue (gives_truth (class_in (columns_of sources.now) (term_of expr.now))) }
+    requires fit { AreRows sources.now }
+    ensures held { IsHeld result (meaning (columns_of sources.now) (values_of sources.now) (term_of expr.now)) }
+{
+    match meaning(expr, sources) {
         Some(worth) => Ok(worth.truth() == Truth::True),
         None => Err(EvalFault::Overflow),
     }
@@ -55,13 +87,14 @@ pub fn holds(_alloc: Global, expr: &Expr, row: &Bound) -> Result<bool, EvalFault
 /// Whether a condition without arithmetic is true over a row: not where it is false or unknown.
 ///
 /// It takes no memory. Each column that is named takes one pass over the scope.
+#[tactic(auto, using(crate::proofs::Sources::of_one_source))]
 pub fn holds_plain(expr: &Expr, row: &Bound) -> bool
     requires typed { IsTrue (gives_truth (class_in row.now.scope.now (term_of expr.now))) }
     requires fits { IsRowOf row.now.scope.now row.now.values.now }
     requires plain { IsTrue (is_plain (term_of expr.now)) }
     ensures held { result ≡ is_true (meaning row.now.scope.now row.now.values.now (term_of expr.now)) }
 {
-    match meaning(expr, row.scope.as_slice(), row.values) {
+    match meaning(expr, slice::from_ref(row)) {
         Some(worth) => worth.truth() == Truth::True,
         None => false,
     }

@@ -1,9 +1,10 @@
-//! The meaning of expressions over a row: values, truths of three values, and numbers that pass their type's end.
+//! The meaning of expressions over a row, or over a combination of rows: values, truths of three values, and numbers that pass their type's end.
 //!
 //! It stands on sr_base and sr_ast. An expression is evaluated where the values lie; only the answer of `eval` is copied. The contracts
 //! that matter most are those of `eval` and `holds`.
 #![tactic(auto)]
 
+mod bound;
 mod comparison;
 mod evaluation;
 mod fault;
@@ -13,7 +14,8 @@ mod number;
 mod truth;
 mod worth;
 
-pub use evaluation::{Bound, eval, holds, holds_plain};
+pub use bound::Bound;
+pub use evaluation::{eval, eval_over, holds, holds_over, holds_plain};
 pub use fault::EvalFault;
 pub use laws::{
     a_value_is_of_its_class, and_holds_where_both_hold, null_equals_nothing,

@@ -1,77 +1,82 @@
 ghost use Rattle.std.specs.Prelude.{◌≡◌, bytes_eq};
-ghost use Rattle.std.specs.Option.{option_map};
+ghost use Rattle.std.specs.Option.{option_map, option_copied};
 ghost use Rattle.sr_ast.specs.Exprs.{term_of};
 ghost use Rattle.sr_ast.specs.Classes.{is_meant};
-ghost use Rattle.sr_eval.specs.Meanings.{meaning, unary_meaning, binary_meaning, cell_of, value_at};
+ghost use Rattle.sr_eval.specs.Bounds.{AreRows, columns_of, values_of};
+ghost use Rattle.sr_eval.specs.Meanings.{meaning, unary_meaning, binary_meaning, cell_of, value_at, found_at};
 ghost use Rattle.sr_eval.specs.Meanings.Meaning.{value as a_value, truth as a_truth};
 ghost use Rattle.sr_eval.specs.Comparisons.{comparison, test_of};
 ghost use Rattle.sr_eval.specs.Numbers.{arithmetic, function_of};
 ghost use Rattle.sr_eval.specs.Worths.{meant};
 
+use crate::bound::Bound;
 use crate::comparison::{Sign, comparison, is_null};
 use crate::number::{Arithmetic, calculated, negated};
 use crate::truth::Truth;
 use crate::worth::Worth;
 use sr_ast::{Binary, Expr, Operand, Unary};
-use sr_base::{Kind, Name, Value};
+use sr_base::{Name, Value};
 
-/// What the expression gives over these columns and their values. `None` where a number passes the end of its type.
+/// What the expression gives over these sources. `None` where a number passes the end of its type.
 #[cycle(meaning)]
-pub fn meaning<'a>(
-    expr: &'a Expr,
-    columns: &[(Option<Name>, Name, Kind)],
-    values: &'a [Value],
-) -> Option<Worth<'a>>
-    ensures meaning { option_map meant result ≡ meaning columns.now values.now (term_of expr.now) }
+pub fn meaning<'a>(expr: &'a Expr, sources: &[Bound<'a>]) -> Option<Worth<'a>>
+    requires { AreRows sources.now }
+    ensures meaning { option_map meant result ≡ meaning (columns_of sources.now) (values_of sources.now) (term_of expr.now) }
 {
     match expr {
         Expr::Literal(value) => Some(Worth::Held(value)),
-        Expr::Column(table, name) => Some(column_worth(columns, values, table, name)),
+        Expr::Column(table, name) => Some(column_worth(sources, table, name)),
         Expr::Unary(operator, operand) => {
-            let operand = operand_meaning(operand, columns, values)?;
+            let operand = operand_meaning(operand, sources)?;
             unary_worth(*operator, operand)
         }
         Expr::Binary(operator, left, right) => {
-            let left = operand_meaning(left, columns, values)?;
-            let right = operand_meaning(right, columns, values)?;
+            let left = operand_meaning(left, sources)?;
+            let right = operand_meaning(right, sources)?;
             binary_worth(*operator, left, right)
         }
     }
 }
 
 #[cycle(meaning)]
-fn operand_meaning<'a>(
-    operand: &'a Operand,
-    columns: &[(Option<Name>, Name, Kind)],
-    values: &'a [Value],
-) -> Option<Worth<'a>>
-    ensures meaning { option_map meant result ≡ meaning columns.now values.now operand.now }
+fn operand_meaning<'a>(operand: &'a Operand, sources: &[Bound<'a>]) -> Option<Worth<'a>>
+    requires { AreRows sources.now }
+    ensures meaning { option_map meant result ≡ meaning (columns_of sources.now) (values_of sources.now) operand.now }
 {
-    meaning(operand.expr(), columns, values)
+    meaning(operand.expr(), sources)
 }
 
 /// The value of the first column that a name means: one pass over the columns.
-fn column_worth<'a>(
-    columns: &[(Option<Name>, Name, Kind)],
-    values: &'a [Value],
-    table: &Option<Name>,
-    name: &Name,
-) -> Worth<'a>
-    ensures { meant result ≡ a_value (value_at columns.now values.now table.now name.now) }
+fn column_worth<'a>(sources: &[Bound<'a>], table: &Option<Name>, name: &Name) -> Worth<'a>
+    requires { AreRows sources.now }
+    ensures { meant result ≡ a_value (value_at (columns_of sources.now) (values_of sources.now) table.now name.now) }
 {
-    let mut columns_left = columns;
-    let mut values_left = values;
+    let Some((source, after)) = sources.split_first() else {
+        return Worth::Made(Value::Null);
+    };
+    match value_in(source, table, name) {
+        Some(value) => Worth::Held(value),
+        None => column_worth(after, table, name),
+    }
+}
+
+/// The value of the first column of a source that a name means.
+fn value_in<'a>(source: &Bound<'a>, table: &Option<Name>, name: &Name) -> Option<&'a Value>
+    ensures found { option_copied result ≡ found_at source.now.scope.now source.now.values.now table.now name.now }
+{
+    let mut columns_left = source.scope.as_slice();
+    let mut values_left = source.values;
     'columns: while let Some((column, columns_after)) = columns_left.split_first() {
         let Some((value, values_after)) = values_left.split_first() else {
-            return Worth::Made(Value::Null);
+            return None;
         };
         if is_meant(&column.0, &column.1, table, name) {
-            return Worth::Held(value);
+            return Some(value);
         }
         columns_left = columns_after;
         values_left = values_after;
     }
-    Worth::Made(Value::Null)
+    None
 }
 
 fn is_meant(alias: &Option<Name>, column: &Name, table: &Option<Name>, name: &Name) -> bool

@@ -3,7 +3,7 @@ use Rattle.std.proofs.Common.{◌≡◌, Bool, true, false, cond, ℕ, List, [],
 use Rattle.sr_ast.specs.Exprs.{term_of}
 use Rattle.sr_ast.specs.Classes.{class_in}
 use Rattle.sr_ast.specs.declared.expr.Expr.{Expr}
-use Rattle.sr_eval.specs.Bounds.{gives_value}
+use Rattle.sr_eval.specs.Uses.{gives_value}
 use Rattle.sr_exec.specs.Checks.{Scope, bad_value, bad_row, bad_sets, is_among}
 use Rattle.sr_exec.specs.Sequences.{or_else}
 use Rattle.sr_exec.specs.Storing.{value_for, set_for}

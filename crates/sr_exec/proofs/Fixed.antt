@@ -21,7 +21,7 @@ use Rattle.sr_ast.specs.Classes.{is_meant, is_alias}
 use Rattle.sr_ast.specs.declared.expr.Expr.{Expr}
 use Rattle.sr_ast.specs.declared.operator.Binary.{Binary}
 use Rattle.sr_ast.specs.declared.operator.Binary.TheVariants as op
-use Rattle.sr_eval.specs.Bounds.{is_plain}
+use Rattle.sr_eval.specs.Uses.{is_plain}
 use Rattle.sr_eval.specs.Comparisons.{tested}
 use Rattle.sr_eval.specs.Laws.{AndIsBoth}
 use Rattle.sr_eval.specs.Meanings.{Meaning, meaning, value_at, is_true}

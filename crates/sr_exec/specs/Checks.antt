@@ -6,7 +6,7 @@ use Rattle.sr_base.specs.declared.value.Kind.{Kind}
 use Rattle.sr_ast.specs.Exprs.{term_of}
 use Rattle.sr_ast.specs.Classes.{class_in, unknown_in as unknown_in_term}
 use Rattle.sr_ast.specs.declared.expr.Expr.{Expr}
-use Rattle.sr_eval.specs.Bounds.{gives_value, gives_truth}
+use Rattle.sr_eval.specs.Uses.{gives_value, gives_truth}
 use Rattle.sr_schema.specs.declared.table.Column.{Column}
 use Rattle.sr_schema.specs.declared.table.Table.{Table}
 use Rattle.sr_exec.specs.Sequences.{or_else}

@@ -1,7 +1,7 @@
 ghost use Rattle.std.specs.Prelude.{◌≡◌, IfOk};
 ghost use Rattle.sr_ast.specs.Exprs.{term_of};
 ghost use Rattle.sr_ast.specs.Classes.{class_in, is_truth};
-ghost use Rattle.sr_eval.specs.Bounds.{gives_value, gives_truth, is_value_class};
+ghost use Rattle.sr_eval.specs.Uses.{gives_value, gives_truth, is_value_class};
 ghost use Rattle.sr_exec.specs.Checks.{scope_of, unknown_in, unknown_condition, bad_value, bad_condition};
 
 use crate::lists::push;

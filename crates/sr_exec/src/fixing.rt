@@ -2,7 +2,7 @@ ghost use Rattle.std.specs.Prelude.{◌≡◌, Some, IfOk, slice_get};
 ghost use Rattle.sr_dates.specs.Fitting.{fitted};
 ghost use Rattle.sr_ast.specs.Exprs.{term_of};
 ghost use Rattle.sr_ast.specs.Classes.{is_meant};
-ghost use Rattle.sr_eval.specs.Bounds.{is_plain, is_plain_unary, is_plain_binary};
+ghost use Rattle.sr_eval.specs.Uses.{is_plain, is_plain_unary, is_plain_binary};
 ghost use Rattle.sr_exec.specs.Fixing.{fixed_side, fixed_in, fixed_column, fixed_key};
 
 use crate::lists::push;

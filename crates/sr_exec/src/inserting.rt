@@ -2,7 +2,7 @@ ghost use Rattle.std.specs.Prelude.{◌≡◌, ◌≢◌, [], IsTrue, IfSome, Ma
 ghost use Rattle.std.specs.Option.{option_copied};
 ghost use Rattle.sr_ast.specs.Exprs.{term_of};
 ghost use Rattle.sr_ast.specs.Classes.{class_in};
-ghost use Rattle.sr_eval.specs.Bounds.{gives_value};
+ghost use Rattle.sr_eval.specs.Uses.{gives_value};
 ghost use Rattle.sr_exec.specs.Checks.{bad_row};
 ghost use Rattle.sr_exec.specs.Conditions.{Answers};
 ghost use Rattle.sr_exec.specs.Sequences.{first_in, each};
