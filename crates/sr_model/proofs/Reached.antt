@@ -1,9 +1,11 @@
-use Rattle.std.proofs.Common.{◌≡◌, ℕ, List, [], ◌∷◌, ◌++◌, length, refl, sym, ap, ap₂, ◌∙◌, inl, inr, arith, Contains, take, true}
+use Rattle.std.proofs.Common.{◌≡◌, ℕ, List, [], ◌∷◌, ◌++◌, length, refl, sym, ap, subst, ap₂, ◌∙◌, inl, inr, arith, Contains, take, true}
+use Rattle.sr_book.specs.declared.note.Note.{Note}
 use Rattle.sr_book.specs.declared.note.Note.TheVariants.{Confirmed, Asked, Raised}
-use Rattle.sr_book.specs.Entries.{Name, from_user}
+use Rattle.sr_book.specs.Entries.{Name, from_user, noted}
 use Rattle.sr_msgform.specs.declared.message.Message.{Message}
-use Rattle.sr_model.specs.Machines.{StepLaws, layers_of, lawful_by}
-use Rattle.sr_model.specs.Small.{SmallHasSpelling, SmallEntry, wrote, took, said, Verdict, plain, conflict, sent_of, small_sees, small_body, small, SmallFits}
+use Rattle.sr_model.specs.Machines.{StepLaws, GrantLaws, layers_of, lawful_by}
+use Rattle.sr_model.specs.Small.{SmallHasSpelling, SmallKnows, SmallEntry, wrote, took, said, Verdict, plain, conflict, sent_of, small_sees}
+use Rattle.sr_model.specs.Small.{small_body, small, SmallFits}
 use Rattle.sr_model.specs.Small.{SmallHolds, cons, r1, r2}
 use Rattle.sr_model.specs.Small.{first_run, run_of_r2, second_run, asking_run, resending_run, taking_run, returning_run, last_run}
 use Rattle.sr_model.specs.Small.{front_piece, back_piece, for_r2, second_window, ask, resend, answer, return, small_runs, small_world}
@@ -52,9 +54,29 @@ seen_once : (d : Name) (place : ℕ) (e f : SmallEntry) (user : Name) (at : ℕ)
 seen_once d place e f user at ops is is' fits fits' =
     let one = seen_taken e user at ops is in
     let other = seen_taken f user at ops is' in
-    let judged = rw one.1 at fits in
-    let judged' = rw other.1 at fits' in
-    one.1 ∙ ap (took user at ops) (judged ∙ sym judged') ∙ sym other.1
+    let judged : SmallFits d place (took user at ops one.0) = rw one.1 at fits in
+    let judged' : SmallFits d place (took user at ops other.0) = rw other.1 at fits' in
+    one.1 ∙ ap (took user at ops) (judged.1 ∙ sym judged'.1) ∙ sym other.1
+
+-- who is seen in an entry is known
+known_taken : (d : Name) (place : ℕ) (e : SmallEntry) (user : Name) (at : ℕ) (ops : List ℕ) → SmallFits d place e →
+    small_sees e ≡ from_user user at ops → SmallKnows d user
+known_taken d place e user at ops fits is =
+    let one = seen_taken e user at ops is in
+    let judged : SmallFits d place (took user at ops one.0) = rw one.1 at fits in judged.0
+
+known_noted : (d : Name) (place : ℕ) (e : SmallEntry) (user : Name) (note : Note) → SmallFits d place e →
+    small_sees e ≡ noted user note → SmallKnows d user
+known_noted d place (wrote other ops) user note fits is = absurd (cc)
+known_noted d place (took other at ops verdicts) user note fits is = absurd (cc)
+known_noted d place (said other n) user note fits is = let same : other ≡ user = cc in subst (SmallKnows d) same fits
+
+pub small_grants : GrantLaws small SmallFits SmallKnows
+small_grants = record {
+  stays = λ s place e user fits known. known;
+  taken_behind = known_taken;
+  noted_behind = known_noted;
+}
 
 pub small_laws : StepLaws small SmallHasSpelling SmallFits SmallHolds
 small_laws = record {

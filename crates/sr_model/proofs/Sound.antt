@@ -73,7 +73,8 @@ module _ {Entry Ops : Type 0} (p : Layers Entry Ops) (HasSpelling : (ℕ × Ops)
   take_sound d user place ops can =
       let pair = good.in_step d user in
       let same : can.transactions ≡ window can.prev can.upto (p.given user d (of user))
-      = spelled p HasSpelling lawful laws messages user d (of user) can.prev can.upto can.transactions can.is_whole (came_true user d) can.have_spellings (good.are_lawful user) in
+      = spelled p HasSpelling lawful laws messages user d (of user) can.prev can.upto can.transactions can.is_whole
+      (came_true user d) can.have_spellings (good.are_lawful user) in
       let first : past (taken_end p.sees user (of d)) (window can.prev can.upto (taken p.sees user (of d) ++ pair.rest)) ≡ (place, ops) ∷ can.rest
       = rw (← pair.taken_first, ← same) can.first in
       let next = window_next (taken p.sees user (of d)) pair.rest can.prev can.upto (place, ops) can.rest

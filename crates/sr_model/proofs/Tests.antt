@@ -1,8 +1,10 @@
-use Rattle.std.proofs.Common.{◌≡◌, ◌⊎◌, ℕ, zero, suc, ◌+◌, ◌-◌, ◌<◌, ◌≤◌, Bool, true, false, ◌&&◌, nat_lt, nat_le, List, [], ◌∷◌, ◌++◌, length, map}
+use Rattle.std.proofs.Common.{◌≢◌, bytes_eq, not, ◌≡◌, ◌⊎◌, ℕ, zero, suc, ◌+◌, ◌-◌, ◌<◌, ◌≤◌, Bool, true, false, ◌&&◌, nat_lt, nat_le, List, [], ◌∷◌}
+use Rattle.std.proofs.Common.{◌++◌, length, map}
 use Rattle.std.proofs.Common.{take, drop, slice_index, refl, sym, ap, subst, ◌∙◌, get_or, inl, inr, arith, Contains}
 use Rattle.std.proofs.lemmas.List.{length-append, get_or-append_right, get_or_append_left}
 use Rattle.sr_book.specs.Entries.{Name}
 use Rattle.sr_book.specs.Histories.{taken_end, book_of}
+use Rattle.sr_book.proofs.Folds.{same_name}
 use Rattle.sr_book.specs.Rising.{top, offsets}
 use Rattle.sr_msgform.specs.declared.message.Message.{Message}
 use Rattle.sr_model.specs.Layers.{end_of}
@@ -40,24 +42,30 @@ same_if (plain ∷ xs) (conflict ∷ ys) is = absurd (cc)
 same_if (conflict ∷ xs) (plain ∷ ys) is = absurd (cc)
 same_if (conflict ∷ xs) (conflict ∷ ys) is = ap (λ them. conflict ∷ them) (same_if xs ys is)
 
--- whether every transaction taken has the verdicts on its ops
+-- whether every entry is of another database, and every transaction taken has the verdicts on its ops
 abbrev pub all_judged : Name → List SmallEntry → Bool
 all_judged d [] = true
 all_judged d (wrote user ops ∷ es) = all_judged d es
-all_judged d (took user at ops verdicts ∷ es) = same_verdicts verdicts (map (verdict_on d) ops) && all_judged d es
-all_judged d (said user note ∷ es) = all_judged d es
+all_judged d (took user at ops verdicts ∷ es) = not (bytes_eq user d) && (same_verdicts verdicts (map (verdict_on d) ops) && all_judged d es)
+all_judged d (said user note ∷ es) = not (bytes_eq user d) && all_judged d es
 
 both : (a b : Bool) → (a && b) ≡ true → (a ≡ true) × (b ≡ true)
 both true b is = (refl, is)
 both false b is = absurd (cc)
 
+apart_if : (a b : Name) → not (bytes_eq a b) ≡ true → a ≢ b
+apart_if a b is same = let one : bytes_eq a b ≡ true = rw same (same_name b) in cc
+
 lawful_from_if : (d : Name) (place : ℕ) (es : List SmallEntry) → all_judged d es ≡ true → lawful_from small SmallFits d place es
 lawful_from_if d place [] is = tt
 lawful_from_if d place (wrote user ops ∷ es) is = (tt, lawful_from_if d (place + 15) es is)
 lawful_from_if d place (took user at ops verdicts ∷ es) is =
-    let parts = both (same_verdicts verdicts (map (verdict_on d) ops)) (all_judged d es) is in
-    (same_if verdicts (map (verdict_on d) ops) parts.0, lawful_from_if d (place + 15) es parts.1)
-lawful_from_if d place (said user note ∷ es) is = (tt, lawful_from_if d (place + 15) es is)
+    let parts = both (not (bytes_eq user d)) (same_verdicts verdicts (map (verdict_on d) ops) && all_judged d es) is in
+    let rest = both (same_verdicts verdicts (map (verdict_on d) ops)) (all_judged d es) parts.1 in
+    ((apart_if user d parts.0, same_if verdicts (map (verdict_on d) ops) rest.0), lawful_from_if d (place + 15) es rest.1)
+lawful_from_if d place (said user note ∷ es) is =
+    let parts = both (not (bytes_eq user d)) (all_judged d es) is in
+    (apart_if user d parts.0, lawful_from_if d (place + 15) es parts.1)
 
 pub lawful_if : (d : Name) (es : List SmallEntry) → all_judged d es ≡ true → lawful_from small SmallFits d 0 es
 lawful_if d es is = lawful_from_if d 0 es is

@@ -50,8 +50,8 @@ module _ {State Entry Ops : Type 0} (m : Machine State Entry Ops) where
     abbrev pub lawful_by : Name → List Entry → Type 0
     lawful_by d es = lawful_from (m.fresh d) 0 es
 
--- the laws of one step, all that a fold owes; `HasSpelling`: each field of a transaction fits its place in a body; `Fits`: an entry keeps every rule in this state and after this offset;
--- `Holds`: what is so of every state on the way
+-- the laws of one step, all that a fold owes; `HasSpelling`: each field of a transaction fits its place in a body;
+-- `Fits`: an entry keeps every rule in this state and after this offset; `Holds`: what is so of every state on the way
 pub record StepLaws {State Entry Ops : Type 0} (m : Machine State Entry Ops) (HasSpelling : (ℕ × Ops) → Type 0)
     (Fits : State → ℕ → Entry → Type 0) (Holds : State → Type 0) : Type 0 where
   pub at_first : (d : Name) → Holds (m.fresh d)

@@ -1,4 +1,4 @@
-use Rattle.std.specs.Prelude.{◌≡◌, ℕ, ◌+◌, ◌&&◌, nat_le, List, [], ◌∷◌, ◌++◌, length, map, if◌then◌else◌, Option, Some, None}
+use Rattle.std.specs.Prelude.{◌≡◌, ◌≢◌, ℕ, ◌+◌, ◌&&◌, nat_le, List, [], ◌∷◌, ◌++◌, length, map, if◌then◌else◌, Option, Some, None}
 use Rattle.std.specs.Str.{bytes_eq}
 use Rattle.sr_book.specs.declared.note.Note.{Note}
 use Rattle.sr_book.specs.declared.note.Note.TheVariants.{Confirmed, Asked, Raised, Sent}
@@ -78,19 +78,19 @@ small = record {
 abbrev pub SmallHasSpelling : (ℕ × List ℕ) → Type 0
 SmallHasSpelling tx = Unit {0}
 
--- an entry keeps every rule: what was taken has the verdicts on its ops
+-- a database knows every other as a user, and not itself
+abbrev pub SmallKnows : Name → Name → Type 0
+SmallKnows d user = user ≢ d
+
+-- an entry keeps every rule: it is of a user that is known, and what was taken has the verdicts on its ops
 abbrev pub SmallFits : Name → ℕ → SmallEntry → Type 0
 SmallFits d place (wrote user ops) = Unit {0}
-SmallFits d place (took user at ops verdicts) = verdicts ≡ map (verdict_on d) ops
-SmallFits d place (said user note) = Unit {0}
+SmallFits d place (took user at ops verdicts) = SmallKnows d user × (verdicts ≡ map (verdict_on d) ops)
+SmallFits d place (said user note) = SmallKnows d user
 
 -- of every state on the way nothing is asked
 abbrev pub SmallHolds : Name → Type 0
 SmallHolds d = Unit {0}
-
--- every user is granted
-abbrev pub SmallKnows : Name → Name → Type 0
-SmallKnows d user = Unit {0}
 
 -- a message that confirms nothing, asks for nothing and answers no ask
 abbrev pub piece : Name → Name → ℕ → ℕ → ℕ → ℕ → List ℕ → Message

@@ -4,8 +4,9 @@ ghost use Rattle.std.specs.Prelude.{◌≡◌, ℕ, List, [], ◌∷◌, length}
 ghost use Rattle.sr_book.specs.Entries.{Name};
 ghost use Rattle.sr_book.specs.Histories.{taken, book_of};
 ghost use Rattle.sr_model.specs.Layers.{Laws};
-ghost use Rattle.sr_model.specs.Machines.{StepLaws, layers_of, lawful_by};
-ghost use Rattle.sr_model.specs.Small.{SmallEntry, small, SmallHasSpelling, SmallFits, SmallHolds, SmallKnows, small_world, small_runs, small_acts, cons, r1, r2};
+ghost use Rattle.sr_model.specs.Machines.{StepLaws, GrantLaws, layers_of, lawful_by};
+ghost use Rattle.sr_model.specs.Small.{SmallEntry, small, SmallHasSpelling, SmallFits, SmallHolds, SmallKnows};
+ghost use Rattle.sr_model.specs.Small.{small_world, small_runs, small_acts, cons, r1, r2};
 ghost use Rattle.sr_model.specs.Runs.{AreRuns};
 ghost use Rattle.sr_model.specs.Worlds.{history, after_all, AreAllowed, IsGood};
 
@@ -50,6 +51,7 @@ impl StepRules for SmallRules {
 /// all that it was given, and the books tell what was sent, confirmed, asked for and raised.
 pub fn small_world_goes()
     ensures laws { StepLaws small SmallHasSpelling SmallFits SmallHolds }
+    ensures grants { GrantLaws small SmallFits SmallKnows }
     ensures runs { AreRuns (layers_of small) SmallHasSpelling (lawful_by small SmallFits) small_world small_runs }
     ensures steps { length small_acts ≡ 28 }
     ensures allowed { AreAllowed (layers_of small) SmallHasSpelling (lawful_by small SmallFits) small_world small_acts }

@@ -1,11 +1,14 @@
 use Rattle.std.proofs.Common.{◌∷◌, []}
 use Rattle.sr_model.specs.Machines.{layers_of}
 use Rattle.sr_model.specs.Small.{small, small_world, small_runs, small_acts, cons, r1, r2}
-use Rattle.sr_model.proofs.Reached.{small_laws, small_are_runs}
+use Rattle.sr_model.proofs.Reached.{small_laws, small_grants, small_are_runs}
 use Rattle.sr_model.proofs.sample.small_world_goes.Goals as goal
 
 pub returns-clause-laws : goal.returns-clause-laws
 returns-clause-laws c = small_laws
+
+pub returns-clause-grants : goal.returns-clause-grants
+returns-clause-grants c = small_grants
 
 pub returns-clause-runs : goal.returns-clause-runs
 returns-clause-runs c = small_are_runs
