@@ -9,6 +9,8 @@ mod books;
 #[cfg(test)]
 mod dates;
 #[cfg(test)]
+mod entries;
+#[cfg(test)]
 mod expressions;
 #[cfg(test)]
 mod fields;
