@@ -21,9 +21,14 @@ pub struct Catalog {
 }
 
 impl Model for Catalog {
+    ghost use Rattle.std.specs.Coded.{codes};
+    ghost use Rattle.sr_ast.specs.Terms.{term_code};
+    ghost use Rattle.sr_ast.specs.Chains.{chain_code};
     ghost use Rattle.sr_schema.specs.Catalogs.{Lists};
 
     ghost Value = { Lists };
+
+    ghost coded = { Prim.hlevel (codes, term_code, chain_code) };
 
     ghost view = { λ c. c.schema };
 }

@@ -4,7 +4,22 @@ ghost use Rattle.std.specs.Prelude.{◌≡◌, ◌++◌, map, filter, Some, IfOk
 ghost use Rattle.sr_ast.specs.Layout.{printed};
 ghost use Rattle.sr_ast.specs.declared.stmt.Stmt.{Stmt};
 ghost use Rattle.sr_schema.specs.Catalogs.{nothing_but};
-ghost use Rattle.sr_replay.specs.Scripts.{given_address, grant_rule, grant_of, column_rule, create_table_of, article_rule, create_publication_of, subscription_rule, create_subscription_of, start_of, trigger_stmt, statements, replayed, IsMade};
+ghost use Rattle.sr_replay.specs.Scripts.{
+  given_address,
+  grant_rule,
+  grant_of,
+  column_rule,
+  create_table_of,
+  article_rule,
+  create_publication_of,
+  subscription_rule,
+  create_subscription_of,
+  start_of,
+  trigger_stmt,
+  statements,
+  replayed,
+  IsMade,
+};
 
 use crate::catalog::Catalog;
 use sr_ast::{

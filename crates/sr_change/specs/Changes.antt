@@ -10,7 +10,8 @@ use Rattle.sr_schema.specs.Firsts.{where_true}
 use Rattle.sr_schema.specs.Names.{taken, without}
 use Rattle.sr_schema.specs.Members.{publication_name, table_name, trigger_name}
 use Rattle.sr_ddl.specs.Publications.{create_publication_causes, drop_publication_causes, publication_of}
-use Rattle.sr_ddl.specs.Subscriptions.{is_of, marked, create_subscription_causes, start_causes, stop_causes, synchronize_causes, drop_subscription_causes, subscription_of}
+use Rattle.sr_ddl.specs.Subscriptions.{is_of, marked, create_subscription_causes, start_causes}
+use Rattle.sr_ddl.specs.Subscriptions.{stop_causes, synchronize_causes, drop_subscription_causes, subscription_of}
 use Rattle.sr_ddl.specs.Tables.{create_table_causes, table_of}
 use Rattle.sr_trigger.specs.Triggers.{trigger_names, create_trigger_causes, drop_trigger_causes, trigger_of}
 use Rattle.sr_ddl.specs.Users.{grant_causes, passthrough_causes, user_of}
@@ -19,14 +20,19 @@ use Rattle.sr_schema.specs.declared.fault.DdlFault.{DdlFault}
 use Rattle.sr_schema.specs.declared.fault.DdlFault.TheVariants.{Exists, Missing, BadType, NoKey, KeyNotInArticle, TwiceSubscribed, InUse, TooMany, Memory}
 use Rattle.sr_schema.specs.declared.publication.Publication.{Publication}
 
--- what speaks against DROP TABLE: it is not there; a publication or a trigger names it
+-- whether an article of a publication is of a table
 abbrev pub publication_names : List ℕ → Publication → Bool
 publication_names table p = list_any (λ a. bytes_eq table a.table) p.articles
 
+-- whether a publication or a trigger names a table
+abbrev pub is_used : Lists → List ℕ → Bool
+is_used c n = list_any (publication_names n) c.publications || list_any (trigger_names n) c.triggers
+
+-- what speaks against DROP TABLE: it is not there; a publication or a trigger names it
 unfoldable pub drop_table_causes : Lists → List ℕ → Causes
 drop_table_causes c n = record no_cause {
   missing = where_true (not (taken table_name n c.tables)) n;
-  in_use = where_true (list_any (publication_names n) c.publications || list_any (trigger_names n) c.triggers) n;
+  in_use = where_true (is_used c n) n;
 }
 
 -- what speaks against a statement

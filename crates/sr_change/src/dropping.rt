@@ -1,9 +1,8 @@
 //! What speaks against DROP TABLE.
 
-ghost use Rattle.std.specs.Prelude.{◌≡◌, ◌||◌, IfOk};
+ghost use Rattle.std.specs.Prelude.{◌≡◌, IfOk};
 ghost use Rattle.std.specs.List.{list_any};
-ghost use Rattle.sr_change.specs.Changes.{publication_names, drop_table_causes};
-ghost use Rattle.sr_trigger.specs.Triggers.{trigger_names};
+ghost use Rattle.sr_change.specs.Changes.{is_used, publication_names, drop_table_causes};
 
 use sr_base::{Name, NoMemory};
 use sr_schema::{Causes, Publication, Schema, owned, where_true};
@@ -30,7 +29,7 @@ pub(crate) fn drop_table_causes(
 
 /// Whether a publication or a trigger names the table.
 fn is_used(schema: &Schema, alloc: Global, name: &Name) -> Result<bool, NoMemory>
-    ensures { IfOk result (λ used. used ≡ (list_any (publication_names name.now) schema.now.publications || list_any (trigger_names name.now) schema.now.triggers)) }
+    ensures { IfOk result (λ used. used ≡ is_used schema.now name.now) }
 {
     let named = is_named(alloc, name, schema.triggers())?;
     Ok(is_published(schema.publications(), name) || named)

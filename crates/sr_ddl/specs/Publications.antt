@@ -1,5 +1,6 @@
 -- CREATE PUBLICATION and DROP PUBLICATION.
-use Rattle.std.specs.Prelude.{ℕ, Bool, false, not, ◌||◌, cond, nat_eq, nat_le, nat_lt, List, [], ◌∷◌, ◌++◌, length, map, Option, Some, None, option_map, bytes_eq}
+use Rattle.std.specs.Prelude.{ℕ, Bool, false, not, ◌||◌, cond, nat_eq, nat_le, nat_lt, List}
+use Rattle.std.specs.Prelude.{[], ◌∷◌, ◌++◌, length, map, Option, Some, None, option_map, bytes_eq}
 use Rattle.std.specs.List.{list_any}
 use Rattle.sr_schema.specs.Expressions.{has_arithmetic, is_condition, is_operator}
 use Rattle.sr_ast.specs.Classes.{class_in, unknown_in}
@@ -26,6 +27,10 @@ twice_in_articles before [] = None
 twice_in_articles before (a ∷ rest) =
     first_of (where_true (has before a.table) a.table) (first_of (first_twice a.columns) (twice_in_articles (before ++ a.table ∷ []) rest))
 
+-- the publication's name, where it is taken, or what its articles name twice
+abbrev pub taken_or_twice : Lists → CreatePublication → Option (List ℕ)
+taken_or_twice c p = first_of (where_true (taken publication_name p.name c.publications) p.name) (twice_in_articles [] p.articles)
+
 -- ---- Missing
 
 -- the leftmost column in an expression that the table lacks
@@ -33,10 +38,14 @@ unfoldable pub absent_column : Table → Option Expr → Option (List ℕ)
 absent_column t None = None
 absent_column t (Some e) = unknown_in (scope_of t) (term_of e)
 
+-- the leftmost column that an article names and its table lacks
+abbrev pub absent_in_table : ArticleRule → Table → Option (List ℕ)
+absent_in_table a t = first_of (first_absent (has_column t) a.columns) (first_of (absent_column t a.condition) (absent_column t a.by))
+
 -- what an article names that is not there: its table, or the leftmost column
 unfoldable pub absent_in : ArticleRule → Option Table → Option (List ℕ)
 absent_in a None = Some a.table
-absent_in a (Some t) = first_of (first_absent (has_column t) a.columns) (first_of (absent_column t a.condition) (absent_column t a.by))
+absent_in a (Some t) = absent_in_table a t
 
 -- ---- BadType
 
@@ -57,10 +66,17 @@ is_bad_article a (Some t) = is_bad_where t a.condition || is_bad_by a.by
 
 -- ---- KeyNotInArticle
 
--- the article's table and the first column of its key that the article's columns lack; an article without columns has all
+-- the article's table and the first column of its key that these columns lack
+abbrev pub key_lacking : ArticleRule → Table → Option (List ℕ × List ℕ)
+key_lacking a t = option_map (λ n. (a.table, n)) (first_absent (has a.columns) (key_names t))
+
+-- an article without columns has all
+abbrev pub key_outside_columns : ArticleRule → Table → Option (List ℕ × List ℕ)
+key_outside_columns a t = cond (nat_eq (length a.columns) 0) None (key_lacking a t)
+
 unfoldable pub key_outside : ArticleRule → Option Table → Option (List ℕ × List ℕ)
 key_outside a None = None
-key_outside a (Some t) = cond (nat_eq (length a.columns) 0) None (option_map (λ n. (a.table, n)) (first_absent (has a.columns) (key_names t)))
+key_outside a (Some t) = key_outside_columns a t
 
 -- ---- CREATE PUBLICATION
 
@@ -72,7 +88,7 @@ table_in c a = named table_name a.table c.tables
 -- or more than 64 articles
 unfoldable pub create_publication_causes : Lists → CreatePublication → Causes
 create_publication_causes c p = record no_cause {
-  exists = first_of (where_true (taken publication_name p.name c.publications) p.name) (twice_in_articles [] p.articles);
+  exists = taken_or_twice c p;
   missing = first_among (λ a. absent_in a (table_in c a)) p.articles;
   bad_type = first_among (λ a. where_true (is_bad_article a (table_in c a)) a.table) p.articles;
   key_outside = first_among (λ a. key_outside a (table_in c a)) p.articles;

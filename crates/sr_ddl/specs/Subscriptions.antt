@@ -48,7 +48,8 @@ has_both c r = taken publication_name r.publication c.publications && taken user
 
 -- its publication or its user, where it is not there
 abbrev pub missing_either : Lists → SubscriptionRule → Option (List ℕ)
-missing_either c r = first_of (where_true (not (taken publication_name r.publication c.publications)) r.publication) (where_true (not (taken user_name r.user c.users)) r.user)
+missing_either c r =
+    first_of (where_true (not (taken publication_name r.publication c.publications)) r.publication) (where_true (not (taken user_name r.user c.users)) r.user)
 
 -- its publication or its user, or else the publication for the subscription itself
 abbrev pub missing_unless : Bool → Lists → SubscriptionRule → Option (List ℕ)
@@ -109,10 +110,15 @@ subscription_of r = record { publication = r.publication; value = r.value; user 
 abbrev pub has_article : Option Publication → List ℕ → Bool
 has_article p table = list_any (λ a. bytes_eq table a.table) (articles_of p)
 
+-- whether a subscription is to another publication, which has the table
+abbrev pub is_another_with : Lists → SubscriptionRule → List ℕ → Subscription → Bool
+is_another_with c r table s =
+    not (bytes_eq r.publication s.publication) && has_article (named publication_name s.publication c.publications) table
+
 -- a started subscription of this user to another publication that has the table
 abbrev pub is_elsewhere : Lists → SubscriptionRule → List ℕ → Subscription → Bool
 is_elsewhere c r table s =
-    s.started && (bytes_eq r.user s.user && (not (bytes_eq r.publication s.publication) && has_article (named publication_name s.publication c.publications) table))
+    s.started && (bytes_eq r.user s.user && is_another_with c r table s)
 
 -- the first table of the publication that such a subscription has already
 unfoldable pub twice_subscribed : Lists → SubscriptionRule → Option (List ℕ)

@@ -16,11 +16,15 @@ abbrev pub is_bad_address : Option (List ℕ) → Bool
 is_bad_address None = false
 is_bad_address (Some text) = not (is_name text)
 
+-- a user that is there, is the publisher, or would be the second above
+abbrev pub is_taken : Lists → Bool → List ℕ → Bool
+is_taken c above n = taken user_name n c.users || (bytes_eq n c.publisher || (above && list_any (λ u. u.above) c.users))
+
 -- what speaks against a GRANT: the user is there, is the publisher, or would be the second above; an address that is no name; there
 -- are 1,024 users already
 unfoldable pub grant_causes : Lists → Bool → Grant → Causes
 grant_causes c above g = record no_cause {
-  exists = where_true (taken user_name g.user c.users || (bytes_eq g.user c.publisher || (above && list_any (λ u. u.above) c.users))) g.user;
+  exists = where_true (is_taken c above g.user) g.user;
   bad_type = where_true (is_bad_address g.address) g.user;
   too_many = where_true (nat_le 1024 (length c.users)) 1024;
 }

@@ -1,12 +1,12 @@
 //! What speaks against a GRANT and against PASSTHROUGH FOR, and the user that is made.
 
-ghost use Rattle.std.specs.Prelude.{◌≡◌, ◌&&◌, ◌||◌, not, nat_le, length, IfOk, bytes_eq};
+ghost use Rattle.std.specs.Prelude.{◌≡◌, ◌&&◌, not, nat_le, length, IfOk, bytes_eq};
 ghost use Rattle.std.specs.Option.{option_copied};
 ghost use Rattle.std.specs.List.{list_any};
 ghost use Rattle.sr_schema.specs.Firsts.{first_among, where_true};
-ghost use Rattle.sr_schema.specs.Names.{named, taken};
+ghost use Rattle.sr_schema.specs.Names.{named};
 ghost use Rattle.sr_schema.specs.Members.{user_name};
-ghost use Rattle.sr_ddl.specs.Users.{is_bad_address, address_of, user_of, is_remote, grant_causes, passthrough_causes};
+ghost use Rattle.sr_ddl.specs.Users.{is_taken, is_bad_address, address_of, user_of, is_remote, grant_causes, passthrough_causes};
 
 use sr_ast::Grant;
 use sr_base::{BadName, Copied, Name, NoMemory, Text, name_of};
@@ -38,7 +38,7 @@ fn exists(
     above: bool,
     user: &Name,
 ) -> Result<Option<Name>, NoMemory>
-    ensures { IfOk result (λ found. found ≡ where_true (taken user_name user.now schema.now.users || (bytes_eq user.now schema.now.publisher || (above && list_any (λ u. u.above) schema.now.users))) user.now) }
+    ensures { IfOk result (λ found. found ≡ where_true (is_taken schema.now above user.now) user.now) }
 {
     let taken = is_taken(schema, above, user);
     owned(alloc, where_true(taken, user))
@@ -60,7 +60,7 @@ fn too_many(schema: &Schema) -> Option<u64>
 
 /// Whether the user is there, is the publisher, or would be the second above.
 fn is_taken(schema: &Schema, above: bool, user: &Name) -> bool
-    ensures { result ≡ (taken user_name user.now schema.now.users || (bytes_eq user.now schema.now.publisher || (above && list_any (λ u. u.above) schema.now.users))) }
+    ensures { result ≡ is_taken schema.now above user.now }
 {
     let known = schema.has_user(user);
     let own = is_publisher(schema, user);

@@ -1,12 +1,28 @@
 //! What speaks against CREATE PUBLICATION and DROP PUBLICATION, and the publication that is made.
 
-ghost use Rattle.std.specs.Prelude.{◌≡◌, [], None, cond, nat_eq, length, nat_le, nat_lt, option_map, IfOk, bytes_eq};
+ghost use Rattle.std.specs.Prelude.{◌≡◌, [], length, nat_le, nat_lt, IfOk, bytes_eq};
 ghost use Rattle.std.specs.Option.{option_copied};
 ghost use Rattle.std.specs.List.{list_any};
-ghost use Rattle.sr_schema.specs.Firsts.{first_of, first_among, where_true, has, first_absent};
-ghost use Rattle.sr_schema.specs.Names.{taken};
-ghost use Rattle.sr_schema.specs.Members.{has_column, publication_name, key_names};
-ghost use Rattle.sr_ddl.specs.Publications.{twice_in_articles, absent_column, absent_in, is_bad_where, is_bad_by, is_bad_article, key_outside, table_in, columns_of, article_of, publication_of, create_publication_causes, drop_publication_causes};
+ghost use Rattle.sr_schema.specs.Firsts.{first_of, first_among, where_true};
+ghost use Rattle.sr_ddl.specs.Publications.{
+  twice_in_articles,
+  absent_column,
+  absent_in,
+  is_bad_where,
+  is_bad_by,
+  is_bad_article,
+  key_outside,
+  table_in,
+  columns_of,
+  article_of,
+  publication_of,
+  create_publication_causes,
+  drop_publication_causes,
+  taken_or_twice,
+  absent_in_table,
+  key_lacking,
+  key_outside_columns,
+};
 
 use sr_ast::{ArticleRule, CreatePublication, Expr, Scope};
 use sr_base::{Copied, Name, NoMemory, Seq};
@@ -44,7 +60,7 @@ fn exists(
     alloc: Global,
     rule: &CreatePublication,
 ) -> Result<Option<Name>, NoMemory>
-    ensures { IfOk result (λ found. found ≡ first_of (where_true (taken publication_name rule.now.name schema.now.publications) rule.now.name) (twice_in_articles [] rule.now.articles)) }
+    ensures { IfOk result (λ found. found ≡ taken_or_twice schema.now rule.now) }
 {
     let taken = where_true(schema.has_publication(&rule.name), &rule.name);
     let twice = twice_in_articles(alloc, rule.articles.as_slice())?;
@@ -116,7 +132,7 @@ fn absent_in_table(
     article: &ArticleRule,
     table: &Table,
 ) -> Result<Option<Name>, NoMemory>
-    ensures { IfOk result (λ found. found ≡ first_of (first_absent (has_column table.now) article.now.columns) (first_of (absent_column table.now article.now.condition) (absent_column table.now article.now.by))) }
+    ensures { IfOk result (λ found. found ≡ absent_in_table article.now table.now) }
 {
     let column = first_absent_column(alloc, table, article.columns.as_slice())?;
     let condition = absent_column(alloc, table, &article.condition)?;
@@ -233,7 +249,7 @@ fn key_outside_columns(
     article: &ArticleRule,
     table: &Table,
 ) -> Result<Option<(Name, Name)>, NoMemory>
-    ensures { IfOk result (λ found. found ≡ cond (nat_eq (length article.now.columns) 0) None (option_map (λ n. (article.now.table, n)) (first_absent (has article.now.columns) (key_names table.now)))) }
+    ensures { IfOk result (λ found. found ≡ key_outside_columns article.now table.now) }
 {
     if is_empty(article.columns.as_slice()) {
         return Ok(None);
@@ -246,7 +262,7 @@ fn key_lacking(
     article: &ArticleRule,
     table: &Table,
 ) -> Result<Option<(Name, Name)>, NoMemory>
-    ensures { IfOk result (λ found. found ≡ option_map (λ n. (article.now.table, n)) (first_absent (has article.now.columns) (key_names table.now))) }
+    ensures { IfOk result (λ found. found ≡ key_lacking article.now table.now) }
 {
     let key = key_names(alloc, table)?;
     let lacking = first_absent(&article.columns, key.as_slice());

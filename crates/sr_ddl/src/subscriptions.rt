@@ -1,13 +1,38 @@
 //! What speaks against the statements on subscriptions, and what they leave.
 
-ghost use Rattle.std.specs.Prelude.{◌≡◌, ◌&&◌, not, filter, map, nat_le, length, IfOk, bytes_eq};
+ghost use Rattle.std.specs.Prelude.{◌≡◌, ◌&&◌, not, filter, map, nat_le, length, IfOk};
 ghost use Rattle.std.specs.Option.{option_copied};
 ghost use Rattle.std.specs.List.{list_any};
 ghost use Rattle.sr_ast.specs.Exprs.{term_of};
 ghost use Rattle.sr_schema.specs.Firsts.{where_true};
 ghost use Rattle.sr_schema.specs.Names.{named};
-ghost use Rattle.sr_schema.specs.Members.{publication_name, table_name};
-ghost use Rattle.sr_ddl.specs.Subscriptions.{is_same_value, is_of, is_there, is_started, has_both, missing_either, missing_unless, articles_of, class_of_column, column_class, by_class, differs, is_bad_value, create_subscription_causes, has_article, is_elsewhere, twice_subscribed, start_causes, stop_causes, synchronize_causes, drop_subscription_causes, subscription_of, marked};
+ghost use Rattle.sr_schema.specs.Members.{table_name};
+ghost use Rattle.sr_ddl.specs.Subscriptions.{
+  is_same_value,
+  is_of,
+  is_there,
+  is_started,
+  has_both,
+  missing_either,
+  missing_unless,
+  articles_of,
+  class_of_column,
+  column_class,
+  by_class,
+  differs,
+  is_bad_value,
+  create_subscription_causes,
+  has_article,
+  is_elsewhere,
+  twice_subscribed,
+  start_causes,
+  stop_causes,
+  synchronize_causes,
+  drop_subscription_causes,
+  subscription_of,
+  marked,
+  is_another_with,
+};
 
 use crate::grants::is_remote;
 use sr_ast::{Class, Expr, SubscriptionRule, is_comparable, kind_class, value_class};
@@ -240,7 +265,7 @@ fn is_another_with(
     table: &Name,
     subscription: &Subscription,
 ) -> bool
-    ensures { result ≡ (not (bytes_eq rule.now.publication subscription.now.publication) && has_article (named publication_name subscription.now.publication schema.now.publications) table.now) }
+    ensures { result ≡ is_another_with schema.now rule.now table.now subscription.now }
 {
     rule.publication.bytes() != subscription.publication.bytes()
         && has_article(schema.publication(&subscription.publication), table)

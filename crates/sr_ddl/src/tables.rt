@@ -1,10 +1,9 @@
 //! What speaks against CREATE TABLE, and the table that is made.
 
 ghost use Rattle.std.specs.Prelude.{◌≡◌, ◌||◌, nat_eq, nat_le, nat_lt, length, filter_map, map, IfOk};
-ghost use Rattle.sr_schema.specs.Firsts.{first_of, where_true, first_twice, first_absent};
+ghost use Rattle.sr_schema.specs.Firsts.{where_true, first_absent};
 ghost use Rattle.sr_schema.specs.Names.{place_of, taken};
-ghost use Rattle.sr_schema.specs.Members.{table_name};
-ghost use Rattle.sr_ddl.specs.Tables.{rule_name, column_of, table_of, create_table_causes};
+ghost use Rattle.sr_ddl.specs.Tables.{taken_or_twice, rule_name, column_of, table_of, create_table_causes};
 
 use sr_ast::{ColumnRule, CreateTable};
 use sr_base::{Copied, Name, NoMemory, Seq};
@@ -36,7 +35,7 @@ pub fn create_table_causes(
 }
 
 fn exists(schema: &Schema, alloc: Global, table: &CreateTable) -> Result<Option<Name>, NoMemory>
-    ensures { IfOk result (λ found. found ≡ first_of (where_true (taken table_name table.now.name schema.now.tables) table.now.name) (first_of (first_twice (map rule_name table.now.columns)) (first_twice table.now.key))) }
+    ensures { IfOk result (λ found. found ≡ taken_or_twice schema.now table.now) }
 {
     let taken = where_true(schema.has_table(&table.name), &table.name);
     let column = first_twice_of(alloc, table.columns.as_slice())?;

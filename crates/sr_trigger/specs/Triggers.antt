@@ -1,5 +1,6 @@
 -- CREATE TRIGGER and DROP TRIGGER, and which tables a trigger names.
-use Rattle.std.specs.Prelude.{ℕ, Bool, true, false, not, ◌&&◌, ◌||◌, cond, nat_eq, nat_le, List, [], ◌∷◌, ◌++◌, length, map, is_some, Option, Some, None, option_map, bytes_eq}
+use Rattle.std.specs.Prelude.{ℕ, Bool, true, false, not, ◌&&◌, ◌||◌, cond, nat_eq, nat_le, List}
+use Rattle.std.specs.Prelude.{[], ◌∷◌, ◌++◌, length, map, is_some, Option, Some, None, option_map, bytes_eq}
 use Rattle.std.specs.List.{list_any}
 use Rattle.sr_base.specs.declared.value.Kind.{Kind}
 use Rattle.sr_ast.specs.Classes.{class_in, unknown_in}
@@ -141,24 +142,36 @@ is_bad_part g tables t scope (tested e) = is_bad_expr is_condition g.variables s
 
 -- ---- CREATE TRIGGER
 
+-- the first column behind OF, or what its actions name, that is not there
+abbrev pub absent_behind : List Table → CreateTrigger → Table → Option (List ℕ)
+absent_behind tables g t =
+    first_of (first_absent (has_column t) g.columns) (first_in (absent_in_part tables g.aliases (trigger_scope g t)) g.actions)
+
 -- what a trigger names that is not there: its table; a column behind OF; what its actions name
 unfoldable pub absent_in_trigger : List Table → CreateTrigger → Option Table → Option (List ℕ)
 absent_in_trigger tables g None = Some g.table
-absent_in_trigger tables g (Some t) =
-    first_of (first_absent (has_column t) g.columns) (first_in (absent_in_part tables g.aliases (trigger_scope g t)) g.actions)
+absent_in_trigger tables g (Some t) = absent_behind tables g t
 
--- a trigger that declares a variable twice or has a bad part
-unfoldable pub bad_in_trigger : List Table → CreateTrigger → Option Table → Option (List ℕ)
-bad_in_trigger tables g None = None
-bad_in_trigger tables g (Some t) =
+-- the trigger's name, where it declares a variable twice or has a bad part
+abbrev pub bad_behind : List Table → CreateTrigger → Table → Option (List ℕ)
+bad_behind tables g t =
     first_of (where_true (is_some (first_twice (map variable_name g.variables))) g.name)
     (first_in (λ part. where_true (is_bad_part g tables t (trigger_scope g t) part) g.name) g.actions)
+
+-- a trigger on a table that is there
+unfoldable pub bad_in_trigger : List Table → CreateTrigger → Option Table → Option (List ℕ)
+bad_in_trigger tables g None = None
+bad_in_trigger tables g (Some t) = bad_behind tables g t
+
+-- the trigger's name, where it is taken, or a column that it or an INSERT names twice
+abbrev pub taken_or_twice : Lists → CreateTrigger → Option (List ℕ)
+taken_or_twice c g = first_of (where_true (taken trigger_name g.name c.triggers) g.name) (first_of (first_twice g.columns) (first_in twice_in g.actions))
 
 -- what speaks against CREATE TRIGGER: the name is taken, a column is named twice; a table or a column is not there; a fault in its
 -- variables and actions, by the trigger's name; there are 1,024 triggers already
 unfoldable pub create_trigger_causes : Lists → CreateTrigger → Causes
 create_trigger_causes c g = record no_cause {
-  exists = first_of (where_true (taken trigger_name g.name c.triggers) g.name) (first_of (first_twice g.columns) (first_in twice_in g.actions));
+  exists = taken_or_twice c g;
   missing = absent_in_trigger c.tables g (named table_name g.table c.tables);
   bad_type = bad_in_trigger c.tables g (named table_name g.table c.tables);
   too_many = where_true (nat_le 1024 (length c.triggers)) 1024;

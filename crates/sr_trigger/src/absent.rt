@@ -5,9 +5,8 @@ ghost use Rattle.std.specs.Option.{option_copied};
 ghost use Rattle.sr_ast.specs.Classes.{unknown_in};
 ghost use Rattle.sr_ast.specs.Exprs.{term_of};
 ghost use Rattle.sr_ast.specs.Terms.Term.{column};
-ghost use Rattle.sr_schema.specs.Firsts.{first_of, first_among, first_absent};
-ghost use Rattle.sr_schema.specs.Members.{has_column};
-ghost use Rattle.sr_trigger.specs.Triggers.{first_in, trigger_scope, absent_ref, absent_of, absent_target, absent_columns, absent_in_part, absent_in_trigger};
+ghost use Rattle.sr_schema.specs.Firsts.{first_among};
+ghost use Rattle.sr_trigger.specs.Triggers.{absent_behind, absent_ref, absent_of, absent_target, absent_columns, absent_in_part, absent_in_trigger};
 
 use crate::looking::{Look, first_in};
 use crate::scopes::trigger_scope;
@@ -39,7 +38,7 @@ fn absent_behind(
     rule: &CreateTrigger,
     table: &Table,
 ) -> Result<Option<Name>, NoMemory>
-    ensures { IfOk result (λ found. found ≡ first_of (first_absent (has_column table.now) rule.now.columns) (first_in (absent_in_part schema.now.tables rule.now.aliases (trigger_scope rule.now table.now)) rule.now.actions)) }
+    ensures { IfOk result (λ found. found ≡ absent_behind schema.now.tables rule.now table.now) }
 {
     let column = first_absent_column(alloc, table, rule.columns.as_slice())?;
     let scope = trigger_scope(alloc, rule, table)?;

@@ -5,8 +5,19 @@ ghost use Rattle.std.specs.List.{list_any};
 ghost use Rattle.std.specs.Option.{option_copied};
 ghost use Rattle.sr_ast.specs.Exprs.{term_of};
 ghost use Rattle.sr_schema.specs.Expressions.{is_condition, is_value};
-ghost use Rattle.sr_schema.specs.Firsts.{first_of, where_true, first_twice};
-ghost use Rattle.sr_trigger.specs.Triggers.{variable_name, first_in, trigger_scope, is_undeclared, has_undeclared, is_bad_expr, is_new, is_target, wanted, is_bad_part, bad_in_trigger};
+ghost use Rattle.sr_schema.specs.Firsts.{where_true, first_twice};
+ghost use Rattle.sr_trigger.specs.Triggers.{
+  variable_name,
+  is_undeclared,
+  has_undeclared,
+  is_bad_expr,
+  is_new,
+  is_target,
+  wanted,
+  is_bad_part,
+  bad_in_trigger,
+  bad_behind,
+};
 
 use crate::looking::{Look, first_in};
 use crate::scopes::trigger_scope;
@@ -40,7 +51,7 @@ fn bad_behind(
     rule: &CreateTrigger,
     table: &Table,
 ) -> Result<Option<Name>, NoMemory>
-    ensures { IfOk result (λ found. found ≡ first_of (where_true (is_some (first_twice (map variable_name rule.now.variables))) rule.now.name) (first_in (λ part. where_true (is_bad_part rule.now schema.now.tables table.now (trigger_scope rule.now table.now) part) rule.now.name) rule.now.actions)) }
+    ensures { IfOk result (λ found. found ≡ bad_behind schema.now.tables rule.now table.now) }
 {
     let twice = declares_twice(alloc, rule)?;
     let declared = owned(alloc, where_true(twice, &rule.name))?;

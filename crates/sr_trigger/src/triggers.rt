@@ -1,10 +1,8 @@
 //! What speaks against CREATE TRIGGER and DROP TRIGGER, and the trigger that is made.
 
 ghost use Rattle.std.specs.Prelude.{◌≡◌, nat_le, length, IfOk};
-ghost use Rattle.sr_schema.specs.Firsts.{first_of, where_true, first_twice};
-ghost use Rattle.sr_schema.specs.Members.{trigger_name};
-ghost use Rattle.sr_schema.specs.Names.{taken};
-ghost use Rattle.sr_trigger.specs.Triggers.{first_in, twice_in, create_trigger_causes, trigger_of, drop_trigger_causes};
+ghost use Rattle.sr_schema.specs.Firsts.{where_true};
+ghost use Rattle.sr_trigger.specs.Triggers.{taken_or_twice, twice_in, create_trigger_causes, trigger_of, drop_trigger_causes};
 
 use crate::absent::absent_in_trigger;
 use crate::bad::bad_in_trigger;
@@ -38,7 +36,7 @@ pub fn create_trigger_causes(
 }
 
 fn exists(schema: &Schema, alloc: Global, rule: &CreateTrigger) -> Result<Option<Name>, NoMemory>
-    ensures { IfOk result (λ found. found ≡ first_of (where_true (taken trigger_name rule.now.name schema.now.triggers) rule.now.name) (first_of (first_twice rule.now.columns) (first_in twice_in rule.now.actions))) }
+    ensures { IfOk result (λ found. found ≡ taken_or_twice schema.now rule.now) }
 {
     let taken = where_true(schema.has_trigger(&rule.name), &rule.name);
     let taken = owned(alloc, taken)?;
