@@ -59,8 +59,10 @@ impl Catalog {
             return Err(fault);
         }
         let mut schema = self.schema.copy(alloc)?;
-        apply(&mut schema, alloc, stmt)?;
-        Ok(Catalog { schema })
+        match apply(&mut schema, alloc, stmt) {
+            Ok(()) => Ok(Catalog { schema }),
+            Err(_) => Err(DdlFault::Memory),
+        }
     }
 
     /// The publisher.
