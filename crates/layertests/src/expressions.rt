@@ -4,7 +4,8 @@
 ghost use Rattle.std.specs.Prelude.{IsTrue};
 ghost use Rattle.sr_ast.specs.Exprs.{term_of};
 ghost use Rattle.sr_ast.specs.Classes.{class_in};
-ghost use Rattle.sr_eval.specs.Bounds.{IsRowOf, gives_value, gives_truth, is_plain};
+ghost use Rattle.sr_eval.specs.Bounds.{IsRowOf};
+ghost use Rattle.sr_eval.specs.Uses.{gives_value, gives_truth, is_plain};
 
 use sr_ast::{Binary, Class, Delete, Dml, Expr, Operand, Stmt, class_of};
 use sr_base::{Kind, Name, Seq, Text, Value, name_of};

@@ -47,61 +47,29 @@ parts 0105000000090007 =>  8
 parts 0200 => bad 0";
 
 /// A field whose value is said in words.
-trait Worded: Drop {
-    fn read(alloc: Global, bytes: &[u8]) -> Result<(Self, usize), Bad>;
-
+trait Worded: Field {
     fn say(&self, alloc: Global, out: &mut Vec<u8>) -> Result<(), Fail>;
-
-    fn spell(&self, alloc: Global, out: &mut Vec<u8>) -> Result<(), Fail>;
 }
 
 impl Worded for Value {
-    fn read(alloc: Global, bytes: &[u8]) -> Result<(Value, usize), Bad> {
-        read_value(alloc, bytes)
-    }
-
     fn say(&self, alloc: Global, out: &mut Vec<u8>) -> Result<(), Fail> {
         Ok(write_literal(alloc, self, out)?)
-    }
-
-    fn spell(&self, alloc: Global, out: &mut Vec<u8>) -> Result<(), Fail> {
-        Ok(write_value(alloc, self, out)?)
     }
 }
 
 impl Worded for Name {
-    fn read(alloc: Global, bytes: &[u8]) -> Result<(Name, usize), Bad> {
-        read_name(alloc, bytes)
-    }
-
     fn say(&self, _alloc: Global, out: &mut Vec<u8>) -> Result<(), Fail> {
         Ok(out.extend_from_slice(self.bytes())?)
-    }
-
-    fn spell(&self, alloc: Global, out: &mut Vec<u8>) -> Result<(), Fail> {
-        Ok(write_name(alloc, self, out)?)
     }
 }
 
 impl Worded for Text {
-    fn read(alloc: Global, bytes: &[u8]) -> Result<(Text, usize), Bad> {
-        read_text(alloc, bytes)
-    }
-
     fn say(&self, _alloc: Global, out: &mut Vec<u8>) -> Result<(), Fail> {
         Ok(out.extend_from_slice(self.bytes())?)
-    }
-
-    fn spell(&self, alloc: Global, out: &mut Vec<u8>) -> Result<(), Fail> {
-        Ok(write_text(alloc, self, out)?)
     }
 }
 
 impl Worded for Row {
-    fn read(alloc: Global, bytes: &[u8]) -> Result<(Row, usize), Bad> {
-        read_row(alloc, bytes)
-    }
-
     fn say(&self, alloc: Global, out: &mut Vec<u8>) -> Result<(), Fail> {
         for value in self.values() {
             write_literal(alloc, value, out)?;
@@ -109,43 +77,17 @@ impl Worded for Row {
         }
         Ok(())
     }
-
-    fn spell(&self, alloc: Global, out: &mut Vec<u8>) -> Result<(), Fail> {
-        Ok(write_row(alloc, self, out)?)
-    }
 }
 
 impl Worded for u32 {
-    fn read(_alloc: Global, bytes: &[u8]) -> Result<(u32, usize), Bad> {
-        match read_u32(bytes) {
-            Some(number) => Ok((number, 4)),
-            None => Err(Bad::Field { at: 0 }),
-        }
-    }
-
     fn say(&self, alloc: Global, out: &mut Vec<u8>) -> Result<(), Fail> {
         say_number(alloc, u64::from(*self), out)
-    }
-
-    fn spell(&self, alloc: Global, out: &mut Vec<u8>) -> Result<(), Fail> {
-        Ok(write_u32(alloc, *self, out)?)
     }
 }
 
 impl Worded for u64 {
-    fn read(_alloc: Global, bytes: &[u8]) -> Result<(u64, usize), Bad> {
-        match read_u64(bytes) {
-            Some(number) => Ok((number, 8)),
-            None => Err(Bad::Field { at: 0 }),
-        }
-    }
-
     fn say(&self, alloc: Global, out: &mut Vec<u8>) -> Result<(), Fail> {
         say_number(alloc, *self, out)
-    }
-
-    fn spell(&self, alloc: Global, out: &mut Vec<u8>) -> Result<(), Fail> {
-        Ok(write_u64(alloc, *self, out)?)
     }
 }
 
@@ -159,15 +101,15 @@ fn say_number(alloc: Global, number: u64, out: &mut Vec<u8>) -> Result<(), Fail>
 
 /// What is read, if its bytes are those that it is written as.
 fn told<T: Worded>(alloc: Global, bytes: &[u8]) -> Result<String, Fail> {
-    match T::read(alloc, bytes) {
+    match read_front::<T>(alloc, bytes) {
         Ok((field, taken)) => {
-            let mut said = Vec::new(alloc);
-            field.say(alloc, &mut said)?;
             let mut again = Vec::new(alloc);
-            field.spell(alloc, &mut again)?;
-            if !bytes.starts_with(again.as_slice()) {
+            field.write(&mut again)?;
+            if !bytes.starts_with(again.as_slice()) || again.len() != taken {
                 return Err(Fail::new("written otherwise"));
             }
+            let mut said = Vec::new(alloc);
+            field.say(alloc, &mut said)?;
             let end = format!(in alloc; " {taken}")?;
             said.extend_from_slice(end.as_bytes())?;
             text_of(said)
@@ -224,6 +166,60 @@ fn fields_are_read_from_their_bytes_and_written_as_them(rt: HostRuntime) -> Resu
         let bytes = bytes_of(alloc, hex)?;
         let found = told_as(alloc, kind, bytes.as_slice())?;
         assert_eq!(rt; found.as_str(), want, "of {line}");
+    }
+    Ok(())
+}
+
+/// The bytes of a field by the calls of its type: a value, a name, a text, a row and two numbers.
+fn again(alloc: Global, kind: usize, bytes: &[u8]) -> Result<Option<Vec<u8>>, Fail> {
+    let mut out = Vec::new(alloc);
+    match kind {
+        0 => match read_value(alloc, bytes) {
+            Ok((value, _)) => write_value(alloc, &value, &mut out)?,
+            Err(_) => return Ok(None),
+        },
+        1 => match read_name(alloc, bytes) {
+            Ok((name, _)) => write_name(alloc, &name, &mut out)?,
+            Err(_) => return Ok(None),
+        },
+        2 => match read_text(alloc, bytes) {
+            Ok((text, _)) => write_text(alloc, &text, &mut out)?,
+            Err(_) => return Ok(None),
+        },
+        3 => match read_row(alloc, bytes) {
+            Ok((row, _)) => write_row(alloc, &row, &mut out)?,
+            Err(_) => return Ok(None),
+        },
+        4 => match read_u32(bytes) {
+            Some(number) => write_u32(alloc, number, &mut out)?,
+            None => return Ok(None),
+        },
+        _ => match read_u64(bytes) {
+            Some(number) => write_u64(alloc, number, &mut out)?,
+            None => return Ok(None),
+        },
+    }
+    Ok(Some(out))
+}
+
+#[test]
+fn each_type_has_its_calls(rt: HostRuntime) -> Result<(), Fail> {
+    let alloc = rt.alloc();
+    for (kind, bytes) in [
+        b"\x01\x7f\xff\xff\xff".as_slice(),
+        b"\x01t",
+        b"\x00\x00\x00\x01a",
+        b"\x00\x00\x00\x02\x01\xff\xff\xff\xff\x00",
+        b"\x00\x00\x00\x07",
+        b"\x00\x00\x00\x00\x00\x00\x00\x08",
+    ]
+    .iter()
+    .enumerate()
+    {
+        let Some(written) = again(alloc, kind, bytes)? else {
+            return Err(Fail::new("not read"));
+        };
+        assert!(rt; written.as_slice() == *bytes, "{kind}");
     }
     Ok(())
 }

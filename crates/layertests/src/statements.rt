@@ -1,6 +1,6 @@
 //! Statements by their kind.
 
-use sr_ast::{is_carried, is_ddl, print};
+use sr_ast::{Stmt, is_carried, is_ddl, print};
 use sr_base::{Copied, Text};
 use sr_parse::parse;
 use std::alloc::Global;
@@ -31,20 +31,27 @@ ROLLBACK => false false
 PASSTHROUGH FOR r1 => false false
 PASSTHROUGH STOP => false false";
 
-/// The kinds of the one statement of a script, if a copy of it prints as the script.
-fn kinds(alloc: Global, script: &str) -> Result<String, Fail> {
-    let text = Text::from_str(alloc, script)?;
-    let Ok(statements) = parse(alloc, &text) else {
-        return Err(Fail::new("no script"));
-    };
-    let [statement] = statements.as_slice() else {
-        return Err(Fail::new("not one"));
-    };
+/// The kinds of a statement, if a copy of it prints as it is wanted.
+fn kinds_of(alloc: Global, statement: &Stmt, script: &str) -> Result<String, Fail> {
     let copy = statement.copy(alloc)?;
-    if print(alloc, &copy)?.as_str() != script {
+    let printed = print(alloc, &copy)?;
+    if printed.as_str() != script {
         return Err(Fail::new("printed otherwise"));
     }
-    Ok(format!(in alloc; "{} {}", is_ddl(statement), is_carried(statement))?)
+    let (ddl, carried) = (is_ddl(statement), is_carried(statement));
+    Ok(format!(in alloc; "{ddl} {carried}")?)
+}
+
+/// The kinds of the one statement of a script.
+fn kinds(alloc: Global, script: &str) -> Result<String, Fail> {
+    let text = Text::from_str(alloc, script)?;
+    match parse(alloc, &text) {
+        Ok(statements) => match statements.as_slice() {
+            [statement] => kinds_of(alloc, statement, script),
+            _ => Err(Fail::new("not one")),
+        },
+        Err(_) => Err(Fail::new("no script")),
+    }
 }
 
 #[test]

@@ -5,6 +5,7 @@ ghost use Rattle.sr_exec.specs.Conditions.{RowsFit};
 
 use crate::execution::{Stopped, on_rows};
 use crate::rows::insertion;
+use sr_base::Name;
 use sr_catalog::Catalog;
 use sr_exec::rows_stay_fitting;
 use sr_rows::Rows;
@@ -19,10 +20,28 @@ pub fn reloaded(alloc: Global, catalog: &Catalog, rows: &Rows) -> Result<Rows, S
     let mut held = Rows::new(alloc);
     let mut left = catalog.tables();
     'tables: while let Some((table, rest)) = left.split_first() {
-        let statement = insertion(alloc, rows, &table.name)?;
-        on_rows(alloc, catalog, &mut held, &statement)?;
+        reload(alloc, catalog, &table.name, rows, &mut held)?;
         left = rest;
     }
     held.mark();
     Ok(held)
+}
+
+/// Inserts the rows of a table, if there are any.
+fn reload(
+    alloc: Global,
+    catalog: &Catalog,
+    table: &Name,
+    rows: &Rows,
+    held: &mut Rows,
+) -> Result<(), Stopped>
+    requires rows { RowsFit catalog.now held.old.rows }
+    ensures rows { OnOk result (RowsFit catalog.now held.new.rows) }
+{
+    if rows.next(table, None).is_none() {
+        return Ok(());
+    }
+    let statement = insertion(alloc, rows, table)?;
+    on_rows(alloc, catalog, held, &statement)?;
+    Ok(())
 }

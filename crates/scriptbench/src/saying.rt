@@ -42,24 +42,14 @@ pub fn say_values(
 }
 
 /// Appends values in parentheses.
-fn say_list(
-    alloc: Global,
-    out: &mut Vec<u8>,
-    word: &str,
-    values: &[Value],
-) -> Result<(), Stopped> {
+fn say_list(alloc: Global, out: &mut Vec<u8>, word: &str, values: &[Value]) -> Result<(), Stopped> {
     say(out, word)?;
     say(out, "(")?;
     say_values(alloc, out, values, ", ")?;
     say(out, ")")
 }
 
-fn say_row(
-    alloc: Global,
-    out: &mut Vec<u8>,
-    sign: &str,
-    row: &Option<Row>,
-) -> Result<(), Stopped> {
+fn say_row(alloc: Global, out: &mut Vec<u8>, sign: &str, row: &Option<Row>) -> Result<(), Stopped> {
     match row {
         Some(row) => say_list(alloc, out, sign, row.values()),
         None => Ok(()),
