@@ -1,9 +1,8 @@
 -- Readers of conditions, articles and publications.
-use Rattle.std.proofs.Common.{◌≡◌, ℕ, Bool, true, false, ◌||◌, List, [], ◌∷◌, Option, Some, None, Result, Ok, refl, sym, ap, ◌∙◌, inl}
+use Rattle.std.proofs.Common.{◌≡◌, ℕ, List, [], ◌∷◌, Option, Some, None, Result, Ok, refl, sym, ap, ◌∙◌, inl}
 use Rattle.sr_ast.specs.declared.expr.Expr.{Expr}
 use Rattle.sr_ast.specs.declared.create.ArticleRule.{ArticleRule}
 use Rattle.sr_ast.specs.declared.create.CreatePublication.{CreatePublication}
-use Rattle.sr_grammar.specs.declared.keyword.Keyword.{Keyword}
 use Rattle.sr_grammar.specs.declared.keyword.Keyword.TheVariants as key
 use Rattle.sr_grammar.specs.declared.symbol.Sign.TheVariants as mark
 use Rattle.sr_reader.specs.declared.reader.Broken.{Broken}
@@ -11,12 +10,12 @@ use Rattle.sr_grammar.specs.Symbols.{Symbols, first, word, IsName, IsWord}
 use Rattle.sr_grammar.specs.Listing.{Listed, IsNames}
 use Rattle.sr_grammar.specs.Listing.Listed.{one}
 use Rattle.sr_grammar.specs.Expressions.{IsExpr}
-use Rattle.sr_grammar.specs.Writing.{IsLed, IsCondition}
+use Rattle.sr_grammar.specs.Writing.{IsCondition}
 use Rattle.sr_grammar.specs.Catalog.{IsSubscribed, IsArticle, IsPublication}
-use Rattle.sr_grammar.specs.Going.{Stop, Closes, is_where, is_open, expression_goes, condition_goes}
+use Rattle.sr_grammar.specs.Going.{Stop, Closes, is_open, expression_goes, condition_goes}
 use Rattle.sr_reader.specs.Reading.{Alike, Reading, Anywhere, BeforeSign, mapped}
 use Rattle.sr_reader.specs.Productions.{Word, Mark}
-use Rattle.sr_grammar.proofs.Steps.{Stop-begins, Stop-fewer}
+use Rattle.sr_grammar.proofs.Steps.{Stop-begins}
 use Rattle.sr_grammar.proofs.Lists.{Closes-stop}
 use Rattle.sr_reader.proofs.Conditions.{Lacks, condition_sample, passed_by}
 use Rattle.sr_grammar.proofs.Selecting.{led_stops}

@@ -15,7 +15,6 @@ use Rattle.sr_grammar.specs.Literals.{IsLiteral, IsNegative}
 use Rattle.sr_grammar.specs.Catalog.{IsSigned, IsGiven, IsSubscription, IsAddress, IsGrant}
 use Rattle.sr_grammar.specs.Going.{Stop, Ends, is_open}
 use Rattle.sr_reader.specs.Reading.{Alike, Reading, Anywhere, mapped}
-use Rattle.sr_reader.specs.Reading.Reading.{read}
 use Rattle.sr_reader.specs.Productions.{Word, Mark}
 use Rattle.sr_grammar.proofs.Steps.{Stop-begins}
 use Rattle.sr_grammar.proofs.Lists.{Ends-stop}

@@ -14,7 +14,9 @@ use sr_ast::{Dml, Script, Stmt};
 use sr_base::{Seq, Text};
 use sr_grammar::{Keyword, ParseFault, Sign};
 use sr_lex::LexFault;
-use sr_reader::{Broken, Reader, delete, insert, passthrough, select, start_behind, symbols, update};
+use sr_reader::{
+    Broken, Reader, delete, insert, passthrough, select, start_behind, symbols, update,
+};
 use std::alloc::{AllocError, AllocFailed, Global};
 
 /// The statements of a script, each in its normal form.
