@@ -1,6 +1,6 @@
 //! What a longer history leaves as it was.
 
-ghost use Rattle.std.specs.Prelude.{ℕ, ◌≤◌, List, ◌++◌};
+ghost use Rattle.std.specs.Prelude.{◌≤◌, List, ◌++◌};
 ghost use Rattle.sr_msgform.specs.declared.message.Message.{Message};
 ghost use Rattle.sr_book.specs.Entries.{Name};
 ghost use Rattle.sr_book.specs.Histories.{taken};

@@ -3,7 +3,6 @@
 ghost use Rattle.std.specs.Prelude.{◌≡◌, ℕ, List, [], ◌∷◌, length};
 ghost use Rattle.sr_book.specs.Entries.{Name};
 ghost use Rattle.sr_book.specs.Histories.{taken, book_of};
-ghost use Rattle.sr_model.specs.Layers.{Laws};
 ghost use Rattle.sr_model.specs.Machines.{StepLaws, GrantLaws, layers_of, lawful_by};
 ghost use Rattle.sr_model.specs.Small.{SmallEntry, small, SmallHasSpelling, SmallFits, SmallHolds, SmallKnows};
 ghost use Rattle.sr_model.specs.Small.{small_world, small_runs, small_acts, cons, r1, r2};
@@ -47,8 +46,8 @@ impl StepRules for SmallRules {
 /// Three databases, eight runs, 28 steps: commits, windows for two users, one of them in two fragments; a window that is found before
 /// the one it follows, the ask for that one, its note, and both sent again as one window; takes from the fragments and from the window
 /// sent again, which begins before what was taken; a crash; an answer that confirms; a take that conflicts, and gives its origin
-/// something back, which is sent and taken. They are runs, each step is allowed, and the world is then good. Each database has taken
-/// all that it was given, and the books tell what was sent, confirmed, asked for and raised.
+/// something back, which is sent and taken. They are runs, each step is allowed, and the world is then good. r1 has taken all that
+/// cons gives it, the others have taken theirs, and the books tell what was sent, confirmed, asked for and raised.
 pub fn small_world_goes()
     ensures laws { StepLaws small SmallHasSpelling SmallFits SmallHolds }
     ensures grants { GrantLaws small SmallFits SmallKnows }
