@@ -4,6 +4,7 @@ use Rattle.std.proofs.lemmas.List.{map-append}
 use Rattle.std.proofs.lemmas.Slice.Eq.{bytes_eq-Decides}
 use Rattle.sr_base.specs.declared.offset.Offset.{Offset}
 use Rattle.sr_site.specs.Causes.{DiskStays}
+use Rattle.sr_site.specs.Growing.{disk_stays_on}
 use Rattle.sr_site.specs.Files.{Files, bytes_of, OthersStay}
 use Rattle.sr_site.specs.Seen.{Seen}
 use Rattle.sr_site.specs.declared.file.File.{File}
@@ -25,9 +26,11 @@ use Rattle.sr_exchange.proofs.Histories.{state_more, state_from-append}
 use Rattle.dbremote.specs.declared.fault.Fault.{Fault}
 use Rattle.dbremote.specs.declared.fault.Fault.TheVariants.{Words, Memory, Disk, Damaged, Source, TooLong, Script, Refused, Full, Sink}
 use Rattle.dbremote.specs.Histories.{Stands, HasStanding, HoldsSome, LacksRoomFor}
+use Rattle.dbremote.specs.Limits.{log_bound}
 use Rattle.dbremote.specs.Openings.{MakeCause, CompleteCause, statement_body}
 use Rattle.dbremote.proofs.Lawful.{span, bodies-append, records-append, span-append, span_more, span_first, lawful_more, on_of}
-use Rattle.dbremote.proofs.Reached.{others_more, stays_more}
+use Rattle.dbremote.proofs.Still.{stays_same}
+use Rattle.dbremote.proofs.Reached.{others_more}
 
 -- ---- the statements that a database waits for
 
@@ -164,6 +167,7 @@ pub record Completing (start log : Log) (from fold : State) (before now : Seen) 
   pub idle : from.waiting ≡ [] → (fold ≡ from) × (now.files ≡ before.files)
   pub others : IsTrue before.told → OthersStay Log0 before.files now.files
   pub stays : DiskStays before now
+  pub steady : now.disk_faults ≡ before.disk_faults
 
 same_files : (files : Files) → OthersStay Log0 files files
 same_files files = refl
@@ -183,7 +187,8 @@ completing_start log fold before has file usable = record {
   usable = usable;
   idle = λ none. (refl, refl);
   others = λ told. same_files before.files;
-  stays = record { told = refl; mail = refl; mail_faults = refl; later = omega arith };
+  stays = stays_same before;
+  steady = refl;
 }
 
 -- the frame's bytes
@@ -225,8 +230,8 @@ made_more role es log new fold folded told mid now text texts m waits short grow
 pub completing_step : (start log new : Log) (from fold folded : State) (before mid now : Seen) (text : List ℕ) (texts : List (List ℕ)) → Completing start log from fold before mid
     → fold.waiting ≡ text ∷ texts → length text ≤ 65 → new ≡ longer log (length (framed_of (statement_body text))) → new.end ≤ 2 ^ 62
     → (IsTrue mid.told → (bodies : List (List ℕ)) → IsLog log bodies mid.files → IsLog new (bodies ++ statement_body text ∷ []) now.files) → folded ≡ next fold (Ddl text)
-    → (IsTrue mid.told → OthersStay Log0 mid.files now.files) → DiskStays mid now → Completing start new from folded before now
-completing_step start log new from fold folded before mid now text texts c waits short grown limit record_is folds others stays =
+    → (IsTrue mid.told → OthersStay Log0 mid.files now.files) → DiskStays mid now → now.disk_faults ≡ mid.disk_faults → Completing start new from folded before now
+completing_step start log new from fold folded before mid now text texts c waits short grown limit record_is folds others stays steady =
     let inside : IsTrue before.told → IsTrue mid.told = λ told. subst IsTrue (sym c.stays.told) told in
     record {
       made = λ es stands. made_more from.role es log new fold folded before.told mid.files now.files text texts (c.made es stands) waits short grown limit (λ told. record_is (inside told)) folds;
@@ -236,7 +241,8 @@ completing_step start log new from fold folded before mid now text texts c waits
       usable = ap (λ (l : Log). l.usable) grown ∙ c.usable;
       idle = λ none. absurd (let no : [] ≡ text ∷ texts = sym none ∙ ap (λ (s : State). s.waiting) (sym (c.idle none).0) ∙ waits in no_text text texts no);
       others = λ told. others_more before.files mid.files now.files (c.others told) (others (inside told));
-      stays = stays_more before mid now c.stays stays;
+      stays = disk_stays_on before mid now c.stays stays;
+      steady = steady ∙ c.steady;
     }
 
 -- none is missing any more
@@ -304,7 +310,7 @@ some_left start log from fold before mid now text texts c waits short left told 
     ]
 
 -- the last offset was passed, since the log is short
-no_bound : (log : Log) (need base long : ℕ) → IsFull log need 1006632960 → log.base ≡ base → log.end ≡ log.base + long → long + need ≤ 1000 → 2 ^ 62 < base + long + need
+no_bound : (log : Log) (need base long : ℕ) → IsFull log need log_bound → log.base ≡ base → log.end ≡ log.base + long → long + need ≤ 1000 → 2 ^ 62 < base + long + need
 no_bound log need base long (inl bound) b end few = absurd (omega (arith, bound, end, few))
 no_bound log need base long (inr last) b end few = omega (arith, last, b, end)
 

@@ -2,6 +2,7 @@
 use Rattle.std.proofs.Common.{refl, ◌≡◌, ◌⊎◌, ◌+◌, ◌^◌, ◌≤◌, ◌<◌, ◌*◌, ℕ, Bool, true, false, IsTrue, List, [], ◌++◌, length, length-append, append-nil, map, ap, sym, ◌∙◌, subst, inl, inr, arith}
 use Rattle.sr_site.specs.Files.{Files, bytes_of}
 use Rattle.sr_site.specs.Seen.{Seen}
+use Rattle.sr_site.specs.Streams.{Input}
 use Rattle.sr_site.specs.declared.file.File.TheVariants.{Log0}
 use Rattle.sr_logfile.specs.Log.{Log}
 use Rattle.sr_logfile.specs.Records.{Spells, open_records}
@@ -13,7 +14,6 @@ use Rattle.dbremote.specs.declared.statement.ScriptFault.{ScriptFault}
 use Rattle.dbremote.specs.declared.statement.ScriptFault.TheVariants as script_fault
 use Rattle.dbremote.specs.declared.stream.InputFault.{InputFault}
 use Rattle.dbremote.specs.declared.stream.InputFault.TheVariants as source
-use Rattle.dbremote.specs.declared.stream.TheConstants.{LONGEST_SCRIPT}
 use Rattle.dbremote.specs.FaultsOfReading.{fault_of_input, fault_of_script}
 use Rattle.dbremote.specs.ScriptFaults.{IsScriptFault}
 use Rattle.dbremote.specs.Streams.{InputCause}
@@ -25,10 +25,11 @@ use Rattle.sr_exchange.specs.Exchange.{rows_of, waiting_of, is_lawful, State}
 use Rattle.sr_exchange.specs.Logs.{bodies_of, HasHistory, StandsFor, IsDamagedDatabase, completed}
 use Rattle.sr_site.specs.declared.file.File.{File}
 use Rattle.dbremote.specs.Openings.{OpenFault}
+use Rattle.dbremote.specs.Limits.{most_script, log_bound}
 use Rattle.dbremote.specs.Lines.{script, AreStatements}
-use Rattle.dbremote.specs.Runs.{FoundAndLeft, Stream, Outside, Found, FoundAndGoesOn, HoldsDone, HasRead}
+use Rattle.dbremote.specs.Runs.{FoundAndLeft, Outside, Found, FoundAndGoesOn, HoldsDone, HasRead}
 use Rattle.dbremote.specs.Sessions.{log_to, HoldsBeside, HoldsAfter, HasNoRoom, Stopped}
-use Rattle.dbremote.specs.Stops.{StopsLate, StopsSql, BeginCause}
+use Rattle.dbremote.specs.Stops.{StopsLate, StopsSql, BeginCause, IsOfDamage}
 use Rattle.sr_exchange.specs.Tables.{Rows, are_free}
 use Rattle.dbremote.specs.Transactions.{items_of, open_after, committed, transactions, end_after}
 use Rattle.dbremote.proofs.Completing.{waiting_behind}
@@ -40,7 +41,7 @@ none_waits : (role : Role) (es : List Entry) → waiting_of role (completed role
 none_waits role es = waiting_behind role es (waiting_of role es) [] (sym (append-nil (waiting_of role es)))
 
 -- what an opened database is
-pub found_of : (role : Role) (old now : Files) (fold : State) (table : Rows) (log : Log) → table ≡ fold.rows → IsOpened role old now fold log → Found role old.log0 table log.end
+unfoldable pub found_of : (role : Role) (old now : Files) (fold : State) (table : Rows) (log : Log) → table ≡ fold.rows → IsOpened role old now fold log → Found role old.log0 table log.end
 found_of role old now fold table log rows o = record {
   base = o.base;
   es = o.es;
@@ -53,7 +54,7 @@ free_at : (table rows : Rows) (items : List Item) → table ≡ rows → are_fre
 free_at table rows items e h = subst (λ (r : Rows). are_free r items ≡ true) e h
 
 -- what stands after a fault that left the statements done alone
-beside_done : (role : Role) (old opened new : Files) (fold : State) (table : Rows) (log : Log) (done : List Statement) → table ≡ fold.rows → (o : IsOpened role old opened fold log) → log.file ≡ Log0
+pub beside_done : (role : Role) (old opened new : Files) (fold : State) (table : Rows) (log : Log) (done : List Statement) → table ≡ fold.rows → (o : IsOpened role old opened fold log) → log.file ≡ Log0
     → AreStatements done → length (script done) ≤ 2 ^ 26 → are_free table (items_of done) ≡ true → HoldsBeside log (transactions [] done) opened new
     → HasHistory role o.base (completed role o.es ++ map Own (transactions [] done)) new.log0
 beside_done role old opened new fold table log done rows o file are short free holds =
@@ -61,7 +62,7 @@ beside_done role old opened new fold table log done rows o file are short free h
     (free_at table (rows_of role (completed role o.es)) (items_of done) (rows ∙ ap (λ (s : State). s.rows) o.fold_is) free) (holds (bodies_of (completed role o.es)) o.is_log.is_log)
 
 -- the statements ran to their end
-pub goes_on_of : (role : Role) (old opened new : Files) (fold : State) (table : Rows) (log : Log) (statements : List Statement) → table ≡ fold.rows → IsOpened role old opened fold log → log.file ≡ Log0
+unfoldable pub goes_on_of : (role : Role) (old opened new : Files) (fold : State) (table : Rows) (log : Log) (statements : List Statement) → table ≡ fold.rows → IsOpened role old opened fold log → log.file ≡ Log0
     → AreStatements statements → length (script statements) ≤ 2 ^ 26 → are_free table (items_of statements) ≡ true → HoldsBeside log (transactions [] statements) opened new
     → FoundAndGoesOn role old.log0 new.log0 table log.end (transactions [] statements)
 unfolding found_of
@@ -86,7 +87,7 @@ disk_done role old opened new fold table log done rows o file are short free hol
 holds_done_of : (role : Role) (old opened new : Files) (fold : State) (table : Rows) (log : Log) (done : List Statement) (fault : Fault) → table ≡ fold.rows → (o : IsOpened role old opened fold log) → log.file ≡ Log0
     → AreStatements done → length (script done) ≤ 2 ^ 26 → are_free table (items_of done) ≡ true → HoldsAfter log done opened new fault → HoldsDone role o.base (completed role o.es) done new.log0 fault
 holds_done_of role old opened new fold table log done Disk rows o file are short free holds = disk_done role old opened new fold table log done rows o file are short free holds
-holds_done_of role old opened new fold table log done Memory rows o file are short free holds = inl (beside_done role old opened new fold table log done rows o file are short free holds)
+holds_done_of role old opened new fold table log done Memory rows o file are short free holds = beside_done role old opened new fold table log done rows o file are short free holds
 holds_done_of role old opened new fold table log done Words rows o file are short free holds = beside_done role old opened new fold table log done rows o file are short free holds
 holds_done_of role old opened new fold table log done (Damaged place) rows o file are short free holds = beside_done role old opened new fold table log done rows o file are short free holds
 holds_done_of role old opened new fold table log done Source rows o file are short free holds = beside_done role old opened new fold table log done rows o file are short free holds
@@ -101,7 +102,7 @@ pub late_of : (role : Role) (old new : Outside) (opened : Files) (fold : State) 
     → table ≡ fold.rows → (IsTrue old.site.told → IsOpened role old.site.files opened fold log) → log.file ≡ Log0 → AreStatements statements → length (script statements) ≤ 2 ^ 26
     → (IsTrue old.input.told → HasRead old.input new.input (script statements)) → (IsTrue old.site.told → before.files ≡ opened) → before.told ≡ old.site.told
     → new.output.told ≡ old.output.told → old.output.faults ≤ new.output.faults
-    → (s : Stopped table log kept statements before new.site old.output.told old.output.bytes new.output.bytes old.output.faults new.output.faults fault)
+    → (s : Stopped table log kept statements before new.site old.output new.output fault)
     → StopsLate role old new kept fault
 unfolding found_of
 late_of role old new opened fold table log statements kept before fault rows o file are short read same told out_told later s =
@@ -125,7 +126,7 @@ late_of role old new opened fold table log statements kept before fault rows o f
     }
 
 -- the two numbers pass a bound
-room_of : (log : Log) (items : List Item) (end need : ℕ) → HasNoRoom log items end need → (1006632960 < end + need) ⊎ (2 ^ 62 < log.end + need)
+room_of : (log : Log) (items : List Item) (end need : ℕ) → HasNoRoom log items end need → (log_bound < end + need) ⊎ (2 ^ 62 < log.end + need)
 room_of log items end need h = elim h.full [
   | inl bound ↦ inl (omega (arith, bound, h.end_is, h.need_is))
   | inr last ↦ inr (omega (arith, last, h.need_is))
@@ -134,18 +135,18 @@ room_of log items end need h = elim h.full [
 -- what is true of `sql` then
 pub stops_late : (role : Role) (old new : Outside) (opened : Files) (fold : State) (table : Rows) (log : Log) (statements : List Statement) (kept : List ℕ) (before : Seen) (fault : Fault)
     → table ≡ fold.rows → (IsTrue old.site.told → IsOpened role old.site.files opened fold log) → log.file ≡ Log0 → AreStatements statements → length (script statements) ≤ 2 ^ 26
-    → (IsTrue old.input.told → HasRead old.input new.input (script statements)) → (IsTrue old.site.told → before.files ≡ opened) → before.told ≡ old.site.told → old.site.disk_faults ≤ before.disk_faults
+    → (IsTrue old.input.told → HasRead old.input new.input (script statements)) → (IsTrue old.site.told → before.files ≡ opened) → before.told ≡ old.site.told → before.disk_faults ≡ old.site.disk_faults → new.input.faults ≡ old.input.faults
     → new.output.told ≡ old.output.told → old.output.faults ≤ new.output.faults
-    → Stopped table log kept statements before new.site old.output.told old.output.bytes new.output.bytes old.output.faults new.output.faults fault
+    → Stopped table log kept statements before new.site old.output new.output fault
     → StopsSql role old new kept fault
 unfolding late_of found_of
-stops_late role old new opened fold table log statements kept before Disk rows o file are short read same told count out_told later s =
+stops_late role old new opened fold table log statements kept before Disk rows o file are short read same told count input out_told later s =
     (inr (late_of role old new opened fold table log statements kept before Disk rows o file are short read same told out_told later s), omega (arith, count, s.cause))
-stops_late role old new opened fold table log statements kept before Memory rows o file are short read same told count out_told later s =
+stops_late role old new opened fold table log statements kept before Memory rows o file are short read same told count input out_told later s =
     inr (late_of role old new opened fold table log statements kept before Memory rows o file are short read same told out_told later s)
-stops_late role old new opened fold table log statements kept before (Refused number id) rows o file are short read same told count out_told later s =
-    record { stopped = late_of role old new opened fold table log statements kept before (Refused number id) rows o file are short read same told out_told later s; refused = s.cause }
-stops_late role old new opened fold table log statements kept before (Full end need) rows o file are short read same told count out_told later s =
+stops_late role old new opened fold table log statements kept before (Refused number id) rows o file are short read same told count input out_told later s =
+    record { stopped = late_of role old new opened fold table log statements kept before (Refused number id) rows o file are short read same told out_told later s; refused = s.cause.0; none_failed = record { disk = s.cause.1 ∙ count; input = input } }
+stops_late role old new opened fold table log statements kept before (Full end need) rows o file are short read same told count input out_told later s =
     inr (record {
       stopped = late_of role old new opened fold table log statements kept before (Full end need) rows o file are short read same told out_told later s;
       after = s.cause.after;
@@ -156,13 +157,13 @@ stops_late role old new opened fold table log statements kept before (Full end n
       place_is = s.cause.no_room.end_is;
       full = room_of (log_to log (end_after log.end [] s.done)) (open_after [] s.done) end need s.cause.no_room;
     })
-stops_late role old new opened fold table log statements kept before Sink rows o file are short read same told count out_told later s =
+stops_late role old new opened fold table log statements kept before Sink rows o file are short read same told count input out_told later s =
     (late_of role old new opened fold table log statements kept before Sink rows o file are short read same told out_told later s, s.cause)
-stops_late role old new opened fold table log statements kept before Words rows o file are short read same told count out_told later s = absurd s.cause
-stops_late role old new opened fold table log statements kept before (Damaged place) rows o file are short read same told count out_told later s = absurd s.cause
-stops_late role old new opened fold table log statements kept before Source rows o file are short read same told count out_told later s = absurd s.cause
-stops_late role old new opened fold table log statements kept before TooLong rows o file are short read same told count out_told later s = absurd s.cause
-stops_late role old new opened fold table log statements kept before (Script place) rows o file are short read same told count out_told later s = absurd s.cause
+stops_late role old new opened fold table log statements kept before Words rows o file are short read same told count input out_told later s = absurd s.cause
+stops_late role old new opened fold table log statements kept before (Damaged place) rows o file are short read same told count input out_told later s = absurd s.cause
+stops_late role old new opened fold table log statements kept before Source rows o file are short read same told count input out_told later s = absurd s.cause
+stops_late role old new opened fold table log statements kept before TooLong rows o file are short read same told count input out_told later s = absurd s.cause
+stops_late role old new opened fold table log statements kept before (Script place) rows o file are short read same told count input out_told later s = absurd s.cause
 
 -- a file with a whole history stays, also behind the attaching
 pub kept_on : (role : Role) (old mid new : Seen) → (IsTrue old.told → mid.files ≡ old.files) → mid.told ≡ old.told
@@ -200,7 +201,7 @@ open_on role old mid new (Refused number id) same told later cause = cause
 open_on role old mid new Sink same told later cause = cause
 
 -- why a script did not begin then
-pub begin_open : (role : Role) (old mid new : Seen) (input input' : Stream) (fault : Fault) → (IsTrue old.told → mid.files ≡ old.files) → mid.told ≡ old.told → old.disk_faults ≤ mid.disk_faults
+pub begin_open : (role : Role) (old mid new : Seen) (input input' : Input) (fault : Fault) → (IsTrue old.told → mid.files ≡ old.files) → mid.told ≡ old.told → old.disk_faults ≤ mid.disk_faults
     → OpenFault role mid new fault → BeginCause role old new input input' fault
 begin_open role old mid new input input' Disk same told later cause = omega (arith, cause, later)
 begin_open role old mid new input input' (Damaged place) same told later cause = λ t. subst (λ (f : Files). IsDamagedDatabase role f.log0 place) (same t) (cause (subst IsTrue (sym told) t)).0
@@ -225,6 +226,14 @@ pub undamaged : (role : Role) (old mid : Seen) → (IsTrue old.told → mid.file
 undamaged role old mid same told damaged t place d =
     let no : false ≡ true = damaged (subst IsTrue (sym told) t) place (subst (λ (f : Files). IsDamagedDatabase role f.log0 place) (sym (same t)) d) in cc
 
+-- and one that is damaged stays, also behind the attaching
+pub damaged_on : (role : Role) (old mid new : Seen) (fault : Fault) → (IsTrue old.told → mid.files ≡ old.files) → mid.told ≡ old.told
+    → (IsTrue mid.told → (place : ℕ) → IsDamagedDatabase role mid.files.log0 place → (true ≡ true) × IsOfDamage fault × (new.files ≡ mid.files))
+    → IsTrue old.told → (place : ℕ) → IsDamagedDatabase role old.files.log0 place → (true ≡ true) × IsOfDamage fault × (new.files ≡ old.files)
+damaged_on role old mid new fault same told damaged t place d =
+    let left = damaged (subst IsTrue (sym told) t) place (subst (λ (f : Files). IsDamagedDatabase role f.log0 place) (sym (same t)) d) in
+    (left.0, left.1, left.2 ∙ same t)
+
 pub no_error : false ≡ true → ⊥
 no_error h = cc
 
@@ -247,14 +256,14 @@ left_of role old mid new fold log same told file opened t =
     }
 
 -- why a script was not read
-pub begin_read : (role : Role) (old new : Seen) (input input' : Stream) (fault : InputFault) → InputCause input.faults input'.faults fault
-    → (fault ≡ source.TooLong → IsTrue input.told → LONGEST_SCRIPT < length input.bytes) → (IsTrue old.told → FoundAndLeft role old.files.log0 new.files.log0) → BeginCause role old new input input' (fault_of_input fault)
+pub begin_read : (role : Role) (old new : Seen) (input input' : Input) (fault : InputFault) → InputCause input.faults input'.faults fault
+    → (fault ≡ source.TooLong → IsTrue input.told → most_script < length input.left) → (IsTrue old.told → FoundAndLeft role old.files.log0 new.files.log0) → BeginCause role old new input input' (fault_of_input fault)
 begin_read role old new input input' source.Source cause long left = (cause, left)
 begin_read role old new input input' source.TooLong cause long left = (long refl, left)
 begin_read role old new input input' source.Memory cause long left = tt
 
 -- why it was refused
-pub begin_script : (role : Role) (old new : Seen) (input input' : Stream) (text : List ℕ) (fault : ScriptFault) → IsScriptFault text fault → (IsTrue input.told → HasRead input input' text)
-    → (IsTrue old.told → FoundAndLeft role old.files.log0 new.files.log0) → BeginCause role old new input input' (fault_of_script fault)
-begin_script role old new input input' text (script_fault.Line place) refused read left = (record { text = text; read = read; refused = refused }, left)
-begin_script role old new input input' text script_fault.Memory refused read left = tt
+pub begin_script : (role : Role) (old new : Seen) (input input' : Input) (text : List ℕ) (fault : ScriptFault) → IsScriptFault text fault → (IsTrue input.told → HasRead input input' text)
+    → (IsTrue old.told → FoundAndLeft role old.files.log0 new.files.log0) → new.disk_faults ≡ old.disk_faults → input'.faults ≡ input.faults → BeginCause role old new input input' (fault_of_script fault)
+begin_script role old new input input' text (script_fault.Line place) refused read left disk source = (record { text = text; read = read; refused = refused }, left, disk, source)
+begin_script role old new input input' text script_fault.Memory refused read left disk source = tt

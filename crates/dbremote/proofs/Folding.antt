@@ -3,6 +3,7 @@ use Rattle.std.proofs.Common.{◌≡◌, ◌+◌, ◌≤◌, ◌<◌, ◌^◌, �
 use Rattle.std.specs.Prelude.{Result, Ok, Err, IfOk}
 use Rattle.std.proofs.lemmas.List.{append-nil, length-take-le}
 use Rattle.sr_site.specs.Causes.{DiskStays}
+use Rattle.sr_site.specs.Growing.{disk_stays_on}
 use Rattle.sr_site.specs.Files.{Files, bytes_of}
 use Rattle.sr_site.specs.Seen.{Seen}
 use Rattle.sr_logfile.specs.declared.fault.LogFault.{LogFault}
@@ -23,6 +24,7 @@ use Rattle.dbremote.specs.declared.fault.Fault.TheVariants.{Words, Memory, Disk,
 use Rattle.dbremote.specs.FaultsOfLogs.{fault_of}
 use Rattle.dbremote.specs.Histories.{HasStanding}
 use Rattle.dbremote.specs.Openings.{ReadCause, TookEntry, TakesEntry, FoldCause}
+use Rattle.dbremote.proofs.Still.{stays_same}
 use Rattle.dbremote.proofs.Lawful.{bodies-append, records-append, no_bodies, span_more, lawful_more, on_of}
 use Rattle.sr_exchange.proofs.OneBody.{one_entry}
 
@@ -90,6 +92,7 @@ pub record Folding (role : Role) (log : Log) (after : ℕ) (fold : State) (befor
   pub parts : IsTrue before.told → IsAfter log after es before.files
   pub files : IsTrue before.told → now.files ≡ before.files
   pub stays : DiskStays before now
+  pub steady : now.disk_faults ≡ before.disk_faults
 
 pub folding_start : (role : Role) (log : Log) (after : ℕ) (fold : State) (before : Seen) → after ≡ log.base → log.base ≤ log.end → fold ≡ fresh role → (IsTrue before.told → HasLog log before.files)
     → Folding role log after fold before before
@@ -102,7 +105,8 @@ folding_start role log after fold before e order fresh has = record {
   high = omega (arith, e, order);
   parts = λ told. let l = has told in record { left = l.bodies; is_at = record { is_log = l.is_log; after_is = omega (arith, e) } };
   files = λ told. refl;
-  stays = record { told = refl; mail = refl; mail_faults = refl; later = omega arith };
+  stays = stays_same before;
+  steady = refl;
 }
 
 -- a read, refused
@@ -148,9 +152,9 @@ Reads log after before now buffer end count = (done left : List (List ℕ)) → 
 
 -- one entry more is folded
 pub folding_more : (role : Role) (log : Log) (after end count : ℕ) (old new : State) (before mid now : Seen) (buffer bytes : List ℕ) → Folding role log after old before mid
-    → DiskStays mid now → (IsTrue mid.told → now.files ≡ mid.files) → log.end ≤ 2 ^ 62 → end ≡ after + 5 + count → end ≤ log.end → count ≤ length buffer
+    → DiskStays mid now → now.disk_faults ≡ mid.disk_faults → (IsTrue mid.told → now.files ≡ mid.files) → log.end ≤ 2 ^ 62 → end ≡ after + 5 + count → end ≤ log.end → count ≤ length buffer
     → (IsTrue mid.told → Reads log after mid.files now.files buffer end count) → bytes ≡ take count buffer → TookEntry old new bytes → Folding role log end new before now
-folding_more role log after end count old new before mid now buffer bytes f stays files limit end_is high fits reads is took =
+folding_more role log after end count old new before mid now buffer bytes f stays steady files limit end_is high fits reads is took =
     let long : count ≡ size took.entry = sym (length-take-le count buffer fits) ∙ ap (λ (l : List ℕ). length l) (sym is ∙ took.body_is) in
     let on : goes_on (state_of role f.es) took.entry ≡ true = ap (λ (s : State). goes_on s took.entry) (sym f.fold_is) ∙ took.keeps in
     let room : log.base + length (open_records (bodies_of f.es)) + (size took.entry + 5) ≤ 2 ^ 62 = omega (arith, limit, end_is, high, long, f.after_is) in
@@ -173,7 +177,8 @@ folding_more role log after end count old new before mid now buffer bytes f stay
                 (subst (λ (b : List ℕ). IsAt log end (bodies_of f.es ++ b ∷ []) next.rest now.files) (sym next.front ∙ sym is ∙ took.body_is) next.goes_on));
           };
       files = λ told. files (subst IsTrue (sym f.stays.told) told) ∙ f.files told;
-      stays = record { told = stays.told ∙ f.stays.told; mail = stays.mail ∙ f.stays.mail; mail_faults = stays.mail_faults ∙ f.stays.mail_faults; later = omega (arith, stays.later, f.stays.later) };
+      stays = disk_stays_on before mid now f.stays stays;
+      steady = steady ∙ f.steady;
     }
 
 -- the next record is no entry that goes on

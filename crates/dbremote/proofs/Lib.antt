@@ -6,6 +6,7 @@ pub mod Ending
 pub mod Finding
 pub mod Folding
 pub mod Lawful
+pub mod Leaving
 pub mod Legal
 pub mod Making
 pub mod Numerals
@@ -14,4 +15,5 @@ pub mod Parts
 pub mod Pieces
 pub mod Reached
 pub mod Scripts
+pub mod Still
 pub mod Telling

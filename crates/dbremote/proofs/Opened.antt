@@ -3,6 +3,7 @@ use Rattle.std.proofs.Common.{◌≡◌, ◌≢◌, ℕ, Bool, IsTrue, List, [],
 use Rattle.sr_site.specs.Causes.{DiskStays, Rose}
 use Rattle.sr_site.specs.Files.{Files, bytes_of}
 use Rattle.sr_site.specs.Seen.{Seen}
+use Rattle.sr_site.specs.Growing.{disk_stays_on}
 use Rattle.sr_site.specs.declared.file.File.{File}
 use Rattle.sr_site.specs.declared.file.File.TheVariants.{Log0}
 use Rattle.sr_logfile.specs.declared.fault.LogFault.{LogFault}
@@ -22,6 +23,7 @@ use Rattle.dbremote.specs.declared.fault.Fault.{Fault}
 use Rattle.dbremote.specs.declared.fault.Fault.TheVariants.{Words, Memory, Disk, Damaged, Source, TooLong, Script, Refused, Full, Sink}
 use Rattle.dbremote.specs.FaultsOfLogs.{fault_of}
 use Rattle.dbremote.specs.Histories.{Stands, HasStanding, HoldsSome, LacksRoomFor, IsOpened}
+use Rattle.dbremote.specs.Stops.{IsOfDamage}
 use Rattle.dbremote.specs.Openings.{FoldCause, CompleteCause, OpenFault, IsPrepared}
 use Rattle.dbremote.proofs.Completing.{short_room}
 use Rattle.dbremote.proofs.Damages.{OneSpelling}
@@ -37,7 +39,7 @@ no_bytes (byte ∷ bytes) e = absurd (omega arith)
 pub prepared_made : (before read mid : Seen) (count : ℕ) → DiskStays before read → DiskStays read mid → (IsTrue before.told → count ≡ length before.files.log0) → count ≡ 0
     → (IsTrue read.told → Spells 0 [] mid.files.log0) → IsPrepared before mid
 prepared_made before read mid count first second long none made = record {
-  stays = record { told = second.told ∙ first.told; mail = second.mail ∙ first.mail; mail_faults = second.mail_faults ∙ first.mail_faults; later = omega (arith, first.later, second.later) };
+  stays = disk_stays_on before read mid first second;
   state = λ told. inl (no_bytes before.files.log0 (sym (long told) ∙ none), made (told_on before read first told));
 }
 
@@ -253,3 +255,29 @@ holds_some one role before mid opened folded now log fold base es prepared b tol
     let after = told_on opened folded stays (told_on mid opened b.stays (told_on before mid prepared.stays told)) in
     let some = subst (λ (r : Role). HoldsSome r log.base has.es now.files.log0) e (left after has.es again) in
     subst (λ (n : ℕ). HoldsSome role n es now.files.log0) same.0 (subst (λ (l : List Entry). HoldsSome role log.base l now.files.log0) same.1 some)
+
+-- a damaged file was there
+pub was_damaged : (before mid : Seen) → IsPrepared before mid → IsTrue before.told → before.files.log0 ≢ [] → mid.files ≡ before.files
+was_damaged before mid prepared told there = elim (prepared.state told) [
+  | inl made ↦ absurd (there made.0)
+  | inr found ↦ found.1
+]
+
+-- the faults of the opening of a log are among those of a damaged database
+pub open_of_damage : (file : File) (before now : Seen) (fault : LogFault) → OpenCause file before now fault → IsOfDamage (fault_of fault)
+open_of_damage file before now log_fault.Disk cause = tt
+open_of_damage file before now (log_fault.Damaged place) cause = tt
+open_of_damage file before now (log_fault.Full end need) cause = absurd cause
+
+-- and those of its folding
+pub fold_of_damage : (role : Role) (bytes : List ℕ) (before now : Seen) (fault : Fault) → FoldCause role bytes before now fault → IsOfDamage fault
+fold_of_damage role bytes before now Disk cause = tt
+fold_of_damage role bytes before now (Damaged place) cause = tt
+fold_of_damage role bytes before now Memory cause = tt
+fold_of_damage role bytes before now (Full end need) cause = absurd cause
+fold_of_damage role bytes before now Words cause = absurd cause
+fold_of_damage role bytes before now Source cause = absurd cause
+fold_of_damage role bytes before now TooLong cause = absurd cause
+fold_of_damage role bytes before now (Script place) cause = absurd cause
+fold_of_damage role bytes before now (Refused number id) cause = absurd cause
+fold_of_damage role bytes before now Sink cause = absurd cause

@@ -1,9 +1,11 @@
 -- How far a script has come, and what a fault then leaves.
-use Rattle.std.proofs.Common.{◌≡◌, ◌+◌, ◌*◌, ◌^◌, ◌≤◌, ◌⊎◌, ◌&&◌, ℕ, Bool, IsTrue, List, [], ◌∷◌, ◌++◌, length, map, refl, ap, sym, ◌∙◌, subst, append_assoc, append-nil, length-append, codes, arith}
+use Rattle.std.proofs.Common.{◌≡◌, ◌+◌, ◌*◌, ◌^◌, ◌≤◌, ◌⊎◌, ◌&&◌, ℕ, IsTrue, List, [], ◌∷◌, ◌++◌, length, map, refl, ap, sym, ◌∙◌, subst, inl, inr, append_assoc, append-nil, length-append, codes, arith}
 use Rattle.std.specs.Fmt.{signed_decimal}
 use Rattle.sr_site.specs.Causes.{DiskStays, Rose}
 use Rattle.sr_site.specs.Files.{Files, bytes_of, with_bytes, OthersStay}
 use Rattle.sr_site.specs.Seen.{Seen}
+use Rattle.sr_site.specs.Growing.{disk_stays_on}
+use Rattle.sr_site.specs.Streams.{Output}
 use Rattle.sr_site.specs.declared.file.File.TheVariants.{Log0}
 use Rattle.sr_logfile.specs.Log.{Log}
 use Rattle.sr_logfile.specs.Logs.{IsLog, HasLog}
@@ -16,20 +18,15 @@ use Rattle.dbremote.specs.declared.statement.Statement.{Statement}
 use Rattle.dbremote.specs.declared.statement.Statement.TheVariants.{Insert, Commit}
 use Rattle.sr_exchange.specs.Entries.{own}
 use Rattle.dbremote.specs.Lines.{line, script}
-use Rattle.dbremote.specs.Sessions.{log_to, Appended, HasDone, HasNoRoom, StepCause, Stopped, HoldsBeside, HoldsAfter, SaidLines, StopCause}
+use Rattle.dbremote.specs.Sessions.{log_to, KeepsRoom, Appended, HasDone, HasNoRoom, StepCause, Stopped, HoldsBeside, HoldsAfter, SaidLines, StopCause}
 use Rattle.dbremote.specs.Streams.{TookFront, Said}
 use Rattle.sr_exchange.specs.Tables.{holds, all_inserted, are_free}
 use Rattle.dbremote.specs.Transactions.{items_of, open_after, committed, transactions, end_after, lines_of, last_line, lines_at}
+use Rattle.dbremote.proofs.Still.{stays_same}
 use Rattle.dbremote.proofs.Parts.{items_of-append, open_after-append, end_after-append, lines_of-append, transactions-append, all_inserted-append, are_free-append}
 
--- the sink's part: what it tells, took and counted
-pub record Took : Type 0 where
-  pub told : Bool
-  pub bytes : List ℕ
-  pub faults : ℕ
-
 -- the statements before the rest are done
-pub record Reached (start session : Session) (statements rest : List Statement) (before now : Seen) (old new : Took) : Type 0 where
+pub record Reached (start session : Session) (statements rest : List Statement) (before now : Seen) (old new : Output) : Type 0 where
   pub done : List Statement
   pub parts : statements ≡ done ++ rest
   pub has_done : HasDone start session done
@@ -37,9 +34,11 @@ pub record Reached (start session : Session) (statements rest : List Statement) 
   pub appended : IsTrue before.told → Appended start.log session.log (transactions [] done) before.files now.files
   pub others : IsTrue before.told → OthersStay Log0 before.files now.files
   pub stays : DiskStays before now
-  pub said : IsTrue old.told → Said (lines_of start.log.end [] done) session.lines.items old.bytes new.bytes
+  pub said : IsTrue old.told → Said (lines_of start.log.end [] done) session.lines.items old.taken new.taken
   pub told : new.told ≡ old.told
   pub later : old.faults ≤ new.faults
+  pub steady : now.disk_faults ≡ before.disk_faults
+  pub sink : new.faults ≡ old.faults
 
 -- one statement more
 pub record Stepped (old new : Session) (statement : Statement) (before now : Seen) : Type 0 where
@@ -49,10 +48,17 @@ pub record Stepped (old new : Session) (statement : Statement) (before now : See
   pub has_log : IsTrue before.told → HasLog new.log now.files
   pub others : IsTrue before.told → OthersStay Log0 before.files now.files
   pub stays : DiskStays before now
+  pub steady : now.disk_faults ≡ before.disk_faults
 
 map-append : {A B : Type 0} (f : A → B) (xs ys : List A) → map f (xs ++ ys) ≡ map f xs ++ map f ys
 map-append f [] ys = refl
 map-append f (x ∷ xs) ys = ap (λ l. f x ∷ l) (map-append f xs ys)
+
+-- room that was kept is kept on
+keeps_more : (a b c : Log) (end : ℕ) → c ≡ log_to b end → KeepsRoom a b → KeepsRoom b c → KeepsRoom a c
+keeps_more a b c end is first (inr room) = inr room
+keeps_more a b c end is (inl e) (inl f) = inl (f ∙ e)
+keeps_more a b c end is (inr room) (inl f) = inr (omega (arith, room, f, ap (λ (l : Log). l.base) is))
 
 -- what is done goes on
 pub done_more : (start session new : Session) (done : List Statement) (statement : Statement) → start.pending.items ≡ [] → HasDone start session done → HasDone session new (statement ∷ [])
@@ -80,6 +86,7 @@ done_more start session new done statement fresh a b =
           (ap (λ e. end_after e session.pending.items (statement ∷ [])) (ap (λ (l : Log). l.end) a.log)
           ∙ ap (λ p. end_after (end_after start.log.end start.pending.items done) p (statement ∷ [])) a.pending
           ∙ sym (end_after-append start.log.end start.pending.items done (statement ∷ [])));
+      room = keeps_more start.log session.log new.log (end_after session.log.end session.pending.items (statement ∷ [])) b.log a.room b.room;
     }
 
 -- the log goes on by one statement's entries
@@ -99,28 +106,27 @@ same_files files = refl
 pub others_more : (a b c : Files) → OthersStay Log0 a b → OthersStay Log0 b c → OthersStay Log0 a c
 others_more a b c first second = second ∙ ap (λ (f : Files). with_bytes f Log0 (bytes_of c Log0)) first
 
-pub stays_more : (a b c : Seen) → DiskStays a b → DiskStays b c → DiskStays a c
-stays_more a b c first second = record { told = second.told ∙ first.told; mail = second.mail ∙ first.mail; mail_faults = second.mail_faults ∙ first.mail_faults; later = omega (arith, first.later, second.later) }
-
 -- at the start nothing is done
-pub reached_start : (start : Session) (statements : List Statement) (before : Seen) (old : Took) → start.pending.items ≡ [] → start.lines.items ≡ [] → (IsTrue before.told → HasLog start.log before.files)
+pub reached_start : (start : Session) (statements : List Statement) (before : Seen) (old : Output) → start.pending.items ≡ [] → start.lines.items ≡ [] → (IsTrue before.told → HasLog start.log before.files)
     → Reached start start statements statements before before old old
 reached_start start statements before old fresh kept has_log =
     record {
       done = [];
       parts = refl;
-      has_done = record { free = refl; table = refl; pending = refl; log = refl };
+      has_done = record { free = refl; table = refl; pending = refl; log = refl; room = inl refl };
       has_log = has_log;
       appended = λ told bodies is_log. subst (λ (l : List (List ℕ)). IsLog start.log l before.files) (sym (append-nil bodies)) is_log;
       others = λ told. same_files before.files;
-      stays = record { told = refl; mail = refl; mail_faults = refl; later = omega arith };
-      said = λ told. record { written = []; bytes_are = sym (append-nil old.bytes); all = kept };
+      stays = stays_same before;
+      steady = refl;
+      sink = refl;
+      said = λ told. record { written = []; bytes_are = sym (append-nil old.taken); all = kept };
       told = refl;
       later = omega arith;
     }
 
 -- one statement more is done
-pub reached_step : (start session new : Session) (statements rest : List Statement) (statement : Statement) (before mid now : Seen) (old took : Took) → start.pending.items ≡ []
+pub reached_step : (start session new : Session) (statements rest : List Statement) (statement : Statement) (before mid now : Seen) (old took : Output) → start.pending.items ≡ []
     → Reached start session statements (statement ∷ rest) before mid old took → Stepped session new statement mid now → Reached start new statements rest before now old took
 reached_step start session new statements rest statement before mid now old took fresh r s =
     let pending : session.pending.items ≡ open_after [] r.done = r.has_done.pending ∙ ap (λ p. open_after p r.done) fresh in
@@ -133,7 +139,9 @@ reached_step start session new statements rest statement before mid now old took
       appended = λ told. appended_more start.log session.log new.log r.done statement before.files mid.files now.files (r.appended told)
           (subst (λ (p : List Item). Appended session.log new.log (transactions p (statement ∷ [])) mid.files now.files) pending (s.appended (subst IsTrue (sym r.stays.told) told)));
       others = λ told. others_more before.files mid.files now.files (r.others told) (s.others (subst IsTrue (sym r.stays.told) told));
-      stays = stays_more before mid now r.stays s.stays;
+      stays = disk_stays_on before mid now r.stays s.stays;
+      steady = s.steady ∙ r.steady;
+      sink = r.sink;
       said = λ told. let said = r.said told in record {
         written = said.written;
         bytes_are = said.bytes_are;
@@ -150,26 +158,28 @@ reached_step start session new statements rest statement before mid now old took
     }
 
 -- the lines that were kept are written
-pub reached_flush : (start session new : Session) (statements rest : List Statement) (before now : Seen) (old took flushed : Took) → Reached start session statements rest before now old took
+pub reached_flush : (start session new : Session) (statements rest : List Statement) (before now : Seen) (old took flushed : Output) → Reached start session statements rest before now old took
     → new.table ≡ session.table → new.log ≡ session.log → new.pending.items ≡ session.pending.items → new.lines.items ≡ []
-    → (IsTrue took.told → flushed.bytes ≡ took.bytes ++ session.lines.items) → flushed.told ≡ took.told → took.faults ≤ flushed.faults
+    → (IsTrue took.told → flushed.taken ≡ took.taken ++ session.lines.items) → flushed.told ≡ took.told → flushed.faults ≡ took.faults
     → Reached start new statements rest before now old flushed
 reached_flush start session new statements rest before now old took flushed r table log pending lines said told later =
     record {
       done = r.done;
       parts = r.parts;
-      has_done = record { free = r.has_done.free; table = table ∙ r.has_done.table; pending = pending ∙ r.has_done.pending; log = log ∙ r.has_done.log };
+      has_done = record { free = r.has_done.free; table = table ∙ r.has_done.table; pending = pending ∙ r.has_done.pending; log = log ∙ r.has_done.log; room = subst (λ (l : Log). KeepsRoom start.log l) (sym log) r.has_done.room };
       has_log = λ h. subst (λ (l : Log). HasLog l now.files) (sym log) (r.has_log h);
       appended = λ h bodies is_log. subst (λ (l : Log). IsLog l (bodies ++ map own (transactions [] r.done)) now.files) (sym log) (r.appended h bodies is_log);
       others = r.others;
       stays = r.stays;
       said = λ h. let before_it = r.said h in record {
         written = before_it.written ++ session.lines.items;
-        bytes_are = said (subst IsTrue (sym r.told) h) ∙ ap (λ l. l ++ session.lines.items) before_it.bytes_are ∙ append_assoc old.bytes before_it.written session.lines.items;
+        bytes_are = said (subst IsTrue (sym r.told) h) ∙ ap (λ l. l ++ session.lines.items) before_it.bytes_are ∙ append_assoc old.taken before_it.written session.lines.items;
         all = ap (λ l. (before_it.written ++ session.lines.items) ++ l) lines ∙ append-nil (before_it.written ++ session.lines.items) ∙ before_it.all;
       };
       told = told ∙ r.told;
       later = omega (arith, r.later, later);
+      steady = r.steady;
+      sink = later ∙ r.sink;
     }
 
 -- what the log's file holds, said of the log at the start
@@ -247,10 +257,10 @@ step_said lines all kept kept' old new session Commit number mid now Sink e said
 
 -- why the statements stop where one is refused
 step_stops : (start session : Session) (statement : Statement) (rest : List Statement) (number : ℕ) (before mid now : Seen) (done : List Statement) (faults faults' : ℕ) (fault : Fault)
-    → start.pending.items ≡ [] → HasDone start session done → number ≡ length done + 1 → before.disk_faults ≤ mid.disk_faults
+    → start.pending.items ≡ [] → HasDone start session done → number ≡ length done + 1 → mid.disk_faults ≡ before.disk_faults
     → StepCause session statement number mid now fault → StopCause start.table start.log done (statement ∷ rest) before now faults faults' fault
 step_stops start session (Insert item) rest number before mid now done faults faults' (Refused count id) fresh d is later cause =
-    record { item = item; after = rest; rest_is = refl; number_is = cause.0.0 ∙ is; id_is = cause.0.1; held = ap (λ t. holds t item.id) (sym d.table) ∙ cause.0.2 }
+    (record { item = item; after = rest; rest_is = refl; number_is = cause.0.0 ∙ is; id_is = cause.0.1; held = ap (λ t. holds t item.id) (sym d.table) ∙ cause.0.2 }, ap (λ (s : Seen). s.disk_faults) cause.1 ∙ later)
 step_stops start session (Insert item) rest number before mid now done faults faults' Memory fresh d is later cause = tt
 step_stops start session (Insert item) rest number before mid now done faults faults' Words fresh d is later cause = absurd cause.0
 step_stops start session (Insert item) rest number before mid now done faults faults' Disk fresh d is later cause = absurd cause.0
@@ -278,10 +288,10 @@ step_stops start session Commit rest number before mid now done faults faults' (
 step_stops start session Commit rest number before mid now done faults faults' Sink fresh d is later cause = absurd cause
 
 -- a statement was refused: what stands is what was done before it
-pub stopped_step : (start session new : Session) (statements rest : List Statement) (statement : Statement) (number : ℕ) (before mid now : Seen) (old took : Took) (fault : Fault)
+pub stopped_step : (start session new : Session) (statements rest : List Statement) (statement : Statement) (number : ℕ) (before mid now : Seen) (old took : Output) (fault : Fault)
     → start.pending.items ≡ [] → Reached start session statements (statement ∷ rest) before mid old took → number + length (statement ∷ rest) ≡ length statements + 1
     → StepCause session statement number mid now fault → new.lines.items ≡ session.lines.items
-    → Stopped start.table start.log new.lines.items statements before now old.told old.bytes took.bytes old.faults took.faults fault
+    → Stopped start.table start.log new.lines.items statements before now old took fault
 stopped_step start session new statements rest statement number before mid now old took fault fresh r number_is cause lines =
     record {
       done = r.done;
@@ -290,8 +300,8 @@ stopped_step start session new statements rest statement number before mid now o
       free = r.has_done.free;
       holds_after = λ told. step_holds start session statement number before mid now r.done fault
           (ap (λ (p : List Item). open_after p r.done) fresh) r.has_done (λ bodies is_log. r.appended told bodies is_log) (subst IsTrue (sym r.stays.told) told) cause;
-      said = λ told. step_said (lines_of start.log.end [] r.done) (lines_at start.log.end r.done (statement ∷ rest)) session.lines.items new.lines.items old.bytes took.bytes session statement number mid now fault lines (r.said told) cause;
-      cause = step_stops start session statement rest number before mid now r.done old.faults took.faults fault fresh r.has_done (count_done r.done (statement ∷ rest) statements number r.parts number_is) r.stays.later cause;
+      said = λ told. step_said (lines_of start.log.end [] r.done) (lines_at start.log.end r.done (statement ∷ rest)) session.lines.items new.lines.items old.taken took.taken session statement number mid now fault lines (r.said told) cause;
+      cause = step_stops start session statement rest number before mid now r.done old.faults took.faults fault fresh r.has_done (count_done r.done (statement ∷ rest) statements number r.parts number_is) r.steady cause;
     }
 
 front_said : (lines kept old new flushed : List ℕ) → Said lines kept old new → TookFront kept new flushed → TookFront lines old flushed
@@ -312,23 +322,23 @@ pub insert_long : (item : Item) → 22 ≤ length (line (Insert item))
 insert_long item = omega (arith, length-append (codes "INSERT INTO t VALUES (" ++ signed_decimal item.id ++ codes ", " ++ signed_decimal item.n ++ codes ");") (10 ∷ []), length-append (codes "INSERT INTO t VALUES (" ++ signed_decimal item.id ++ codes ", " ++ signed_decimal item.n) (codes ");"), length-append (codes "INSERT INTO t VALUES (" ++ signed_decimal item.id ++ codes ", ") (signed_decimal item.n), length-append (codes "INSERT INTO t VALUES (" ++ signed_decimal item.id) (codes ", "), length-append (codes "INSERT INTO t VALUES (") (signed_decimal item.id))
 
 -- the sink failed while the kept lines were written
-pub stopped_flush : (start session new : Session) (statements rest : List Statement) (before now : Seen) (old took flushed : Took) (fault : Fault) → Reached start session statements rest before now old took
-    → (IsTrue took.told → TookFront session.lines.items took.bytes flushed.bytes) → new.lines.items ≡ [] → fault ≡ Sink → Rose took.faults flushed.faults
-    → Stopped start.table start.log new.lines.items statements before now old.told old.bytes flushed.bytes old.faults flushed.faults fault
+pub stopped_flush : (start session new : Session) (statements rest : List Statement) (before now : Seen) (old took flushed : Output) (fault : Fault) → Reached start session statements rest before now old took
+    → (IsTrue took.told → TookFront session.lines.items took.taken flushed.taken) → new.lines.items ≡ [] → fault ≡ Sink → Rose took.faults flushed.faults
+    → Stopped start.table start.log new.lines.items statements before now old flushed fault
 stopped_flush start session new statements rest before now old took flushed fault r front none e rose =
-    subst (λ (f : Fault). Stopped start.table start.log new.lines.items statements before now old.told old.bytes flushed.bytes old.faults flushed.faults f) (sym e)
+    subst (λ (f : Fault). Stopped start.table start.log new.lines.items statements before now old flushed f) (sym e)
     (record {
       done = r.done;
       rest = rest;
       parts = r.parts;
       free = r.has_done.free;
       holds_after = λ told bodies is_log. holds_at start.log session.log (end_after start.log.end start.pending.items r.done) (bodies ++ map own (transactions [] r.done)) now.files r.has_done.log (r.appended told bodies is_log);
-      said = λ told. (front_at start.log.end r.done rest old.bytes flushed.bytes (front_said (lines_of start.log.end [] r.done) session.lines.items old.bytes took.bytes flushed.bytes (r.said told) (front (subst IsTrue (sym r.told) told))), none);
+      said = λ told. (front_at start.log.end r.done rest old.taken flushed.taken (front_said (lines_of start.log.end [] r.done) session.lines.items old.taken took.taken flushed.taken (r.said told) (front (subst IsTrue (sym r.told) told))), none);
       cause = omega (arith, rose, r.later);
     })
 
 -- all statements are done
-pub reached_end : (start session : Session) (statements rest : List Statement) (before now : Seen) (old took : Took) → Reached start session statements rest before now old took → length rest ≡ 0
+pub reached_end : (start session : Session) (statements rest : List Statement) (before now : Seen) (old took : Output) → Reached start session statements rest before now old took → length rest ≡ 0
     → IsTrue before.told → Appended start.log session.log (transactions [] statements) before.files now.files
 reached_end start session statements [] before now old took r e told = subst (λ (s : List Statement). Appended start.log session.log (transactions [] s) before.files now.files) (sym (r.parts ∙ append-nil r.done)) (r.appended told)
 reached_end start session statements (s ∷ rest) before now old took r e told = absurd (omega (arith, e))
@@ -346,7 +356,7 @@ script-append [] ys = refl
 script-append (x ∷ xs) ys = ap (λ l. line x ++ l) (script-append xs ys) ∙ sym (append_assoc (line x) (script xs) (script ys))
 
 -- so its body keeps the limit of a record
-pub few_open : (start session : Session) (statements rest : List Statement) (before now : Seen) (old took : Took) → start.pending.items ≡ [] → length (script statements) ≤ 2 ^ 26
+pub few_open : (start session : Session) (statements rest : List Statement) (before now : Seen) (old took : Output) → start.pending.items ≡ [] → length (script statements) ≤ 2 ^ 26
     → Reached start session statements rest before now old took → 5 + 18 * length session.pending.items ≤ 2 ^ 26
 few_open start session statements rest before now old took fresh short r =
     let pending : session.pending.items ≡ open_after [] r.done = r.has_done.pending ∙ ap (λ p. open_after p r.done) fresh in
@@ -359,31 +369,31 @@ holds_end start session statements before now d appended bodies is_log =
     holds_at start.log session.log (end_after start.log.end start.pending.items statements) (bodies ++ map own (transactions [] statements)) now.files d.log (appended bodies is_log)
 
 -- memory was wanting for the last line
-pub stopped_end : (start session : Session) (statements : List Statement) (before now : Seen) (kept : List ℕ) (old took : Took) (fault : Fault) → HasDone start session statements
+pub stopped_end : (start session : Session) (statements : List Statement) (before now : Seen) (kept : List ℕ) (old took : Output) (fault : Fault) → HasDone start session statements
     → (IsTrue before.told → Appended start.log session.log (transactions [] statements) before.files now.files)
-    → (IsTrue old.told → Said (lines_of start.log.end [] statements) session.lines.items old.bytes took.bytes) → kept ≡ session.lines.items → fault ≡ Memory
-    → Stopped start.table start.log kept statements before now old.told old.bytes took.bytes old.faults took.faults fault
+    → (IsTrue old.told → Said (lines_of start.log.end [] statements) session.lines.items old.taken took.taken) → kept ≡ session.lines.items → fault ≡ Memory
+    → Stopped start.table start.log kept statements before now old took fault
 stopped_end start session statements before now kept old took fault d appended said e f =
-    subst (λ (x : Fault). Stopped start.table start.log kept statements before now old.told old.bytes took.bytes old.faults took.faults x) (sym f)
+    subst (λ (x : Fault). Stopped start.table start.log kept statements before now old took x) (sym f)
     (record {
       done = statements;
       rest = [];
       parts = sym (append-nil statements);
       free = d.free;
       holds_after = λ told. holds_end start session statements before now d (appended told);
-      said = λ told. all_said (lines_of start.log.end [] statements) session.lines.items kept old.bytes took.bytes e (said told);
+      said = λ told. all_said (lines_of start.log.end [] statements) session.lines.items kept old.taken took.taken e (said told);
       cause = tt;
     })
 
 -- the sink failed at the lines that were left, the last among them
-pub stopped_last : (start session : Session) (statements : List Statement) (before now : Seen) (lines kept : List ℕ) (old took flushed : Took) (fault : Fault) → start.pending.items ≡ [] → HasDone start session statements
+pub stopped_last : (start session : Session) (statements : List Statement) (before now : Seen) (lines kept : List ℕ) (old took flushed : Output) (fault : Fault) → start.pending.items ≡ [] → HasDone start session statements
     → (IsTrue before.told → Appended start.log session.log (transactions [] statements) before.files now.files)
-    → (IsTrue old.told → Said (lines_of start.log.end [] statements) session.lines.items old.bytes took.bytes) → took.told ≡ old.told → old.faults ≤ took.faults
+    → (IsTrue old.told → Said (lines_of start.log.end [] statements) session.lines.items old.taken took.taken) → took.told ≡ old.told → old.faults ≤ took.faults
     → lines ≡ session.lines.items ++ last_line session.pending.items
-    → (IsTrue took.told → TookFront lines took.bytes flushed.bytes) → kept ≡ [] → fault ≡ Sink → Rose took.faults flushed.faults
-    → Stopped start.table start.log kept statements before now old.told old.bytes flushed.bytes old.faults flushed.faults fault
+    → (IsTrue took.told → TookFront lines took.taken flushed.taken) → kept ≡ [] → fault ≡ Sink → Rose took.faults flushed.faults
+    → Stopped start.table start.log kept statements before now old flushed fault
 stopped_last start session statements before now lines kept old took flushed fault fresh d appended said told later e front none f rose =
-    subst (λ (x : Fault). Stopped start.table start.log kept statements before now old.told old.bytes flushed.bytes old.faults flushed.faults x) (sym f)
+    subst (λ (x : Fault). Stopped start.table start.log kept statements before now old flushed x) (sym f)
     (record {
       done = statements;
       rest = [];
@@ -393,7 +403,7 @@ stopped_last start session statements before now lines kept old took flushed fau
       said = λ h.
           let pending : session.pending.items ≡ open_after [] statements = d.pending ∙ ap (λ p. open_after p statements) fresh in
           let grown = said h in (
-            front_said (lines_of start.log.end [] statements ++ last_line (open_after [] statements)) lines old.bytes took.bytes flushed.bytes
+            front_said (lines_of start.log.end [] statements ++ last_line (open_after [] statements)) lines old.taken took.taken flushed.taken
                 (record {
                   written = grown.written;
                   bytes_are = grown.bytes_are;
@@ -409,9 +419,9 @@ stopped_last start session statements before now lines kept old took flushed fau
     })
 
 -- all statements are done, and their lines are written or kept
-pub said_end : (start session : Session) (statements rest : List Statement) (before now : Seen) (old took : Took) → Reached start session statements rest before now old took → length rest ≡ 0
-    → IsTrue old.told → Said (lines_of start.log.end [] statements) session.lines.items old.bytes took.bytes
-said_end start session statements [] before now old took r e told = subst (λ (s : List Statement). Said (lines_of start.log.end [] s) session.lines.items old.bytes took.bytes) (sym (r.parts ∙ append-nil r.done)) (r.said told)
+pub said_end : (start session : Session) (statements rest : List Statement) (before now : Seen) (old took : Output) → Reached start session statements rest before now old took → length rest ≡ 0
+    → IsTrue old.told → Said (lines_of start.log.end [] statements) session.lines.items old.taken took.taken
+said_end start session statements [] before now old took r e told = subst (λ (s : List Statement). Said (lines_of start.log.end [] s) session.lines.items old.taken took.taken) (sym (r.parts ∙ append-nil r.done)) (r.said told)
 said_end start session statements (s ∷ rest) before now old took r e told = absurd (omega (arith, e))
 
 -- the last lines were written

@@ -3,6 +3,7 @@ pub mod Faults
 pub mod FaultsOfLogs
 pub mod FaultsOfReading
 pub mod Histories
+pub mod Limits
 pub mod Lines
 pub mod Numbers
 pub mod Openings

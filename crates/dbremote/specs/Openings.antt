@@ -12,6 +12,7 @@ use Rattle.sr_exchange.specs.Exchange.{goes_on, is_lawful, State, next}
 use Rattle.sr_exchange.specs.Logs.{HasHistory, LacksEntry, IsDamagedDatabase}
 use Rattle.dbremote.specs.declared.fault.Fault.{Fault}
 use Rattle.dbremote.specs.declared.fault.Fault.TheVariants.{Words, Memory, Disk, Damaged, Source, TooLong, Script, Refused, Full, Sink}
+use Rattle.dbremote.specs.Limits.{log_bound}
 use Rattle.dbremote.specs.Histories.{Stands, LacksRoomFor}
 
 -- why a record is not read: damage only where the file is not as the log's calls left it
@@ -66,7 +67,7 @@ statement_body text = 3 ∷ bytes_spelling text
 abbrev pub MakeCause : Log → List ℕ → Seen → Seen → Fault → Type 0
 MakeCause log text before now Disk = Rose before.disk_faults now.disk_faults
 MakeCause log text before now (Damaged place) = ⊥
-MakeCause log text before now (Full end need) = (end ≡ gate_of log + 1) × (need ≡ length (framed_of (statement_body text))) × IsFull log need 1006632960 × (now ≡ before)
+MakeCause log text before now (Full end need) = (end ≡ gate_of log + 1) × (need ≡ length (framed_of (statement_body text))) × IsFull log need log_bound × (now ≡ before)
 MakeCause log text before now Memory = Unit {0}
 MakeCause log text before now Words = ⊥
 MakeCause log text before now Source = ⊥

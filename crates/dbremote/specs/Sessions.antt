@@ -1,7 +1,8 @@
-use Rattle.std.specs.Prelude.{◌≡◌, ◌+◌, ◌⊎◌, ℕ, ℤ, Bool, true, IsTrue, List, [], ◌∷◌, ◌++◌, length, map}
+use Rattle.std.specs.Prelude.{◌≡◌, ◌+◌, ◌≤◌, ◌⊎◌, ℕ, ℤ, true, IsTrue, List, [], ◌∷◌, ◌++◌, length, map}
 use Rattle.sr_site.specs.Causes.{Rose}
 use Rattle.sr_site.specs.Files.{Files, bytes_of}
 use Rattle.sr_site.specs.Seen.{Seen}
+use Rattle.sr_site.specs.Streams.{Output}
 use Rattle.sr_logfile.specs.Log.{Log}
 use Rattle.sr_logfile.specs.Logs.{IsLog, IsFull, gate_of}
 use Rattle.sr_logfile.specs.Records.{Spells, framed_of}
@@ -12,6 +13,7 @@ use Rattle.dbremote.specs.declared.session.Session.{Session}
 use Rattle.dbremote.specs.declared.statement.Statement.{Statement}
 use Rattle.dbremote.specs.declared.statement.Statement.TheVariants.{Insert, Commit}
 use Rattle.sr_exchange.specs.Entries.{own}
+use Rattle.dbremote.specs.Limits.{log_bound}
 use Rattle.dbremote.specs.Streams.{TookFront, Said}
 use Rattle.sr_exchange.specs.Tables.{Rows, holds, all_inserted, are_free}
 use Rattle.dbremote.specs.Transactions.{items_of, open_after, committed, transactions, end_after, lines_of, lines_at}
@@ -29,12 +31,17 @@ abbrev pub StandsAlone : Log → List (List Item) → Files → Files → Type 0
 StandsAlone log txs before now = (bodies : List (List ℕ)) → IsLog log bodies before →
     Spells log.base bodies (bytes_of now log.file) ⊎ Spells log.base (bodies ++ map own txs) (bytes_of now log.file)
 
+-- a log that has gone on has its records within 960 MiB
+abbrev pub KeepsRoom : Log → Log → Type 0
+KeepsRoom old new = (new.end ≡ old.end) ⊎ (gate_of new + 1 ≤ log_bound)
+
 -- a session after these statements, all done
 pub record HasDone (old new : Session) (statements : List Statement) : Type 0 where
   pub free : are_free old.table (items_of statements) ≡ true
   pub table : new.table ≡ all_inserted old.table (items_of statements)
   pub pending : new.pending.items ≡ open_after old.pending.items statements
   pub log : new.log ≡ log_to old.log (end_after old.log.end old.pending.items statements)
+  pub room : KeepsRoom old.log new.log
 
 -- why an INSERT is refused
 abbrev pub InsertCause : Session → Item → ℕ → Fault → Type 0
@@ -51,7 +58,7 @@ InsertCause session item number Sink = ⊥
 
 -- the record of a transaction has no room, by these numbers
 pub record HasNoRoom (log : Log) (items : List Item) (end need : ℕ) : Type 0 where
-  pub full : IsFull log (length (framed_of (own items))) 1006632960
+  pub full : IsFull log (length (framed_of (own items))) log_bound
   pub end_is : end ≡ gate_of log + 1
   pub need_is : need ≡ length (framed_of (own items))
 
@@ -109,7 +116,7 @@ pub record LacksRoom (log : Log) (done rest : List Statement) (end need : ℕ) :
 
 -- the reason, by the fault
 abbrev pub StopCause : Rows → Log → List Statement → List Statement → Seen → Seen → ℕ → ℕ → Fault → Type 0
-StopCause table log done rest before now faults faults' (Refused number id) = IsRefused table done rest number id
+StopCause table log done rest before now faults faults' (Refused number id) = IsRefused table done rest number id × (now.disk_faults ≡ before.disk_faults)
 StopCause table log done rest before now faults faults' (Full end need) = LacksRoom log done rest end need
 StopCause table log done rest before now faults faults' Disk = Rose before.disk_faults now.disk_faults
 StopCause table log done rest before now faults faults' Sink = Rose faults faults'
@@ -134,11 +141,11 @@ SaidLines said all kept taken taken' TooLong = Said said kept taken taken'
 SaidLines said all kept taken taken' (Script place) = Said said kept taken taken'
 
 -- a fault ended the statements: those done before it, what stands then, and why
-pub record Stopped (table : Rows) (log : Log) (kept : List ℕ) (statements : List Statement) (before now : Seen) (told : Bool) (taken taken' : List ℕ) (faults faults' : ℕ) (fault : Fault) : Type 0 where
+pub record Stopped (table : Rows) (log : Log) (kept : List ℕ) (statements : List Statement) (before now : Seen) (old new : Output) (fault : Fault) : Type 0 where
   pub done : List Statement
   pub rest : List Statement
   pub parts : statements ≡ done ++ rest
   pub free : are_free table (items_of done) ≡ true
   pub holds_after : IsTrue before.told → HoldsAfter log done before.files now.files fault
-  pub said : IsTrue told → SaidLines (lines_of log.end [] done) (lines_at log.end done rest) kept taken taken' fault
-  pub cause : StopCause table log done rest before now faults faults' fault
+  pub said : IsTrue old.told → SaidLines (lines_of log.end [] done) (lines_at log.end done rest) kept old.taken new.taken fault
+  pub cause : StopCause table log done rest before now old.faults new.faults fault

@@ -1,17 +1,18 @@
 use Rattle.std.specs.Prelude.{◌≡◌, ◌⊎◌, ◌+◌, ◌-◌, ◌^◌, ◌<◌, ◌≤◌, ℕ, ℤ, true, IsTrue, List, [], ◌∷◌, ◌++◌, length}
 use Rattle.sr_site.specs.Causes.{Rose}
 use Rattle.sr_site.specs.Seen.{Seen}
+use Rattle.sr_site.specs.Streams.{Input}
 use Rattle.sr_logfile.specs.Records.{framed_of}
 use Rattle.dbremote.specs.declared.fault.Fault.{Fault}
 use Rattle.dbremote.specs.declared.fault.Fault.TheVariants.{Words, Memory, Disk, Damaged, Source, TooLong, Script, Refused, Full, Sink}
 use Rattle.dbremote.specs.declared.statement.Statement.{Statement}
 use Rattle.dbremote.specs.declared.statement.Statement.TheVariants.{Commit}
-use Rattle.dbremote.specs.declared.stream.TheConstants.{LONGEST_SCRIPT}
 use Rattle.sr_exchange.specs.Entries.{own}
 use Rattle.dbremote.specs.Histories.{HoldsBeginning, HoldsSome}
+use Rattle.dbremote.specs.Limits.{most_script, log_bound}
 use Rattle.dbremote.specs.Lines.{script, AreStatements}
 use Rattle.dbremote.specs.Openings.{FoundNoRoom}
-use Rattle.dbremote.specs.Runs.{Stream, Outside, HasRead, FoundAndHolds, FoundAndLeft, HasWrongLine}
+use Rattle.dbremote.specs.Runs.{Outside, NoneFailed, HasRead, FoundAndHolds, FoundAndLeft, HasWrongLine}
 use Rattle.dbremote.specs.Sessions.{IsRefused, SaidLines}
 use Rattle.sr_exchange.specs.declared.entry.Entry.{Entry}
 use Rattle.sr_exchange.specs.declared.role.Role.{Role}
@@ -38,7 +39,7 @@ pub record StopsLate (role : Role) (old new : Outside) (kept : List ℕ) (fault 
   pub read : IsTrue old.input.told → HasRead old.input new.input (script (done ++ rest))
   pub free : are_free rows (items_of done) ≡ true
   pub database : IsTrue old.site.told → FoundAndHolds role old.site.files.log0 new.site.files.log0 rows end done fault
-  pub said : IsTrue old.output.told → SaidLines (lines_of end [] done) (lines_at end done rest) kept old.output.bytes new.output.bytes fault
+  pub said : IsTrue old.output.told → SaidLines (lines_of end [] done) (lines_at end done rest) kept old.output.taken new.output.taken fault
   pub told : new.output.told ≡ old.output.told
   pub later : old.output.faults ≤ new.output.faults
 
@@ -46,6 +47,7 @@ pub record StopsLate (role : Role) (old new : Outside) (kept : List ℕ) (fault 
 pub record StopsAtKey (role : Role) (old new : Outside) (kept : List ℕ) (number : ℕ) (id : ℤ) : Type 0 where
   pub stopped : StopsLate role old new kept (Refused number id)
   pub refused : IsRefused stopped.rows stopped.done stopped.rest number id
+  pub none_failed : NoneFailed old new
 
 -- a COMMIT found no room: `end` is the place in the file past its first closed gate, `need` the record's bytes; together they pass 960 MiB, or the
 -- offset passes 2^62
@@ -57,7 +59,7 @@ pub record StopsAtRoom (role : Role) (old new : Outside) (kept : List ℕ) (end 
   pub base_is : (told : IsTrue old.site.told) → base ≡ (stopped.database told).found.base
   pub need_is : need ≡ length (framed_of (own (open_after [] stopped.done)))
   pub place_is : end ≡ 16 + (end_after stopped.end [] stopped.done - base) + 1
-  pub full : (1006632960 < end + need) ⊎ (2 ^ 62 < end_after stopped.end [] stopped.done + need)
+  pub full : (log_bound < end + need) ⊎ (2 ^ 62 < end_after stopped.end [] stopped.done + need)
 
 -- what is true of `sql` where a fault ended it, before the fault is told
 abbrev pub StopsSql : Role → Outside → Outside → List ℕ → Fault → Type 0
@@ -66,20 +68,20 @@ StopsSql role old new kept Memory = StopsEarly role old new kept ⊎ StopsLate r
 StopsSql role old new kept Disk = (StopsEarly role old new kept ⊎ StopsLate role old new kept Disk) × Rose old.site.disk_faults new.site.disk_faults
 StopsSql role old new kept (Damaged place) = StopsEarly role old new kept × (IsTrue old.site.told → IsDamagedDatabase role old.site.files.log0 place)
 StopsSql role old new kept Source = StopsEarly role old new kept × Rose old.input.faults new.input.faults × (IsTrue old.site.told → FoundAndLeft role old.site.files.log0 new.site.files.log0)
-StopsSql role old new kept TooLong = StopsEarly role old new kept × (IsTrue old.input.told → LONGEST_SCRIPT < length old.input.bytes) × (IsTrue old.site.told → FoundAndLeft role old.site.files.log0 new.site.files.log0)
-StopsSql role old new kept (Script place) = StopsEarly role old new kept × HasWrongLine old.input new.input place × (IsTrue old.site.told → FoundAndLeft role old.site.files.log0 new.site.files.log0)
+StopsSql role old new kept TooLong = StopsEarly role old new kept × (IsTrue old.input.told → most_script < length old.input.left) × (IsTrue old.site.told → FoundAndLeft role old.site.files.log0 new.site.files.log0)
+StopsSql role old new kept (Script place) = StopsEarly role old new kept × HasWrongLine old.input new.input place × (IsTrue old.site.told → FoundAndLeft role old.site.files.log0 new.site.files.log0) × NoneFailed old new
 StopsSql role old new kept (Refused number id) = StopsAtKey role old new kept number id
 StopsSql role old new kept (Full end need) = (StopsEarly role old new kept × FoundNoRoom role old.site new.site end need) ⊎ StopsAtRoom role old new kept end need
 StopsSql role old new kept Sink = StopsLate role old new kept Sink × Rose old.output.faults new.output.faults
 
 -- why a script does not begin
-abbrev pub BeginCause : Role → Seen → Seen → Stream → Stream → Fault → Type 0
+abbrev pub BeginCause : Role → Seen → Seen → Input → Input → Fault → Type 0
 BeginCause role before now old new Memory = Unit {0}
 BeginCause role before now old new Disk = Rose before.disk_faults now.disk_faults
 BeginCause role before now old new (Damaged place) = IsTrue before.told → IsDamagedDatabase role before.files.log0 place
 BeginCause role before now old new Source = Rose old.faults new.faults × (IsTrue before.told → FoundAndLeft role before.files.log0 now.files.log0)
-BeginCause role before now old new TooLong = (IsTrue old.told → LONGEST_SCRIPT < length old.bytes) × (IsTrue before.told → FoundAndLeft role before.files.log0 now.files.log0)
-BeginCause role before now old new (Script place) = HasWrongLine old new place × (IsTrue before.told → FoundAndLeft role before.files.log0 now.files.log0)
+BeginCause role before now old new TooLong = (IsTrue old.told → most_script < length old.left) × (IsTrue before.told → FoundAndLeft role before.files.log0 now.files.log0)
+BeginCause role before now old new (Script place) = HasWrongLine old new place × (IsTrue before.told → FoundAndLeft role before.files.log0 now.files.log0) × (now.disk_faults ≡ before.disk_faults) × (new.faults ≡ old.faults)
 BeginCause role before now old new (Full end need) = FoundNoRoom role before now end need
 BeginCause role before now old new Words = ⊥
 BeginCause role before now old new (Refused number id) = ⊥
@@ -98,15 +100,15 @@ AttachCause before now Words = ⊥
 AttachCause before now (Refused number id) = ⊥
 AttachCause before now Sink = ⊥
 
--- the faults of the opening of a database, up to its end
-abbrev pub IsOfOpening : Fault → Type 0
-IsOfOpening Memory = Unit {0}
-IsOfOpening Disk = Unit {0}
-IsOfOpening (Damaged place) = Unit {0}
-IsOfOpening (Full end need) = Unit {0}
-IsOfOpening Words = ⊥
-IsOfOpening Source = ⊥
-IsOfOpening TooLong = ⊥
-IsOfOpening (Script place) = ⊥
-IsOfOpening (Refused number id) = ⊥
-IsOfOpening Sink = ⊥
+-- the faults that end a run on a damaged database
+abbrev pub IsOfDamage : Fault → Type 0
+IsOfDamage Memory = Unit {0}
+IsOfDamage Disk = Unit {0}
+IsOfDamage (Damaged place) = Unit {0}
+IsOfDamage (Full end need) = ⊥
+IsOfDamage Words = ⊥
+IsOfDamage Source = ⊥
+IsOfDamage TooLong = ⊥
+IsOfDamage (Script place) = ⊥
+IsOfDamage (Refused number id) = ⊥
+IsOfDamage Sink = ⊥

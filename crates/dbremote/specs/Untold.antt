@@ -6,8 +6,8 @@ abbrev pub untold : ℕ → ℕ → Seen
 untold disk_faults mail_faults = record {
   told = false;
   files = record { root = []; log0 = []; log1 = []; snap0 = []; snap1 = [] };
-  calls = [];
-  mail = [];
+  first = record { root = []; log0 = []; log1 = []; snap0 = []; snap1 = [] };
+  happened = [];
   disk_faults = disk_faults;
   mail_faults = mail_faults;
 }

@@ -1,13 +1,15 @@
-ghost use Rattle.std.specs.Prelude.{◌≡◌, ◌^◌, ◌≤◌, [], ℕ, List, length, true, IsTrue, IsErr, IfOk, IfErr};
+ghost use Rattle.std.specs.Prelude.{◌≡◌, ◌^◌, ◌≤◌, [], ◌∷◌, ℕ, Bool, List, length, true, IsTrue, IsErr, IfOk, IfErr, OnOk};
 ghost use Rattle.sr_site.specs.Causes.{DiskStays};
+ghost use Rattle.sr_site.specs.Files.{OthersStay};
+ghost use Rattle.sr_site.specs.Happenings.{IsMoment, attached};
 ghost use Rattle.sr_site.specs.declared.file.File.TheVariants.{Log0 as log0};
 ghost use Rattle.sr_exchange.specs.declared.entry.Entry.{Entry};
 ghost use Rattle.sr_exchange.specs.Exchange.{waiting_of};
 ghost use Rattle.sr_exchange.specs.Logs.{HasHistory, IsDamagedDatabase};
 ghost use Rattle.dbremote.specs.Histories.{HoldsBeginning, HoldsSome, IsOpened};
 ghost use Rattle.dbremote.specs.Lines.{script, AreStatements};
-ghost use Rattle.dbremote.specs.Runs.{HasRead, stream};
-ghost use Rattle.dbremote.specs.Stops.{AttachCause, BeginCause, IsOfOpening};
+ghost use Rattle.dbremote.specs.Runs.{HasRead};
+ghost use Rattle.dbremote.specs.Stops.{AttachCause, BeginCause, IsOfDamage};
 
 use crate::fault::Fault;
 use crate::history::open_database;
@@ -29,8 +31,10 @@ pub struct Beginning {
 
 /// Names the database's files; there is no mail folder.
 fn attach<S: Site>(alloc: Global, name: &Text, site: &mut S) -> Result<(), Fault>
+    ensures attached { IsTrue (S.seen site.old).told → (done : Bool) × ((S.seen site.new).happened ≡ attached name.now [] done ∷ (S.seen site.old).happened) }
     ensures files { IsTrue (S.seen site.old).told → (S.seen site.new).files ≡ (S.seen site.old).files }
     ensures stays { DiskStays (S.seen site.old) (S.seen site.new) }
+    ensures steady { OnOk result ((S.seen site.new).disk_faults ≡ (S.seen site.old).disk_faults) }
     ensures cause { IfErr result (AttachCause (S.seen site.old) (S.seen site.new)) }
 {
     match site.attach(alloc, name, &Text::empty(alloc)) {
@@ -41,6 +45,7 @@ fn attach<S: Site>(alloc: Global, name: &Text, site: &mut S) -> Result<(), Fault
 }
 
 /// Attaches and opens the database of this role, reads the whole script and parses it, in this order.
+#[tactic(auto, using(sr_site::specs::Growing::disk_stays_on))]
 pub fn begin<S: Site, I: Source>(
     alloc: Global,
     name: &Text,
@@ -51,14 +56,18 @@ pub fn begin<S: Site, I: Source>(
     ensures opened { IsTrue (S.seen site.old).told → IfOk result (λ b. IsOpened role (S.seen site.old).files (S.seen site.new).files b.fold b.log) }
     ensures log { IfOk result (λ b. (b.log.usable ≡ true) × (b.log.file ≡ log0)) }
     ensures statements { IfOk result (λ b. AreStatements b.statements.items × (length (script b.statements.items) ≤ 2 ^ 26)) }
-    ensures read { IsTrue (I.told input.old) → IfOk result (λ b. HasRead (stream (I.told input.old) (I.left input.old) (I.faults input.old)) (stream (I.told input.new) (I.left input.new) (I.faults input.new)) (script b.statements.items)) }
+    ensures read { IsTrue ((I.seen input.old).told) → IfOk result (λ b. HasRead (I.seen input.old) (I.seen input.new) (script b.statements.items)) }
     ensures kept { IsTrue (S.seen site.old).told → (base : ℕ) (es : List Entry) → HasHistory role base es (S.seen site.old).files.log0 → waiting_of role es ≡ [] → (S.seen site.new).files ≡ (S.seen site.old).files }
     ensures left { IsTrue (S.seen site.old).told → (base : ℕ) (es : List Entry) → HasHistory role base es (S.seen site.old).files.log0 → HoldsSome role base es (S.seen site.new).files.log0 }
     ensures begun { IsTrue (S.seen site.old).told → (S.seen site.old).files.log0 ≡ [] → HoldsBeginning role (S.seen site.new).files.log0 }
-    ensures damaged { IsTrue (S.seen site.old).told → (place : ℕ) → IsDamagedDatabase role (S.seen site.old).files.log0 place → IsErr result × IfErr result IsOfOpening }
+    ensures damaged { IsTrue (S.seen site.old).told → (place : ℕ) → IsDamagedDatabase role (S.seen site.old).files.log0 place → IsErr result × IfErr result IsOfDamage × ((S.seen site.new).files ≡ (S.seen site.old).files) }
     ensures stays { DiskStays (S.seen site.old) (S.seen site.new) }
-    ensures told { I.told input.new ≡ I.told input.old }
-    ensures cause { IfErr result (BeginCause role (S.seen site.old) (S.seen site.new) (stream (I.told input.old) (I.left input.old) (I.faults input.old)) (stream (I.told input.new) (I.left input.new) (I.faults input.new))) }
+    ensures steady { OnOk result ((S.seen site.new).disk_faults ≡ (S.seen site.old).disk_faults) }
+    ensures told { (I.seen input.new).told ≡ (I.seen input.old).told }
+    ensures source { OnOk result ((I.seen input.new).faults ≡ (I.seen input.old).faults) }
+    ensures others { IsTrue (S.seen site.old).told → OthersStay log0 (S.seen site.old).files (S.seen site.new).files }
+    ensures attached { IsTrue (S.seen site.old).told → (done : Bool) × IsMoment (attached name.now [] done ∷ (S.seen site.old).happened) (S.seen site.new).happened }
+    ensures cause { IfErr result (BeginCause role (S.seen site.old) (S.seen site.new) (I.seen input.old) (I.seen input.new)) }
 {
     attach(alloc, name, site)?;
     let (fold, log) = open_database(alloc, site, role)?;

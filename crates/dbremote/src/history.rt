@@ -10,6 +10,7 @@ ghost use Rattle.sr_exchange.specs.Exchange.{waiting_of};
 ghost use Rattle.sr_exchange.specs.Logs.{HasHistory, IsDamagedDatabase, completed};
 ghost use Rattle.dbremote.specs.declared.fault.Fault.TheVariants.{Disk as disk};
 ghost use Rattle.dbremote.specs.Histories.{Stands, HasStanding, HoldsBeginning, HoldsSome, IsOpened};
+ghost use Rattle.dbremote.specs.Stops.{IsOfDamage};
 ghost use Rattle.dbremote.specs.Openings.{ReadCause, MakeCause, FoldCause, CompleteCause, OpenFault, IsPrepared, TakesEntry, statement_body};
 
 use crate::fault::Fault;
@@ -30,6 +31,7 @@ fn place_of(log: &LogFile, position: Offset) -> u64
 }
 
 /// Reads the record behind a position into the buffer, which grows where the record is longer, and answers its offset and length.
+#[tactic(auto, using(sr_site::specs::Growing::disk_stays_on))]
 fn read_record<S: Disk>(
     site: &mut S,
     log: &LogFile,
@@ -41,6 +43,7 @@ fn read_record<S: Disk>(
     ensures within { IfOk result (λ found. IfSome found (λ x. (x.0.0 ≡ after.0 + 5 + x.1) × (x.0.0 ≤ log.now.end) × (x.1 ≤ length buffer.new.items))) }
     ensures files { IsTrue (S.seen site.old).told → (S.seen site.new).files ≡ (S.seen site.old).files }
     ensures stays { DiskStays (S.seen site.old) (S.seen site.new) }
+    ensures steady { OnOk result ((S.seen site.new).disk_faults ≡ (S.seen site.old).disk_faults) }
     ensures cause { IfErr result (ReadCause log.now after.0 (S.seen site.old) (S.seen site.new)) }
 {
     let mut step = log.next(site, after, buffer.as_mut_slice())?;
@@ -70,11 +73,13 @@ fn take_body(alloc: Global, fold: &mut Fold, body: &[u8]) -> Result<bool, NoMemo
 /// Folds the log's entries, from the first record on: one pass.
 ///
 /// `Damaged` has the gate's place of the first record that does not go on from those before it.
+#[tactic(auto, using(sr_site::specs::Growing::disk_stays_on))]
 fn fold_log<S: Disk>(alloc: Global, site: &mut S, log: &LogFile, role: Role) -> Result<Fold, Fault>
     requires log { IsTrue (S.seen site.old).told → HasLog log.now (S.seen site.old).files }
     ensures folded { IfOk result (λ fold. HasStanding role log.now fold (S.seen site.old).told (S.seen site.old).files) }
     ensures files { IsTrue (S.seen site.old).told → (S.seen site.new).files ≡ (S.seen site.old).files }
     ensures stays { DiskStays (S.seen site.old) (S.seen site.new) }
+    ensures steady { OnOk result ((S.seen site.new).disk_faults ≡ (S.seen site.old).disk_faults) }
     ensures cause { IfErr result (FoldCause role (bytes_of (S.seen site.old).files log.now.file) (S.seen site.old) (S.seen site.new)) }
 {
     let mut fold = Fold::new(alloc, role);
@@ -116,6 +121,7 @@ fn commit_statement<S: Disk>(
     ensures stands { IsTrue (S.seen site.old).told → OnErr result ((bodies : List (List ℕ)) → IsLog log.old bodies (S.seen site.old).files → Spells log.old.base bodies (S.seen site.new).files.log0 ⊎ Spells log.old.base (bodies ++ statement_body text.now ∷ []) (S.seen site.new).files.log0) }
     ensures others { IsTrue (S.seen site.old).told → OthersStay log0 (S.seen site.old).files (S.seen site.new).files }
     ensures stays { DiskStays (S.seen site.old) (S.seen site.new) }
+    ensures steady { OnOk result ((S.seen site.new).disk_faults ≡ (S.seen site.old).disk_faults) }
     ensures cause { IfErr result (MakeCause log.old text.now (S.seen site.old) (S.seen site.new)) }
 {
     let body = ddl_body(alloc, text)?;
@@ -125,6 +131,7 @@ fn commit_statement<S: Disk>(
 }
 
 /// Commits the statements that are missing, in order. A fault may leave some of them committed.
+#[tactic(auto, using(sr_site::specs::Growing::disk_stays_on))]
 fn complete<S: Disk>(
     alloc: Global,
     site: &mut S,
@@ -140,6 +147,7 @@ fn complete<S: Disk>(
     ensures left { IsTrue (S.seen site.old).told → (es : List Entry) → Stands fold.old.role es log.old fold.old (S.seen site.old).told (S.seen site.old).files → HoldsSome fold.old.role log.old.base es (S.seen site.new).files.log0 }
     ensures others { IsTrue (S.seen site.old).told → OthersStay log0 (S.seen site.old).files (S.seen site.new).files }
     ensures stays { DiskStays (S.seen site.old) (S.seen site.new) }
+    ensures steady { OnOk result ((S.seen site.new).disk_faults ≡ (S.seen site.old).disk_faults) }
     ensures cause { IfErr result (CompleteCause fold.old.role log.old fold.old (S.seen site.old) (S.seen site.new)) }
 {
     'missing: while let Some(text) = fold.missing() {
@@ -150,12 +158,14 @@ fn complete<S: Disk>(
 }
 
 /// Makes the log's file where there is none.
+#[tactic(auto, using(sr_site::specs::Growing::disk_stays_on))]
 fn prepare<S: Disk>(site: &mut S) -> Result<(), Fault>
     ensures prepared { OnOk result (IsPrepared (S.seen site.old) (S.seen site.new)) }
     ensures begun { IsTrue (S.seen site.old).told → (S.seen site.old).files.log0 ≡ [] → OnErr result (length (S.seen site.new).files.log0 ≤ 17) }
     ensures kept { IsTrue (S.seen site.old).told → (S.seen site.old).files.log0 ≢ [] → (S.seen site.new).files ≡ (S.seen site.old).files }
     ensures others { IsTrue (S.seen site.old).told → OthersStay log0 (S.seen site.old).files (S.seen site.new).files }
     ensures stays { DiskStays (S.seen site.old) (S.seen site.new) }
+    ensures steady { OnOk result ((S.seen site.new).disk_faults ≡ (S.seen site.old).disk_faults) }
     ensures cause { IfErr result (λ fault. (fault ≡ disk) × Rose (S.seen site.old).disk_faults (S.seen site.new).disk_faults) }
 {
     if site.length(File::Log0)? == 0 {
@@ -167,8 +177,9 @@ fn prepare<S: Disk>(site: &mut S) -> Result<(), Fault>
 /// Opens the database of a role: makes its log where there is none, folds its entries, and commits the statements of the role that are missing.
 ///
 /// `Damaged` comes exactly where the file stands for no database of this role, with the place of the gate byte of the first record that does
-/// not fit, 0 for the header. A log that misses no statement is left as it is. A fault may leave some of those that were missing, and
+/// not fit, 0 for the header; such a file is left as it is, whatever else ends the opening. A log that misses no statement is left as it is. A fault may leave some of those that were missing, and
 /// of a file without a byte no more than the bytes of a log without records.
+#[tactic(auto, using(sr_site::specs::Growing::disk_stays_on))]
 pub fn open_database<S: Disk>(
     alloc: Global,
     site: &mut S,
@@ -176,12 +187,13 @@ pub fn open_database<S: Disk>(
 ) -> Result<(Fold, LogFile), Fault>
     ensures opened { IsTrue (S.seen site.old).told → IfOk result (λ x. IsOpened role (S.seen site.old).files (S.seen site.new).files x.0 x.1) }
     ensures usable { IfOk result (λ x. (x.1.usable ≡ true) × (x.1.file ≡ log0)) }
-    ensures damaged { IsTrue (S.seen site.old).told → (place : ℕ) → IsDamagedDatabase role (S.seen site.old).files.log0 place → IsErr result }
+    ensures damaged { IsTrue (S.seen site.old).told → (place : ℕ) → IsDamagedDatabase role (S.seen site.old).files.log0 place → IsErr result × IfErr result IsOfDamage × ((S.seen site.new).files ≡ (S.seen site.old).files) }
     ensures kept { IsTrue (S.seen site.old).told → (base : ℕ) (es : List Entry) → HasHistory role base es (S.seen site.old).files.log0 → waiting_of role es ≡ [] → (S.seen site.new).files ≡ (S.seen site.old).files }
     ensures left { IsTrue (S.seen site.old).told → (base : ℕ) (es : List Entry) → HasHistory role base es (S.seen site.old).files.log0 → HoldsSome role base es (S.seen site.new).files.log0 }
     ensures begun { IsTrue (S.seen site.old).told → (S.seen site.old).files.log0 ≡ [] → HoldsBeginning role (S.seen site.new).files.log0 }
     ensures others { IsTrue (S.seen site.old).told → OthersStay log0 (S.seen site.old).files (S.seen site.new).files }
     ensures stays { DiskStays (S.seen site.old) (S.seen site.new) }
+    ensures steady { OnOk result ((S.seen site.new).disk_faults ≡ (S.seen site.old).disk_faults) }
     ensures cause { IfErr result (OpenFault role (S.seen site.old) (S.seen site.new)) }
 {
     one_spelling_or_one_damage();

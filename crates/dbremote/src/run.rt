@@ -1,11 +1,13 @@
-ghost use Rattle.std.specs.Prelude.{◌≡◌, ◌≢◌, ◌⊎◌, ◌↔◌, [], ℕ, false, IsTrue, IsErr, IfErr, OnOk};
+ghost use Rattle.std.specs.Prelude.{◌≡◌, ◌≢◌, ◌⊎◌, ◌↔◌, [], ◌∷◌, ℕ, Bool, false, IsTrue, IsErr, IfErr, OnOk};
 ghost use Rattle.sr_site.specs.Causes.{DiskStays, Rose};
+ghost use Rattle.sr_site.specs.Files.{OthersStay};
+ghost use Rattle.sr_site.specs.Happenings.{IsMoment, attached};
+ghost use Rattle.sr_site.specs.declared.file.File.TheVariants.{Log0 as log0};
 ghost use Rattle.dbremote.specs.Commands.{RunsWords};
-ghost use Rattle.dbremote.specs.Runs.{RanScript, RanOrStopped, IsStatusOfOpening, outside};
-ghost use Rattle.dbremote.specs.Stops.{StopsSql, IsOfOpening};
+ghost use Rattle.dbremote.specs.Runs.{RanScript, RanSql, outside};
+ghost use Rattle.dbremote.specs.Stops.{StopsSql, IsOfDamage};
 ghost use Rattle.dbremote.specs.Words.{is_sql, name_of};
 ghost use Rattle.sr_exchange.specs.Logs.{IsDamagedDatabase};
-ghost use Rattle.sr_exchange.specs.Roles.{role_of};
 
 use crate::beginning::begin;
 use crate::fault::Fault;
@@ -18,6 +20,7 @@ use sr_site::{Sink, Site, Source};
 use std::alloc::Global;
 
 /// `sql NAME`: opens the database of this role, reads the script and runs it. After a fault `kept` has the lines that were not written.
+#[tactic(auto, using(sr_site::specs::Growing::disk_stays_on))]
 fn sql<S: Site, I: Source, O: Sink>(
     alloc: Global,
     name: &Text,
@@ -28,9 +31,11 @@ fn sql<S: Site, I: Source, O: Sink>(
     kept: &mut Vec<u8>,
 ) -> Result<(), Fault>
     requires kept { kept.old.items ≡ [] }
-    ensures done { OnOk result (RanScript role (outside (S.seen site.old) (I.told input.old) (I.left input.old) (I.faults input.old) (O.told output.old) (O.taken output.old) (O.faults output.old)) (outside (S.seen site.new) (I.told input.new) (I.left input.new) (I.faults input.new) (O.told output.new) (O.taken output.new) (O.faults output.new))) }
-    ensures stopped { IfErr result (StopsSql role (outside (S.seen site.old) (I.told input.old) (I.left input.old) (I.faults input.old) (O.told output.old) (O.taken output.old) (O.faults output.old)) (outside (S.seen site.new) (I.told input.new) (I.left input.new) (I.faults input.new) (O.told output.new) (O.taken output.new) (O.faults output.new)) kept.new.items) }
-    ensures damaged { IsTrue (S.seen site.old).told → (place : ℕ) → IsDamagedDatabase role (S.seen site.old).files.log0 place → IsErr result × IfErr result IsOfOpening }
+    ensures done { OnOk result (RanScript role (outside (S.seen site.old) (I.seen input.old) (O.seen output.old)) (outside (S.seen site.new) (I.seen input.new) (O.seen output.new))) }
+    ensures stopped { IfErr result (StopsSql role (outside (S.seen site.old) (I.seen input.old) (O.seen output.old)) (outside (S.seen site.new) (I.seen input.new) (O.seen output.new)) kept.new.items) }
+    ensures damaged { IsTrue (S.seen site.old).told → (place : ℕ) → IsDamagedDatabase role (S.seen site.old).files.log0 place → IsErr result × IfErr result IsOfDamage × ((S.seen site.new).files ≡ (S.seen site.old).files) }
+    ensures attached { IsTrue (S.seen site.old).told → (done : Bool) × IsMoment (attached name.now [] done ∷ (S.seen site.old).happened) (S.seen site.new).happened }
+    ensures others { IsTrue (S.seen site.old).told → OthersStay log0 (S.seen site.old).files (S.seen site.new).files }
     ensures stays { DiskStays (S.seen site.old) (S.seen site.new) }
 {
     let beginning = begin(alloc, name, role, site, input)?;
@@ -55,11 +60,10 @@ fn run_sql<S: Site, I: Source, O: Sink>(
     input: &mut I,
     output: &mut O,
 ) -> u8
-    ensures ran { RanOrStopped (role_of name.now) (outside (S.seen site.old) (I.told input.old) (I.left input.old) (I.faults input.old) (O.told output.old) (O.taken output.old) (O.faults output.old)) (outside (S.seen site.new) (I.told input.new) (I.left input.new) (I.faults input.new) (O.told output.new) (O.taken output.new) (O.faults output.new)) result }
-    ensures damaged { IsTrue (S.seen site.old).told → (place : ℕ) → IsDamagedDatabase (role_of name.now) (S.seen site.old).files.log0 place → IsStatusOfOpening result }
+    ensures ran { RanSql name.now (outside (S.seen site.old) (I.seen input.old) (O.seen output.old)) (outside (S.seen site.new) (I.seen input.new) (O.seen output.new)) result }
     ensures stays { DiskStays (S.seen site.old) (S.seen site.new) }
     ensures disk { result ≡ 5 → Rose (S.seen site.old).disk_faults (S.seen site.new).disk_faults }
-    ensures streams { result ≡ 7 → Rose (I.faults input.old) (I.faults input.new) ⊎ Rose (O.faults output.old) (O.faults output.new) }
+    ensures streams { result ≡ 7 → Rose ((I.seen input.old).faults) ((I.seen input.new).faults) ⊎ Rose ((O.seen output.old).faults) ((O.seen output.new).faults) }
     ensures never { (result ≢ 1) × (result ≢ 2) × (result ≢ 6) }
 {
     let mut kept = Vec::new(alloc);
@@ -84,12 +88,11 @@ pub fn run<S: Site, I: Source, O: Sink>(
     output: &mut O,
     now: i64,
 ) -> u8
-    ensures ran { RunsWords (is_sql words.now) (name_of words.now) (outside (S.seen site.old) (I.told input.old) (I.left input.old) (I.faults input.old) (O.told output.old) (O.taken output.old) (O.faults output.old)) (outside (S.seen site.new) (I.told input.new) (I.left input.new) (I.faults input.new) (O.told output.new) (O.taken output.new) (O.faults output.new)) result }
+    ensures ran { RunsWords (is_sql words.now) (name_of words.now) (outside (S.seen site.old) (I.seen input.old) (O.seen output.old)) (outside (S.seen site.new) (I.seen input.new) (O.seen output.new)) result }
     ensures stays { DiskStays (S.seen site.old) (S.seen site.new) }
-    ensures damaged { IsTrue (S.seen site.old).told → (place : ℕ) → IsDamagedDatabase (role_of (name_of words.now)) (S.seen site.old).files.log0 place → IsStatusOfOpening result }
     ensures words { (result ≡ 2) ↔ (is_sql words.now ≡ false) }
     ensures disk { result ≡ 5 → Rose (S.seen site.old).disk_faults (S.seen site.new).disk_faults }
-    ensures streams { result ≡ 7 → Rose (I.faults input.old) (I.faults input.new) ⊎ Rose (O.faults output.old) (O.faults output.new) }
+    ensures streams { result ≡ 7 → Rose ((I.seen input.old).faults) ((I.seen input.new).faults) ⊎ Rose ((O.seen output.old).faults) ((O.seen output.new).faults) }
     ensures never { (result ≢ 1) × (result ≢ 6) }
 {
     let _now = now;

@@ -4,9 +4,9 @@ ghost use Rattle.sr_site.specs.Files.{OthersStay};
 ghost use Rattle.sr_site.specs.declared.file.File.TheVariants.{Log0 as log0};
 ghost use Rattle.sr_logfile.specs.Logs.{HasLog};
 ghost use Rattle.dbremote.specs.Lines.{script};
-ghost use Rattle.dbremote.specs.Sessions.{HoldsBeside, Stopped};
+ghost use Rattle.dbremote.specs.Sessions.{HoldsBeside, KeepsRoom, Stopped, log_to};
 ghost use Rattle.sr_exchange.specs.Tables.{are_free};
-ghost use Rattle.dbremote.specs.Transactions.{items_of, open_after, transactions, lines_of, last_line};
+ghost use Rattle.dbremote.specs.Transactions.{items_of, open_after, end_after, transactions, lines_of, last_line};
 
 use crate::fault::Fault;
 use crate::session::Session;
@@ -33,13 +33,16 @@ pub fn run_script<S: Disk, O: Sink>(
     requires log { IsTrue (S.seen site.old).told → HasLog log (S.seen site.old).files }
     requires kept { kept.old.items ≡ [] }
     ensures free { OnOk result (are_free table (items_of statements.now) ≡ true) }
+    ensures room { OnOk result (KeepsRoom log (log_to log (end_after log.end [] statements.now))) }
     ensures holds { IsTrue (S.seen site.old).told → OnOk result (HoldsBeside log (transactions [] statements.now) (S.seen site.old).files (S.seen site.new).files) }
-    ensures said { IsTrue (O.told output.old) → OnOk result (O.taken output.new ≡ O.taken output.old ++ lines_of log.end [] statements.now ++ last_line (open_after [] statements.now)) }
+    ensures said { IsTrue ((O.seen output.old).told) → OnOk result ((O.seen output.new).taken ≡ (O.seen output.old).taken ++ lines_of log.end [] statements.now ++ last_line (open_after [] statements.now)) }
     ensures others { IsTrue (S.seen site.old).told → OthersStay log0 (S.seen site.old).files (S.seen site.new).files }
     ensures stays { DiskStays (S.seen site.old) (S.seen site.new) }
-    ensures told { O.told output.new ≡ O.told output.old }
-    ensures later { O.faults output.old ≤ O.faults output.new }
-    ensures stopped { IfErr result (Stopped table log kept.new.items statements.now (S.seen site.old) (S.seen site.new) (O.told output.old) (O.taken output.old) (O.taken output.new) (O.faults output.old) (O.faults output.new)) }
+    ensures steady { OnOk result ((S.seen site.new).disk_faults ≡ (S.seen site.old).disk_faults) }
+    ensures told { (O.seen output.new).told ≡ (O.seen output.old).told }
+    ensures sink { OnOk result ((O.seen output.new).faults ≡ (O.seen output.old).faults) }
+    ensures later { (O.seen output.old).faults ≤ (O.seen output.new).faults }
+    ensures stopped { IfErr result (Stopped table log kept.new.items statements.now (S.seen site.old) (S.seen site.new) (O.seen output.old) (O.seen output.new)) }
 {
     let mut session = Session {
         table,

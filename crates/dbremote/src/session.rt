@@ -7,8 +7,8 @@ ghost use Rattle.dbremote.specs.Lines.{script};
 ghost use Rattle.dbremote.specs.Streams.{TookFront, Said};
 ghost use Rattle.dbremote.specs.declared.fault.Fault.TheVariants.{Sink as sink_fault, Memory as memory};
 ghost use Rattle.sr_exchange.specs.Tables.{holds, inserted, are_free};
-ghost use Rattle.dbremote.specs.Transactions.{items_of, open_after, committed, end_committed, commit_line, transactions, lines_of, last_line};
-ghost use Rattle.dbremote.specs.Sessions.{Appended, InsertCause, CommitFault, StepCause, HasDone, HoldsBeside, Stopped, log_to};
+ghost use Rattle.dbremote.specs.Transactions.{items_of, open_after, committed, end_after, end_committed, commit_line, transactions, lines_of, last_line};
+ghost use Rattle.dbremote.specs.Sessions.{Appended, InsertCause, CommitFault, StepCause, HasDone, HoldsBeside, KeepsRoom, Stopped, log_to};
 
 use crate::fault::Fault;
 use crate::statement::Statement;
@@ -67,8 +67,10 @@ impl Session {
         ensures lines { OnOk result (self.new.lines.items ≡ self.old.lines.items ++ commit_line self.old.log.end self.old.pending.items) }
         ensures lines_stay { OnErr result (self.new.lines.items ≡ self.old.lines.items) }
         ensures log { OnOk result (self.new.log ≡ log_to self.old.log (end_committed self.old.log.end self.old.pending.items)) }
+        ensures room { OnOk result (KeepsRoom self.old.log self.new.log) }
         ensures appended { IsTrue (S.seen site.old).told → OnOk result (Appended self.old.log self.new.log (committed self.old.pending.items) (S.seen site.old).files (S.seen site.new).files) }
         ensures has_log { IsTrue (S.seen site.old).told → OnOk result (HasLog self.new.log (S.seen site.new).files) }
+        ensures steady { OnOk result ((S.seen site.new).disk_faults ≡ (S.seen site.old).disk_faults) }
         ensures others { IsTrue (S.seen site.old).told → OthersStay log0 (S.seen site.old).files (S.seen site.new).files }
         ensures stays { DiskStays (S.seen site.old) (S.seen site.new) }
         ensures cause { IfErr result (CommitFault self.old (S.seen site.old) (S.seen site.new)) }
@@ -112,6 +114,7 @@ impl Session {
         ensures lines_stay { OnErr result (self.new.lines.items ≡ self.old.lines.items) }
         ensures appended { IsTrue (S.seen site.old).told → OnOk result (Appended self.old.log self.new.log (transactions self.old.pending.items (statement.now ∷ [])) (S.seen site.old).files (S.seen site.new).files) }
         ensures has_log { IsTrue (S.seen site.old).told → OnOk result (HasLog self.new.log (S.seen site.new).files) }
+        ensures steady { OnOk result ((S.seen site.new).disk_faults ≡ (S.seen site.old).disk_faults) }
         ensures others { IsTrue (S.seen site.old).told → OthersStay log0 (S.seen site.old).files (S.seen site.new).files }
         ensures stays { DiskStays (S.seen site.old) (S.seen site.new) }
         ensures cause { IfErr result (StepCause self.old statement.now number (S.seen site.old) (S.seen site.new)) }
@@ -127,11 +130,12 @@ impl Session {
     fn flush<O: Sink>(&mut self, sink: &mut O) -> Result<(), Fault>
         ensures session { (self.new.table ≡ self.old.table) × (self.new.log ≡ self.old.log) × (self.new.pending.items ≡ self.old.pending.items) }
         ensures kept { self.new.lines.items ≡ [] }
-        ensures said { IsTrue (O.told sink.old) → OnOk result (O.taken sink.new ≡ O.taken sink.old ++ self.old.lines.items) }
-        ensures front { IsTrue (O.told sink.old) → OnErr result (TookFront self.old.lines.items (O.taken sink.old) (O.taken sink.new)) }
-        ensures told { O.told sink.new ≡ O.told sink.old }
-        ensures later { O.faults sink.old ≤ O.faults sink.new }
-        ensures cause { IfErr result (λ fault. (fault ≡ sink_fault) × Rose (O.faults sink.old) (O.faults sink.new)) }
+        ensures said { IsTrue ((O.seen sink.old).told) → OnOk result ((O.seen sink.new).taken ≡ (O.seen sink.old).taken ++ self.old.lines.items) }
+        ensures front { IsTrue ((O.seen sink.old).told) → OnErr result (TookFront self.old.lines.items ((O.seen sink.old).taken) ((O.seen sink.new).taken)) }
+        ensures told { (O.seen sink.new).told ≡ (O.seen sink.old).told }
+        ensures sink { OnOk result ((O.seen sink.new).faults ≡ (O.seen sink.old).faults) }
+        ensures later { (O.seen sink.old).faults ≤ (O.seen sink.new).faults }
+        ensures cause { IfErr result (λ fault. (fault ≡ sink_fault) × Rose ((O.seen sink.old).faults) ((O.seen sink.new).faults)) }
     {
         let outcome = say(sink, self.lines.as_slice());
         self.lines.clear();
@@ -142,6 +146,7 @@ impl Session {
     }
 
     /// Runs the statements in order, and writes their lines after each COMMIT and whenever 64 KiB are kept.
+    #[tactic(auto, using(sr_site::specs::Growing::disk_stays_on))]
     pub fn run_statements<S: Disk, O: Sink>(
         &mut self,
         alloc: Global,
@@ -155,13 +160,15 @@ impl Session {
         requires file { self.old.log.file ≡ log0 }
         requires log { IsTrue (S.seen site.old).told → HasLog self.old.log (S.seen site.old).files }
         ensures done { OnOk result (HasDone self.old self.new statements.now) }
-        ensures said { IsTrue (O.told sink.old) → OnOk result (Said (lines_of self.old.log.end [] statements.now) self.new.lines.items (O.taken sink.old) (O.taken sink.new)) }
+        ensures said { IsTrue ((O.seen sink.old).told) → OnOk result (Said (lines_of self.old.log.end [] statements.now) self.new.lines.items ((O.seen sink.old).taken) ((O.seen sink.new).taken)) }
         ensures appended { IsTrue (S.seen site.old).told → OnOk result (Appended self.old.log self.new.log (transactions [] statements.now) (S.seen site.old).files (S.seen site.new).files) }
         ensures others { IsTrue (S.seen site.old).told → OthersStay log0 (S.seen site.old).files (S.seen site.new).files }
         ensures stays { DiskStays (S.seen site.old) (S.seen site.new) }
-        ensures told { O.told sink.new ≡ O.told sink.old }
-        ensures later { O.faults sink.old ≤ O.faults sink.new }
-        ensures stopped { IfErr result (Stopped self.old.table self.old.log self.new.lines.items statements.now (S.seen site.old) (S.seen site.new) (O.told sink.old) (O.taken sink.old) (O.taken sink.new) (O.faults sink.old) (O.faults sink.new)) }
+        ensures steady { OnOk result ((S.seen site.new).disk_faults ≡ (S.seen site.old).disk_faults) }
+        ensures told { (O.seen sink.new).told ≡ (O.seen sink.old).told }
+        ensures sink { OnOk result ((O.seen sink.new).faults ≡ (O.seen sink.old).faults) }
+        ensures later { (O.seen sink.old).faults ≤ (O.seen sink.new).faults }
+        ensures stopped { IfErr result (Stopped self.old.table self.old.log self.new.lines.items statements.now (S.seen site.old) (S.seen site.new) (O.seen sink.old) (O.seen sink.new)) }
     {
         let mut rest = statements;
         'statements: while let Some((statement, following)) = rest.split_first() {
@@ -189,6 +196,7 @@ impl Session {
     }
 
     /// Runs the statements, and writes all lines, the last too.
+    #[tactic(auto, using(sr_site::specs::Growing::disk_stays_on))]
     pub fn run_to_end<S: Disk, O: Sink>(
         &mut self,
         alloc: Global,
@@ -202,13 +210,16 @@ impl Session {
         requires file { self.old.log.file ≡ log0 }
         requires log { IsTrue (S.seen site.old).told → HasLog self.old.log (S.seen site.old).files }
         ensures free { OnOk result (are_free self.old.table (items_of statements.now) ≡ true) }
+        ensures room { OnOk result (KeepsRoom self.old.log (log_to self.old.log (end_after self.old.log.end [] statements.now))) }
         ensures holds { IsTrue (S.seen site.old).told → OnOk result (HoldsBeside self.old.log (transactions [] statements.now) (S.seen site.old).files (S.seen site.new).files) }
-        ensures said { IsTrue (O.told sink.old) → OnOk result (O.taken sink.new ≡ O.taken sink.old ++ lines_of self.old.log.end [] statements.now ++ last_line (open_after [] statements.now)) }
+        ensures said { IsTrue ((O.seen sink.old).told) → OnOk result ((O.seen sink.new).taken ≡ (O.seen sink.old).taken ++ lines_of self.old.log.end [] statements.now ++ last_line (open_after [] statements.now)) }
         ensures others { IsTrue (S.seen site.old).told → OthersStay log0 (S.seen site.old).files (S.seen site.new).files }
         ensures stays { DiskStays (S.seen site.old) (S.seen site.new) }
-        ensures told { O.told sink.new ≡ O.told sink.old }
-        ensures later { O.faults sink.old ≤ O.faults sink.new }
-        ensures stopped { IfErr result (Stopped self.old.table self.old.log self.new.lines.items statements.now (S.seen site.old) (S.seen site.new) (O.told sink.old) (O.taken sink.old) (O.taken sink.new) (O.faults sink.old) (O.faults sink.new)) }
+        ensures steady { OnOk result ((S.seen site.new).disk_faults ≡ (S.seen site.old).disk_faults) }
+        ensures told { (O.seen sink.new).told ≡ (O.seen sink.old).told }
+        ensures sink { OnOk result ((O.seen sink.new).faults ≡ (O.seen sink.old).faults) }
+        ensures later { (O.seen sink.old).faults ≤ (O.seen sink.new).faults }
+        ensures stopped { IfErr result (Stopped self.old.table self.old.log self.new.lines.items statements.now (S.seen site.old) (S.seen site.new) (O.seen sink.old) (O.seen sink.new)) }
     {
         self.run_statements(alloc, site, sink, statements)?;
         self.end()?;

@@ -2,7 +2,7 @@ ghost use Rattle.std.specs.Prelude.{◌≡◌, ◌≤◌, ◌<◌, ◌++◌, [],
 ghost use Rattle.sr_site.specs.Causes.{Rose};
 ghost use Rattle.dbremote.specs.Streams.{TookFront, InputCause};
 ghost use Rattle.dbremote.specs.declared.stream.InputFault.TheVariants.{Memory as memory, TooLong as too_long};
-ghost use Rattle.dbremote.specs.declared.stream.TheConstants.{LONGEST_SCRIPT};
+ghost use Rattle.dbremote.specs.Limits.{most_script};
 
 use sr_site::{Failed, Sink, Source};
 use std::alloc::{AllocError, AllocFailed, Global};
@@ -37,11 +37,12 @@ impl<T: Drop> From<AllocFailed<T>> for InputFault {
 
 /// Writes all of `bytes`. After `Failed` the sink took a front of them.
 pub fn say<O: Sink>(sink: &mut O, bytes: &[u8]) -> Result<(), Failed>
-    ensures said { IsTrue (O.told sink.old) → OnOk result (O.taken sink.new ≡ O.taken sink.old ++ bytes.now) }
-    ensures front { IsTrue (O.told sink.old) → OnErr result (TookFront bytes.now (O.taken sink.old) (O.taken sink.new)) }
-    ensures told { O.told sink.new ≡ O.told sink.old }
-    ensures later { O.faults sink.old ≤ O.faults sink.new }
-    ensures cause { OnErr result (Rose (O.faults sink.old) (O.faults sink.new)) }
+    ensures said { IsTrue ((O.seen sink.old).told) → OnOk result ((O.seen sink.new).taken ≡ (O.seen sink.old).taken ++ bytes.now) }
+    ensures front { IsTrue ((O.seen sink.old).told) → OnErr result (TookFront bytes.now ((O.seen sink.old).taken) ((O.seen sink.new).taken)) }
+    ensures told { (O.seen sink.new).told ≡ (O.seen sink.old).told }
+    ensures steady { OnOk result ((O.seen sink.new).faults ≡ (O.seen sink.old).faults) }
+    ensures later { (O.seen sink.old).faults ≤ (O.seen sink.new).faults }
+    ensures cause { OnErr result (Rose ((O.seen sink.old).faults) ((O.seen sink.new).faults)) }
 {
     let mut rest = bytes;
     'pieces: while !rest.is_empty() {
@@ -56,12 +57,13 @@ pub fn say<O: Sink>(sink: &mut O, bytes: &[u8]) -> Result<(), Failed>
 ///
 /// `TooLong` comes where it gave more than the longest script.
 pub fn read_all<I: Source>(alloc: Global, source: &mut I) -> Result<Vec<u8>, InputFault>
-    ensures all { IsTrue (I.told source.old) → IfOk result (λ text. (I.left source.old ≡ text.items) × (I.left source.new ≡ [])) }
-    ensures short { IfOk result (λ text. length text.items ≤ LONGEST_SCRIPT) }
-    ensures long { IsTrue (I.told source.old) → IsErrOf result too_long → LONGEST_SCRIPT < length (I.left source.old) }
-    ensures told { I.told source.new ≡ I.told source.old }
-    ensures later { I.faults source.old ≤ I.faults source.new }
-    ensures cause { IfErr result (InputCause (I.faults source.old) (I.faults source.new)) }
+    ensures all { IsTrue ((I.seen source.old).told) → IfOk result (λ text. ((I.seen source.old).left ≡ text.items) × ((I.seen source.new).left ≡ [])) }
+    ensures short { IfOk result (λ text. length text.items ≤ most_script) }
+    ensures long { IsTrue ((I.seen source.old).told) → IsErrOf result too_long → most_script < length ((I.seen source.old).left) }
+    ensures told { (I.seen source.new).told ≡ (I.seen source.old).told }
+    ensures steady { OnOk result ((I.seen source.new).faults ≡ (I.seen source.old).faults) }
+    ensures later { (I.seen source.old).faults ≤ (I.seen source.new).faults }
+    ensures cause { IfErr result (InputCause ((I.seen source.old).faults) ((I.seen source.new).faults)) }
 {
     let mut text = Vec::new(alloc);
     let mut buffer = Vec::with_capacity(alloc, 65536)?;

@@ -103,6 +103,9 @@ module _ (place : ℕ) (framed old : List ℕ) where
           bytes_are = e2 ∙ ap (λ (n : ℕ). overwritten middle n (1 ∷ [])) (sym at) ∙ ap (λ (l : List ℕ). overwritten l (length front) (1 ∷ [])) has.bytes_are ∙ written_gate front gate (framed ++ has.rest) 1;
         }
 
+  pub nothing_put : LeavesPart place framed old old
+  nothing_put = record { part = λ front rest gate is at. inl (record { rest = rest; bytes_are = is }) }
+
   pub first_torn : (new : List ℕ) → IsTorn (place + 1) (length framed) old new → LeavesPart place framed old new
   first_torn new torn = record { part = λ front rest gate is at. after_torn front rest gate is at new torn }
 

@@ -2,6 +2,8 @@ pub mod Appends
 pub mod Commits
 pub mod Ends
 pub mod Fronts
+pub mod Makings
+pub mod Moments
 pub mod Nexts
 pub mod Openings
 pub mod Records

@@ -4,6 +4,7 @@ use Rattle.std.specs.Prelude.{IsTrue}
 use Rattle.std.proofs.lemmas.List.{append-nil, drop_at}
 use Rattle.sr_site.specs.declared.file.File.{File}
 use Rattle.sr_site.specs.Causes.{DiskStays}
+use Rattle.sr_site.specs.Growing.{disk_stays_on}
 use Rattle.sr_site.specs.Files.{bytes_of}
 use Rattle.sr_site.specs.Seen.{Seen}
 use Rattle.sr_logfile.specs.Damage.{LacksRecord, BeginsRecord}
@@ -19,7 +20,8 @@ pub record IsReading (file : File) (base position size : ℕ) (first now : Seen)
   pub order : InOrder base position
   pub stays : DiskStays first now
   pub files : IsTrue first.told → now.files ≡ first.files
-  pub calls : IsTrue first.told → now.calls ≡ first.calls
+  pub happened : IsTrue first.told → now.happened ≡ first.happened
+  pub steady : now.disk_faults ≡ first.disk_faults
   pub size_is : IsTrue first.told → size ≡ length (bytes_of first.files file)
   pub reaches : IsTrue first.told → Reaches base position (bytes_of first.files file)
 
@@ -81,4 +83,4 @@ breaks base position bytes reaches broken limit =
       broken = λ body b. broken.broken body (subst (λ (p : ℕ). BeginsRecord body p (drop 1 tail)) (sym at) b);
     }
 
-pub ruleset scanning = (starts, goes_on, ends, breaks)
+pub ruleset scanning = (disk_stays_on, starts, goes_on, ends, breaks)

@@ -1,5 +1,8 @@
-ghost use Rattle.std.specs.Prelude.{◌≡◌, ◌+◌, ◌^◌, ◌≤◌, ◌<◌, [], ◌∷◌, ◌++◌, length, IsTrue, OnOk, OnErr};
-ghost use Rattle.sr_site.specs.Calls.{wrote, synced};
+ghost use Rattle.std.specs.Prelude.{◌≡◌, ◌+◌, ◌^◌, ◌≤◌, ◌<◌, [], ◌∷◌, ◌++◌, length, IsTrue, OnOk, OnErr, is_ok};
+ghost use Rattle.sr_site.specs.Happenings.{Made};
+ghost use Rattle.sr_site.specs.Images.{IsSettled, RestsThroughout};
+ghost use Rattle.sr_logfile.specs.Calls.{commit_calls};
+ghost use Rattle.sr_logfile.specs.Moments.{IsAsRead, IsPartPut};
 ghost use Rattle.sr_site.specs.Files.{bytes_of, OthersStay};
 ghost use Rattle.sr_logfile.specs.Appends.{LeavesPart, LeavesRecord};
 ghost use Rattle.sr_site.specs.Causes.{DiskStays, Rose};
@@ -7,6 +10,7 @@ ghost use Rattle.sr_site.specs.Causes.{DiskStays, Rose};
 use sr_site::{Disk, Failed, File};
 
 /// The four calls of a commit: writes the framed record behind the gate at the place `gate`, syncs, opens the gate and syncs.
+#[tactic(auto, using(sr_site::specs::Growing::disk_stays_on))]
 pub(crate) fn append<S: Disk>(
     site: &mut S,
     file: File,
@@ -18,8 +22,11 @@ pub(crate) fn append<S: Disk>(
     ensures bytes { IsTrue (S.seen site.old).told → OnOk result (LeavesRecord gate framed.now (bytes_of (S.seen site.old).files file) (bytes_of (S.seen site.new).files file)) }
     ensures part { IsTrue (S.seen site.old).told → OnErr result (LeavesPart gate framed.now (bytes_of (S.seen site.old).files file) (bytes_of (S.seen site.new).files file)) }
     ensures others { IsTrue (S.seen site.old).told → OthersStay file (S.seen site.old).files (S.seen site.new).files }
-    ensures calls { IsTrue (S.seen site.old).told → OnOk result ((S.seen site.new).calls ≡ synced file ∷ wrote file gate (1 ∷ []) ∷ synced file ∷ wrote file (gate + 1) framed.now ∷ (S.seen site.old).calls) }
+    ensures happened { IsTrue (S.seen site.old).told → Made (commit_calls file gate framed.now) (S.seen site.old).happened (S.seen site.new).happened (is_ok result) }
+    ensures moments { IsTrue (S.seen site.old).told → RestsThroughout (IsPartPut gate framed.now file (S.seen site.old)) (S.seen site.old) (S.seen site.new) }
+    ensures settled { IsTrue (S.seen site.old).told → OnOk result (IsSettled (IsAsRead file (S.seen site.new)) (S.seen site.new)) }
     ensures stays { DiskStays (S.seen site.old) (S.seen site.new) }
+    ensures steady { OnOk result ((S.seen site.new).disk_faults ≡ (S.seen site.old).disk_faults) }
     ensures cause { OnErr result (Rose (S.seen site.old).disk_faults (S.seen site.new).disk_faults) }
 {
     site.write_at(file, gate + 1, framed)?;

@@ -1,4 +1,4 @@
-ghost use Rattle.std.specs.Prelude.{◌≡◌, List, ℕ, drop, IsTrue, IfOk, IfErr};
+ghost use Rattle.std.specs.Prelude.{◌≡◌, List, ℕ, drop, IsTrue, IfOk, OnOk, IfErr};
 ghost use Rattle.sr_site.specs.Causes.{DiskStays};
 ghost use Rattle.sr_site.specs.Files.{bytes_of};
 ghost use Rattle.sr_site.specs.Reads.{HasRead};
@@ -34,8 +34,9 @@ pub(crate) enum Head {
 pub(crate) fn head_at<S: Disk>(site: &mut S, file: File, place: u64) -> Result<Head, LogFault>
     ensures head { IsTrue (S.seen site.old).told → IfOk result (IsHead (drop place (bytes_of (S.seen site.old).files file))) }
     ensures files { IsTrue (S.seen site.old).told → (S.seen site.new).files ≡ (S.seen site.old).files }
-    ensures calls { IsTrue (S.seen site.old).told → (S.seen site.new).calls ≡ (S.seen site.old).calls }
+    ensures happened { IsTrue (S.seen site.old).told → (S.seen site.new).happened ≡ (S.seen site.old).happened }
     ensures stays { DiskStays (S.seen site.old) (S.seen site.new) }
+    ensures steady { OnOk result ((S.seen site.new).disk_faults ≡ (S.seen site.old).disk_faults) }
     ensures cause { IfErr result (HeadCause (S.seen site.old) (S.seen site.new)) }
 {
     let mut head = [0; 5];

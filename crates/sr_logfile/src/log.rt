@@ -1,5 +1,8 @@
-ghost use Rattle.std.specs.Prelude.{◌≡◌, ◌⊎◌, ◌+◌, ◌^◌, ◌≤◌, [], ◌∷◌, ◌++◌, List, ℕ, length, true, IsTrue, IfOk, OnOk, OnErr, IfErr, Err};
-ghost use Rattle.sr_site.specs.Calls.{wrote, synced};
+ghost use Rattle.std.specs.Prelude.{◌≡◌, ◌⊎◌, ◌+◌, ◌^◌, ◌≤◌, [], ◌∷◌, ◌++◌, List, ℕ, length, true, IsTrue, IfOk, OnOk, OnErr, IfErr, Err, is_ok};
+ghost use Rattle.sr_site.specs.Happenings.{Made};
+ghost use Rattle.sr_site.specs.Images.{IsSettled, RestsThroughout};
+ghost use Rattle.sr_logfile.specs.Calls.{commit_calls};
+ghost use Rattle.sr_logfile.specs.Moments.{HasOrLacks, IsAsRead};
 ghost use Rattle.sr_site.specs.Causes.{DiskStays};
 ghost use Rattle.sr_site.specs.Files.{bytes_of, OthersStay};
 ghost use Rattle.sr_logfile.specs.Faults.{CommitCause};
@@ -99,10 +102,14 @@ impl LogFile {
         ensures has_log { IsTrue (S.seen site.old).told → OnOk result (HasLog self.new (S.seen site.new).files) }
         ensures record { IsTrue (S.seen site.old).told → OnOk result ((bodies : List (List ℕ)) → IsLog self.old bodies (S.seen site.old).files → IsLog self.new (bodies ++ body_of framed.now ∷ []) (S.seen site.new).files) }
         ensures stands { IsTrue (S.seen site.old).told → OnErr result ((bodies : List (List ℕ)) → IsLog self.old bodies (S.seen site.old).files → Spells self.old.base bodies (bytes_of (S.seen site.new).files self.old.file) ⊎ Spells self.old.base (bodies ++ body_of framed.now ∷ []) (bytes_of (S.seen site.new).files self.old.file)) }
-        ensures calls { IsTrue (S.seen site.old).told → OnOk result ((S.seen site.new).calls ≡ synced self.old.file ∷ wrote self.old.file (gate_of self.old) (1 ∷ []) ∷ synced self.old.file ∷ wrote self.old.file (gate_of self.old + 1) framed.now ∷ (S.seen site.old).calls) }
+        ensures happened { IsTrue (S.seen site.old).told → (IsFull self.old (length framed.now) bound → ⊥) → Made (commit_calls self.old.file (gate_of self.old) framed.now) (S.seen site.old).happened (S.seen site.new).happened (is_ok result) }
+        ensures room { OnOk result (IsFull self.old (length framed.now) bound → ⊥) }
+        ensures moments { IsTrue (S.seen site.old).told → (bodies : List (List ℕ)) → IsLog self.old bodies (S.seen site.old).files → IsSettled (IsLog self.old bodies) (S.seen site.old) → RestsThroughout (HasOrLacks self.old bodies framed.now) (S.seen site.old) (S.seen site.new) }
+        ensures settled { IsTrue (S.seen site.old).told → OnOk result (IsSettled (IsAsRead self.old.file (S.seen site.new)) (S.seen site.new)) }
         ensures others { IsTrue (S.seen site.old).told → OthersStay self.old.file (S.seen site.old).files (S.seen site.new).files }
         ensures full { IsFull self.old (length framed.now) bound → result ≡ Err (Full (gate_of self.old + 1) (length framed.now)) }
         ensures stays { DiskStays (S.seen site.old) (S.seen site.new) }
+        ensures steady { OnOk result ((S.seen site.new).disk_faults ≡ (S.seen site.old).disk_faults) }
         ensures cause { IfErr result (CommitCause self.old self.new (length framed.now) bound (S.seen site.old) (S.seen site.new)) }
     {
         let gate = HEADER + (self.end - self.base);

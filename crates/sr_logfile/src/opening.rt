@@ -1,6 +1,8 @@
-ghost use Rattle.std.specs.Prelude.{◌≡◌, ◌∷◌, ◌+◌, ◌-◌, ◌^◌, ◌≤◌, ◌<◌, List, ℕ, length, take, drop, true, IsTrue, IfOk, IfErr, IfSome, IsErr, IsNone};
+ghost use Rattle.std.specs.Prelude.{◌≡◌, ◌∷◌, ◌+◌, ◌-◌, ◌^◌, ◌≤◌, ◌<◌, List, ℕ, length, take, drop, true, IsTrue, IfOk, OnOk, IfErr, IfSome, IsErr, IsNone};
 ghost use Rattle.std.specs.Option.{SomeIff};
-ghost use Rattle.sr_site.specs.Calls.{synced};
+ghost use Rattle.sr_site.specs.Images.{IsSettled};
+ghost use Rattle.sr_logfile.specs.Calls.{HasSynced};
+ghost use Rattle.sr_logfile.specs.Moments.{IsAsRead};
 ghost use Rattle.sr_site.specs.Causes.{DiskStays};
 ghost use Rattle.sr_site.specs.Files.{bytes_of};
 ghost use Rattle.sr_logfile.specs.Damage.{IsDamaged};
@@ -25,20 +27,25 @@ pub fn open<S: Disk>(site: &mut S, file: File) -> Result<LogFile, LogFault>
     ensures spelled { IsTrue (S.seen site.old).told → (base : ℕ) (bodies : List (List ℕ)) → Spells base bodies (bytes_of (S.seen site.old).files file) → IfOk result (λ log. (log.base ≡ base) × IsLog log bodies (S.seen site.new).files) × IfErr result IsDisk }
     ensures damaged { IsTrue (S.seen site.old).told → (place : ℕ) → IsDamaged (bytes_of (S.seen site.old).files file) place → IsErr result × IfErr result (IsDiskOrDamaged place) }
     ensures files { IsTrue (S.seen site.old).told → (S.seen site.new).files ≡ (S.seen site.old).files }
-    ensures calls { IsTrue (S.seen site.old).told → (S.seen site.new).calls ≡ synced file ∷ (S.seen site.old).calls }
+    ensures happened { IsTrue (S.seen site.old).told → HasSynced file result (S.seen site.old) (S.seen site.new) }
+    ensures settled { IsTrue (S.seen site.old).told → OnOk result (IsSettled (IsAsRead file (S.seen site.new)) (S.seen site.new)) }
     ensures stays { DiskStays (S.seen site.old) (S.seen site.new) }
+    ensures steady { OnOk result ((S.seen site.new).disk_faults ≡ (S.seen site.old).disk_faults) }
     ensures cause { IfErr result (OpenCause file (S.seen site.old) (S.seen site.new)) }
 {
     read_records(site, file)
 }
 
 /// Syncs the file and reads it up to the first closed gate.
+#[tactic(auto, using(sr_site::specs::Growing::disk_stays_on))]
 fn read_records<S: Disk>(site: &mut S, file: File) -> Result<LogFile, LogFault>
     ensures log { IsTrue (S.seen site.old).told → IfOk result (λ log. HasLog log (S.seen site.new).files) }
     ensures usable { IfOk result (λ log. (log.file ≡ file) × (log.usable ≡ true)) }
     ensures files { IsTrue (S.seen site.old).told → (S.seen site.new).files ≡ (S.seen site.old).files }
-    ensures calls { IsTrue (S.seen site.old).told → (S.seen site.new).calls ≡ synced file ∷ (S.seen site.old).calls }
+    ensures happened { IsTrue (S.seen site.old).told → HasSynced file result (S.seen site.old) (S.seen site.new) }
+    ensures settled { IsTrue (S.seen site.old).told → OnOk result (IsSettled (IsAsRead file (S.seen site.new)) (S.seen site.new)) }
     ensures stays { DiskStays (S.seen site.old) (S.seen site.new) }
+    ensures steady { OnOk result ((S.seen site.new).disk_faults ≡ (S.seen site.old).disk_faults) }
     ensures cause { IfErr result (OpenCause file (S.seen site.old) (S.seen site.new)) }
 {
     site.sync(file)?;
@@ -53,8 +60,9 @@ fn base_of<S: Disk>(site: &mut S, file: File) -> Result<u64, LogFault>
     ensures header { IsTrue (S.seen site.old).told → IfOk result (λ base. HasHeader base (bytes_of (S.seen site.old).files file)) }
     ensures limit { IfOk result (λ base. base ≤ 2 ^ 62) }
     ensures files { IsTrue (S.seen site.old).told → (S.seen site.new).files ≡ (S.seen site.old).files }
-    ensures calls { IsTrue (S.seen site.old).told → (S.seen site.new).calls ≡ (S.seen site.old).calls }
+    ensures happened { IsTrue (S.seen site.old).told → (S.seen site.new).happened ≡ (S.seen site.old).happened }
     ensures stays { DiskStays (S.seen site.old) (S.seen site.new) }
+    ensures steady { OnOk result ((S.seen site.new).disk_faults ≡ (S.seen site.old).disk_faults) }
     ensures cause { IfErr result (OpenCause file (S.seen site.old) (S.seen site.new)) }
 {
     let mut front = [0; 17];
@@ -105,8 +113,9 @@ fn end_of<S: Disk>(site: &mut S, file: File, base: u64, size: u64) -> Result<u64
     ensures spelled { IsTrue (S.seen site.old).told → IfOk result (λ end. SpellsTo base end (bytes_of (S.seen site.old).files file)) }
     ensures order { IfOk result (λ end. InOrder base end) }
     ensures files { IsTrue (S.seen site.old).told → (S.seen site.new).files ≡ (S.seen site.old).files }
-    ensures calls { IsTrue (S.seen site.old).told → (S.seen site.new).calls ≡ (S.seen site.old).calls }
+    ensures happened { IsTrue (S.seen site.old).told → (S.seen site.new).happened ≡ (S.seen site.old).happened }
     ensures stays { DiskStays (S.seen site.old) (S.seen site.new) }
+    ensures steady { OnOk result ((S.seen site.new).disk_faults ≡ (S.seen site.old).disk_faults) }
     ensures cause { IfErr result (RecordsCause file (S.seen site.old) (S.seen site.new)) }
 {
     let mut position = base;
@@ -129,8 +138,9 @@ fn record_end<S: Disk>(
     ensures record { IsTrue (S.seen site.old).told → IfOk result (IsRecordEnd position (drop (16 + (position - base)) (bytes_of (S.seen site.old).files file))) }
     ensures onward { IfOk result (λ found. IfSome found (λ end. (position < end) × (end ≤ 2 ^ 62))) }
     ensures files { IsTrue (S.seen site.old).told → (S.seen site.new).files ≡ (S.seen site.old).files }
-    ensures calls { IsTrue (S.seen site.old).told → (S.seen site.new).calls ≡ (S.seen site.old).calls }
+    ensures happened { IsTrue (S.seen site.old).told → (S.seen site.new).happened ≡ (S.seen site.old).happened }
     ensures stays { DiskStays (S.seen site.old) (S.seen site.new) }
+    ensures steady { OnOk result ((S.seen site.new).disk_faults ≡ (S.seen site.old).disk_faults) }
     ensures cause { IfErr result (RecordCause file (16 + (position - base)) position (S.seen site.old) (S.seen site.new)) }
 {
     let place = HEADER + (position - base);

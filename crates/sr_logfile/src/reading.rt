@@ -1,4 +1,4 @@
-ghost use Rattle.std.specs.Prelude.{◌≡◌, List, ℕ, length, IsTrue, IfOk, IfErr};
+ghost use Rattle.std.specs.Prelude.{◌≡◌, List, ℕ, length, IsTrue, IfOk, OnOk, IfErr};
 ghost use Rattle.sr_site.specs.Causes.{DiskStays};
 ghost use Rattle.sr_logfile.specs.Faults.{NextCause};
 ghost use Rattle.sr_logfile.specs.Logs.{IsAt};
@@ -23,6 +23,7 @@ pub enum Step {
 
 impl LogFile {
     /// Reads the body of the record behind the position `after`, the base or a record's offset, to the front of `buffer`.
+    #[tactic(auto, using(sr_site::specs::Growing::disk_stays_on))]
     pub fn next<S: Disk>(
         &self,
         site: &mut S,
@@ -32,8 +33,9 @@ impl LogFile {
         ensures step { IsTrue (S.seen site.old).told → IfOk result (λ step. (done left : List (List ℕ)) → IsAt self.now after.0 done left (S.seen site.old).files → IsStep self.now after.0 done left (S.seen site.new).files buffer.new step) }
         ensures within { IfOk result (StaysWithin self.now after.0 (length buffer.old)) }
         ensures files { IsTrue (S.seen site.old).told → (S.seen site.new).files ≡ (S.seen site.old).files }
-        ensures calls { IsTrue (S.seen site.old).told → (S.seen site.new).calls ≡ (S.seen site.old).calls }
+        ensures happened { IsTrue (S.seen site.old).told → (S.seen site.new).happened ≡ (S.seen site.old).happened }
         ensures stays { DiskStays (S.seen site.old) (S.seen site.new) }
+        ensures steady { OnOk result ((S.seen site.new).disk_faults ≡ (S.seen site.old).disk_faults) }
         ensures cause { IfErr result (NextCause self.now after.0 (S.seen site.old) (S.seen site.new)) }
     {
         let base = self.base().0;

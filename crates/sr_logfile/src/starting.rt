@@ -1,5 +1,8 @@
-ghost use Rattle.std.specs.Prelude.{◌≡◌, ◌^◌, ◌≤◌, ◌⊎◌, [], ◌∷◌, length, IsTrue, OnOk, OnErr, IfErr};
-ghost use Rattle.sr_site.specs.Calls.{wrote, cut_to, synced};
+ghost use Rattle.std.specs.Prelude.{◌≡◌, ◌^◌, ◌≤◌, ◌⊎◌, [], ◌∷◌, length, IsTrue, OnOk, OnErr, IfErr, is_ok};
+ghost use Rattle.sr_site.specs.Happenings.{Made};
+ghost use Rattle.sr_site.specs.Images.{IsSettled};
+ghost use Rattle.sr_logfile.specs.Calls.{fresh_calls};
+ghost use Rattle.sr_logfile.specs.Moments.{IsAsRead};
 ghost use Rattle.sr_site.specs.Causes.{DiskStays};
 ghost use Rattle.sr_site.specs.Files.{bytes_of, with_bytes, OthersStay};
 ghost use Rattle.sr_logfile.specs.Faults.{FreshCause};
@@ -19,16 +22,25 @@ pub fn fresh<S: Disk>(site: &mut S, file: File, base: Offset) -> Result<(), LogF
     ensures empty { IsTrue (S.seen site.old).told → OnOk result (Spells base.0 [] (bytes_of (S.seen site.new).files file)) }
     ensures left { IsTrue (S.seen site.old).told → OnErr result ((length (bytes_of (S.seen site.new).files file) ≤ length (bytes_of (S.seen site.old).files file)) ⊎ (length (bytes_of (S.seen site.new).files file) ≤ 17)) }
     ensures others { IsTrue (S.seen site.old).told → OthersStay file (S.seen site.old).files (S.seen site.new).files }
-    ensures calls { IsTrue (S.seen site.old).told → OnOk result ((S.seen site.new).calls ≡ synced file ∷ wrote file 0 (fresh_bytes base.0) ∷ cut_to file 0 ∷ (S.seen site.old).calls) }
+    ensures happened { IsTrue (S.seen site.old).told → Made (fresh_calls file base.0) (S.seen site.old).happened (S.seen site.new).happened (is_ok result) }
+    ensures settled { IsTrue (S.seen site.old).told → OnOk result (IsSettled (IsAsRead file (S.seen site.new)) (S.seen site.new)) }
     ensures stays { DiskStays (S.seen site.old) (S.seen site.new) }
+    ensures steady { OnOk result ((S.seen site.new).disk_faults ≡ (S.seen site.old).disk_faults) }
     ensures cause { IfErr result (FreshCause (S.seen site.old) (S.seen site.new)) }
 {
-    let [a, b, c, d, e, f, g, h] = base.0.to_be_bytes();
-    let bytes = [
-        b'S', b'R', b'L', b'O', b'G', b'0', b'0', b'1', a, b, c, d, e, f, g, h, 0,
-    ];
+    let bytes = fresh_log(base.0);
     site.cut(file, 0)?;
     site.write_at(file, 0, &bytes)?;
     site.sync(file)?;
     Ok(())
+}
+
+/// The 17 bytes of a log without records.
+fn fresh_log(base: u64) -> [u8; 17]
+    ensures { result ≡ fresh_bytes base }
+{
+    let [a, b, c, d, e, f, g, h] = base.to_be_bytes();
+    [
+        b'S', b'R', b'L', b'O', b'G', b'0', b'0', b'1', a, b, c, d, e, f, g, h, 0,
+    ]
 }

@@ -1,3 +1,5 @@
+mod Backing
+mod Crashes
 mod Entries
 mod Listings
 mod Rising

@@ -7,7 +7,8 @@ use Rattle.std.proofs.lemmas.Simd.{map-map}
 use Rattle.std.specs.Map.Iter.{deref_pair}
 use Rattle.std.proofs.lemmas.List.Elements.{filter-append}
 use Rattle.sr_memsite.specs.declared.place.Place.{Place}
-use Rattle.sr_memsite.specs.Folders.{Folders, names_in, is_in, most_names}
+use Rattle.sr_memsite.specs.Folders.{Folders, names_in, is_in}
+use Rattle.sr_site.specs.Listings.{most_names}
 use Rattle.sr_memsite.proofs.Entries.{folders}
 
 names_in-push : (files : List (Place × List ℕ)) (file : Place × List ℕ) (address : List ℕ) → names_in (files ++ file ∷ []) address ≡ names_in files address ++ cond (is_in address file) (file.0.name ∷ []) []

@@ -10,9 +10,14 @@ use Rattle.std.specs.Map.{keys_of}
 use Rattle.std.specs.Map.Iter.{deref_pair}
 use Rattle.std.proofs.Common.{Vec, Global}
 use Rattle.std.proofs.lemmas.Simd.{map-map}
+use Rattle.std.proofs.lemmas.List.{length-take}
+use Rattle.std.proofs.Common.{ltb, length, min, arith, ◌<◌}
+use Rattle.std.proofs.lemmas.Bool.{ltb-true}
+use Rattle.sr_site.specs.declared.mail.Listing.{Listing}
 use Rattle.sr_memsite.specs.declared.place.Place.{Place}
 use Rattle.sr_memsite.specs.Places.{place_cmp}
-use Rattle.sr_memsite.specs.Folders.{names_in, is_in, most_names}
+use Rattle.sr_memsite.specs.Folders.{names_in, is_in}
+use Rattle.sr_site.specs.Listings.{IsListing, AreAscending, most_names}
 use Rattle.sr_memsite.proofs.Listings.{Lent, file_of, names_so_far}
 
 abbrev order : List ℕ → List ℕ → Ordering
@@ -59,9 +64,19 @@ first_rise zero names h = tt
 first_rise (suc n) [] h = tt
 first_rise (suc n) (name ∷ names) h = (first_below name n names h.0, first_rise n names h.1)
 
--- a listing of a map in order
-pub listing_rises : (files : List Lent) (entries : List (Place × Vec ℕ Global)) (address : List ℕ) → map deref_pair files ≡ entries → IsStrictlySortedBy place_cmp (keys_of entries)
-    → IsStrictlySortedBy order (take most_names (names_so_far files address))
-listing_rises files entries address all ordered =
+-- the names of one folder in a map in order
+pub folder_rises : (files : List Lent) (entries : List (Place × Vec ℕ Global)) (address : List ℕ) → map deref_pair files ≡ entries → IsStrictlySortedBy place_cmp (keys_of entries)
+    → AreAscending (names_so_far files address)
+folder_rises files entries address all ordered =
     let keys : keys_of (map file_of files) ≡ keys_of entries = map-map (λ e. e.0) file_of files ∙ sym (map-map (λ e. e.0) deref_pair files) ∙ ap keys_of all in
-    first_rise most_names (names_so_far files address) (names_rise (map file_of files) address (subst (IsStrictlySortedBy place_cmp) (sym keys) ordered))
+    names_rise (map file_of files) address (subst (IsStrictlySortedBy place_cmp) (sym keys) ordered)
+
+-- the first names of a folder in order are a listing of it
+pub first_names : (folder : List (List ℕ)) (listing : Listing) → AreAscending folder → listing.names ≡ take most_names folder → listing.more ≡ ltb most_names (length folder) → IsListing listing
+first_names folder listing ascending names more =
+    let count : length listing.names ≡ min 65536 (length folder) = ap length names ∙ length-take 65536 folder in
+    record {
+      ascending = subst AreAscending (sym names) (first_rise most_names folder ascending);
+      most = omega (arith, count);
+      full = λ is. let over : most_names < length folder = ltb-true most_names (length folder) (sym more ∙ is) in omega (arith, count, over);
+    }

@@ -38,7 +38,3 @@ is_in address file = is_eq (slice_cmp nat_cmp file.0.address address)
 -- the names of the files in a folder, in byte order
 abbrev pub names_in : List (Place × List ℕ) → List ℕ → List (List ℕ)
 names_in files address = map (λ file. file.0.name) (filter (is_in address) files)
-
--- how many names a listing has at most
-abbrev pub most_names : ℕ
-most_names = 65536

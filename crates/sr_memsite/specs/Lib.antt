@@ -1,6 +1,9 @@
+pub mod Disks
 pub mod Folders
 pub mod Meaning
 pub mod Numbering
 pub mod Places
 pub mod Steps
+pub mod Store
+pub mod Stores
 pub mod Streams

@@ -1,21 +1,24 @@
-use Rattle.std.specs.Prelude.{true, []}
-use Rattle.sr_site.specs.Files.{Files}
+use Rattle.std.specs.Prelude.{true}
 use Rattle.sr_site.specs.Seen.{Seen}
 use Rattle.sr_memsite.specs.Folders.{Folders}
 use Rattle.sr_memsite.specs.Numbering.{Numbering}
-use Rattle.sr_memsite.specs.Steps.{calls_of, events_of}
+use Rattle.sr_memsite.specs.Disks.{Disk}
 use Rattle.sr_memsite.specs.declared.site.MemorySite.{MemorySite}
 
 -- what a site in memory means: it tells everything
 abbrev pub seen_of : MemorySite → Seen
 seen_of site = record {
   told = true;
-  files = site.disk;
-  calls = calls_of site.trail.steps;
-  mail = events_of site.trail.steps;
+  files = site.disk.files;
+  first = site.disk.first;
+  happened = site.disk.happened;
   disk_faults = site.disk_faults;
   mail_faults = site.mail_faults;
 }
+
+-- its disk: the files now and at first, and what happened
+abbrev pub disk_of : MemorySite → Disk
+disk_of site = site.disk
 
 -- the mail folder that it stands over
 abbrev pub folders_of : MemorySite → Folders
@@ -25,10 +28,10 @@ folders_of site = site.mail
 abbrev pub numbering_of : MemorySite → Numbering
 numbering_of site = site.turns
 
--- its files and its folders: what it is made from, and what it is taken apart into
-abbrev pub parts_of : MemorySite → Files × Folders
+-- its disk and its folders: what it is made from, and what it is taken apart into
+abbrev pub parts_of : MemorySite → Disk × Folders
 parts_of site = (site.disk, site.mail)
 
--- a site that was just made: no call and no fault so far
-abbrev pub begun : Files → Seen
-begun files = record { told = true; files = files; calls = []; mail = []; disk_faults = 0; mail_faults = 0 }
+-- a site that was just made: it begins with what the disk tells, and no call has failed
+abbrev pub begun : Disk → Seen
+begun disk = record { told = true; files = disk.files; first = disk.first; happened = disk.happened; disk_faults = 0; mail_faults = 0 }

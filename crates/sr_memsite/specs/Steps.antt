@@ -1,36 +1,40 @@
-use Rattle.std.specs.Prelude.{ℕ, List, [], ◌∷◌, ◌++◌}
+use Rattle.std.specs.Prelude.{ℕ, List, [], ◌∷◌}
 use Rattle.std.specs.Option.{option_map}
-use Rattle.sr_site.specs.Calls.{Call, wrote, cut_to, synced}
-use Rattle.sr_site.specs.Mails.{Event, listed, fetched, sent, removed}
-use Rattle.sr_memsite.specs.declared.trail.Step.{Step}
-use Rattle.sr_memsite.specs.declared.trail.Step.TheVariants.{Wrote, Cut, Synced, Listed, Fetched, Put, Removed}
+use Rattle.std.specs.Result.{result_map_both}
+use Rattle.sr_site.specs.Files.{Files}
+use Rattle.sr_site.specs.Happenings.{Happening, attached, wrote, cut_to, synced, listed, fetched, sent, removed}
+use Rattle.sr_memsite.specs.Folders.{names_in}
+use Rattle.sr_memsite.specs.declared.calls.Step.{Step}
+use Rattle.sr_memsite.specs.declared.calls.Step.TheVariants.{Began, Attached, Wrote, Cut, Synced, Listed, Fetched, Put, Removed}
 
--- a call of a site with the bytes that it was given is a call of the disk, or none
-abbrev pub call_of : Step × List ℕ → List Call
-call_of (Wrote file at, bytes) = wrote file at bytes ∷ []
-call_of (Cut file to, bytes) = cut_to file to ∷ []
-call_of (Synced file, bytes) = synced file ∷ []
-call_of (Listed address listing, bytes) = []
-call_of (Fetched address name found, bytes) = []
-call_of (Put address name, bytes) = []
-call_of (Removed address name, bytes) = []
+-- no file has a byte
+abbrev pub no_bytes : Files
+no_bytes = record { root = []; log0 = []; log1 = []; snap0 = []; snap1 = [] }
 
--- or it is an event of the mail, or none
-abbrev pub event_of : Step × List ℕ → List Event
-event_of (Wrote file at, bytes) = []
-event_of (Cut file to, bytes) = []
-event_of (Synced file, bytes) = []
-event_of (Listed address listing, bytes) = listed address.value listing.value.names listing.value.more ∷ []
-event_of (Fetched address name found, bytes) = fetched address.value name.value (option_map (λ file. file.items) found.value) ∷ []
-event_of (Put address name, bytes) = sent address.value name.value bytes ∷ []
-event_of (Removed address name, bytes) = removed address.value name.value ∷ []
+-- the files with which the calls began
+abbrev pub first_of : List (Step × List ℕ) → Files
+first_of [] = no_bytes
+first_of ((Began root log0 log1 snap0 snap1, bytes) ∷ before) =
+    record { root = root.value.items; log0 = log0.value.items; log1 = log1.value.items; snap0 = snap0.value.items; snap1 = snap1.value.items }
+first_of ((Attached name folder done, bytes) ∷ before) = first_of before
+first_of ((Wrote file place done after, bytes) ∷ before) = first_of before
+first_of ((Cut file to done after, bytes) ∷ before) = first_of before
+first_of ((Synced file done after, bytes) ∷ before) = first_of before
+first_of ((Listed address mail listing, bytes) ∷ before) = first_of before
+first_of ((Fetched address name limit found, bytes) ∷ before) = first_of before
+first_of ((Put address name done, bytes) ∷ before) = first_of before
+first_of ((Removed address name done, bytes) ∷ before) = first_of before
 
--- the calls of the disk, the newest first
-abbrev pub calls_of : List (Step × List ℕ) → List Call
-calls_of [] = []
-calls_of (step ∷ before) = call_of step ++ calls_of before
-
--- the events of the mail, the oldest first
-abbrev pub events_of : List (Step × List ℕ) → List Event
-events_of [] = []
-events_of (step ∷ before) = events_of before ++ event_of step
+-- what happened since then, each call with the bytes that it was given
+abbrev pub happened_of : List (Step × List ℕ) → List Happening
+happened_of [] = []
+happened_of ((Began root log0 log1 snap0 snap1, bytes) ∷ before) = []
+happened_of ((Attached name folder done, bytes) ∷ before) = attached name.value folder.value done ∷ happened_of before
+happened_of ((Wrote file place done after, bytes) ∷ before) = wrote file place bytes done after.value.items ∷ happened_of before
+happened_of ((Cut file to done after, bytes) ∷ before) = cut_to file to done after.value.items ∷ happened_of before
+happened_of ((Synced file done after, bytes) ∷ before) = synced file done after.value.items ∷ happened_of before
+happened_of ((Listed address mail listing, bytes) ∷ before) = listed address.value (names_in mail.value.files address.value) listing.value ∷ happened_of before
+happened_of ((Fetched address name limit found, bytes) ∷ before) =
+    fetched address.value name.value limit (result_map_both (option_map (λ file. file.items)) (λ fault. fault) found.value) ∷ happened_of before
+happened_of ((Put address name done, bytes) ∷ before) = sent address.value name.value bytes done ∷ happened_of before
+happened_of ((Removed address name done, bytes) ∷ before) = removed address.value name.value done ∷ happened_of before

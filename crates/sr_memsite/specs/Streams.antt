@@ -1,4 +1,5 @@
-use Rattle.std.specs.Prelude.{ℕ, List, drop}
+use Rattle.std.specs.Prelude.{ℕ, List, true, drop}
+use Rattle.sr_site.specs.Streams.{Input, Output}
 use Rattle.sr_memsite.specs.Numbering.{Numbering}
 use Rattle.sr_memsite.specs.declared.source.MemorySource.{MemorySource}
 use Rattle.sr_memsite.specs.declared.sink.MemorySink.{MemorySink}
@@ -26,3 +27,10 @@ sink_numbering sink = sink.turns
 -- how many of its calls have failed
 abbrev pub sink_faults : MemorySink → ℕ
 sink_faults sink = sink.faults
+
+-- what they mean: they tell everything
+abbrev pub input_of : MemorySource → Input
+input_of source = record { told = true; left = left_of source; faults = source_faults source }
+
+abbrev pub output_of : MemorySink → Output
+output_of sink = record { told = true; taken = taken_of sink; faults = sink_faults sink }

@@ -21,7 +21,7 @@ pub fn overwrite(file: &mut Vec<u8>, at: usize, bytes: &[u8]) -> Result<(), NoMe
 }
 
 /// Puts `bytes` over those at the place `at`.
-fn replace(file: &mut [u8], at: usize, bytes: &[u8])
+pub fn replace(file: &mut [u8], at: usize, bytes: &[u8])
     requires at { at ≤ length file.old }
     requires room { length bytes.now ≤ length (drop at file.old) }
     ensures replaced { file.new ≡ overwritten file.old at bytes.now }

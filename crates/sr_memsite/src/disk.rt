@@ -1,100 +1,220 @@
-ghost use Rattle.std.specs.Prelude.{◌≡◌, ◌≤◌, [], length, take, OnOk, OnErr};
+ghost use Rattle.std.specs.Prelude.{◌≡◌, ◌≤◌, ◌∷◌, true, length, take, IsTrue, IsErr, OnOk, OnErr, is_ok, is_err};
+ghost use Rattle.std.specs.Option.{option_map};
+ghost use Rattle.std.specs.Result.{result_map_both};
 ghost use Rattle.sr_site.specs.Files.{bytes_of, with_bytes, overwritten};
+ghost use Rattle.sr_site.specs.Happenings.{attached, wrote, cut_to, synced, listed, fetched, sent, removed};
+ghost use Rattle.sr_memsite.specs.Disks.{begun_with, with_happening, HasCrashed};
+ghost use Rattle.sr_memsite.specs.Folders.{names_in};
+ghost use Rattle.sr_memsite.specs.Steps.{no_bytes};
 
-use crate::bytes::overwrite;
-use sr_base::NoMemory;
-use sr_site::File;
+use crate::calls::{Calls, Step};
+use crate::five::FiveFiles;
+use crate::mail::SharedMail;
+use crate::stored::Stored;
+use sr_base::{Name, NoMemory, Text};
+use sr_site::{Failed, File, Listing, MailFault};
 use std::alloc::Global;
 use std::marker::Model;
+use std::snapshot::Snapshot;
 
-/// The five files of a database, as they stand. Contracts see the bytes of each.
+/// The five files of a database, as they stand. Contracts see the bytes of each, those at the beginning, and what happened since then.
 #[derive(Drop)]
 pub struct MemoryDisk {
-    root: Vec<u8>,
-    log0: Vec<u8>,
-    log1: Vec<u8>,
-    snap0: Vec<u8>,
-    snap1: Vec<u8>,
+    files: FiveFiles,
+    calls: Calls,
 }
 
 impl Model for MemoryDisk {
-    ghost use Rattle.sr_site.specs.Files.{Files};
+    ghost use Rattle.sr_memsite.specs.Disks.{Disk};
+    ghost use Rattle.sr_memsite.specs.Steps.{first_of, happened_of};
+    ghost use Rattle.sr_memsite.specs.Stores.{files_of, AreBacked};
 
-    ghost Value = { Files };
+    ghost Value = { Disk };
 
-    ghost view = { λ d. record { root = d.root.items; log0 = d.log0.items; log1 = d.log1.items; snap0 = d.snap0.items; snap1 = d.snap1.items } };
+    ghost view = { λ d. record { files = files_of d.files; first = first_of d.calls.steps; happened = happened_of d.calls.steps } };
+
+    ghost invariant = { λ d. AreBacked d.files (first_of d.calls.steps) (happened_of d.calls.steps) };
 }
 
 impl MemoryDisk {
     /// Five files without a byte. It takes no memory.
     pub fn new(alloc: Global) -> MemoryDisk
-        ensures empty { result ≡ record { root = []; log0 = []; log1 = []; snap0 = []; snap1 = [] } }
+        ensures empty { result ≡ begun_with no_bytes }
     {
         MemoryDisk {
-            root: Vec::new(alloc),
-            log0: Vec::new(alloc),
-            log1: Vec::new(alloc),
-            snap0: Vec::new(alloc),
-            snap1: Vec::new(alloc),
+            files: FiveFiles::new(alloc),
+            calls: Calls::new(),
         }
     }
 
     /// The bytes of a file.
     pub fn bytes(&self, file: File) -> &[u8]
-        ensures bytes { result.now ≡ bytes_of self.now file }
+        ensures bytes { result.now ≡ bytes_of self.now.files file }
     {
-        match file {
-            File::Root => self.root.as_slice(),
-            File::Log0 => self.log0.as_slice(),
-            File::Log1 => self.log1.as_slice(),
-            File::Snap0 => self.snap0.as_slice(),
-            File::Snap1 => self.snap1.as_slice(),
-        }
+        self.file(file).as_slice()
     }
 
-    /// Gives a file these bytes in place of its own, as something other than the program may do.
-    pub fn set(&mut self, file: File, bytes: Vec<u8>)
-        ensures set { self.new ≡ with_bytes self.old file bytes.items }
+    /// A file.
+    fn file(&self, file: File) -> &Vec<u8>
+        ensures bytes { result.now.items ≡ bytes_of self.now.files file }
     {
-        match file {
-            File::Root => self.root = bytes,
-            File::Log0 => self.log0 = bytes,
-            File::Log1 => self.log1 = bytes,
-            File::Snap0 => self.snap0 = bytes,
-            File::Snap1 => self.snap1 = bytes,
+        self.files.file(file).bytes()
+    }
+
+    /// A crash: it puts one of the things in place that it may leave, and all begins anew. At `pick` 0 each file is as its last sync left it,
+    /// at 1 as it stood, else another byte stands all over the range of the last write since then. For want of memory all stays as it was.
+    pub fn crash(&mut self, alloc: Global, pick: u64) -> Result<(), NoMemory>
+        ensures crashed { OnOk result (HasCrashed pick self.old self.new) }
+        ensures err { OnErr result (self.new ≡ self.old) }
+    {
+        let files = self.files.crashed(alloc, pick)?;
+        let step = Step::Began(
+            Snapshot::of(files.file(File::Root).bytes()),
+            Snapshot::of(files.file(File::Log0).bytes()),
+            Snapshot::of(files.file(File::Log1).bytes()),
+            Snapshot::of(files.file(File::Snap0).bytes()),
+            Snapshot::of(files.file(File::Snap1).bytes()),
+        );
+        self.calls = Calls::with(&self.calls, &step, &[]);
+        self.files = files;
+        Ok(())
+    }
+
+    /// Gives a file these bytes in place of its own, as something other than the program may do: they are durable.
+    /// For want of memory all stays as it was.
+    pub fn set(&mut self, file: File, bytes: Vec<u8>) -> Result<(), NoMemory>
+        ensures set { OnOk result (self.new ≡ with_happening (record self.old { files = with_bytes self.old.files file bytes.items }) (synced file true bytes.items)) }
+        ensures err { OnErr result (self.new ≡ self.old) }
+    {
+        let kept = Vec::from_slice(*bytes.allocator(), bytes.as_slice())?;
+        let step = Step::Synced(file, true, Snapshot::of(&bytes));
+        self.files.set(file, Stored::of(bytes, kept));
+        self.calls = Calls::with(&self.calls, &step, &[]);
+        Ok(())
+    }
+
+    /// A write, that is to fail or not: it fails for want of memory too. Where it fails the files stand as they were.
+    pub(crate) fn write(
+        &mut self,
+        file: File,
+        at: u64,
+        bytes: &[u8],
+        fails: bool,
+    ) -> Result<(), Failed>
+        requires { at ≤ length (bytes_of self.old.files file) }
+        ensures written { OnOk result (self.new.files ≡ with_bytes self.old.files file (overwritten (bytes_of self.old.files file) at bytes.now)) }
+        ensures err { OnErr result (self.new.files ≡ self.old.files) }
+        ensures fails { IsTrue fails → IsErr result }
+        ensures first { self.new.first ≡ self.old.first }
+        ensures happened { self.new.happened ≡ wrote file at bytes.now (is_ok result) (bytes_of self.new.files file) ∷ self.old.happened }
+    {
+        if fails || self.files.write(file, at as usize, bytes).is_err() {
+            let step = Step::Wrote(file, at, false, Snapshot::of(self.files.file(file).bytes()));
+            self.calls = Calls::with(&self.calls, &step, bytes);
+            return Err(Failed);
         }
+        let step = Step::Wrote(file, at, true, Snapshot::of(self.files.file(file).bytes()));
+        self.calls = Calls::with(&self.calls, &step, bytes);
+        Ok(())
+    }
+
+    /// A cut, that is to fail or not. Where it fails the files stand as they were.
+    pub(crate) fn cut(&mut self, file: File, to: u64, fails: bool) -> Result<(), Failed>
+        requires { to ≤ length (bytes_of self.old.files file) }
+        ensures cut { OnOk result (self.new.files ≡ with_bytes self.old.files file (take to (bytes_of self.old.files file))) }
+        ensures err { OnErr result (self.new.files ≡ self.old.files) }
+        ensures fails { is_err result ≡ fails }
+        ensures first { self.new.first ≡ self.old.first }
+        ensures happened { self.new.happened ≡ cut_to file to (is_ok result) (bytes_of self.new.files file) ∷ self.old.happened }
+    {
+        if fails {
+            let step = Step::Cut(file, to, false, Snapshot::of(self.files.file(file).bytes()));
+            self.calls = Calls::with(&self.calls, &step, &[]);
+            return Err(Failed);
+        }
+        self.files.cut(file, to as usize);
+        let step = Step::Cut(file, to, true, Snapshot::of(self.files.file(file).bytes()));
+        self.calls = Calls::with(&self.calls, &step, &[]);
+        Ok(())
+    }
+
+    /// A sync, that is to fail or not: it fails for want of memory too.
+    pub(crate) fn sync(&mut self, file: File, fails: bool) -> Result<(), Failed>
+        ensures fails { IsTrue fails → IsErr result }
+        ensures noted { self.new ≡ with_happening self.old (synced file (is_ok result) (bytes_of self.old.files file)) }
+    {
+        if fails || self.files.sync(file).is_err() {
+            let step = Step::Synced(file, false, Snapshot::of(self.files.file(file).bytes()));
+            self.calls = Calls::with(&self.calls, &step, &[]);
+            return Err(Failed);
+        }
+        let step = Step::Synced(file, true, Snapshot::of(self.files.file(file).bytes()));
+        self.calls = Calls::with(&self.calls, &step, &[]);
+        Ok(())
+    }
+
+    /// Tells that names were given to the site, and whether that succeeded.
+    pub(crate) fn note_attach(&mut self, name: &Text, mail: &Text, done: bool)
+        ensures noted { self.new ≡ with_happening self.old (attached name.now mail.now done) }
+    {
+        let step = Step::Attached(Snapshot::of(name), Snapshot::of(mail), done);
+        self.calls = Calls::with(&self.calls, &step, &[]);
+    }
+
+    /// Tells that a folder was listed, and what came of it.
+    pub(crate) fn note_list(
+        &mut self,
+        address: &Name,
+        mail: &SharedMail,
+        listing: &Result<Listing, MailFault>,
+    )
+        ensures noted { self.new ≡ with_happening self.old (listed address.now (names_in mail.now.files address.now) listing.now) }
+    {
+        let step = Step::Listed(
+            Snapshot::of(address),
+            Snapshot::of(mail),
+            Snapshot::of(listing),
+        );
+        self.calls = Calls::with(&self.calls, &step, &[]);
+    }
+
+    /// Tells that a file was fetched, and what came of it.
+    pub(crate) fn note_fetch(
+        &mut self,
+        address: &Name,
+        name: &Text,
+        limit: usize,
+        found: &Result<Option<Vec<u8>>, MailFault>,
+    )
+        ensures noted { self.new ≡ with_happening self.old (fetched address.now name.now limit (result_map_both (option_map (λ file. file.items)) (λ fault. fault) found.now)) }
+    {
+        let step = Step::Fetched(
+            Snapshot::of(address),
+            Snapshot::of(name),
+            limit,
+            Snapshot::of(found),
+        );
+        self.calls = Calls::with(&self.calls, &step, &[]);
+    }
+
+    /// Tells that a file was put, and whether that succeeded.
+    pub(crate) fn note_put(&mut self, address: &Name, name: &Text, bytes: &[u8], done: bool)
+        ensures noted { self.new ≡ with_happening self.old (sent address.now name.now bytes.now done) }
+    {
+        let step = Step::Put(Snapshot::of(address), Snapshot::of(name), done);
+        self.calls = Calls::with(&self.calls, &step, bytes);
+    }
+
+    /// Tells that a file was removed, and whether that succeeded.
+    pub(crate) fn note_remove(&mut self, address: &Name, name: &Text, done: bool)
+        ensures noted { self.new ≡ with_happening self.old (removed address.now name.now done) }
+    {
+        let step = Step::Removed(Snapshot::of(address), Snapshot::of(name), done);
+        self.calls = Calls::with(&self.calls, &step, &[]);
     }
 
     /// The allocator of the files.
     pub(crate) fn alloc(&self) -> Global {
-        *self.root.allocator()
-    }
-
-    /// Puts `bytes` at the place `at` of a file, over what is there and past its end.
-    pub(crate) fn write_at(&mut self, file: File, at: usize, bytes: &[u8]) -> Result<(), NoMemory>
-        requires { at ≤ length (bytes_of self.old file) }
-        ensures ok { OnOk result (self.new ≡ with_bytes self.old file (overwritten (bytes_of self.old file) at bytes.now)) }
-        ensures err { OnErr result (self.new ≡ self.old) }
-    {
-        match file {
-            File::Root => overwrite(&mut self.root, at, bytes),
-            File::Log0 => overwrite(&mut self.log0, at, bytes),
-            File::Log1 => overwrite(&mut self.log1, at, bytes),
-            File::Snap0 => overwrite(&mut self.snap0, at, bytes),
-            File::Snap1 => overwrite(&mut self.snap1, at, bytes),
-        }
-    }
-
-    /// Cuts a file to its first `to` bytes.
-    pub(crate) fn cut(&mut self, file: File, to: usize)
-        ensures cut { self.new ≡ with_bytes self.old file (take to (bytes_of self.old file)) }
-    {
-        match file {
-            File::Root => self.root.truncate(to),
-            File::Log0 => self.log0.truncate(to),
-            File::Log1 => self.log1.truncate(to),
-            File::Snap0 => self.snap0.truncate(to),
-            File::Snap1 => self.snap1.truncate(to),
-        }
+        *self.file(File::Root).allocator()
     }
 }

@@ -7,15 +7,15 @@
 #![tactic(auto)]
 
 mod bytes;
+mod calls;
 mod disk;
+mod five;
 mod mail;
 mod place;
 mod sink;
 mod site;
 mod source;
-#[cfg(test)]
-mod tests;
-mod trail;
+mod stored;
 mod turns;
 
 pub use disk::MemoryDisk;

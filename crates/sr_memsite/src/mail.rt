@@ -3,7 +3,8 @@ ghost use Rattle.std.specs.Option.{option_map, option_copied};
 ghost use Rattle.std.specs.Ordering.{nat_cmp};
 ghost use Rattle.std.specs.Cmp.Lexicographic.{slice_cmp};
 ghost use Rattle.std.specs.List.Sorted.{IsStrictlySortedBy};
-ghost use Rattle.sr_memsite.specs.Folders.{place, file_at, with_file, after_put, without_file, names_in, most_names};
+ghost use Rattle.sr_site.specs.Listings.{IsListing, Lists};
+ghost use Rattle.sr_memsite.specs.Folders.{place, file_at, with_file, after_put, without_file, names_in};
 
 use crate::place::Place;
 use sr_base::{Copied, Name, NoMemory, Seq, Text};
@@ -141,9 +142,8 @@ impl SharedMail {
 
     /// The names of the files in the folder of `address`.
     pub(crate) fn list(&self, alloc: Global, address: &Name) -> Result<Listing, NoMemory>
-        ensures names { IfOk result (λ listing. listing.names ≡ take most_names (names_in self.now.files address.now)) }
-        ensures order { IfOk result (λ listing. IsStrictlySortedBy (slice_cmp nat_cmp) listing.names) }
-        ensures more { IfOk result (λ listing. listing.more ≡ nat_lt most_names (length (names_in self.now.files address.now))) }
+        ensures listing { IfOk result IsListing }
+        ensures lists { IfOk result (Lists (names_in self.now.files address.now)) }
     {
         let mut names = Vec::new(alloc);
         let mut more = false;

@@ -12,13 +12,14 @@ pub struct MemorySink {
 }
 
 impl MemorySink {
-    ghost use Rattle.std.specs.Prelude.{◌≡◌, [], OnOk, OnErr};
-    ghost use Rattle.sr_memsite.specs.Streams.{taken_of, sink_numbering};
+    ghost use Rattle.sr_memsite.specs.Numbering.{failing_at};
+    ghost use Rattle.std.specs.Prelude.{◌≡◌, [], true, OnOk, OnErr};
+    ghost use Rattle.sr_memsite.specs.Streams.{output_of, taken_of, sink_numbering};
 
     /// A sink that took no byte so far. No call fails. It takes no memory.
     pub fn new(alloc: Global) -> MemorySink
-        ensures taken { taken_of result ≡ [] }
-        ensures numbering { sink_numbering result ≡ record { made = 0; failing = [] } }
+        ensures seen { output_of result ≡ record { told = true; taken = []; faults = 0 } }
+        ensures numbering { sink_numbering result ≡ failing_at [] }
     {
         MemorySink {
             bytes: Vec::new(alloc),
@@ -37,9 +38,9 @@ impl MemorySink {
     /// Makes the calls with these numbers fail. From now on each call of `write` counts one, the first one is 1.
     /// For want of memory all stays as it was.
     pub fn fail_calls(&mut self, alloc: Global, calls: &[u64]) -> Result<(), NoMemory>
-        ensures numbering { OnOk result (sink_numbering self.new ≡ record { made = 0; failing = calls.now }) }
+        ensures numbering { OnOk result (sink_numbering self.new ≡ failing_at calls.now) }
         ensures err { OnErr result (sink_numbering self.new ≡ sink_numbering self.old) }
-        ensures taken { taken_of self.new ≡ taken_of self.old }
+        ensures seen { output_of self.new ≡ output_of self.old }
     {
         self.turns = Turns::failing(alloc, calls)?;
         Ok(())
@@ -47,16 +48,13 @@ impl MemorySink {
 }
 
 impl Sink for MemorySink {
-    ghost use Rattle.std.specs.Prelude.{◌≡◌, ◌++◌, ◌<◌, ◌≤◌, true, take, length, IsTrue, IfOk, OnErr, IsErr};
+    ghost use Rattle.std.specs.Prelude.{◌≡◌, ◌++◌, ◌<◌, ◌≤◌, take, length, IsTrue, IfOk, OnOk, OnErr, IsErr};
     ghost use Rattle.sr_site.specs.Causes.{Rose};
-    ghost use Rattle.sr_memsite.specs.Streams.{taken_of, sink_numbering, sink_faults};
+    ghost use Rattle.sr_site.specs.Streams.{OutputStays};
+    ghost use Rattle.sr_memsite.specs.Streams.{output_of, taken_of, sink_numbering, sink_faults};
     ghost use Rattle.sr_memsite.specs.Numbering.{fails, counted};
 
-    ghost told = { λ _. true };
-
-    ghost taken = { taken_of };
-
-    ghost faults = { sink_faults };
+    ghost seen = { output_of };
 
     /// It takes the whole piece.
     fn write(&mut self, bytes: &[u8]) -> Result<usize, Failed>
@@ -67,7 +65,8 @@ impl Sink for MemorySink {
         ensures err { OnErr result (taken_of self.new ≡ taken_of self.old) }
         ensures fails { IsTrue (fails (sink_numbering self.old)) → IsErr result }
         ensures numbering { sink_numbering self.new ≡ counted (sink_numbering self.old) }
-        ensures later { sink_faults self.old ≤ sink_faults self.new }
+        ensures stays { OutputStays (output_of self.old) (output_of self.new) }
+        ensures steady { OnOk result (sink_faults self.new ≡ sink_faults self.old) }
         ensures cause { OnErr result (Rose (sink_faults self.old) (sink_faults self.new)) }
     {
         if self.turns.next_fails() || self.bytes.extend_from_slice(bytes).is_err() {

@@ -1,20 +1,18 @@
 use crate::disk::MemoryDisk;
 use crate::mail::SharedMail;
-use crate::trail::Trail;
 use crate::turns::Turns;
 use sr_base::{NoMemory, Text};
-use sr_site::{Failed, Held, MailFault, Site};
+use sr_site::{Held, MailFault, Site};
 use std::alloc::Global;
 
 mod disk;
 mod mail;
 
-/// A site in memory. It tells its files, and each call since it was made.
+/// A site in memory. It tells its files, and each call since they began.
 #[derive(Drop)]
 pub struct MemorySite {
     disk: MemoryDisk,
     mail: SharedMail,
-    trail: Trail,
     turns: Turns,
     disk_faults: u64,
     mail_faults: u64,
@@ -27,31 +25,32 @@ impl Held for MemorySite {
 }
 
 impl MemorySite {
-    ghost use Rattle.std.specs.Prelude.{◌≡◌, ◌≤◌, [], OnOk, OnErr, IfErr, is_err};
+    ghost use Rattle.std.specs.Prelude.{◌≡◌, ◌≤◌, [], IsTrue, IsFalse, OnOk, OnErr};
     ghost use Rattle.sr_site.specs.Causes.{Rose};
-    ghost use Rattle.sr_memsite.specs.Meaning.{seen_of, folders_of, numbering_of, parts_of, begun};
-    ghost use Rattle.sr_memsite.specs.Numbering.{fails, counted};
+    ghost use Rattle.sr_memsite.specs.Meaning.{seen_of, disk_of, folders_of, numbering_of, parts_of, begun};
+    ghost use Rattle.sr_memsite.specs.Disks.{begun_with, HasCrashed};
+    ghost use Rattle.sr_memsite.specs.Numbering.{failing_at};
+    ghost use Rattle.sr_memsite.specs.Steps.{no_bytes};
 
     /// A site with empty files over the folders of `mail`. It takes no memory.
     pub fn new(alloc: Global, mail: SharedMail) -> MemorySite
-        ensures seen { seen_of result ≡ begun (record { root = []; log0 = []; log1 = []; snap0 = []; snap1 = [] }) }
+        ensures seen { seen_of result ≡ begun (begun_with no_bytes) }
         ensures folders { folders_of result ≡ mail }
-        ensures numbering { numbering_of result ≡ record { made = 0; failing = [] } }
+        ensures numbering { numbering_of result ≡ failing_at [] }
     {
         MemorySite::with(MemoryDisk::new(alloc), mail)
     }
 
-    /// A site with these files over these folders, as they stand. No call fails, and calls and events begin anew.
+    /// A site with these files over these folders, as they stand, what is not yet synced included. No call fails.
     pub fn with(disk: MemoryDisk, mail: SharedMail) -> MemorySite
         ensures seen { seen_of result ≡ begun disk }
         ensures parts { parts_of result ≡ (disk, mail) }
-        ensures numbering { numbering_of result ≡ record { made = 0; failing = [] } }
+        ensures numbering { numbering_of result ≡ failing_at [] }
     {
         let turns = Turns::new(disk.alloc());
         MemorySite {
             disk,
             mail,
-            trail: Trail::new(),
             turns,
             disk_faults: 0,
             mail_faults: 0,
@@ -68,7 +67,7 @@ impl MemorySite {
     /// Makes the calls with these numbers fail. From now on each call of `Disk`, of `Mail` and of `attach` counts one, the first one is 1.
     /// For want of memory all stays as it was.
     pub fn fail_calls(&mut self, alloc: Global, calls: &[u64]) -> Result<(), NoMemory>
-        ensures numbering { OnOk result (numbering_of self.new ≡ record { made = 0; failing = calls.now }) }
+        ensures numbering { OnOk result (numbering_of self.new ≡ failing_at calls.now) }
         ensures err { OnErr result (numbering_of self.new ≡ numbering_of self.old) }
         ensures seen { seen_of self.new ≡ seen_of self.old }
         ensures folders { folders_of self.new ≡ folders_of self.old }
@@ -77,75 +76,83 @@ impl MemorySite {
         Ok(())
     }
 
-    /// Counts a disk call, and one more fault where it is to fail.
-    fn disk_turn(&mut self) -> Result<(), Failed>
-        ensures fails { is_err result ≡ fails self.old.turns }
-        ensures turns { self.new.turns ≡ counted self.old.turns }
-        ensures disk { self.new.disk ≡ self.old.disk }
-        ensures mail { self.new.mail ≡ self.old.mail }
-        ensures trail { self.new.trail ≡ self.old.trail }
-        ensures later { self.old.disk_faults ≤ self.new.disk_faults }
-        ensures rose { OnErr result (Rose self.old.disk_faults self.new.disk_faults) }
-        ensures mail_faults { self.new.mail_faults ≡ self.old.mail_faults }
+    /// Makes every call fail but the next `calls`: from now on each call counts one, as for `fail_calls`, whose list stands.
+    pub fn stop_after(&mut self, calls: u64)
+        ensures numbering { numbering_of self.new ≡ record (numbering_of self.old) { made = 0; stop = calls } }
+        ensures seen { seen_of self.new ≡ seen_of self.old }
+        ensures folders { folders_of self.new ≡ folders_of self.old }
     {
-        if self.turns.next_fails() {
-            return Err(self.disk_fault());
-        }
-        Ok(())
+        self.turns.stop_after(calls);
     }
 
-    /// Counts one more fault of the disk.
-    fn disk_fault(&mut self) -> Failed
+    /// A crash: it puts one of the things in place that it may leave of the files, and all begins anew, the counts of faults aside. At `pick`
+    /// 0 each file is as its last sync left it, at 1 as it stood, else another byte stands all over the range of its last write since then.
+    /// For want of memory all stays as it was.
+    pub fn crash(&mut self, alloc: Global, pick: u64) -> Result<(), NoMemory>
+        ensures crashed { OnOk result (HasCrashed pick (disk_of self.old) (disk_of self.new)) }
+        ensures err { OnErr result (disk_of self.new ≡ disk_of self.old) }
+        ensures told { IsTrue (seen_of self.new).told }
+        ensures counts { ((seen_of self.new).disk_faults ≡ (seen_of self.old).disk_faults) × ((seen_of self.new).mail_faults ≡ (seen_of self.old).mail_faults) }
+        ensures numbering { numbering_of self.new ≡ numbering_of self.old }
+        ensures folders { folders_of self.new ≡ folders_of self.old }
+    {
+        self.disk.crash(alloc, pick)
+    }
+
+    /// Counts a fault of the disk where its call failed.
+    fn count_disk(&mut self, failed: bool)
         ensures turns { self.new.turns ≡ self.old.turns }
         ensures disk { self.new.disk ≡ self.old.disk }
         ensures mail { self.new.mail ≡ self.old.mail }
-        ensures trail { self.new.trail ≡ self.old.trail }
         ensures later { self.old.disk_faults ≤ self.new.disk_faults }
-        ensures rose { Rose self.old.disk_faults self.new.disk_faults }
+        ensures rose { IsTrue failed → Rose self.old.disk_faults self.new.disk_faults }
+        ensures steady { IsFalse failed → self.new.disk_faults ≡ self.old.disk_faults }
         ensures mail_faults { self.new.mail_faults ≡ self.old.mail_faults }
     {
-        self.disk_faults = self.disk_faults.saturating_add(1);
-        Failed
+        if failed {
+            self.disk_faults = self.disk_faults.saturating_add(1);
+        }
     }
 
-    /// Counts a mail call, and one more fault where it is to fail.
-    fn mail_turn(&mut self) -> Result<(), MailFault>
-        ensures fails { is_err result ≡ fails self.old.turns }
-        ensures failed { IfErr result (λ fault. fault ≡ MailFault.Failed) }
-        ensures turns { self.new.turns ≡ counted self.old.turns }
+    /// Counts a fault of the mail where its call failed.
+    fn count_mail(&mut self, failed: bool)
+        ensures turns { self.new.turns ≡ self.old.turns }
         ensures disk { self.new.disk ≡ self.old.disk }
         ensures mail { self.new.mail ≡ self.old.mail }
-        ensures trail { self.new.trail ≡ self.old.trail }
         ensures later { self.old.mail_faults ≤ self.new.mail_faults }
-        ensures rose { OnErr result (Rose self.old.mail_faults self.new.mail_faults) }
+        ensures rose { IsTrue failed → Rose self.old.mail_faults self.new.mail_faults }
+        ensures steady { IsFalse failed → self.new.mail_faults ≡ self.old.mail_faults }
         ensures disk_faults { self.new.disk_faults ≡ self.old.disk_faults }
     {
-        if self.turns.next_fails() {
+        if failed {
             self.mail_faults = self.mail_faults.saturating_add(1);
-            return Err(MailFault::Failed);
         }
-        Ok(())
     }
 }
 
 impl Site for MemorySite {
-    ghost use Rattle.std.specs.Prelude.{◌≡◌, OnErr, IfErr, is_err};
+    ghost use Rattle.std.specs.Prelude.{◌≡◌, ◌∷◌, OnOk, OnErr, IfErr, is_ok, is_err};
     ghost use Rattle.sr_site.specs.Causes.{DiskStays, Rose};
+    ghost use Rattle.sr_site.specs.Happenings.{attached};
     ghost use Rattle.sr_memsite.specs.Meaning.{seen_of, folders_of, numbering_of};
     ghost use Rattle.sr_memsite.specs.Numbering.{fails, counted};
 
     /// Nothing needs to be opened. It fails only where `fail_calls` named it.
-    fn attach(&mut self, _alloc: Global, _name: &Text, _mail: &Text) -> Result<(), MailFault>
+    fn attach(&mut self, _alloc: Global, name: &Text, mail: &Text) -> Result<(), MailFault>
         ensures fails { is_err result ≡ fails (numbering_of self.old) }
         ensures numbering { numbering_of self.new ≡ counted (numbering_of self.old) }
         ensures folders { folders_of self.new ≡ folders_of self.old }
         ensures files { (seen_of self.new).files ≡ (seen_of self.old).files }
-        ensures calls { (seen_of self.new).calls ≡ (seen_of self.old).calls }
+        ensures attached { (seen_of self.new).happened ≡ attached name.now mail.now (is_ok result) ∷ (seen_of self.old).happened }
         ensures stays { DiskStays (seen_of self.old) (seen_of self.new) }
+        ensures steady { OnOk result ((seen_of self.new).disk_faults ≡ (seen_of self.old).disk_faults) }
         ensures cause { OnErr result (Rose (seen_of self.old).disk_faults (seen_of self.new).disk_faults) }
         ensures failed { IfErr result (λ fault. fault ≡ MailFault.Failed) }
     {
-        if self.disk_turn().is_err() {
+        let fails = self.turns.next_fails();
+        self.disk.note_attach(name, mail, !fails);
+        self.count_disk(fails);
+        if fails {
             return Err(MailFault::Failed);
         }
         Ok(())

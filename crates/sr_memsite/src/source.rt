@@ -17,13 +17,14 @@ pub struct MemorySource {
 }
 
 impl MemorySource {
-    ghost use Rattle.std.specs.Prelude.{◌≡◌, [], OnOk, OnErr};
-    ghost use Rattle.sr_memsite.specs.Streams.{left_of, source_numbering};
+    ghost use Rattle.sr_memsite.specs.Numbering.{failing_at};
+    ghost use Rattle.std.specs.Prelude.{◌≡◌, [], true, OnOk, OnErr};
+    ghost use Rattle.sr_memsite.specs.Streams.{input_of, source_numbering};
 
     /// A source that has these bytes left. No call fails.
     pub fn new(bytes: Vec<u8>) -> MemorySource
-        ensures left { left_of result ≡ bytes.items }
-        ensures numbering { source_numbering result ≡ record { made = 0; failing = [] } }
+        ensures seen { input_of result ≡ record { told = true; left = bytes.items; faults = 0 } }
+        ensures numbering { source_numbering result ≡ failing_at [] }
     {
         let turns = Turns::new(*bytes.allocator());
         MemorySource {
@@ -37,9 +38,9 @@ impl MemorySource {
     /// Makes the calls with these numbers fail. From now on each call of `read` counts one, the first one is 1.
     /// For want of memory all stays as it was.
     pub fn fail_calls(&mut self, alloc: Global, calls: &[u64]) -> Result<(), NoMemory>
-        ensures numbering { OnOk result (source_numbering self.new ≡ record { made = 0; failing = calls.now }) }
+        ensures numbering { OnOk result (source_numbering self.new ≡ failing_at calls.now) }
         ensures err { OnErr result (source_numbering self.new ≡ source_numbering self.old) }
-        ensures left { left_of self.new ≡ left_of self.old }
+        ensures seen { input_of self.new ≡ input_of self.old }
     {
         self.turns = Turns::failing(alloc, calls)?;
         Ok(())
@@ -47,16 +48,13 @@ impl MemorySource {
 }
 
 impl Source for MemorySource {
-    ghost use Rattle.std.specs.Prelude.{◌≡◌, ◌++◌, ◌<◌, [], true, take, min, IfOk, OnErr, is_err};
+    ghost use Rattle.std.specs.Prelude.{◌≡◌, ◌++◌, ◌<◌, [], take, min, IfOk, OnOk, OnErr, is_err};
     ghost use Rattle.sr_site.specs.Causes.{Rose};
-    ghost use Rattle.sr_memsite.specs.Streams.{left_of, source_numbering, source_faults};
+    ghost use Rattle.sr_site.specs.Streams.{InputStays};
+    ghost use Rattle.sr_memsite.specs.Streams.{input_of, left_of, source_numbering, source_faults};
     ghost use Rattle.sr_memsite.specs.Numbering.{fails, counted};
 
-    ghost told = { λ _. true };
-
-    ghost left = { left_of };
-
-    ghost faults = { source_faults };
+    ghost seen = { input_of };
 
     /// It gives what the buffer holds, or all that is left.
     fn read(&mut self, buffer: &mut [u8]) -> Result<usize, Failed>
@@ -67,7 +65,8 @@ impl Source for MemorySource {
         ensures err { OnErr result (left_of self.new ≡ left_of self.old) }
         ensures fails { is_err result ≡ fails (source_numbering self.old) }
         ensures numbering { source_numbering self.new ≡ counted (source_numbering self.old) }
-        ensures later { source_faults self.old ≤ source_faults self.new }
+        ensures stays { InputStays (input_of self.old) (input_of self.new) }
+        ensures steady { OnOk result (source_faults self.new ≡ source_faults self.old) }
         ensures cause { OnErr result (Rose (source_faults self.old) (source_faults self.new)) }
     {
         if self.turns.next_fails() {

@@ -1,5 +1,5 @@
 ghost use Rattle.std.specs.Prelude.{◌≡◌, [], IfOk};
-ghost use Rattle.sr_memsite.specs.Numbering.{fails, counted, IsSetOf};
+ghost use Rattle.sr_memsite.specs.Numbering.{failing_at, fails, counted, IsSetOf};
 
 use sr_base::NoMemory;
 use std::alloc::Global;
@@ -12,6 +12,7 @@ pub struct Turns {
     made: u64,
     calls: Vec<u64>,
     failing: BTreeSet<u64>,
+    stop: u64,
 }
 
 impl Model for Turns {
@@ -20,7 +21,7 @@ impl Model for Turns {
 
     ghost Value = { Numbering };
 
-    ghost view = { λ t. record { made = t.made; failing = t.calls.items } };
+    ghost view = { λ t. record { made = t.made; failing = t.calls.items; stop = t.stop } };
 
     ghost invariant = { λ t. IsSetOf t.failing t.calls.items };
 }
@@ -28,24 +29,34 @@ impl Model for Turns {
 impl Turns {
     /// No call so far, and none that fails. It takes no memory.
     pub fn new(alloc: Global) -> Turns
-        ensures new { result ≡ record { made = 0; failing = [] } }
+        ensures new { result ≡ failing_at [] }
     {
         Turns {
             made: 0,
             calls: Vec::new(alloc),
             failing: BTreeSet::new(alloc),
+            stop: u64::MAX,
         }
     }
 
     /// No call so far; those with the numbers `calls` are to fail.
     pub fn failing(alloc: Global, calls: &[u64]) -> Result<Turns, NoMemory>
-        ensures failing { IfOk result (λ turns. turns ≡ record { made = 0; failing = calls.now }) }
+        ensures failing { IfOk result (λ turns. turns ≡ failing_at calls.now) }
     {
         Ok(Turns {
             made: 0,
             calls: Vec::from_slice(alloc, calls)?,
             failing: set_of(alloc, calls)?,
+            stop: u64::MAX,
         })
+    }
+
+    /// No call is made from now on but so many more: all others fail, those that were to fail too.
+    pub fn stop_after(&mut self, calls: u64)
+        ensures stopped { self.new ≡ record self.old { made = 0; stop = calls } }
+    {
+        self.made = 0;
+        self.stop = calls;
     }
 
     /// Counts one more call, and tells whether it fails.
@@ -54,7 +65,7 @@ impl Turns {
         ensures counted { self.new ≡ counted self.old }
     {
         self.made = self.made.saturating_add(1);
-        self.failing.contains(&self.made)
+        self.failing.contains(&self.made) || self.made > self.stop
     }
 }
 

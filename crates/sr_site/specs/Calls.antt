@@ -1,9 +1,8 @@
 use Rattle.std.specs.Prelude.{ℕ, List}
 use Rattle.sr_site.specs.declared.file.File.{File}
 
--- a call that changes a file or makes it durable: bytes put at a place, a cut to a length, a sync. It counts from the moment it begins,
--- also where it then fails
+-- what may be asked of a file: to put bytes at a place, to cut it to a length, to make it durable
 pub data Call : Type 0 where
-  wrote : File → ℕ → List ℕ → Call
-  cut_to : File → ℕ → Call
-  synced : File → Call
+  write : File → ℕ → List ℕ → Call
+  cut : File → ℕ → Call
+  sync : File → Call

@@ -1,4 +1,4 @@
-use Rattle.std.specs.Prelude.{◌≡◌, ◌≤◌, ℕ, ◌+◌, List, ◌++◌, length, take, drop}
+use Rattle.std.specs.Prelude.{◌≡◌, ◌≤◌, ℕ, ◌+◌, List, ◌++◌, length, take, drop, min}
 use Rattle.sr_site.specs.declared.file.File.{File}
 use Rattle.sr_site.specs.declared.file.File.TheVariants.{Root, Log0, Log1, Snap0, Snap1}
 
@@ -43,5 +43,5 @@ pub record IsTorn (place count : ℕ) (old new : List ℕ) : Type 0 where
 -- a cut that failed may have happened in part: the bytes that were to stay stand, and the file is no longer than it was
 pub record IsCutInPart (to : ℕ) (old new : List ℕ) : Type 0 where
   pub before : take to new ≡ take to old
-  pub least : to ≤ length new
+  pub least : min to (length old) ≤ length new
   pub most : length new ≤ length old

@@ -6,8 +6,8 @@ pub struct Failed;
 
 /// What a site means to contracts: it has no calls.
 ///
-/// `seen` is data alone: whether the site tells what it holds, the bytes of its files, the events of its mail, and the two counts of
-/// faults. The counts are always right; the files and the events are claimed only where `told` is true.
+/// `seen` is data alone: whether the site tells what it holds, the bytes of its files now and at the beginning, what happened since then on
+/// both devices, and the two counts of faults. The counts are always right; all else is claimed only where `told` is true.
 pub trait Held {
     ghost seen: { Self → Seen };
 }

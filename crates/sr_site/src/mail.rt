@@ -1,7 +1,9 @@
-ghost use Rattle.std.specs.Prelude.{◌≡◌, ◌∷◌, [], ◌++◌, ◌≤◌, length, IsTrue, IfOk, IfSome, OnErr, IsErrOf};
+ghost use Rattle.std.specs.Prelude.{◌≡◌, ◌∷◌, ℕ, List, ◌≤◌, length, IsTrue, IfOk, IfSome, OnOk, IsErrOf, is_ok};
 ghost use Rattle.std.specs.Option.{option_map};
+ghost use Rattle.std.specs.Result.{result_map_both};
 ghost use Rattle.sr_site.specs.Causes.{DiskStays, MailStays, Rose};
-ghost use Rattle.sr_site.specs.Mails.{listed, fetched, sent, removed};
+ghost use Rattle.sr_site.specs.Happenings.{attached, listed, fetched, sent, removed};
+ghost use Rattle.sr_site.specs.Listings.{IsListing, Lists};
 ghost use Rattle.sr_site.specs.declared.mail.MailFault.TheVariants.{Failed as failed_mail};
 
 use crate::disk::Disk;
@@ -27,13 +29,15 @@ pub enum MailFault {
 
 /// A folder of message files for each address. It belongs to nobody: files come, go and come back between the calls.
 ///
-/// Each call that succeeds is an event of the mail; a put or a removal is one from the moment it begins, also where it then fails.
+/// Each call happens, whether it succeeds or fails, with that outcome: a put or a removal that failed may have been done or not. A call that
+/// succeeds leaves the count of mail faults.
 pub trait Mail: Held {
-    /// The names of the files in the folder of `address`; none where there is no such folder.
+    /// The names of the files in the folder of `address`: none where there is no such folder, else the first 65,536 in byte order.
     fn list(&mut self, alloc: Global, address: &Name) -> Result<Listing, MailFault>
-        ensures listed { IsTrue (Self.seen self.old).told → IfOk result (λ l. (Self.seen self.new).mail ≡ (Self.seen self.old).mail ++ listed address.now l.names l.more ∷ []) }
-        ensures err { IsTrue (Self.seen self.old).told → OnErr result ((Self.seen self.new).mail ≡ (Self.seen self.old).mail) }
+        ensures listing { IfOk result IsListing }
+        ensures listed { IsTrue (Self.seen self.old).told → (folder : List (List ℕ)) × ((Self.seen self.new).happened ≡ listed address.now folder result ∷ (Self.seen self.old).happened) × IfOk result (Lists folder) }
         ensures stays { MailStays (Self.seen self.old) (Self.seen self.new) }
+        ensures steady { OnOk result ((Self.seen self.new).mail_faults ≡ (Self.seen self.old).mail_faults) }
         ensures cause { IsErrOf result failed_mail → Rose (Self.seen self.old).mail_faults (Self.seen self.new).mail_faults };
 
     /// At most `limit` first bytes of the file, or `None` where it is not there.
@@ -45,9 +49,9 @@ pub trait Mail: Held {
         limit: usize,
     ) -> Result<Option<Vec<u8>>, MailFault>
         ensures within { IfOk result (λ found. IfSome found (λ bytes. length bytes.items ≤ limit)) }
-        ensures fetched { IsTrue (Self.seen self.old).told → IfOk result (λ found. (Self.seen self.new).mail ≡ (Self.seen self.old).mail ++ fetched address.now name.now (option_map (λ bytes. bytes.items) found) ∷ []) }
-        ensures err { IsTrue (Self.seen self.old).told → OnErr result ((Self.seen self.new).mail ≡ (Self.seen self.old).mail) }
+        ensures fetched { IsTrue (Self.seen self.old).told → (Self.seen self.new).happened ≡ fetched address.now name.now limit (result_map_both (option_map (λ bytes. bytes.items)) (λ fault. fault) result) ∷ (Self.seen self.old).happened }
         ensures stays { MailStays (Self.seen self.old) (Self.seen self.new) }
+        ensures steady { OnOk result ((Self.seen self.new).mail_faults ≡ (Self.seen self.old).mail_faults) }
         ensures cause { IsErrOf result failed_mail → Rose (Self.seen self.old).mail_faults (Self.seen self.new).mail_faults };
 
     /// Puts a file of these bytes into the folder of `address`, in place of one of this name. It is there whole or not at all.
@@ -58,14 +62,16 @@ pub trait Mail: Held {
         name: &Text,
         bytes: &[u8],
     ) -> Result<(), MailFault>
-        ensures put { IsTrue (Self.seen self.old).told → (Self.seen self.new).mail ≡ (Self.seen self.old).mail ++ sent address.now name.now bytes.now ∷ [] }
+        ensures put { IsTrue (Self.seen self.old).told → (Self.seen self.new).happened ≡ sent address.now name.now bytes.now (is_ok result) ∷ (Self.seen self.old).happened }
         ensures stays { MailStays (Self.seen self.old) (Self.seen self.new) }
+        ensures steady { OnOk result ((Self.seen self.new).mail_faults ≡ (Self.seen self.old).mail_faults) }
         ensures cause { IsErrOf result failed_mail → Rose (Self.seen self.old).mail_faults (Self.seen self.new).mail_faults };
 
     /// Removes the file. That it is not there is no fault.
     fn remove(&mut self, alloc: Global, address: &Name, name: &Text) -> Result<(), MailFault>
-        ensures removed { IsTrue (Self.seen self.old).told → (Self.seen self.new).mail ≡ (Self.seen self.old).mail ++ removed address.now name.now ∷ [] }
+        ensures removed { IsTrue (Self.seen self.old).told → (Self.seen self.new).happened ≡ removed address.now name.now (is_ok result) ∷ (Self.seen self.old).happened }
         ensures stays { MailStays (Self.seen self.old) (Self.seen self.new) }
+        ensures steady { OnOk result ((Self.seen self.new).mail_faults ≡ (Self.seen self.old).mail_faults) }
         ensures cause { IsErrOf result failed_mail → Rose (Self.seen self.old).mail_faults (Self.seen self.new).mail_faults };
 }
 
@@ -75,7 +81,8 @@ pub trait Site: Disk + Mail {
     /// faults. For a command without a mail folder `mail` is the empty text.
     fn attach(&mut self, alloc: Global, name: &Text, mail: &Text) -> Result<(), MailFault>
         ensures files { IsTrue (Self.seen self.old).told → (Self.seen self.new).files ≡ (Self.seen self.old).files }
-        ensures calls { IsTrue (Self.seen self.old).told → (Self.seen self.new).calls ≡ (Self.seen self.old).calls }
+        ensures attached { IsTrue (Self.seen self.old).told → (Self.seen self.new).happened ≡ attached name.now mail.now (is_ok result) ∷ (Self.seen self.old).happened }
         ensures stays { DiskStays (Self.seen self.old) (Self.seen self.new) }
+        ensures steady { OnOk result ((Self.seen self.new).disk_faults ≡ (Self.seen self.old).disk_faults) }
         ensures cause { IsErrOf result failed_mail → Rose (Self.seen self.old).disk_faults (Self.seen self.new).disk_faults };
 }

@@ -2,7 +2,7 @@
 ghost use Rattle.std.specs.Prelude.{◌≤◌, length, IfOk};
 
 use crate::host::disk_file::DiskFile;
-use crate::host::folder::sync_folder;
+use crate::host::folder::{folder_of, sync_folder};
 use crate::host::window::Window;
 use sr_base::NoMemory;
 use sr_site::File;
@@ -27,15 +27,6 @@ pub struct DatabaseFiles {
 /// The file `NAME.SUFFIX`.
 fn named(alloc: Global, name: &str, suffix: &str) -> Result<DiskFile, NoMemory> {
     Ok(DiskFile::new(format!(in alloc; "{name}.{suffix}")?))
-}
-
-/// The folder that the path lies in.
-fn folder_of(path: &str) -> &str {
-    match path.rsplit_once('/') {
-        Some(("", _)) => "/",
-        Some((folder, _)) => folder,
-        None => ".",
-    }
 }
 
 impl DatabaseFiles {

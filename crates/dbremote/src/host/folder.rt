@@ -1,22 +1,41 @@
 //! The mail over folders: `FOLDER/ADDRESS/` holds the message files for ADDRESS.
 //!
-//! A file whose name begins with a dot is one that is still being written. What is no plain file is not there, and no link is followed.
+//! A file whose name begins with a dot is one that is still being written. What is no plain file is not there, and nothing is read through a
+//! link.
 ghost use Rattle.std.specs.Prelude.{◌≤◌, length, IfOk, IfSome};
 
 use std::alloc::Global;
 use std::fs::{self, DirEntry, OpenOptions};
 use std::io::{self, ErrorKind, Read, Write};
+use std::os::unix::fs::MetadataExt;
 use std::rt::{Files, Runtime};
 
 /// How many names a listing has at most.
-const MOST_NAMES: usize = 65_536;
+pub const MOST_NAMES: usize = 65_536;
 
 /// So many names are held while a folder is read, before those behind the first `MOST_NAMES` are let go.
 const MOST_HELD: usize = 262_144;
 
-/// Makes the names in a folder durable.
+/// Makes the names in a folder durable. A file system that knows no sync of a folder counts as having done it.
 pub fn sync_folder<R: Runtime + Files<File = fs::File>>(rt: &R, folder: &str) -> io::Result<()> {
-    fs::open(rt, folder)?.sync_all()
+    match fs::open(rt, folder)?.sync_all() {
+        Err(fault) if is_unknown(fault.kind()) => Ok(()),
+        answer => answer,
+    }
+}
+
+/// The file system does not know the call: the kinds of EINVAL and ENOTSUP.
+fn is_unknown(kind: ErrorKind) -> bool {
+    kind == ErrorKind::InvalidInput || kind == ErrorKind::Unsupported
+}
+
+/// The folder that the path lies in.
+pub fn folder_of(path: &str) -> &str {
+    match path.rsplit_once('/') {
+        Some(("", _)) => "/",
+        Some((folder, _)) => folder,
+        None => ".",
+    }
 }
 
 /// The names of the message files in a folder, and whether there are others.
@@ -28,9 +47,10 @@ pub struct Names {
 }
 
 impl Names {
-    /// Sorts the names, and lets those behind the first go.
+    /// Sorts the names, leaves each once, and lets those behind the first go.
     fn settle(&mut self) {
         self.first.sort_unstable();
+        self.first.dedup();
         if self.first.len() > MOST_NAMES {
             self.first.truncate(MOST_NAMES);
             self.more = true;
@@ -92,21 +112,48 @@ pub fn fetch<R: Runtime + Files<File = fs::File>>(
 ) -> io::Result<Option<Vec<u8>>>
     ensures within { IfOk result (λ found. IfSome found (λ bytes. length bytes.items ≤ limit)) }
 {
-    match fs::symlink_metadata(rt, path) {
-        Ok(found) if found.is_file() => {}
-        Ok(_) => return Ok(None),
-        Err(fault) if fault.kind() == ErrorKind::NotFound => return Ok(None),
-        Err(fault) => return Err(fault),
-    }
-    let file = match fs::open(rt, path) {
-        Ok(file) => file,
-        Err(fault) if fault.kind() == ErrorKind::NotFound => return Ok(None),
-        Err(fault) => return Err(fault),
+    let Some(file) = plain_file(rt, path)? else {
+        return Ok(None);
     };
     let mut bytes = Vec::new(alloc);
     file.take(limit as u64).read_to_end(&mut bytes)?;
     bytes.truncate(limit);
     Ok(Some(bytes))
+}
+
+/// Opens the plain file at `path`, if there is one.
+///
+/// What was opened is the file that stood at the path itself: one that has become a link, a folder or another file meanwhile is not there.
+/// One that becomes a pipe between the two looks is opened as one, and that waits for its writer: the toolchain opens nothing without waiting.
+fn plain_file<R: Runtime + Files<File = fs::File>>(
+    rt: &R,
+    path: &str,
+) -> io::Result<Option<fs::File>> {
+    let Some(listed) = if_there(fs::symlink_metadata(rt, path))? else {
+        return Ok(None);
+    };
+    if !listed.is_file() {
+        return Ok(None);
+    }
+    let Some(file) = if_there(fs::open(rt, path))? else {
+        return Ok(None);
+    };
+    let opened = file.metadata()?;
+    let is_same = opened.dev() == listed.dev() && opened.ino() == listed.ino();
+    Ok(if opened.is_file() && is_same {
+        Some(file)
+    } else {
+        None
+    })
+}
+
+/// That there is nothing at the path is no fault.
+fn if_there<T: Drop>(answer: io::Result<T>) -> io::Result<Option<T>> {
+    match answer {
+        Ok(found) => Ok(Some(found)),
+        Err(fault) if fault.kind() == ErrorKind::NotFound => Ok(None),
+        Err(fault) => Err(fault),
+    }
 }
 
 /// Writes a file whose name begins with a dot, whole and durable. One that a cut-off run left is replaced.
@@ -128,22 +175,73 @@ fn write_whole<R: Runtime + Files<File = fs::File>>(
     file.sync_all()
 }
 
-/// Puts a file of these bytes at FOLDER/ADDRESS/NAME: it is written under another name, synced, and then renamed.
+/// Makes a folder, and answers whether it was not there.
+fn make_folder<R: Runtime>(rt: &R, path: &str) -> io::Result<bool> {
+    match fs::create_dir(rt, path) {
+        Ok(()) => Ok(true),
+        Err(fault) => match fs::metadata(rt, path) {
+            Ok(found) if found.is_dir() => Ok(false),
+            _ => Err(fault),
+        },
+    }
+}
+
+/// The front of a path of `end` bytes, where it names one of the folders on the way or all of it.
+fn folder_at(path: &str, end: usize) -> Option<&str> {
+    match path.split_at_checked(end) {
+        Some((front, rest)) if rest.is_empty() || rest.starts_with('/') => Some(front),
+        _ => None,
+    }
+}
+
+/// Makes the folders of a path that are not there, and answers how long the path of the first is that was made; that of all, where none was.
+fn make_folders<R: Runtime>(rt: &R, path: &str) -> io::Result<usize> {
+    match make_folder(rt, path) {
+        Ok(_) => return Ok(path.len()),
+        Err(fault) if fault.kind() == ErrorKind::NotFound => {}
+        Err(fault) => return Err(fault),
+    }
+    let mut first = path.len();
+    for end in 1..=path.len() {
+        if let Some(folder) = folder_at(path, end) {
+            if make_folder(rt, folder)? {
+                first = first.min(end);
+            }
+        }
+    }
+    Ok(first)
+}
+
+/// Makes the names of the folders of a path durable, from that of `from` bytes on: each is one in the folder that holds it.
+fn sync_entries<R: Runtime + Files<File = fs::File>>(
+    rt: &R,
+    path: &str,
+    from: usize,
+) -> io::Result<()> {
+    for end in from..=path.len() {
+        if let Some(folder) = folder_at(path, end) {
+            sync_folder(rt, folder_of(folder))?;
+        }
+    }
+    Ok(())
+}
+
+/// Puts a file of these bytes at FOLDER/ADDRESS/NAME: it is written under another name, synced, and then renamed. Then the names are synced:
+/// its own, that of `inbox`, and that of each folder that was made.
 pub fn put<R: Runtime + Files<File = fs::File>>(
     rt: &R,
     alloc: Global,
-    folder: &str,
     inbox: &str,
     name: &str,
     bytes: &[u8],
 ) -> io::Result<()> {
-    fs::create_dir_all(rt, inbox)?;
+    let first = make_folders(rt, inbox)?;
     let draft = format!(in alloc; "{inbox}/.{name}")?;
     let path = format!(in alloc; "{inbox}/{name}")?;
     write_whole(rt, draft.as_str(), bytes)?;
     fs::rename(rt, draft.as_str(), path.as_str())?;
     sync_folder(rt, inbox)?;
-    sync_folder(rt, folder)
+    sync_entries(rt, inbox, first)
 }
 
 /// Removes the file. That it is not there is no fault.

@@ -1,16 +1,46 @@
 //! The mail of the host: each call goes to a folder of message files, and a fault is counted.
-ghost use Rattle.std.specs.Prelude.{◌≡◌, ◌≤◌, length, Ok, IfOk, IfSome, IsErrOf};
+ghost use Rattle.std.specs.Prelude.{◌≡◌, ◌≤◌, length, true, Ok, IfOk, IfSome, OnOk, IsErrOf};
 ghost use Rattle.sr_site.specs.Causes.{Rose};
+ghost use Rattle.sr_site.specs.Listings.{IsListing, AreAscending};
 ghost use Rattle.sr_site.specs.declared.mail.MailFault.TheVariants.{Failed as failed_mail};
 
-use crate::host::folder;
+use crate::host::folder::{self, MOST_NAMES};
 use crate::host::site::{HostSite, unattached};
 use sr_base::{Name, Seq, Text};
 use sr_site::{Listing, Mail, MailFault};
 use std::alloc::Global;
+use std::cmp::Ordering;
 use std::fs;
 use std::io::{self, ErrorKind};
 use std::rt::{Files, Runtime};
+
+/// The names as a listing. Names out of order, twice or too many are none, which the folder's listing never gives.
+fn listing_of(names: Vec<Text>, more: bool) -> io::Result<Listing>
+    ensures listing { IfOk result IsListing }
+{
+    let count = names.len();
+    if !are_ascending(names.as_slice()) || count > MOST_NAMES || more && count < MOST_NAMES {
+        return Err(io::Error::from(ErrorKind::InvalidData));
+    }
+    Ok(Listing {
+        names: Seq::from_vec(names),
+        more,
+    })
+}
+
+/// Whether the names are in byte order, none of them twice.
+fn are_ascending(names: &[Text]) -> bool
+    ensures ascending { result ≡ true → AreAscending names.now }
+{
+    let mut i = 1;
+    'names: while i < names.len() {
+        if !matches!(names[i - 1].bytes().cmp(names[i].bytes()), Ordering::Less) {
+            return false;
+        }
+        i += 1;
+    }
+    true
+}
 
 impl<R: Runtime + Files<File = fs::File>> HostSite<R> {
     /// The answer of a call of the mail; a fault other than want of memory is counted.
@@ -18,6 +48,7 @@ impl<R: Runtime + Files<File = fs::File>> HostSite<R> {
         ensures ok { IfOk result (λ x. answer ≡ Ok x) }
         ensures later { self.old.mail_faults ≤ self.new.mail_faults }
         ensures cause { IsErrOf result failed_mail → Rose self.old.mail_faults self.new.mail_faults }
+        ensures steady { OnOk result (self.new.mail_faults ≡ self.old.mail_faults) }
         ensures disk { self.new.disk_faults ≡ self.old.disk_faults }
     {
         match answer {
@@ -54,17 +85,16 @@ impl<R: Runtime + Files<File = fs::File>> HostSite<R> {
         Ok(format!(in alloc; "{inbox}/{name}")?)
     }
 
-    fn listed(&self, alloc: Global, address: &Name) -> io::Result<Listing> {
+    fn listed(&self, alloc: Global, address: &Name) -> io::Result<Listing>
+        ensures listing { IfOk result IsListing }
+    {
         let inbox = self.inbox(alloc, address)?;
         let found = folder::list(&self.rt, alloc, inbox.as_str())?;
         let mut names = Vec::new(alloc);
         for name in found.first {
             names.push(Text::from_string(name))?;
         }
-        Ok(Listing {
-            names: Seq::from_vec(names),
-            more: found.more,
-        })
+        listing_of(names, found.more)
     }
 
     fn fetched(
@@ -82,15 +112,7 @@ impl<R: Runtime + Files<File = fs::File>> HostSite<R> {
 
     fn sent(&self, alloc: Global, address: &Name, name: &Text, bytes: &[u8]) -> io::Result<()> {
         let inbox = self.inbox(alloc, address)?;
-        let folder = self.mail_folder()?;
-        folder::put(
-            &self.rt,
-            alloc,
-            folder,
-            inbox.as_str(),
-            name.as_str(),
-            bytes,
-        )
+        folder::put(&self.rt, alloc, inbox.as_str(), name.as_str(), bytes)
     }
 
     fn removed(&self, alloc: Global, address: &Name, name: &Text) -> io::Result<()> {

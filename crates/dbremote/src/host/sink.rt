@@ -21,11 +21,7 @@ impl<R: Runtime> HostSink<R> {
 }
 
 impl<R: Runtime> Sink for HostSink<R> {
-    ghost told = { λ _. false };
-
-    ghost taken = { λ _. [] };
-
-    ghost faults = { λ s. s.faults };
+    ghost seen = { λ s. record { told = false; taken = []; faults = s.faults } };
 
     fn write(&mut self, bytes: &[u8]) -> Result<usize, Failed> {
         match self.rt.write_some(bytes) {

@@ -1,5 +1,5 @@
 //! The host as a site: it counts the faults of its disk and of its mail, and tells nothing else.
-ghost use Rattle.std.specs.Prelude.{◌≡◌, ◌≤◌, ◌-◌, Ok, IfOk, OnErr};
+ghost use Rattle.std.specs.Prelude.{◌≡◌, ◌≤◌, ◌-◌, Ok, IfOk, OnOk, OnErr};
 ghost use Rattle.sr_site.specs.Causes.{Rose};
 ghost use Rattle.dbremote.specs.Untold.{untold};
 
@@ -41,6 +41,7 @@ impl<R: Runtime + Files<File = fs::File>> HostSite<R> {
         ensures ok { IfOk result (λ x. answer ≡ Ok x) }
         ensures later { self.old.disk_faults ≤ self.new.disk_faults }
         ensures cause { OnErr result (Rose self.old.disk_faults self.new.disk_faults) }
+        ensures steady { OnOk result (self.new.disk_faults ≡ self.old.disk_faults) }
         ensures mail { self.new.mail_faults ≡ self.old.mail_faults }
     {
         match answer {

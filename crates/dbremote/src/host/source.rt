@@ -1,8 +1,8 @@
 //! Standard input as the script's source. It keeps no bytes back: each read is a call of the system.
-ghost use Rattle.std.specs.Prelude.{◌-◌, [], false};
+ghost use Rattle.std.specs.Prelude.{◌-◌, ◌≤◌, [], false, length, IfOk};
 
 use sr_site::{Failed, Source};
-use std::io::Read;
+use std::io::{self, ErrorKind, Read};
 use std::rt::Runtime;
 
 /// Standard input.
@@ -23,15 +23,24 @@ impl<R: Runtime> HostSource<R> {
     }
 }
 
+/// Reads once. A read that a signal broke off is made again.
+fn read_some<T: Read>(reader: &mut T, buffer: &mut [u8]) -> io::Result<usize>
+    ensures within { IfOk result (λ n. n ≤ length buffer.old) }
+{
+    for _ in 0..u64::MAX {
+        match reader.read(buffer) {
+            Err(fault) if fault.kind() == ErrorKind::Interrupted => {}
+            answer => return answer,
+        }
+    }
+    Err(io::Error::from(ErrorKind::Interrupted))
+}
+
 impl<R: Runtime> Source for HostSource<R> {
-    ghost told = { λ _. false };
-
-    ghost left = { λ _. [] };
-
-    ghost faults = { λ s. s.faults };
+    ghost seen = { λ s. record { told = false; left = []; faults = s.faults } };
 
     fn read(&mut self, buffer: &mut [u8]) -> Result<usize, Failed> {
-        match self.reader.read(buffer) {
+        match read_some(&mut self.reader, buffer) {
             Ok(count) => Ok(count),
             Err(_) => {
                 self.faults = self.faults.saturating_add(1);

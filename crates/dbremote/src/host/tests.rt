@@ -83,14 +83,14 @@ fn a_message_is_put_listed_fetched_and_removed(rt: HostRuntime) -> Result<(), No
     begin(&rt, "trial-mail");
     let alloc = rt.alloc();
     assert!(rt;
-        folder::list(&rt, alloc, "trial-mail/r1").is_ok_and(|names| names.first.is_empty())
+        folder::list(&rt, alloc, "trial-mail/box/r1").is_ok_and(|names| names.first.is_empty())
     );
-    assert!(rt; folder::put(&rt, alloc, "trial-mail", "trial-mail/r1", "b.2", b"second").is_ok());
-    assert!(rt; folder::put(&rt, alloc, "trial-mail", "trial-mail/r1", "b.1", b"first").is_ok());
-    assert!(rt; folder::put(&rt, alloc, "trial-mail", "trial-mail/r1", "b.2", b"again").is_ok());
-    assert!(rt; fs::write(&rt, "trial-mail/r1/.b.3", "half").is_ok());
-    assert!(rt; fs::create_dir(&rt, "trial-mail/r1/b.0").is_ok());
-    let Ok(names) = folder::list(&rt, alloc, "trial-mail/r1") else {
+    assert!(rt; folder::put(&rt, alloc, "trial-mail/box/r1", "b.2", b"second").is_ok());
+    assert!(rt; folder::put(&rt, alloc, "trial-mail/box/r1", "b.1", b"first").is_ok());
+    assert!(rt; folder::put(&rt, alloc, "trial-mail/box/r1", "b.2", b"again").is_ok());
+    assert!(rt; fs::write(&rt, "trial-mail/box/r1/.b.3", "half").is_ok());
+    assert!(rt; fs::create_dir(&rt, "trial-mail/box/r1/b.0").is_ok());
+    let Ok(names) = folder::list(&rt, alloc, "trial-mail/box/r1") else {
         panic!(rt; "the folder is there");
     };
     assert!(rt; !names.more);
@@ -100,8 +100,8 @@ fn a_message_is_put_listed_fetched_and_removed(rt: HostRuntime) -> Result<(), No
         assert!(rt; found.as_str() == *want, "{want}");
     }
     for (path, limit, want) in [
-        ("trial-mail/r1/b.1", 9, b"first".as_slice()),
-        ("trial-mail/r1/b.2", 2, b"ag"),
+        ("trial-mail/box/r1/b.1", 9, b"first".as_slice()),
+        ("trial-mail/box/r1/b.2", 2, b"ag"),
     ] {
         let Ok(Some(bytes)) = folder::fetch(&rt, alloc, path, limit) else {
             panic!(rt; "{path} is there");
@@ -109,19 +109,19 @@ fn a_message_is_put_listed_fetched_and_removed(rt: HostRuntime) -> Result<(), No
         assert!(rt; bytes.as_slice() == want, "{path}");
     }
     for path in [
-        "trial-mail/r1/b.0",
-        "trial-mail/r1/b.9",
-        "trial-mail/r9/b.1",
+        "trial-mail/box/r1/b.0",
+        "trial-mail/box/r1/b.9",
+        "trial-mail/box/r9/b.1",
     ] {
         assert!(rt;
             folder::fetch(&rt, alloc, path, 9).is_ok_and(|found| found.is_none()),
             "{path}"
         );
     }
-    assert!(rt; folder::remove(&rt, "trial-mail/r1/b.1").is_ok());
-    assert!(rt; folder::remove(&rt, "trial-mail/r1/b.1").is_ok());
+    assert!(rt; folder::remove(&rt, "trial-mail/box/r1/b.1").is_ok());
+    assert!(rt; folder::remove(&rt, "trial-mail/box/r1/b.1").is_ok());
     assert!(rt;
-        folder::list(&rt, alloc, "trial-mail/r1").is_ok_and(|names| names.first.len() == 1)
+        folder::list(&rt, alloc, "trial-mail/box/r1").is_ok_and(|names| names.first.len() == 1)
     );
     end(&rt, "trial-mail");
     Ok(())

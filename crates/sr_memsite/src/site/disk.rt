@@ -1,11 +1,10 @@
 use super::MemorySite;
 use crate::bytes::fill;
-use crate::trail::{Step, Trail};
 use sr_site::{Disk, Failed, File};
 
 impl Disk for MemorySite {
-    ghost use Rattle.std.specs.Prelude.{◌≡◌, ◌≤◌, ◌∷◌, length, take, IsTrue, IfOk, OnOk, OnErr, IsErr, is_err};
-    ghost use Rattle.sr_site.specs.Calls.{wrote, cut_to, synced};
+    ghost use Rattle.std.specs.Prelude.{◌≡◌, ◌≤◌, ◌∷◌, length, take, IsTrue, IfOk, OnOk, OnErr, IsErr, is_ok, is_err};
+    ghost use Rattle.sr_site.specs.Happenings.{wrote, cut_to, synced};
     ghost use Rattle.sr_site.specs.Files.{bytes_of, with_bytes, overwritten, OthersStay};
     ghost use Rattle.sr_site.specs.Causes.{DiskStays, Rose};
     ghost use Rattle.sr_site.specs.Reads.{HasRead};
@@ -16,13 +15,18 @@ impl Disk for MemorySite {
         ensures length { IfOk result (λ n. n ≡ length (bytes_of (seen_of self.old).files file)) }
         ensures fails { is_err result ≡ fails (numbering_of self.old) }
         ensures files { (seen_of self.new).files ≡ (seen_of self.old).files }
-        ensures calls { (seen_of self.new).calls ≡ (seen_of self.old).calls }
+        ensures happened { (seen_of self.new).happened ≡ (seen_of self.old).happened }
         ensures stays { DiskStays (seen_of self.old) (seen_of self.new) }
+        ensures steady { OnOk result ((seen_of self.new).disk_faults ≡ (seen_of self.old).disk_faults) }
         ensures cause { OnErr result (Rose (seen_of self.old).disk_faults (seen_of self.new).disk_faults) }
         ensures numbering { numbering_of self.new ≡ counted (numbering_of self.old) }
         ensures folders { folders_of self.new ≡ folders_of self.old }
     {
-        self.disk_turn()?;
+        let fails = self.turns.next_fails();
+        self.count_disk(fails);
+        if fails {
+            return Err(Failed);
+        }
         Ok(self.disk.bytes(file).len() as u64)
     }
 
@@ -31,13 +35,18 @@ impl Disk for MemorySite {
         ensures read { IfOk result (λ n. HasRead (bytes_of (seen_of self.old).files file) at (length buffer.old) n buffer.new) }
         ensures fails { is_err result ≡ fails (numbering_of self.old) }
         ensures files { (seen_of self.new).files ≡ (seen_of self.old).files }
-        ensures calls { (seen_of self.new).calls ≡ (seen_of self.old).calls }
+        ensures happened { (seen_of self.new).happened ≡ (seen_of self.old).happened }
         ensures stays { DiskStays (seen_of self.old) (seen_of self.new) }
+        ensures steady { OnOk result ((seen_of self.new).disk_faults ≡ (seen_of self.old).disk_faults) }
         ensures cause { OnErr result (Rose (seen_of self.old).disk_faults (seen_of self.new).disk_faults) }
         ensures numbering { numbering_of self.new ≡ counted (numbering_of self.old) }
         ensures folders { folders_of self.new ≡ folders_of self.old }
     {
-        self.disk_turn()?;
+        let fails = self.turns.next_fails();
+        self.count_disk(fails);
+        if fails {
+            return Err(Failed);
+        }
         let bytes = self.disk.bytes(file);
         let (_, rest) = bytes.split_at(bytes.len().min(at as usize));
         Ok(fill(buffer, rest))
@@ -49,18 +58,17 @@ impl Disk for MemorySite {
         ensures err { OnErr result ((seen_of self.new).files ≡ (seen_of self.old).files) }
         ensures fails { IsTrue (fails (numbering_of self.old)) → IsErr result }
         ensures others { OthersStay file (seen_of self.old).files (seen_of self.new).files }
-        ensures calls { (seen_of self.new).calls ≡ wrote file at bytes.now ∷ (seen_of self.old).calls }
+        ensures happened { (seen_of self.new).happened ≡ wrote file at bytes.now (is_ok result) (bytes_of (seen_of self.new).files file) ∷ (seen_of self.old).happened }
         ensures stays { DiskStays (seen_of self.old) (seen_of self.new) }
+        ensures steady { OnOk result ((seen_of self.new).disk_faults ≡ (seen_of self.old).disk_faults) }
         ensures cause { OnErr result (Rose (seen_of self.old).disk_faults (seen_of self.new).disk_faults) }
         ensures numbering { numbering_of self.new ≡ counted (numbering_of self.old) }
         ensures folders { folders_of self.new ≡ folders_of self.old }
     {
-        self.trail = Trail::with(&self.trail, &Step::Wrote(file, at), bytes);
-        self.disk_turn()?;
-        match self.disk.write_at(file, at as usize, bytes) {
-            Ok(()) => Ok(()),
-            Err(_) => Err(self.disk_fault()),
-        }
+        let fails = self.turns.next_fails();
+        let answer = self.disk.write(file, at, bytes, fails);
+        self.count_disk(answer.is_err());
+        answer
     }
 
     fn cut(&mut self, file: File, to: u64) -> Result<(), Failed>
@@ -69,29 +77,33 @@ impl Disk for MemorySite {
         ensures err { OnErr result ((seen_of self.new).files ≡ (seen_of self.old).files) }
         ensures fails { is_err result ≡ fails (numbering_of self.old) }
         ensures others { OthersStay file (seen_of self.old).files (seen_of self.new).files }
-        ensures calls { (seen_of self.new).calls ≡ cut_to file to ∷ (seen_of self.old).calls }
+        ensures happened { (seen_of self.new).happened ≡ cut_to file to (is_ok result) (bytes_of (seen_of self.new).files file) ∷ (seen_of self.old).happened }
         ensures stays { DiskStays (seen_of self.old) (seen_of self.new) }
+        ensures steady { OnOk result ((seen_of self.new).disk_faults ≡ (seen_of self.old).disk_faults) }
         ensures cause { OnErr result (Rose (seen_of self.old).disk_faults (seen_of self.new).disk_faults) }
         ensures numbering { numbering_of self.new ≡ counted (numbering_of self.old) }
         ensures folders { folders_of self.new ≡ folders_of self.old }
     {
-        self.trail = Trail::with(&self.trail, &Step::Cut(file, to), &[]);
-        self.disk_turn()?;
-        self.disk.cut(file, to as usize);
-        Ok(())
+        let fails = self.turns.next_fails();
+        let answer = self.disk.cut(file, to, fails);
+        self.count_disk(fails);
+        answer
     }
 
     fn sync(&mut self, file: File) -> Result<(), Failed>
         ensures files { (seen_of self.new).files ≡ (seen_of self.old).files }
-        ensures fails { is_err result ≡ fails (numbering_of self.old) }
+        ensures fails { IsTrue (fails (numbering_of self.old)) → IsErr result }
         ensures others { OthersStay file (seen_of self.old).files (seen_of self.new).files }
-        ensures calls { (seen_of self.new).calls ≡ synced file ∷ (seen_of self.old).calls }
+        ensures happened { (seen_of self.new).happened ≡ synced file (is_ok result) (bytes_of (seen_of self.old).files file) ∷ (seen_of self.old).happened }
         ensures stays { DiskStays (seen_of self.old) (seen_of self.new) }
+        ensures steady { OnOk result ((seen_of self.new).disk_faults ≡ (seen_of self.old).disk_faults) }
         ensures cause { OnErr result (Rose (seen_of self.old).disk_faults (seen_of self.new).disk_faults) }
         ensures numbering { numbering_of self.new ≡ counted (numbering_of self.old) }
         ensures folders { folders_of self.new ≡ folders_of self.old }
     {
-        self.trail = Trail::with(&self.trail, &Step::Synced(file), &[]);
-        self.disk_turn()
+        let fails = self.turns.next_fails();
+        let answer = self.disk.sync(file, fails);
+        self.count_disk(answer.is_err());
+        answer
     }
 }

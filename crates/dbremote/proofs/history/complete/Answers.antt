@@ -12,7 +12,7 @@ missing-preserved g c =
     completing_step c.args.log.now c.missing.log c.commit_statement.new.log c.args.fold.now c.missing.fold c.make_next.new.self (seen c.args.site.now) (seen c.missing.site) (seen c.commit_statement.new.site)
     c.in-Some.text.now (others_of c.missing.fold.waiting) c.missing.invariant c.in-Some.ensures.next c.in-Some.ensures.short c.in_ok-commit_statement.ensures.log c.in_ok-commit_statement.ensures.room
     c.in_ok-commit_statement.ensures.made (c.make_next.ensures.made c.in-Some.text.now (others_of c.missing.fold.waiting) c.in-Some.ensures.next)
-    c.in_ok-commit_statement.ensures.others c.in_ok-commit_statement.ensures.stays
+    c.in_ok-commit_statement.ensures.others c.in_ok-commit_statement.ensures.stays c.in_ok-commit_statement.ensures.steady
 
 pub missing-smaller : goal.missing-smaller
 missing-smaller g c =

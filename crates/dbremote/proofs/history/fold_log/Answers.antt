@@ -39,7 +39,7 @@ entries-preserved g c =
     let within : (c.in-Some.end.0 ≡ c.entries.after.0 + 5 + c.in-Some.length) × (c.in-Some.end.0 ≤ c.args.log.now.end) × (c.in-Some.length ≤ length c.read_record.new.buffer.items) = search (rules, c.in_ok-found.ensures.within) in
     folding_more c.args.role c.args.log.now c.entries.after.0 c.in-Some.end.0 c.in-Some.length c.entries.fold c.take_body.new.fold
     (seen c.args.site.now) (seen c.entries.site) (seen c.read_record.new.site) c.read_record.new.buffer.items c.split_at.result.0.now
-    c.entries.invariant c.in_ok-found.ensures.stays c.in_ok-found.ensures.files c.base-after.ensures.order.limit within.0 within.1 within.2 reads
+    c.entries.invariant c.in_ok-found.ensures.stays c.in_ok-found.ensures.steady c.in_ok-found.ensures.files c.base-after.ensures.order.limit within.0 within.1 within.2 reads
     (c.split_at.ensures.front ∙ ap (take c.in-Some.length) c.as_slice.ensures.value) entry
 
 pub returns-clause-folded : goal.returns-clause-folded

@@ -1,8 +1,10 @@
-use Rattle.std.proofs.Common.{◌∙◌, [], inl}
+use Rattle.std.proofs.Common.{◌∙◌, [], inl, refl, sym, subst}
+use Rattle.sr_site.specs.declared.file.File.TheVariants.{Log0}
+use Rattle.dbremote.specs.Stops.{IsOfDamage}
 use Rattle.std.proofs.lemmas.Result.{err_from_is_err_and}
 use Rattle.dbremote.proofs.Beginnings.{begins_made, begins_some}
 use Rattle.dbremote.proofs.Damages.{stands_undamaged}
-use Rattle.dbremote.proofs.Opened.{Behind, told_on, disk_fault, open_fault, unfolded, uncompleted, opened_whole, none_missing, was_there, has_bytes, holds_none, holds_some, standing_for}
+use Rattle.dbremote.proofs.Opened.{Behind, told_on, stood_for, was_damaged, open_of_damage, fold_of_damage, disk_fault, open_fault, unfolded, uncompleted, opened_whole, none_missing, was_there, has_bytes, holds_none, holds_some, standing_for}
 use Rattle.dbremote.proofs.history.open_database.Goals as goal
 
 pub returns-in_err-prepare-clause-kept : goal.returns-in_err-prepare-clause-kept
@@ -111,6 +113,45 @@ returns-clause-opened g c = λ told.
     record { stays = c.in_ok-log.ensures.stays; file = c.in_ok-log.ensures.usable.0; files = c.in_ok-log.ensures.files; spelled = λ inside base bodies spells. (c.in_ok-log.ensures.spelled inside base bodies spells).0 } in
     opened_whole c.args.role (seen c.args.site.now) (seen c.prepare.new.site) (seen c.open.new.site) (seen c.fold_log.new.site) (seen c.complete.new.site) c.in_ok-log.log c.complete.new.log c.in_ok-fold.fold c.complete.new.fold
     told c.in_ok-prepare.ensures.prepared behind c.in_ok-fold.ensures.stays c.in_ok-fold.ensures.files c.in_ok-fold.ensures.folded c.in_ok-complete.ensures.log.0 c.in_ok-complete.ensures.done
+
+pub returns-in_err-prepare-clause-damaged : goal.returns-in_err-prepare-clause-damaged
+returns-in_err-prepare-clause-damaged g c =
+    let p = err_from_is_err_and c.from_residual.result c.from_residual.ensures.1 in
+    rw (p.1, p.2) (λ told place d. (refl, subst IsOfDamage (sym c.in_err-prepare.ensures.cause.0) tt, c.in_err-prepare.ensures.kept told d.there))
+
+pub returns-in_err-log-clause-damaged : goal.returns-in_err-log-clause-damaged
+returns-in_err-log-clause-damaged g c =
+    let seen = g.S.Held.seen in
+    let prepared = c.in_ok-prepare.ensures.prepared in
+    let p = err_from_is_err_and c.from_residual-in_err-log.result c.from_residual-in_err-log.ensures.1 in
+    rw (p.1, p.2) (λ told place d. (
+      refl,
+      open_of_damage Log0 (seen c.prepare.new.site) (seen c.open.new.site) _ c.in_err-log.ensures.cause,
+      c.in_err-log.ensures.files (told_on (seen c.args.site.now) (seen c.prepare.new.site) prepared.stays told) ∙ was_damaged (seen c.args.site.now) (seen c.prepare.new.site) prepared told d.there,
+    ))
+
+pub returns-in_err-fold-clause-damaged : goal.returns-in_err-fold-clause-damaged
+returns-in_err-fold-clause-damaged g c =
+    let seen = g.S.Held.seen in
+    let prepared = c.in_ok-prepare.ensures.prepared in
+    let p = err_from_is_err_and c.from_residual-in_err-fold.result c.from_residual-in_err-fold.ensures.1 in
+    rw (p.1, p.2) (λ told place d.
+    let inside = told_on (seen c.args.site.now) (seen c.prepare.new.site) prepared.stays told in (
+      refl,
+      fold_of_damage c.args.role _ (seen c.open.new.site) (seen c.fold_log.new.site) _ c.in_err-fold.ensures.cause,
+      c.in_err-fold.ensures.files (told_on (seen c.prepare.new.site) (seen c.open.new.site) c.in_ok-log.ensures.stays inside)
+          ∙ c.in_ok-log.ensures.files inside ∙ was_damaged (seen c.args.site.now) (seen c.prepare.new.site) prepared told d.there,
+    ))
+
+pub returns-in_err-complete-clause-damaged : goal.returns-in_err-complete-clause-damaged
+returns-in_err-complete-clause-damaged g c = λ told place d.
+    let seen = g.S.Held.seen in
+    let law = c.one_spelling_or_one_damage.ensures in
+    let has = c.in_ok-fold.ensures.folded in
+    let behind : Behind (seen c.prepare.new.site) (seen c.open.new.site) c.in_ok-log.log =
+    record { stays = c.in_ok-log.ensures.stays; file = c.in_ok-log.ensures.usable.0; files = c.in_ok-log.ensures.files; spelled = λ inside base bodies spells. (c.in_ok-log.ensures.spelled inside base bodies spells).0 } in
+    absurd (stands_undamaged law.one_spelling law.never_both c.args.role c.in_ok-log.log.base place has.es (seen c.args.site.now).files.log0
+    (stood_for c.args.role (seen c.args.site.now) (seen c.prepare.new.site) (seen c.open.new.site) c.in_ok-log.log c.in_ok-fold.fold has.es c.in_ok-prepare.ensures.prepared behind told has.stands) d)
 
 pub returns-clause-damaged : goal.returns-clause-damaged
 returns-clause-damaged g c = λ told place damage.

@@ -1,15 +1,15 @@
 use Rattle.std.proofs.Common.{◌≡◌, ◌≤◌, ◌++◌, length, IsTrue}
-use Rattle.dbremote.specs.declared.stream.TheConstants.{LONGEST_SCRIPT}
+use Rattle.dbremote.specs.Limits.{most_script}
 use Rattle.dbremote.proofs.stream.read_all.Given as goal
 
 abbrev pub invariant-pieces : goal.invariant-pieces
 invariant-pieces g l =
     let source = g.I.Source in
     record {
-      told : source.told l.source ≡ source.told l.fn.source;
-      later : source.faults l.fn.source ≤ source.faults l.source;
-      short : length l.text.items ≤ LONGEST_SCRIPT;
+      told : (source.seen l.source).told ≡ (source.seen l.fn.source).told;
+      steady : (source.seen l.source).faults ≡ (source.seen l.fn.source).faults;
+      short : length l.text.items ≤ most_script;
       pieces : l.counter ≤ length l.text.items;
       buffer : length l.buffer.items ≡ 65536;
-      text : IsTrue (source.told l.fn.source) → source.left l.fn.source ≡ l.text.items ++ source.left l.source;
+      text : IsTrue ((source.seen l.fn.source).told) → (source.seen l.fn.source).left ≡ l.text.items ++ (source.seen l.source).left;
     }

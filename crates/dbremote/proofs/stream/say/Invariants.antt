@@ -1,4 +1,4 @@
-use Rattle.std.proofs.Common.{◌≡◌, ◌≤◌, length, IsTrue}
+use Rattle.std.proofs.Common.{◌≡◌, length, IsTrue}
 use Rattle.dbremote.proofs.Pieces.{Went}
 use Rattle.dbremote.proofs.stream.say.Given as goal
 
@@ -6,9 +6,9 @@ abbrev pub invariant-pieces : goal.invariant-pieces
 invariant-pieces g l =
     let sink = g.O.Sink in
     record {
-      told : sink.told l.sink ≡ sink.told l.fn.sink;
-      later : sink.faults l.fn.sink ≤ sink.faults l.sink;
-      went : IsTrue (sink.told l.fn.sink) → Went l.bytes l.rest (sink.taken l.fn.sink) (sink.taken l.sink);
+      told : (sink.seen l.sink).told ≡ (sink.seen l.fn.sink).told;
+      steady : (sink.seen l.sink).faults ≡ (sink.seen l.fn.sink).faults;
+      went : IsTrue ((sink.seen l.fn.sink).told) → Went l.bytes l.rest ((sink.seen l.fn.sink).taken) ((sink.seen l.sink).taken);
     }
 
 abbrev pub decreases-pieces : goal.decreases-pieces

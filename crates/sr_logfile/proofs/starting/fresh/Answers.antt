@@ -1,4 +1,7 @@
-use Rattle.std.proofs.Common.{◌∙◌, ap, rules}
+use Rattle.std.proofs.Common.{true, [], ◌∙◌, ap, sym, subst, rules}
+use Rattle.std.specs.Prelude.{IsTrue}
+use Rattle.sr_site.specs.Growing.{disk_stays_on}
+use Rattle.sr_logfile.proofs.Makings.{fresh_stops_1, fresh_stops_2, fresh_made}
 use Rattle.sr_site.specs.Files.{Files, bytes_of}
 use Rattle.sr_logfile.proofs.Appends.{bytes_of-with_bytes}
 use Rattle.sr_logfile.proofs.Records.{spells_fresh}
@@ -10,3 +13,32 @@ returns-clause-bytes g c = search rules
 pub returns-clause-empty : goal.returns-clause-empty
 returns-clause-empty g c told =
     spells_fresh c.args.base.0 _ c.requires.base (ap (λ (files : Files). bytes_of files c.args.file) (returns-clause-bytes g c told) ∙ bytes_of-with_bytes _ c.args.file _)
+
+pub returns-in_err-cut-clause-happened : goal.returns-in_err-cut-clause-happened
+returns-in_err-cut-clause-happened g c told = fresh_stops_1 c.args.file c.args.base.0 _ c.fresh_log-bytes.ensures _ _ [] [] _ [] [] _ true true _ (c.cut.ensures.happened told) (search rules) (search rules)
+
+pub returns-in_err-write_at-clause-happened : goal.returns-in_err-write_at-clause-happened
+returns-in_err-write_at-clause-happened g c told =
+    let at = subst IsTrue (sym c.cut.ensures.stays.told) told in
+    fresh_stops_2 c.args.file c.args.base.0 _ c.fresh_log-bytes.ensures _ _ _ [] _ _ [] _ _ true _ (c.cut.ensures.happened told) (search rules) (c.write_at.ensures.happened at) (search rules) (search rules)
+
+pub returns-in_err-sync-clause-happened : goal.returns-in_err-sync-clause-happened
+returns-in_err-sync-clause-happened g c told =
+    let at = subst IsTrue (sym c.cut.ensures.stays.told) told in
+    let then = subst IsTrue (sym c.write_at.ensures.stays.told) at in
+    fresh_made c.args.file c.args.base.0 _ c.fresh_log-bytes.ensures _ _ _ _ _ _ _ _ _ _ _ (c.cut.ensures.happened told) (search rules) (c.write_at.ensures.happened at) (search rules) (c.sync.ensures.happened then) (search rules)
+
+pub returns-clause-happened : goal.returns-clause-happened
+returns-clause-happened g c told =
+    let at = subst IsTrue (sym c.cut.ensures.stays.told) told in
+    let then = subst IsTrue (sym c.write_at.ensures.stays.told) at in
+    fresh_made c.args.file c.args.base.0 _ c.fresh_log-bytes.ensures _ _ _ _ _ _ _ _ _ _ _ (c.cut.ensures.happened told) (search rules) (c.write_at.ensures.happened at) (search rules) (c.sync.ensures.happened then) (search rules)
+
+pub returns-in_err-write_at-clause-stays : goal.returns-in_err-write_at-clause-stays
+returns-in_err-write_at-clause-stays g c = disk_stays_on _ _ _ c.cut.ensures.stays c.write_at.ensures.stays
+
+pub returns-in_err-sync-clause-stays : goal.returns-in_err-sync-clause-stays
+returns-in_err-sync-clause-stays g c = disk_stays_on _ _ _ (disk_stays_on _ _ _ c.cut.ensures.stays c.write_at.ensures.stays) c.sync.ensures.stays
+
+pub returns-clause-stays : goal.returns-clause-stays
+returns-clause-stays g c = disk_stays_on _ _ _ (disk_stays_on _ _ _ c.cut.ensures.stays c.write_at.ensures.stays) c.sync.ensures.stays

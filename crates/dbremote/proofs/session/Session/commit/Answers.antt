@@ -3,7 +3,7 @@ use Rattle.std.proofs.lemmas.Grind.{common_steps}
 use Rattle.sr_logfile.specs.Records.{body_of, IsFramed}
 use Rattle.sr_exchange.specs.Entries.{own}
 use Rattle.dbremote.specs.Sessions.{CommitFault}
-use Rattle.dbremote.proofs.Committing.{appended_some, stands_some, length_framed, commit_fault}
+use Rattle.dbremote.proofs.Committing.{appended_some, stands_some, length_framed, commit_fault, room_kept}
 use Rattle.dbremote.proofs.session.Session.commit.Goals as goal
 
 pub returns-in-Ok-clause-appended : goal.returns-in-Ok-clause-appended
@@ -27,3 +27,6 @@ returns-clause-cause g c =
     c.in-Err.ensures.cause
     (λ told. stands_some c.args.self.now.log c.args.self.now.pending.items (body_of c.as_slice-3.result.now) before.files now.files some body
     (λ bodies is_log. c.in-Err.ensures.stands told bodies is_log)))
+
+pub returns-in-Ok-clause-room : goal.returns-in-Ok-clause-room
+returns-in-Ok-clause-room g c = room_kept c.args.self.now.log c.commit.new.self (length c.as_slice-3.result.now) c.in-Ok.ensures.log c.in-Ok.ensures.room

@@ -1,7 +1,8 @@
 use Rattle.std.proofs.Common.{◌∷◌, List, length, length-append, ap, subst, arith}
 use Rattle.std.proofs.lemmas.Result.{err_from_is_err_and}
 use Rattle.dbremote.specs.declared.statement.Statement.{Statement}
-use Rattle.dbremote.proofs.Reached.{Took, Reached, reached_start, reached_step, reached_flush, reached_end, said_end, stopped_step, stopped_flush, few_open}
+use Rattle.sr_site.specs.Streams.{Output}
+use Rattle.dbremote.proofs.Reached.{Reached, reached_start, reached_step, reached_flush, reached_end, said_end, stopped_step, stopped_flush, few_open}
 use Rattle.dbremote.proofs.session.Session.run_statements.Goals as goal
 
 pub statements-init : goal.statements-init
@@ -13,8 +14,8 @@ step-requires-clause-few g c = few_open _ _ _ _ _ _ _ _ c.requires.fresh.0 c.req
 pub returns-in_err-step-clause-stopped : goal.returns-in_err-step-clause-stopped
 returns-in_err-step-clause-stopped g c =
     let seen = g.S.Held.seen in
-    let old : Took = record { told = g.O.Sink.told c.args.sink.now; bytes = g.O.Sink.taken c.args.sink.now; faults = g.O.Sink.faults c.args.sink.now } in
-    let took : Took = record { told = g.O.Sink.told c.statements.sink; bytes = g.O.Sink.taken c.statements.sink; faults = g.O.Sink.faults c.statements.sink } in
+    let old : Output = g.O.Sink.seen c.args.sink.now in
+    let took : Output = g.O.Sink.seen c.statements.sink in
     let reached : Reached c.args.self.now c.statements.self c.args.statements.now (c.in-Some.statement.now ∷ c.in-Some.following.now) (seen c.args.site.now) (seen c.statements.site) old took =
     subst (λ (rest : List Statement). Reached c.args.self.now c.statements.self c.args.statements.now rest (seen c.args.site.now) (seen c.statements.site) old took) c.in-Some.ensures.cases.0 c.statements.invariant in
     let p = err_from_is_err_and c.from_residual.result c.from_residual.ensures.1 in
@@ -24,14 +25,14 @@ returns-in_err-step-clause-stopped g c =
 pub returns-in_err-flush-clause-stopped : goal.returns-in_err-flush-clause-stopped
 returns-in_err-flush-clause-stopped g c =
     let seen = g.S.Held.seen in
-    let old : Took = record { told = g.O.Sink.told c.args.sink.now; bytes = g.O.Sink.taken c.args.sink.now; faults = g.O.Sink.faults c.args.sink.now } in
-    let took : Took = record { told = g.O.Sink.told c.statements.sink; bytes = g.O.Sink.taken c.statements.sink; faults = g.O.Sink.faults c.statements.sink } in
+    let old : Output = g.O.Sink.seen c.args.sink.now in
+    let took : Output = g.O.Sink.seen c.statements.sink in
     let reached : Reached c.args.self.now c.statements.self c.args.statements.now (c.in-Some.statement.now ∷ c.in-Some.following.now) (seen c.args.site.now) (seen c.statements.site) old took =
     subst (λ (rest : List Statement). Reached c.args.self.now c.statements.self c.args.statements.now rest (seen c.args.site.now) (seen c.statements.site) old took) c.in-Some.ensures.cases.0 c.statements.invariant in
     let stepped : Reached c.args.self.now c.step.new.self c.args.statements.now c.in-Some.following.now (seen c.args.site.now) (seen c.step.new.site) old took =
     reached_step c.args.self.now c.statements.self c.step.new.self c.args.statements.now c.in-Some.following.now c.in-Some.statement.now (seen c.args.site.now) (seen c.statements.site) (seen c.step.new.site) old took c.requires.fresh.0 reached
-    (record { has_done = c.in_ok-step.ensures.done; lines = c.in_ok-step.ensures.lines; appended = c.in_ok-step.ensures.appended; has_log = c.in_ok-step.ensures.has_log; others = c.in_ok-step.ensures.others; stays = c.in_ok-step.ensures.stays }) in
-    let flushed : Took = record { told = g.O.Sink.told c.flush.new.sink; bytes = g.O.Sink.taken c.flush.new.sink; faults = g.O.Sink.faults c.flush.new.sink } in
+    (record { has_done = c.in_ok-step.ensures.done; lines = c.in_ok-step.ensures.lines; appended = c.in_ok-step.ensures.appended; has_log = c.in_ok-step.ensures.has_log; others = c.in_ok-step.ensures.others; stays = c.in_ok-step.ensures.stays; steady = c.in_ok-step.ensures.steady }) in
+    let flushed : Output = g.O.Sink.seen c.flush.new.sink in
     let p = err_from_is_err_and c.from_residual-in_err-flush.result c.from_residual-in_err-flush.ensures.1 in
     rw (p.1, p.2) (stopped_flush c.args.self.now c.step.new.self c.flush.new.self c.args.statements.now c.in-Some.following.now (seen c.args.site.now) (seen c.step.new.site) old took flushed _
     stepped c.in_err-flush.ensures.front c.in_err-flush.ensures.kept c.in_err-flush.ensures.cause.0 c.in_err-flush.ensures.cause.1)
@@ -39,25 +40,25 @@ returns-in_err-flush-clause-stopped g c =
 pub statements-preserved-in-Some : goal.statements-preserved-in-Some
 statements-preserved-in-Some g c =
     let seen = g.S.Held.seen in
-    let old : Took = record { told = g.O.Sink.told c.args.sink.now; bytes = g.O.Sink.taken c.args.sink.now; faults = g.O.Sink.faults c.args.sink.now } in
-    let took : Took = record { told = g.O.Sink.told c.statements.sink; bytes = g.O.Sink.taken c.statements.sink; faults = g.O.Sink.faults c.statements.sink } in
+    let old : Output = g.O.Sink.seen c.args.sink.now in
+    let took : Output = g.O.Sink.seen c.statements.sink in
     let reached : Reached c.args.self.now c.statements.self c.args.statements.now (c.in-Some.statement.now ∷ c.in-Some.following.now) (seen c.args.site.now) (seen c.statements.site) old took =
     subst (λ (rest : List Statement). Reached c.args.self.now c.statements.self c.args.statements.now rest (seen c.args.site.now) (seen c.statements.site) old took) c.in-Some.ensures.cases.0 c.statements.invariant in
     let stepped : Reached c.args.self.now c.step.new.self c.args.statements.now c.in-Some.following.now (seen c.args.site.now) (seen c.step.new.site) old took =
     reached_step c.args.self.now c.statements.self c.step.new.self c.args.statements.now c.in-Some.following.now c.in-Some.statement.now (seen c.args.site.now) (seen c.statements.site) (seen c.step.new.site) old took c.requires.fresh.0 reached
-    (record { has_done = c.in_ok-step.ensures.done; lines = c.in_ok-step.ensures.lines; appended = c.in_ok-step.ensures.appended; has_log = c.in_ok-step.ensures.has_log; others = c.in_ok-step.ensures.others; stays = c.in_ok-step.ensures.stays }) in
+    (record { has_done = c.in_ok-step.ensures.done; lines = c.in_ok-step.ensures.lines; appended = c.in_ok-step.ensures.appended; has_log = c.in_ok-step.ensures.has_log; others = c.in_ok-step.ensures.others; stays = c.in_ok-step.ensures.stays; steady = c.in_ok-step.ensures.steady }) in
     reached_flush c.args.self.now c.step.new.self c.flush.new.self c.args.statements.now c.in-Some.following.now (seen c.args.site.now) (seen c.step.new.site) old took _
-    stepped c.in_ok-flush.ensures.session.0 c.in_ok-flush.ensures.session.1 c.in_ok-flush.ensures.session.2 c.in_ok-flush.ensures.kept c.in_ok-flush.ensures.said c.in_ok-flush.ensures.told c.in_ok-flush.ensures.later
+    stepped c.in_ok-flush.ensures.session.0 c.in_ok-flush.ensures.session.1 c.in_ok-flush.ensures.session.2 c.in_ok-flush.ensures.kept c.in_ok-flush.ensures.said c.in_ok-flush.ensures.told c.in_ok-flush.ensures.sink
 
 pub statements-preserved : goal.statements-preserved
 statements-preserved g c =
     let seen = g.S.Held.seen in
-    let old : Took = record { told = g.O.Sink.told c.args.sink.now; bytes = g.O.Sink.taken c.args.sink.now; faults = g.O.Sink.faults c.args.sink.now } in
-    let took : Took = record { told = g.O.Sink.told c.statements.sink; bytes = g.O.Sink.taken c.statements.sink; faults = g.O.Sink.faults c.statements.sink } in
+    let old : Output = g.O.Sink.seen c.args.sink.now in
+    let took : Output = g.O.Sink.seen c.statements.sink in
     let reached : Reached c.args.self.now c.statements.self c.args.statements.now (c.in-Some.statement.now ∷ c.in-Some.following.now) (seen c.args.site.now) (seen c.statements.site) old took =
     subst (λ (rest : List Statement). Reached c.args.self.now c.statements.self c.args.statements.now rest (seen c.args.site.now) (seen c.statements.site) old took) c.in-Some.ensures.cases.0 c.statements.invariant in
     reached_step c.args.self.now c.statements.self c.step.new.self c.args.statements.now c.in-Some.following.now c.in-Some.statement.now (seen c.args.site.now) (seen c.statements.site) (seen c.step.new.site) old took c.requires.fresh.0 reached
-    (record { has_done = c.in_ok-step.ensures.done; lines = c.in_ok-step.ensures.lines; appended = c.in_ok-step.ensures.appended; has_log = c.in_ok-step.ensures.has_log; others = c.in_ok-step.ensures.others; stays = c.in_ok-step.ensures.stays })
+    (record { has_done = c.in_ok-step.ensures.done; lines = c.in_ok-step.ensures.lines; appended = c.in_ok-step.ensures.appended; has_log = c.in_ok-step.ensures.has_log; others = c.in_ok-step.ensures.others; stays = c.in_ok-step.ensures.stays; steady = c.in_ok-step.ensures.steady })
 
 pub returns-clause-appended : goal.returns-clause-appended
 returns-clause-appended g c = reached_end _ _ _ _ _ _ _ _ c.statements.invariant c.in_default.ensures.cases

@@ -6,8 +6,8 @@ use Rattle.dbremote.proofs.session.Session.run_statements.Given as goal
 abbrev pub invariant-statements : goal.invariant-statements
 invariant-statements g l =
     Reached l.fn.self l.self l.statements l.rest (g.S.Held.seen l.fn.site) (g.S.Held.seen l.site)
-    (record { told = g.O.Sink.told l.fn.sink; bytes = g.O.Sink.taken l.fn.sink; faults = g.O.Sink.faults l.fn.sink })
-    (record { told = g.O.Sink.told l.sink; bytes = g.O.Sink.taken l.sink; faults = g.O.Sink.faults l.sink })
+    (g.O.Sink.seen l.fn.sink)
+    (g.O.Sink.seen l.sink)
 
 abbrev pub decreases-statements : goal.decreases-statements
 decreases-statements g l = length l.rest

@@ -1,11 +1,17 @@
 -- The record counts, seen through the fields of the log.
-use Rattle.std.proofs.Common.{◌≡◌, ◌⊎◌, ◌+◌, [], ◌∷◌, ◌++◌, List, ℕ, Bool, true, length, sym, ap, ◌∙◌, subst, arith}
+use Rattle.std.proofs.Common.{refl, inl, ◌≡◌, ◌⊎◌, ◌+◌, [], ◌∷◌, ◌++◌, List, ℕ, Bool, true, length, sym, ap, ◌∙◌, subst, arith, rules}
+use Rattle.std.specs.Prelude.{is_ok}
+use Rattle.sr_site.specs.Happenings.{Happening, Made}
+use Rattle.sr_logfile.specs.Calls.{commit_calls}
 use Rattle.sr_site.specs.Files.{bytes_of}
 use Rattle.sr_logfile.specs.Log.{Log}
-use Rattle.sr_logfile.specs.Logs.{IsLog}
+use Rattle.sr_logfile.specs.Logs.{IsLog, gate_of}
 use Rattle.sr_logfile.specs.Records.{Spells, body_of}
 use Rattle.sr_logfile.proofs.Appends.{OnErr-always}
 use Rattle.sr_logfile.proofs.Commits.{part_committed, record_committed}
+use Rattle.sr_site.specs.Images.{IsSettled, RestsThroughout}
+use Rattle.sr_logfile.specs.Moments.{HasOrLacks}
+use Rattle.sr_logfile.proofs.Moments.{has_or_lacks}
 use Rattle.sr_logfile.proofs.log.LogFile.commit.Goals as goal
 
 pub returns-in_err-append-clause-stands : goal.returns-in_err-append-clause-stands
@@ -28,3 +34,51 @@ pub returns-clause-has_log : goal.returns-clause-has_log
 returns-clause-has_log g c told =
     let has = c.requires.log told in
     record { bodies = has.bodies ++ body_of c.args.framed.now ∷ []; is_log = returns-clause-record g c told has.bodies has.is_log }
+
+-- the calls, seen through the fields of the log
+abbrev made : Log → List Happening → List Happening → List ℕ → Bool → Type 0
+made log before now framed done = Made (commit_calls log.file (gate_of log) framed) before now done
+
+pub returns-in_err-append-clause-happened : goal.returns-in_err-append-clause-happened
+returns-in_err-append-clause-happened g c told room =
+    let log : Log = record { file = c.self.inside.file; base = c.self.inside.base; end = c.self.inside.end; usable = c.self.inside.usable } in
+    let before = (g.S.Held.seen c.args.site.now).happened in
+    let now = (g.S.Held.seen c.append.new.site).happened in
+    let view_is : log ≡ c.args.self.now = c.self.view_is in
+    let there = subst (λ (l : Log). made l before now c.args.framed.now (is_ok c.append.result)) view_is (c.append.ensures.happened told) in
+    subst (λ (b : Bool). made c.args.self.now before now c.args.framed.now b) (search rules) there
+
+pub returns-clause-happened : goal.returns-clause-happened
+returns-clause-happened g c told room =
+    let log : Log = record { file = c.self.inside.file; base = c.self.inside.base; end = c.self.inside.end; usable = c.self.inside.usable } in
+    let before = (g.S.Held.seen c.args.site.now).happened in
+    let now = (g.S.Held.seen c.append.new.site).happened in
+    let view_is : log ≡ c.args.self.now = c.self.view_is in
+    let there = subst (λ (l : Log). made l before now c.args.framed.now (is_ok c.append.result)) view_is (c.append.ensures.happened told) in
+    subst (λ (b : Bool). made c.args.self.now before now c.args.framed.now b) (search rules) there
+
+-- the moments, seen through the fields of the log
+pub returns-in_err-append-clause-moments : goal.returns-in_err-append-clause-moments
+returns-in_err-append-clause-moments g c told bodies is settled =
+    let log : Log = record { file = c.self.inside.file; base = c.self.inside.base; end = c.self.inside.end; usable = c.self.inside.usable } in
+    let before = g.S.Held.seen c.args.site.now in
+    let now = g.S.Held.seen c.append.new.site in
+    let view_is : log ≡ c.args.self.now = c.self.view_is in
+    let is' = subst (λ (l : Log). IsLog l bodies before.files) (sym view_is) is in
+    let settled' = subst (λ (l : Log). IsSettled (IsLog l bodies) before) (sym view_is) settled in
+    subst (λ (l : Log). RestsThroughout (HasOrLacks l bodies c.args.framed.now) before now) view_is
+    (has_or_lacks log bodies c.args.framed.now before now c.requires.framed (omega arith) is' settled' (c.append.ensures.moments told))
+
+pub returns-clause-moments : goal.returns-clause-moments
+returns-clause-moments g c told bodies is settled =
+    let log : Log = record { file = c.self.inside.file; base = c.self.inside.base; end = c.self.inside.end; usable = c.self.inside.usable } in
+    let before = g.S.Held.seen c.args.site.now in
+    let now = g.S.Held.seen c.append.new.site in
+    let view_is : log ≡ c.args.self.now = c.self.view_is in
+    let is' = subst (λ (l : Log). IsLog l bodies before.files) (sym view_is) is in
+    let settled' = subst (λ (l : Log). IsSettled (IsLog l bodies) before) (sym view_is) settled in
+    subst (λ (l : Log). RestsThroughout (HasOrLacks l bodies c.args.framed.now) before now) view_is
+    (has_or_lacks log bodies c.args.framed.now before now c.requires.framed (omega arith) is' settled' (c.append.ensures.moments told))
+
+pub returns-then-need-gt-LAST_OFFSET-clause-moments : goal.returns-then-need-gt-LAST_OFFSET-clause-moments
+returns-then-need-gt-LAST_OFFSET-clause-moments g c told bodies is settled = record { more = []; is = refl; moments = λ image there. inl (settled image there) }

@@ -1,13 +1,11 @@
-use Rattle.std.proofs.Common.{◌≡◌, subst, sym, ◌<◌, ◌≤◌, ◌++◌, ◌∷◌, [], ◌∙◌, ap, true, map, length, take, rules}
+use Rattle.std.proofs.Common.{◌≡◌, subst, ◌<◌, ◌≤◌, ◌++◌, ◌∷◌, [], ◌∙◌, ap, true, map, length, take, rules}
 use Rattle.std.proofs.Common.{nat_lt}
 use Rattle.std.proofs.lemmas.Map.Iter.{iter_end}
 use Rattle.std.specs.Map.Iter.{deref_pair}
-use Rattle.sr_memsite.specs.Folders.{is_in, names_in, most_names}
+use Rattle.sr_memsite.specs.Folders.{is_in, names_in}
+use Rattle.sr_site.specs.Listings.{AreAscending, most_names}
 use Rattle.sr_memsite.proofs.Listings.{Lent, file_of, listed_room, listed_full, listed_all}
-use Rattle.std.specs.Ordering.{nat_cmp}
-use Rattle.std.specs.Cmp.Lexicographic.{slice_cmp}
-use Rattle.std.specs.List.Sorted.{IsStrictlySortedBy}
-use Rattle.sr_memsite.proofs.Rising.{listing_rises}
+use Rattle.sr_memsite.proofs.Rising.{folder_rises, first_names}
 use Rattle.sr_memsite.proofs.mail.SharedMail.list.Goals as goal
 
 pub files-preserved-in_ok-push : goal.files-preserved-in_ok-push
@@ -25,17 +23,17 @@ files-preserved-else-len-lt-MOST_NAMES c =
     let full : 65536 ≤ length c.files.names.items = search rules in
     listed_full _ _ c.files.yielded file _ c.files.invariant inside full
 
-pub returns-clause-names : goal.returns-clause-names
-returns-clause-names c =
+pub returns-clause-lists : goal.returns-clause-lists
+returns-clause-lists c =
     let all : map deref_pair c.files.yielded ≡ c.self.inside.files.entries = search (rules, iter_end) in
-    c.from_vec.ensures.items ∙ c.files.invariant.0 ∙ ap (λ files. take most_names (names_in files c.args.address.now)) (listed_all _ _ _ _ all c.self.view_is)
+    let same = listed_all _ _ _ _ all c.self.view_is in
+    record {
+      ascending = subst AreAscending (ap (λ files. names_in files c.args.address.now) same) (folder_rises c.files.yielded _ c.args.address.now all c.iter-place-items.ensures.ordered);
+      names = c.from_vec.ensures.items ∙ c.files.invariant.0 ∙ ap (λ files. take most_names (names_in files c.args.address.now)) same;
+      more = c.files.invariant.1 ∙ ap (λ files. nat_lt most_names (length (names_in files c.args.address.now))) same;
+    }
 
-pub returns-clause-more : goal.returns-clause-more
-returns-clause-more c =
-    let all : map deref_pair c.files.yielded ≡ c.self.inside.files.entries = search (rules, iter_end) in
-    c.files.invariant.1 ∙ ap (λ files. nat_lt most_names (length (names_in files c.args.address.now))) (listed_all _ _ _ _ all c.self.view_is)
-
-pub returns-clause-order : goal.returns-clause-order
-returns-clause-order c =
-    let all : map deref_pair c.files.yielded ≡ c.self.inside.files.entries = search (rules, iter_end) in
-    subst (IsStrictlySortedBy (slice_cmp nat_cmp)) (sym (c.from_vec.ensures.items ∙ c.files.invariant.0)) (listing_rises c.files.yielded _ c.args.address.now all c.iter-place-items.ensures.ordered)
+pub returns-clause-listing : goal.returns-clause-listing
+returns-clause-listing c =
+    let lists = returns-clause-lists c in
+    first_names _ _ lists.ascending lists.names lists.more

@@ -21,11 +21,11 @@ use denote.Triple.Entry.{on_entry, alive}
 use denote.Triple.Spec.{Meets, triple_of}
 use denote.Triple.Table.{entered}
 use denote.Triple.Walked.{says, Stays, walk_of, Walks, ends_at, walked, walk_Meets}
-use Rattle.sr_memsite.specs.contracts.trail.Trail.new.Key.{name as key}
-use Rattle.sr_memsite.specs.contracts.trail.Trail.new as f
-use Rattle.sr_memsite.proofs.trail.Trail.new.Statement as stated
-use Rattle.sr_memsite.proofs.trail.Trail.new.Code as code
-use Rattle.sr_memsite.specs.contracts.trail.Trail as made
+use Rattle.sr_memsite.specs.contracts.calls.Calls.new.Key.{name as key}
+use Rattle.sr_memsite.specs.contracts.calls.Calls.new as f
+use Rattle.sr_memsite.proofs.calls.Calls.new.Statement as stated
+use Rattle.sr_memsite.proofs.calls.Calls.new.Code as code
+use Rattle.sr_memsite.specs.contracts.calls.Calls as made
 
 abbrev stayed : Stays (f.ended).signature.params (f.ended).kept
 stayed = tt

@@ -29,15 +29,15 @@ use denote.Triple.Entry.{on_entry, alive, Args}
 use denote.Triple.Spec.{Meets, triple_of}
 use denote.Triple.Table.{entered}
 use denote.Triple.Walked.{says, stay_none_ref, stay_none_slice, Stays, walk_of, Walks, ends_at, walked, Goes-none_ref, Goes-none_slice, walk_Meets}
-use Rattle.sr_memsite.specs.contracts.trail.Trail.with.Key.{name as key}
-use Rattle.sr_memsite.specs.contracts.trail.Trail.with as f
-use Rattle.sr_memsite.proofs.trail.Trail.with.Statement as stated
-use Rattle.sr_memsite.proofs.trail.Trail.with.Code as code
-use Rattle.sr_memsite.specs.contracts.trail.Trail as trail
-use Rattle.sr_memsite.specs.contracts.trail.Step as step
+use Rattle.sr_memsite.specs.contracts.calls.Calls.with.Key.{name as key}
+use Rattle.sr_memsite.specs.contracts.calls.Calls.with as f
+use Rattle.sr_memsite.proofs.calls.Calls.with.Statement as stated
+use Rattle.sr_memsite.proofs.calls.Calls.with.Code as code
+use Rattle.sr_memsite.specs.contracts.calls.Calls as made
+use Rattle.sr_memsite.specs.contracts.calls.Step as step
 
 abbrev stayed : Stays (f.ended).signature.params (f.ended).kept
-stayed = (stay_none_ref (0 ∷ []) tt (plain (λ _. trail.the_row)) yes, (stay_none_ref (1 ∷ []) tt (plain (λ _. step.the_row)) yes, (stay_none_slice (2 ∷ []) tt (plain (λ _. u8)) yes, tt)))
+stayed = (stay_none_ref (0 ∷ []) tt (plain (λ _. made.the_row)) yes, (stay_none_ref (1 ∷ []) tt (plain (λ _. step.the_row)) yes, (stay_none_slice (2 ∷ []) tt (plain (λ _. u8)) yes, tt)))
 
 module _ {M : Type 1} {𝓤 : Ura M} (𝓛 : Logic 𝓤) (mem : Memory → SProp 𝓤) (run : Routine → Fun 𝓤) (C : Calls 𝓤 𝓛.H) (Λ : Loops 𝓤 𝓛.H) where
   open 𝓛 use {H}
@@ -65,19 +65,19 @@ module _ {M : Type 1} {𝓤 : Ura M} (𝓛 : Logic 𝓤) (mem : Memory → SProp
         alloc_all ! (λ l. pass_all ! refl ((tt, tt), ((tt, tt), ((tt, (tt, (record { fits = fits }, tt))), tt))) $ sets ! (agg ! (no_more !)) refl (tt, tt) $
         returns ! (look_at ! 0 refl) $ free_all ! refl $
         suffices ! _ (ends_at 𝓛 f.ended stayed (f.clauses 𝓛 mem run) bound (vstruct vnil) (record { steps = (a.1.0.now, a.1.1.0.now) ∷ a.0.now.steps }) (tt, (tt, (tt, tt))) (tt, (tt, (tt, tt)))) $
-        says ! refl $ pure_i ! (trail.the_row.own_val (record { steps = (a.1.0.now, a.1.1.0.now) ∷ a.0.now.steps }) (vstruct vnil ∷ [])) ((λ vss. (tt, tt)), tt) ((tt, (refl, tt)), tt) $
+        says ! refl $ pure_i ! (made.the_row.own_val (record { steps = (a.1.0.now, a.1.1.0.now) ∷ a.0.now.steps }) (vstruct vnil ∷ [])) ((λ vss. (tt, tt)), tt) ((tt, (refl, tt)), tt) $
         move ! (1 ∷ 2 ∷ 0 ∷ []) $ done !)
 
   walks : Walks 𝓛 f.ended stayed (WpFn 𝓤 H C Λ code.function) (f.clauses 𝓛 mem run)
   walks =
       walked 𝓛 f.ended stayed (f.clauses 𝓛 mem run) (WpFn 𝓤 H C Λ code.function) (λ κs. (shr_vals, (shr_vals, (shr_slice_vals, tt))))
-      (λ κs. (shr_Tells (named 0) κs.0 trail.the_row, (shr_Tells (named 1) κs.1.0 step.the_row, (shr_slice_Tells (named 2) κs.1.1.0 u8, tt))))
+      (λ κs. (shr_Tells (named 0) κs.0 made.the_row, (shr_Tells (named 1) κs.1.0 step.the_row, (shr_slice_Tells (named 2) κs.1.1.0 u8, tt))))
       (λ κs qs bounds a g are. via 𝓤 _ (fst∗ 𝓤 _ (emp 𝓤)) (walk κs qs a are.1.1.0.0.1.0))
 
 meets : {M : Type 1} {𝓤 : Ura M} (𝓛 : Logic 𝓤) (mem : Memory → SProp 𝓤) (run : Routine → Fun 𝓤) (𝓣 : Tables 𝓤 𝓛.H)
     → Meets 𝓛 f.signature (WpFn 𝓤 𝓛.H 𝓣.C 𝓣.Λ code.function) (f.spec 𝓛 mem run)
 meets {𝓤 = 𝓤} 𝓛 mem run 𝓣 =
-    walk_Meets 𝓛 f.ended stayed (Goes-none_ref 𝓛 3 (0 ∷ []) tt (plain (λ _. trail.the_row)) yes, (Goes-none_ref 𝓛 3 (1 ∷ []) tt (plain (λ _. step.the_row)) yes, (Goes-none_slice 𝓛 3 (2 ∷ []) tt (plain (λ _. u8)) yes, tt))) (f.clauses 𝓛 mem run) (WpFn 𝓤 𝓛.H 𝓣.C 𝓣.Λ code.function)
+    walk_Meets 𝓛 f.ended stayed (Goes-none_ref 𝓛 3 (0 ∷ []) tt (plain (λ _. made.the_row)) yes, (Goes-none_ref 𝓛 3 (1 ∷ []) tt (plain (λ _. step.the_row)) yes, (Goes-none_slice 𝓛 3 (2 ∷ []) tt (plain (λ _. u8)) yes, tt))) (f.clauses 𝓛 mem run) (WpFn 𝓤 𝓛.H 𝓣.C 𝓣.Λ code.function)
     (WpFn-mono 𝓤 𝓛.H 𝓛.laws 𝓣 code.function) (walks 𝓛 mem run 𝓣.C 𝓣.Λ)
 
 pub with_spec : {M : Type 1} → stated.statement M

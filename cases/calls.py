@@ -1,0 +1,112 @@
+"""Counts the system calls that make a commit and a put durable, as strace tells them.
+
+A commit is four calls: the record behind the gate, a sync, one byte over the gate, a sync. The first sync of a file in a run is followed by
+one of its folder, and a line is printed only behind the syncs of its commit. A put writes a file whose name begins with a dot, syncs it,
+renames it, and then syncs the folder of the message, the folder that holds that one, and the folder that holds each folder that it made.
+"""
+
+import os
+import re
+import subprocess
+import sys
+import tempfile
+
+SCRIPT = b"INSERT INTO t VALUES (%d, 1);\nINSERT INTO t VALUES (%d, 2);\nCOMMIT;\n"
+PUTS = "host::tests::a_message_is_put_listed_fetched_and_removed"
+WATCHED = "openat,pwrite64,write,ftruncate,fdatasync,fsync,rename,mkdir"
+CALL = re.compile(r"(?:\d+ +)?(\w+)\((.*)\) += (-?\d+)")
+
+
+def traced(words, folder, script=b""):
+    """The watched calls of a run that succeeded, in order: each its name and its words, with the path of each file beside its number."""
+    told = os.path.join(folder, "calls")
+    done = subprocess.run(
+        ["strace", "-f", "-y", "-qq", "-s", "64", "-e", f"trace={WATCHED}", "-o", told, *words],
+        cwd=folder, input=script, capture_output=True, check=False,
+    )
+    if done.returncode != 0:
+        sys.exit(f"calls: {' '.join(words)} ended with status {done.returncode}")
+    with open(told, encoding="utf-8", errors="replace") as file:
+        found = [CALL.match(line) for line in file]
+    return [(call[1], call[2]) for call in found if call and int(call[3]) >= 0]
+
+
+def path_of(words):
+    """The path that stands beside the number of the file that a call is given."""
+    return re.match(r"\d+<([^>]*)>", words)[1]
+
+
+def steps_of_run(words, folder, script):
+    """What a run does to its log and to its folder, and each piece that it prints: a write has its place and its length."""
+    log, steps = os.path.join(folder, "c1.log0"), []
+    for name, rest in traced(words, folder, script):
+        if name == "write" and rest.startswith("1<"):
+            steps.append("print")
+        elif name in ("pwrite64", "ftruncate", "fdatasync", "fsync"):
+            what = {log: "log", folder: "folder"}.get(path_of(rest), path_of(rest))
+            numbers = [int(number) for number in rest.rsplit(", ", 2)[1:]] if name == "pwrite64" else []
+            steps.append(" ".join([name, what, *map(str, reversed(numbers))]))
+    return steps
+
+
+def commit(gate, body):
+    """The steps of a commit whose body has so many bytes, and the place of the next gate: its frame is a length of four bytes and a gate."""
+    return [f"pwrite64 log {gate + 1} {body + 5}", "fdatasync log", f"pwrite64 log {gate} 1", "fdatasync log"], gate + body + 5
+
+
+def commits(program, folder):
+    """The steps that two runs of two transactions each make, and those that are wanted."""
+    # the statement of the table has 65 letters, behind a tag and a length of four bytes; an entry of two inserts 5 + 2 * 18 bytes
+    table, gate = commit(16, 1 + 4 + 65)
+    wanted, found = [], []
+    for first in (1, 5):
+        lines = SCRIPT % (first, first + 1) + SCRIPT % (first + 2, first + 3)
+        found += steps_of_run([program, "sql", "c1"], folder, lines)
+        made = ["pwrite64 log 0 17", "fdatasync log", "fsync folder", "fdatasync log", *table]
+        wanted += made if first == 1 else ["fdatasync log", "fsync folder"]
+        for _ in range(2):
+            steps, gate = commit(gate, 5 + 2 * 18)
+            wanted += [*steps, "print"]
+    return found, wanted
+
+
+def puts(tests, folder):
+    """The steps of the puts of a test, one after the other, and those that are wanted of each."""
+    made, drafts, found, wanted = [], set(), [], []
+    for name, rest in traced([tests, PUTS], folder):
+        if name == "mkdir":
+            made.append(os.path.join(folder, rest.split('"')[1]))
+        elif name == "openat" and "O_EXCL" in rest:
+            path = os.path.join(folder, rest.split('"')[1])
+            inbox, draft = os.path.split(path)
+            # the folder of the test itself, the first, is not made by a put
+            holding = [os.path.dirname(each) for each in made if os.path.dirname(each) != folder]
+            entries = dict.fromkeys([*holding, os.path.dirname(inbox)])
+            wanted += [f"write {path}", f"fsync {path}", f"rename {os.path.join(inbox, draft[1:])}"]
+            wanted += [f"fsync {each}" for each in (inbox, *entries)]
+            drafts.add(path)
+            made = []
+        elif name == "rename":
+            found.append("rename " + os.path.join(folder, rest.split('"')[3]))
+        elif name == "fsync" or name == "write" and path_of(rest) in drafts:
+            found.append(f"{name} {path_of(rest)}")
+    return found, wanted
+
+
+def main():
+    failed = 0
+    with tempfile.TemporaryDirectory() as made:
+        folder = os.path.realpath(made)
+        checks = [("commits", *commits(os.path.abspath(sys.argv[1]), folder))]
+        if len(sys.argv) > 2 and os.path.exists(sys.argv[2]):
+            checks.append(("puts", *puts(os.path.abspath(sys.argv[2]), folder)))
+        for name, found, wanted in checks:
+            if found == wanted:
+                print(f"calls: {len(found)} steps of {name}, each in its place")
+            else:
+                failed = 1
+                print(f"calls: {name}: wanted\n  " + "\n  ".join(wanted) + "\ncalls: found\n  " + "\n  ".join(found))
+    sys.exit(failed)
+
+
+main()
