@@ -5,6 +5,8 @@ use Rattle.sr_site.specs.Files.{bytes_of}
 use Rattle.sr_site.specs.Seen.{Seen}
 use Rattle.sr_logfile.specs.declared.fault.LogFault.{LogFault}
 use Rattle.sr_logfile.specs.declared.fault.LogFault.TheVariants.{Disk, Full, Damaged}
+use Rattle.sr_logfile.specs.declared.fault.RecordFault.{RecordFault}
+use Rattle.sr_logfile.specs.declared.fault.RecordFault.TheVariants.{Log as FromLog, Memory}
 use Rattle.sr_logfile.specs.Damage.{IsDamaged}
 use Rattle.sr_logfile.specs.Log.{Log}
 use Rattle.sr_logfile.specs.Logs.{IsAt, IsFull, gate_of, spent}
@@ -38,6 +40,11 @@ abbrev pub NextCause : Log → ℕ → Seen → Seen → LogFault → Type 0
 NextCause log after before now Disk = Rose before.disk_faults now.disk_faults
 NextCause log after before now (Full end need) = ⊥
 NextCause log after before now (Damaged at) = IsTrue before.told → (done left : List (List ℕ)) → IsAt log after done left before.files → ⊥
+
+-- why the record behind a position is not read
+abbrev pub RecordAfterCause : Log → ℕ → Seen → Seen → RecordFault → Type 0
+RecordAfterCause log after before now (FromLog fault) = NextCause log after before now fault
+RecordAfterCause log after before now Memory = Unit {0}
 
 -- why `commit` of so many framed bytes is refused, and what it leaves then: after the disk's refusal a log that is not used again, after Full
 -- all as it was

@@ -30,8 +30,8 @@ pub(crate) fn append<S: Disk>(
     ensures cause { OnErr result (Rose (S.seen site.old).disk_faults (S.seen site.new).disk_faults) }
 {
     site.write_at(file, gate + 1, framed)?;
-    site.sync(file)?;
+    site.sync(file)?; // The record, while its gate is closed.
     site.write_at(file, gate, &[1])?;
-    site.sync(file)?;
+    site.sync(file)?; // The gate.
     Ok(())
 }

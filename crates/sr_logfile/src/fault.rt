@@ -1,6 +1,8 @@
 ghost use Rattle.std.specs.Prelude.{◌≡◌};
 ghost use Rattle.sr_logfile.specs.declared.fault.LogFault.TheVariants.{Disk};
+ghost use Rattle.sr_logfile.specs.declared.fault.RecordFault.TheVariants.{Log, Memory};
 
+use sr_base::NoMemory;
 use sr_site::Failed;
 
 /// Why a call of the log gave nothing.
@@ -19,5 +21,30 @@ impl From<Failed> for LogFault {
 
     fn from(_failed: Failed) -> LogFault {
         LogFault::Disk
+    }
+}
+
+/// Why a record was not read.
+#[derive(Clone, Copy, Debug, PartialEq, Eq)]
+pub enum RecordFault {
+    /// The log refused: the disk failed, or the file is not as the calls of the log left it.
+    Log(LogFault),
+    /// There is no memory for the record.
+    Memory,
+}
+
+impl From<LogFault> for RecordFault {
+    ghost from_gives = { λ fault e. e ≡ Log fault };
+
+    fn from(fault: LogFault) -> RecordFault {
+        RecordFault::Log(fault)
+    }
+}
+
+impl From<NoMemory> for RecordFault {
+    ghost from_gives = { λ _ e. e ≡ Memory };
+
+    fn from(_refused: NoMemory) -> RecordFault {
+        RecordFault::Memory
     }
 }

@@ -15,7 +15,7 @@ mod opening;
 mod reading;
 mod starting;
 
-pub use fault::LogFault;
+pub use fault::{LogFault, RecordFault};
 pub use framing::frame;
 pub use laws::one_spelling_or_one_damage;
 pub use log::LogFile;

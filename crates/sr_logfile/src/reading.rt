@@ -1,10 +1,10 @@
-ghost use Rattle.std.specs.Prelude.{◌≡◌, List, ℕ, length, IsTrue, IfOk, OnOk, IfErr};
+ghost use Rattle.std.specs.Prelude.{◌≡◌, ◌+◌, ◌≤◌, [], List, ℕ, length, IsTrue, MatchOption, IfOk, IfSome, OnOk, IfErr};
 ghost use Rattle.sr_site.specs.Causes.{DiskStays};
-ghost use Rattle.sr_logfile.specs.Faults.{NextCause};
+ghost use Rattle.sr_logfile.specs.Faults.{NextCause, RecordAfterCause};
 ghost use Rattle.sr_logfile.specs.Logs.{IsAt};
-ghost use Rattle.sr_logfile.specs.Steps.{IsStep, StaysWithin};
+ghost use Rattle.sr_logfile.specs.Steps.{IsNext, IsStep, StaysWithin};
 
-use crate::fault::LogFault;
+use crate::fault::{LogFault, RecordFault};
 use crate::head::{HEADER, Head, LONGEST_BODY, RECORD_HEAD, head_at};
 use crate::log::LogFile;
 use sr_base::Offset;
@@ -64,5 +64,39 @@ impl LogFile {
             end: Offset(after.0 + RECORD_HEAD + length),
             length: need,
         })
+    }
+
+    /// Reads the body of the record behind the position `after`, the base or a record's offset, to the front of `buffer`, which grows where it
+    /// is shorter. It answers the record's offset and the body's length, or `None` where no record follows.
+    #[tactic(auto, using(sr_site::specs::Growing::disk_stays_on))]
+    pub fn record_after<S: Disk>(
+        &self,
+        site: &mut S,
+        after: Offset,
+        buffer: &mut Vec<u8>,
+    ) -> Result<Option<(Offset, usize)>, RecordFault>
+        requires { (self.now.base ≤ after.0) × (after.0 ≤ self.now.end) }
+        ensures step { IsTrue (S.seen site.old).told → IfOk result (λ found. (done left : List (List ℕ)) → IsAt self.now after.0 done left (S.seen site.old).files → MatchOption found (left ≡ []) (λ x. IsNext self.now after.0 done left (S.seen site.new).files buffer.new.items x.0.0 x.1)) }
+        ensures within { IfOk result (λ found. IfSome found (λ x. (x.0.0 ≡ after.0 + 5 + x.1) × (x.0.0 ≤ self.now.end) × (x.1 ≤ length buffer.new.items))) }
+        ensures files { IsTrue (S.seen site.old).told → (S.seen site.new).files ≡ (S.seen site.old).files }
+        ensures happened { IsTrue (S.seen site.old).told → (S.seen site.new).happened ≡ (S.seen site.old).happened }
+        ensures stays { DiskStays (S.seen site.old) (S.seen site.new) }
+        ensures steady { OnOk result ((S.seen site.new).disk_faults ≡ (S.seen site.old).disk_faults) }
+        ensures cause { IfErr result (RecordAfterCause self.now after.0 (S.seen site.old) (S.seen site.new)) }
+    {
+        match self.next(site, after, buffer.as_mut_slice())? {
+            Step::End => Ok(None),
+            Step::Record { end, length } => Ok(Some((end, length))),
+            Step::Short { need } => {
+                buffer.resize(need, 0u8)?;
+                match self.next(site, after, buffer.as_mut_slice())? {
+                    Step::End => Ok(None),
+                    Step::Record { end, length } => Ok(Some((end, length))),
+                    Step::Short { .. } => Err(RecordFault::Log(LogFault::Damaged {
+                        at: HEADER + (after.0 - self.base().0),
+                    })),
+                }
+            }
+        }
     }
 }
