@@ -40,7 +40,8 @@ next_left (x ∷ xs) (suc n) d h = next_left xs n d (omega arith)
 
 -- the entry that was compared is what the word is
 pub found_here : (word : List ℕ) (entries : List Entry) (n : ℕ) (d : Entry) → n < length entries
-    → are_spelled (plain (drop n entries)) ≡ true → lower word ≡ lower (slice_index_or entries n d).1.now → IsKeyword word (slice_index_or entries n d).0
+    → are_spelled (plain (drop n entries)) ≡ true → lower word ≡ lower (slice_index_or entries n d).1.now
+    → IsKeyword word (slice_index_or entries n d).0
 found_here word entries n d low spelled e =
     let entry = slice_index_or entries n d in
     let parts : are_spelled (plain (entry ∷ drop (suc n) entries)) ≡ true =
