@@ -31,14 +31,30 @@ ROLLBACK => false false
 PASSTHROUGH FOR r1 => false false
 PASSTHROUGH STOP => false false";
 
-/// The kinds of a statement, if a copy of it prints as it is wanted.
+/// Whether a copy of the statement prints as it is wanted.
+fn prints(alloc: Global, statement: &Stmt, want: &str) -> bool {
+    match statement.copy(alloc) {
+        Ok(copy) => is_printed(alloc, &copy, want),
+        Err(_) => false,
+    }
+}
+
+fn is_printed(alloc: Global, statement: &Stmt, want: &str) -> bool {
+    match print(alloc, statement) {
+        Ok(text) => text.as_str() == want,
+        Err(_) => false,
+    }
+}
+
+/// The kinds of a statement, if a copy of it prints as the script.
 fn kinds_of(alloc: Global, statement: &Stmt, script: &str) -> Result<String, Fail> {
-    let copy = statement.copy(alloc)?;
-    let printed = print(alloc, &copy)?;
-    if printed.as_str() != script {
+    if !prints(alloc, statement, script) {
         return Err(Fail::new("printed otherwise"));
     }
-    let (ddl, carried) = (is_ddl(statement), is_carried(statement));
+    told(alloc, is_ddl(statement), is_carried(statement))
+}
+
+fn told(alloc: Global, ddl: bool, carried: bool) -> Result<String, Fail> {
     Ok(format!(in alloc; "{ddl} {carried}")?)
 }
 
