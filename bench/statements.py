@@ -2,10 +2,15 @@
 
     python3 bench/statements.py crates/scriptbench/out/scriptbench [--folder F] [--times N] [--small]
 
-The first lines are statements at one key each, at most 200,000 of them, spread over the table: the time of one is to grow with the logarithm of
+The lines of the table are first statements at one key each, at most 200,000 of them, spread over the table: the time of one is to grow with the logarithm of
 the rows. The others are one statement over all rows: their time is to grow with the rows and their logarithm. Reading the script is part of
 all of them.
+
+With `sqlite3` on the path, the first lines compare with it, in memory and on the same script in the same run: how many times as long it takes,
+so that more is better; and the bytes of memory that a row of two INTEGERs takes.
 """
+
+import shutil
 
 import common
 
@@ -64,10 +69,55 @@ def seconds(words, folder, rows, end):
     return min(loads), min(wholes) - min(loads)
 
 
+# what is compared with SQLite: a table of two INTEGERs, and what is run on it
+PAIRS = b"CREATE TABLE p (id INTEGER PRIMARY KEY, n INTEGER);\n"
+PAIR = b"INSERT INTO p VALUES (%d, 7);\n"
+# how many statements stand between two COMMITs
+TOGETHER = 1_000
+COMPARED = {
+    "point updates by key": lambda rows: statements(b"UPDATE p SET n = 8 WHERE id = %d;\n", rows),
+    "update of each row": lambda rows: b"UPDATE p SET n = n + 1;\n" + COMMIT,
+    "walk that changes none": lambda rows: b"UPDATE p SET n = 8 WHERE n = 6;\n" + COMMIT,
+}
+
+
+def statements(statement, rows):
+    """A statement for each of the rows, with a COMMIT after each thousand."""
+    return b"".join(statement % row + (COMMIT if (row + 1) % TOGETHER == 0 else b"") for row in range(rows)) + COMMIT
+
+
+def compared(words, folder, end, rows):
+    """The least times of our program and of SQLite on the rows and what follows them, run in turn, and the memory of ours in MiB."""
+    path = f"{folder}/script"
+    ours, theirs, memory = [], [], 0.0
+    for _ in range(words.times):
+        with open(path, "wb") as script:
+            script.write(PAIRS + COMMIT + statements(PAIR, rows) + end)
+        seconds, memory, _ = common.run([words.program, "run"], path, folder)
+        ours.append(seconds)
+        with open(path, "wb") as script:
+            script.write(PAIRS + b"BEGIN;\n" + (statements(PAIR, rows) + end).replace(COMMIT, b"COMMIT; BEGIN;\n") + COMMIT)
+        theirs.append(common.run([shutil.which("sqlite3"), ":memory:"], path, folder)[0])
+    return min(ours), min(theirs), memory
+
+
+def against_sqlite(words, folder, rows):
+    """Prints a line for each comparison: the ratio, and the seconds that it comes from."""
+    ours, theirs, memory = compared(words, folder, b"", rows)
+    print(f"{rows:,} one-row inserts: sqlite3 / ours {theirs / ours:.2f} ({theirs:.2f} s / {ours:.2f} s)", flush=True)
+    for name, end in COMPARED.items():
+        our_whole, their_whole, _ = compared(words, folder, end(rows), rows)
+        ours_alone, theirs_alone = our_whole - ours, their_whole - theirs
+        print(f"{name}, {rows:,} rows: sqlite3 / ours {theirs_alone / ours_alone:.2f} ({theirs_alone:.2f} s / {ours_alone:.2f} s)", flush=True)
+    print(f"memory of a run that reads and holds {rows:,} rows of two INTEGERs: {memory * 1024 * 1024 / rows:.0f} bytes a row, its script and statements with them", flush=True)
+
+
 def main():
     words = common.arguments("Measures statements on a table of many rows.")
     sizes = [rows // (10 if words.small else 1) for rows in (10_000, 100_000, 1_000_000)]
     with common.room(words.folder) as folder:
+        if shutil.which("sqlite3"):
+            against_sqlite(words, folder, sizes[-1])
         table = [["load, seconds", *[seconds(words, folder, rows, b"")[0] for rows in sizes]]]
         for name, (statement, beyond) in AT_KEYS.items():
             times = [seconds(words, folder, rows, at_keys(statement, beyond, rows))[1] for rows in sizes]

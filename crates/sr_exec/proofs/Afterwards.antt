@@ -23,21 +23,21 @@ use Rattle.sr_exec.proofs.Folding.{Key, has, same_key, itself}
 use Rattle.sr_exec.proofs.Outcomes.{not_there, row_under}
 
 -- a row that is found under a key stands under it
-stands : (table : Table) (key : Key) (es : List Entry) → StandUnderKeys table es → (row : Key) → one_of (under key es) ≡ Some row → key_of table.key row ≡ key
+pub stands : (table : Table) (key : Key) (es : List Entry) → StandUnderKeys table es → (row : Key) → one_of (under key es) ≡ Some row → key_of table.key row ≡ key
 stands table key [] f row h = cc
 stands table key (e ∷ es) f row h = go (is_eq (key_cmp key e.0)) refl h (stands table key es f.1 row) where
   go : (b : Bool) → is_eq (key_cmp key e.0) ≡ b → one_of (cond b (e.1 ∷ under key es) (under key es)) ≡ Some row → (one_of (under key es) ≡ Some row → key_of table.key row ≡ key) → key_of table.key row ≡ key
   go true t k rest = let is : e.1 ≡ row = cc in ap (key_of table.key) (sym is) ∙ f.0 ∙ sym (same_key key e.0 t)
   go false t k rest = rest k
 
-all_stand : (table : Table) (rows : RowMap) → TableFits table rows → StandUnderKeys table (table_rows rows table.name)
+pub all_stand : (table : Table) (rows : RowMap) → TableFits table rows → StandUnderKeys table (table_rows rows table.name)
 all_stand table rows fits = all (table_rows rows table.name) (each_found (table_rows rows table.name) (table_rows-rise rows table.name)) where
   all : (es : List Entry) → AllByRecursion (λ x. find key_cmp x.0 (table_rows rows table.name) ≡ Some x.1) es → StandUnderKeys table es
   all [] h = tt
   all (e ∷ es) h = ((fits e.0 e.1 (get-table_rows rows table.name e.0 ∙ h.0)).1, all es h.1)
 
 -- places of one table are equal where the keys are
-same_place : (name : List ℕ) (q k : Key) → eq_by_cmp place_cmp (name, q) (name, k) ≡ is_eq (key_cmp q k)
+pub same_place : (name : List ℕ) (q k : Key) → eq_by_cmp place_cmp (name, q) (name, k) ≡ is_eq (key_cmp q k)
 same_place name q k = go (is_eq (key_cmp q k)) refl (eq_by_cmp place_cmp (name, q) (name, k)) refl where
   go : (b : Bool) → is_eq (key_cmp q k) ≡ b → (t : Bool) → eq_by_cmp place_cmp (name, q) (name, k) ≡ t → t ≡ b
   go true e true f = refl
@@ -59,7 +59,7 @@ taken_at table k (Some row) rows q f e =
     get-remove place_cmp_total rows (place_of table row) (table.name, q)
     ∙ ap (λ b. cond b None (get rows (table.name, q))) (same_place table.name q (key_of table.key row) ∙ ap (λ j. is_eq (key_cmp q j)) (f row refl) ∙ e)
 
-changed_at : (table : Table) (k : Key) (before after : Option Key) (rows : RowMap) (q : Key) → is_same_row before after ≡ false
+pub changed_at : (table : Table) (k : Key) (before after : Option Key) (rows : RowMap) (q : Key) → is_same_row before after ≡ false
     → ((row : Key) → before ≡ Some row → key_of table.key row ≡ k) → ((row : Key) → after ≡ Some row → key_of table.key row ≡ k)
     → get (with_row table after (without_row table before rows)) (table.name, q) ≡ cond (is_eq (key_cmp q k)) after (get rows (table.name, q))
 changed_at table k None None rows q d f g = cc
@@ -124,7 +124,7 @@ module _ (catalog : Lists) (table : Table) (named : table_named catalog table.na
           other true f = let is : is_same_row (one_of (under k before)) (one_of (under k after)) ≡ true = ap (λ j. is_same_row (one_of (under j before)) (one_of (under j after))) (sym (same_key q k f)) ∙ d in cc
 
   -- rows of other tables
-  apart : (name : List ℕ) (q : Key) (k : Key) → bytes_eq name table.name ≡ false → eq_by_cmp place_cmp (name, q) (table.name, k) ≡ false
+  pub apart : (name : List ℕ) (q : Key) (k : Key) → bytes_eq name table.name ≡ false → eq_by_cmp place_cmp (name, q) (table.name, k) ≡ false
   apart name q k d = go (eq_by_cmp place_cmp (name, q) (table.name, k)) refl where
     go : (t : Bool) → eq_by_cmp place_cmp (name, q) (table.name, k) ≡ t → t ≡ false
     go false e = refl

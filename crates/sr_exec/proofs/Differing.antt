@@ -40,7 +40,7 @@ pub changes_differ : ChangesDiffer
 changes_differ table before after changes h =
     subst (λ cs. AllByRecursion (λ c. (key : Key) × IsDifference table before after key c) cs) (undoubled-Ok (doubled before after) (changes_of table before after) changes h).1 (each_differs table before after (keys_of before after))
 
-abbrev change_at : List ℕ → List Entry → List Entry → Key → Change
+abbrev pub change_at : List ℕ → List Entry → List Entry → Key → Change
 change_at table before after key = record { table = table; before = one_of (under key before); after = one_of (under key after) }
 
 changed : (table : List ℕ) (before after : List Entry) (q : Key) (ks : List Key) → is_same_row (one_of (under q before)) (one_of (under q after)) ≡ false → has q ks ≡ true → IsAmong (change_at table before after q) (changes_at table before after ks)

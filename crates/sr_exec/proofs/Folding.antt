@@ -28,7 +28,7 @@ same_key q k e = exact_keys q k ((Equal-is (key_cmp q k)).0 e)
 pub itself : (k : Key) → is_eq (key_cmp k k) ≡ true
 itself k = ap is_eq (tied_itself key_cmp_total k)
 
-turned : (k x : Key) → key_cmp k x ≡ Less → is_eq (key_cmp x k) ≡ false
+pub turned : (k x : Key) → key_cmp k x ≡ Less → is_eq (key_cmp x k) ≡ false
 turned k x e = ap is_eq (key_cmp_total.antisymm x k ∙ ap ordering_reverse e)
 
 -- nothing below all keys is one of them

@@ -3,9 +3,12 @@ pub mod Applied
 pub mod Classed
 pub mod Differing
 pub mod Fates
+pub mod FitChanges
 pub mod Fitted
 pub mod Fixed
 pub mod Folding
 pub mod Keeping
 pub mod Outcomes
+pub mod Over
 pub mod Putting
+pub mod RowsAre

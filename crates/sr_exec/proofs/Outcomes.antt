@@ -109,7 +109,7 @@ keys_rise : {X : Type 0} (es : List (Key × X)) → Rises key_cmp es → Rise (m
 keys_rise [] h = tt
 keys_rise (e ∷ es) h = (keys_below e.0 es h.0, keys_rise es h.1)
 
-keys_of-rise : (before after : List Entry) → Rise (keys_of before after)
+pub keys_of-rise : (before after : List Entry) → Rise (keys_of before after)
 keys_of-rise before after = let m : FinMap key_cmp Key = from_entries (before ++ after) in keys_rise (entries m) (rises key_cmp (entries m) (entries_sorted m))
 
 pair_left : (xs ys : List Key) → xs ++ ys ≡ [] → (xs ≡ []) × (ys ≡ [])

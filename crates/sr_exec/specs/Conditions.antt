@@ -1,5 +1,5 @@
 -- When a statement may be executed, and what is answered.
-use Rattle.std.specs.Prelude.{◌≡◌, ◌≢◌, ℕ, ⊤, not, ◌&&◌, List, [], ◌∷◌, Some, Result, Ok, Err, MatchResult, IsTrue}
+use Rattle.std.specs.Prelude.{◌≡◌, ◌≢◌, ℕ, ⊤, not, ◌&&◌, List, [], ◌∷◌, Some, IsSome, Result, Ok, Err, MatchResult, IsTrue}
 use Rattle.sr_dates.specs.Fitting.{fitted}
 use Rattle.sr_base.specs.declared.value.Value.{Value as Cell}
 use Rattle.sr_eval.specs.Comparisons.{is_null}
@@ -22,9 +22,10 @@ IsRow (c ∷ columns) (v ∷ row) = (fitted v c.kind ≡ Some v) × (IsTrue (not
 abbrev pub TableFits : Table → RowMap → Type 0
 TableFits table rows = (key row : List Cell) → rows_of_table rows table.name key ≡ Some row → IsRow table.columns row × (key_of table.key row ≡ key)
 
--- each row of each table of the catalog fits it
-abbrev pub RowsFit : Lists → RowMap → Type 0
-RowsFit catalog rows = (name : List ℕ) (table : Table) → table_named catalog name ≡ Some table → TableFits table rows
+-- each row of each table of the catalog fits it, and no row stands in a table that is not there
+pub record RowsFit (catalog : Lists) (rows : RowMap) : Type 0 where
+  pub each : (name : List ℕ) (table : Table) → table_named catalog name ≡ Some table → TableFits table rows
+  pub there : (name : List ℕ) (key row : List Cell) → rows_of_table rows name key ≡ Some row → IsSome (table_named catalog name)
 
 -- the answer is the one that is meant, unless there is no memory
 abbrev pub Answers : {A : Type 0} → Result A DmlFault → Result A DmlFault → Type 0

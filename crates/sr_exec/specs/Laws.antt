@@ -12,12 +12,22 @@ use Rattle.sr_schema.specs.declared.table.Table.{Table}
 use Rattle.sr_exec.specs.declared.changes.Changes.{Changes}
 use Rattle.sr_exec.specs.Applying.{applied}
 use Rattle.sr_exec.specs.Conditions.{TableFits, RowsFit}
+use Rattle.sr_exec.specs.FittingChanges.{ChangesFit}
 use Rattle.sr_exec.specs.Holding.{under, are_two, one_of, is_same_row, held}
+use Rattle.sr_exec.specs.RowsAfter.{rows_after}
 use Rattle.sr_exec.specs.Statements.{key_of, table_named, done}
 
 -- where there are no rows, each fits
 abbrev pub NoRowsFit : Type 0
 NoRowsFit = (catalog : Lists) → RowsFit catalog map_of.empty
+
+-- where rows fit, those after changes that fit do
+abbrev pub FittingChangesKeepFit : Type 0
+FittingChangesKeepFit = (catalog : Lists) (rows : RowMap) (changes : List Change) → RowsFit catalog rows → ChangesFit catalog rows changes → RowsFit catalog (applied catalog changes rows)
+
+-- where rows fit, the changes of a statement do
+abbrev pub StatementsChangesFit : Type 0
+StatementsChangesFit = (catalog : Lists) (rows : RowMap) (statement : Dml) (changes : Changes) → RowsFit catalog rows → done catalog rows statement ≡ Ok changes → ChangesFit catalog rows changes.list
 
 -- where rows fit, those after the changes of a statement fit
 abbrev pub RowsStayFit : Type 0
@@ -56,6 +66,10 @@ StandUnderKeys table entries = AllByRecursion (λ e. key_of table.key e.1 ≡ e.
 abbrev pub RowsBecome : Type 0
 RowsBecome = (catalog : Lists) (rows : RowMap) (table : Table) (after : List Entry) (changes : List Change) → table_named catalog table.name ≡ Some table → TableFits table rows → StandUnderKeys table after
     → held table.name (table_rows rows table.name) after ≡ Ok changes → (key : List Cell) → rows_of_table (applied catalog changes rows) table.name key ≡ one_of (under key after)
+
+-- the rows with the changes of a statement applied are those that it leaves
+abbrev pub RowsAreThoseAfter : Type 0
+RowsAreThoseAfter = (catalog : Lists) (rows : RowMap) (statement : Dml) (changes : Changes) → RowsFit catalog rows → done catalog rows statement ≡ Ok changes → applied catalog changes.list rows ≡ rows_after catalog rows statement
 
 -- and the rows of other tables are as they were
 abbrev pub OthersStay : Type 0

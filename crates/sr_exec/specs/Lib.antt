@@ -2,9 +2,11 @@ pub mod Applying
 pub mod Checks
 pub mod Conditions
 pub mod Edits
+pub mod FittingChanges
 pub mod Fixing
 pub mod Holding
 pub mod Laws
+pub mod RowsAfter
 pub mod Sequences
 pub mod Statements
 pub mod Storing

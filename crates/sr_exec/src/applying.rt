@@ -1,9 +1,11 @@
-ghost use Rattle.std.specs.Prelude.{◌≡◌, OnOk};
+ghost use Rattle.std.specs.Prelude.{◌≡◌, OnOk, OnErr, IfSome, IsTrue, Some};
 ghost use Rattle.std.specs.Option.{option_copied};
+ghost use Rattle.sr_rows.specs.Steps.{GoesOn};
 ghost use Rattle.sr_exec.specs.Applying.{without_row, with_row, applied_in, applied};
+ghost use Rattle.sr_exec.specs.Statements.{key_of};
 
 use crate::keys::key_of;
-use sr_base::{Copied, NoMemory, Row};
+use sr_base::{Copied, NoMemory, Row, Value};
 use sr_catalog::{Catalog, Table};
 use sr_logform::Change;
 use sr_rows::Rows;
@@ -11,7 +13,8 @@ use std::alloc::Global;
 
 /// Applies changes to rows, one after the other: of each, the row before goes and the row after comes. Each takes logarithmic time.
 ///
-/// The mark stays where it is, so that `undo` takes the changes back, also where there was no memory for all of them.
+/// The mark stays where it is, so that `undo` takes the changes back. Where there was no memory for all of them, the rows are as they
+/// were, and so is the way back.
 pub fn apply(
     alloc: Global,
     catalog: &Catalog,
@@ -20,6 +23,28 @@ pub fn apply(
 ) -> Result<(), NoMemory>
     ensures rows { OnOk result (rows.new.rows ≡ applied catalog.now changes.now rows.old.rows) }
     ensures marked { rows.new.marked ≡ rows.old.marked }
+    ensures on { GoesOn rows.old rows.new }
+    ensures err { OnErr result (rows.new ≡ rows.old) }
+{
+    let steps = rows.steps();
+    match apply_each(alloc, catalog, rows, changes) {
+        Ok(()) => Ok(()),
+        Err(refused) => {
+            rows.back_to(steps);
+            Err(refused)
+        }
+    }
+}
+
+/// Applies changes, up to the first for which there is no memory.
+fn apply_each(
+    alloc: Global,
+    catalog: &Catalog,
+    rows: &mut Rows,
+    changes: &[Change],
+) -> Result<(), NoMemory>
+    ensures rows { OnOk result (rows.new.rows ≡ applied catalog.now changes.now rows.old.rows) }
+    ensures on { GoesOn rows.old rows.new }
 {
     let mut left = changes;
     'changes: while let Some((change, rest)) = left.split_first() {
@@ -37,15 +62,18 @@ fn apply_in(
     change: &Change,
 ) -> Result<(), NoMemory>
     ensures rows { OnOk result (rows.new.rows ≡ applied_in (option_copied table.entry) change.now rows.old.rows) }
-    ensures marked { rows.new.marked ≡ rows.old.marked }
+    ensures on { GoesOn rows.old rows.new }
 {
     let Some(table) = table else {
         return Ok(());
     };
-    take_row(alloc, table, rows, &change.before)?;
-    put_row(alloc, table, rows, &change.after)
+    match &change.after {
+        None => take_row(alloc, table, rows, &change.before),
+        Some(after) => put_row(alloc, table, rows, &change.before, after),
+    }
 }
 
+/// Takes a row away, if there is one.
 fn take_row(
     alloc: Global,
     table: &Table,
@@ -53,25 +81,74 @@ fn take_row(
     row: &Option<Row>,
 ) -> Result<(), NoMemory>
     ensures rows { OnOk result (rows.new.rows ≡ without_row table.now row.now rows.old.rows) }
-    ensures marked { rows.new.marked ≡ rows.old.marked }
+    ensures on { GoesOn rows.old rows.new }
 {
     let Some(row) = row else {
         return Ok(());
     };
     let key = key_of(alloc, table.key.as_slice(), row.values())?;
-    rows.take(alloc, &table.name, &key)?;
-    Ok(())
+    rows.unset(alloc, &table.name, key)
 }
 
-fn put_row(alloc: Global, table: &Table, rows: &mut Rows, row: &Option<Row>) -> Result<(), NoMemory>
-    ensures rows { OnOk result (rows.new.rows ≡ with_row table.now row.now rows.old.rows) }
-    ensures marked { rows.new.marked ≡ rows.old.marked }
+/// Puts a row in place of another one. Where both have one key, it is looked up once.
+#[tactic(auto, using(crate::proofs::Over::set_over))]
+fn put_row(
+    alloc: Global,
+    table: &Table,
+    rows: &mut Rows,
+    before: &Option<Row>,
+    after: &Row,
+) -> Result<(), NoMemory>
+    ensures rows { OnOk result (rows.new.rows ≡ with_row table.now (Some after.now) (without_row table.now before.now rows.old.rows)) }
+    ensures on { GoesOn rows.old rows.new }
 {
-    let Some(row) = row else {
-        return Ok(());
-    };
+    if has_key_of(table.key.as_slice(), before, after.values()) {
+        return set_row(alloc, table, rows, after);
+    }
+    take_row(alloc, table, rows, before)?;
+    set_row(alloc, table, rows, after)
+}
+
+/// Puts a row under its key.
+fn set_row(alloc: Global, table: &Table, rows: &mut Rows, row: &Row) -> Result<(), NoMemory>
+    ensures rows { OnOk result (rows.new.rows ≡ with_row table.now (Some row.now) rows.old.rows) }
+    ensures on { GoesOn rows.old rows.new }
+{
     let key = key_of(alloc, table.key.as_slice(), row.values())?;
     let row = row.copy(alloc)?;
-    rows.put(alloc, &table.name, key, row)?;
-    Ok(())
+    rows.set(alloc, &table.name, key, row)
+}
+
+/// Whether a row is none, or has the same key as another one.
+fn has_key_of(places: &[usize], before: &Option<Row>, after: &[Value]) -> bool
+    ensures same { IsTrue result → IfSome before.now (λ row. key_of places.now row ≡ key_of places.now after.now) }
+{
+    match before {
+        None => true,
+        Some(before) => is_same_key(places, before.values(), after),
+    }
+}
+
+/// Whether two rows have one key: their values at each of its places.
+fn is_same_key(places: &[usize], row: &[Value], other: &[Value]) -> bool
+    ensures same { IsTrue result → key_of places.now row.now ≡ key_of places.now other.now }
+{
+    let mut left = places;
+    'places: while let Some((place, rest)) = left.split_first() {
+        if !is_same_value(row.get(*place), other.get(*place)) {
+            return false;
+        }
+        left = rest;
+    }
+    true
+}
+
+/// Whether two values are there and equal.
+fn is_same_value(value: Option<&Value>, other: Option<&Value>) -> bool
+    ensures same { IsTrue result → option_copied value.entry ≡ option_copied other.entry }
+{
+    match (value, other) {
+        (Some(value), Some(other)) => value.cmp(other).is_eq(),
+        _ => false,
+    }
 }

@@ -1,6 +1,7 @@
 //! INSERT, UPDATE and DELETE: what they change in the rows of a table, and exactly when each is refused.
 //!
-//! It stands on sr_catalog, sr_eval, sr_rows and sr_logform. Nothing is changed here: a statement is answered with its changes.
+//! It stands on sr_catalog, sr_eval, sr_rows and sr_logform. A statement changes nothing by itself: it is answered
+//! with its changes, which `apply` makes.
 //! The contract that matters most is that of `exec`.
 #![tactic(auto)]
 
@@ -28,5 +29,5 @@ pub use applying::apply;
 pub use changes::Changes;
 pub use execution::exec;
 pub use laws::{
-    changes_are_where_rows_differ, changes_make_the_rows_afterwards, rows_stay_fitting,
+    changes_are_where_rows_differ, changes_fit, changes_make_the_rows_afterwards, rows_stay_fitting,
 };

@@ -1,15 +1,18 @@
 -- How the rows of places change, and how changes are taken back.
-use Rattle.std.proofs.Common.{◌≡◌, ℕ, Bool, true, false, cond, List, [], ◌∷◌, ◌++◌, Option, Some, None, IsSome, is_some, refl, sym, ap, subst, ◌∙◌}
+use Rattle.std.proofs.Common.{◌≡◌, ℕ, Bool, true, false, not, cond, List, [], ◌∷◌, ◌++◌, Option, Some, None, IsSome, is_some, length, suc, refl, sym, ap, subst, ◌∙◌}
 use Rattle.std.specs.Ordering.{eq_by_cmp, is_eq}
 use Rattle.std.specs.Cmp.{Equal-is, tied_itself}
-use Rattle.std.specs.FinMap.{FinMap, empty, entries, get, insert, remove, find, same_map, get-entries, get-empty, get-insert, get-remove}
+use Rattle.std.specs.FinMap.{FinMap, empty, entries, get, insert, remove, find, same_map, get-entries, get-empty, get-insert, get-remove, get-retain_keys}
 use Rattle.sr_base.specs.declared.value.Value.{Value}
 use Rattle.sr_rows.specs.declared.undo.Undo.{Undo}
-use Rattle.sr_rows.specs.Marks.{Place, place_cmp, place_cmp_total, RowMap}
-use Rattle.sr_base.specs.Order.{key_cmp}
+use Rattle.sr_rows.specs.Marks.{Place, place_cmp, place_cmp_total, RowMap, Marked}
+use Rattle.std.specs.Option.{option_and_then}
+use Rattle.std.specs.BTreeMap.{is_at}
+use Rattle.sr_base.specs.Order.{name_cmp, key_cmp}
 use Rattle.sr_rows.specs.Gathered.{gathered, with_row, filled_entries, filled, row_of}
-use Rattle.sr_rows.specs.Undoing.{PlaceMap, with_place, put_back, undone, Undoable}
-use Rattle.sr_rows.proofs.Gathering.{exact_places}
+use Rattle.sr_rows.specs.Steps.{at_mark, with_step, without_table}
+use Rattle.sr_rows.specs.Undoing.{PlaceMap, with_place, put_back, undone, trail_of, seen, Undoable}
+use Rattle.sr_rows.proofs.Gathering.{exact_places, table_at, place_at, get-gathered}
 
 get-with_row : (m : RowMap) (p : Place) (o : Option (List Value)) (q : Place) → get (with_row m p o) q ≡ cond (eq_by_cmp place_cmp q p) o (get m q)
 get-with_row m p None q = get-remove place_cmp_total m p q
@@ -42,6 +45,15 @@ filled-insert m p o = same_map place_cmp_total exact_places _ _ (λ q.
       pushed true x = refl
       pushed false x = refl
 
+-- a place removed
+pub filled-removed : (m : PlaceMap) (p : Place) → filled (remove m p) ≡ remove (filled m) p
+filled-removed m p = same_map place_cmp_total exact_places _ _ (λ q.
+    get-filled (remove m p) q ∙ ap row_of (get-remove place_cmp_total m p q) ∙ pushed (eq_by_cmp place_cmp q p) (get m q)
+    ∙ sym (get-remove place_cmp_total (filled m) p q ∙ ap (cond (eq_by_cmp place_cmp q p) None) (get-filled m q))) where
+      pushed : (b : Bool) (x : Option (Option (List Value))) → row_of (cond b None x) ≡ cond b None (row_of x)
+      pushed true x = refl
+      pushed false x = refl
+
 -- an empty place removed
 pub filled-swept : (m : PlaceMap) (p : Place) → get m p ≡ Some None → filled (remove m p) ≡ filled m
 filled-swept m p e = same_map place_cmp_total exact_places _ _ (λ q.
@@ -63,6 +75,17 @@ back m n p w o e was = same_map place_cmp_total exact_places _ _ (λ q.
 pub undone-snoc : (us : List Undo) (u : Undo) (m : PlaceMap) → undone (us ++ u ∷ []) m ≡ undone us (put_back m u)
 undone-snoc [] u m = refl
 undone-snoc (x ∷ us) u m = ap (λ n. put_back n x) (undone-snoc us u m)
+
+pub trail-snoc : (us : List Undo) (u : Undo) (m : PlaceMap) → trail_of (us ++ u ∷ []) m ≡ trail_of us (put_back m u) ++ filled (put_back m u) ∷ []
+trail-snoc [] u m = refl
+trail-snoc (x ∷ us) u m = λ i. filled (undone-snoc (x ∷ us) u m i) ∷ trail-snoc us u m i
+
+pub seen-snoc : (us : List Undo) (u : Undo) (m : PlaceMap) → seen (us ++ u ∷ []) m ≡ with_step (seen us (put_back m u)) (filled m)
+seen-snoc us u m = λ i. record { rows = filled m; marked = filled (undone-snoc us u m i); trail = trail-snoc us u m i }
+
+pub length-trail : (us : List Undo) (m : PlaceMap) → length (trail_of us m) ≡ length us
+length-trail [] m = refl
+length-trail (x ∷ us) m = ap suc (length-trail us m)
 
 pub Undoable-snoc : (us : List Undo) (u : Undo) (m : PlaceMap) → Undoable us (put_back m u) → IsSome (get m (u.table, u.key)) → Undoable (us ++ u ∷ []) m
 Undoable-snoc [] u m h there = (tt, there)
@@ -88,20 +111,29 @@ module _ (us : List Undo) (u : Undo) (m n : PlaceMap) (p : Place) (w : Option (L
   pub noted-back : put_back n u ≡ m
   noted-back = ap (λ q. with_place n q u.place) at_place ∙ back m n p (Some w) u.place changed was
 
-  module _ (vs : List Undo) (k : PlaceMap) (undoable : Undoable us m) where
-    pub undoable-ok : vs ≡ us ++ u ∷ [] → k ≡ n → Undoable vs k
-    undoable-ok list map =
+  module _ (vs : List Undo) (k : PlaceMap) where
+    pub undoable-ok : Undoable us m → vs ≡ us ++ u ∷ [] → k ≡ n → Undoable vs k
+    undoable-ok undoable list map =
         subst (λ (x : List Undo × PlaceMap). Undoable x.0 x.1) (λ i. (sym list i, sym map i))
         (Undoable-snoc us u n (subst (Undoable us) (sym noted-back) undoable) noted-there)
 
-    pub undoable-err : vs ≡ us → k ≡ put_back n u → Undoable vs k
-    undoable-err list map = subst (λ (x : List Undo × PlaceMap). Undoable x.0 x.1) (λ i. (sym list i, sym (map ∙ noted-back) i)) undoable
+    pub undoable-err : Undoable us m → vs ≡ us → k ≡ put_back n u → Undoable vs k
+    undoable-err undoable list map = subst (λ (x : List Undo × PlaceMap). Undoable x.0 x.1) (λ i. (sym list i, sym (map ∙ noted-back) i)) undoable
 
-  pub undone-ok : (vs : List Undo) (k : PlaceMap) → vs ≡ us ++ u ∷ [] → k ≡ n → undone vs k ≡ undone us m
-  undone-ok vs k list map = (λ i. undone (list i) (map i)) ∙ undone-snoc us u n ∙ ap (undone us) noted-back
+    -- a step was made
+    pub step-ok : (old : Marked) → seen us m ≡ old → vs ≡ us ++ u ∷ [] → k ≡ n → seen vs k ≡ with_step old (with_row old.rows p w)
+    step-ok old is list map =
+        (λ i. seen (list i) (map i))
+        ∙ (λ i. record {
+          rows = (ap filled changed ∙ filled-insert m p w) i;
+          marked = ap filled (undone-snoc us u n ∙ ap (undone us) noted-back) i;
+          trail = (trail-snoc us u n ∙ ap (λ x. trail_of us x ++ filled x ∷ []) noted-back) i;
+        })
+        ∙ ap (λ (v : Marked). with_step v (with_row v.rows p w)) is
 
-  pub undone-err : (vs : List Undo) (k : PlaceMap) → vs ≡ us → k ≡ put_back n u → undone vs k ≡ undone us m
-  undone-err vs k list map = λ i. undone (list i) ((map ∙ noted-back) i)
+    -- and taken back
+    pub step-err : (old : Marked) → seen us m ≡ old → vs ≡ us → k ≡ put_back n u → seen vs k ≡ old
+    step-err old is list map = (λ i. seen (list i) ((map ∙ noted-back) i)) ∙ is
 
 -- nothing is removed where there is nothing
 pub remove-none : (m : RowMap) (p : Place) → get m p ≡ None → remove m p ≡ m
@@ -113,3 +145,29 @@ remove-none m p e = same_map place_cmp_total exact_places _ _ (λ q. get-remove 
 -- no tables, no rows
 pub filled-none : (ts : List (List ℕ × FinMap key_cmp (Option (List Value)))) → ts ≡ [] → filled (gathered ts) ≡ empty
 filled-none ts e = ap (λ xs. filled (gathered xs)) e ∙ same_map place_cmp_total exact_places _ _ (λ q. get-filled empty q ∙ ap row_of (get-empty place_cmp q) ∙ sym (get-empty place_cmp q))
+
+-- where no step was made there is nothing to take back
+no_undo : (us : List Undo) → length us ≡ 0 → us ≡ []
+no_undo [] h = refl
+no_undo (u ∷ us) h = cc
+
+pub no_changes : (us : List Undo) (m : PlaceMap) (old : Marked) → seen us m ≡ old → old.trail ≡ [] → us ≡ []
+no_changes us m old is none = no_undo us (sym (length-trail us m) ∙ ap (λ (v : Marked). length v.trail) is ∙ ap length none)
+
+-- rows that change where no step was made: at the mark too
+module _ (us : List Undo) (m : PlaceMap) (old : Marked) (is : seen us m ≡ old) (fresh : old.trail ≡ []) where
+  pub undoable-fresh : (n : PlaceMap) → Undoable us n
+  undoable-fresh n = subst (λ vs. Undoable vs n) (sym (no_changes us m old is fresh)) tt
+
+  pub seen-fresh : (n : PlaceMap) (rows : RowMap) → filled n ≡ rows → seen us n ≡ at_mark rows
+  seen-fresh n rows e = ap (λ vs. seen vs n) (no_changes us m old is fresh) ∙ (λ i. at_mark (e i))
+
+-- the table of a name goes, with its rows
+pub filled-without : (es fs : List (List ℕ × FinMap key_cmp (Option (List Value)))) (t : List ℕ) → ((q : List ℕ) → table_at fs q ≡ cond (is_at (name_cmp t) q) None (table_at es q)) → filled (gathered fs) ≡ without_table (filled (gathered es)) t
+filled-without es fs t gone = same_map place_cmp_total exact_places _ _ (λ p.
+    get-filled (gathered fs) p ∙ ap row_of (get-gathered fs p ∙ ap (option_and_then (λ m. get m p.1)) (gone p.0)) ∙ pushed p (eq_by_cmp name_cmp t p.0)
+    ∙ sym (get-retain_keys (filled (gathered es)) (λ q. not (eq_by_cmp name_cmp t q.0)) p (λ q e. ap (λ (n : Place). not (eq_by_cmp name_cmp t n.0)) (sym (exact_places p q e)))
+    ∙ ap (λ o. cond (not (eq_by_cmp name_cmp t p.0)) o None) (get-filled (gathered es) p ∙ ap row_of (get-gathered es p)))) where
+      pushed : (p : Place) (b : Bool) → row_of (option_and_then (λ m. get m p.1) (cond b None (table_at es p.0))) ≡ cond (not b) (row_of (place_at es p)) None
+      pushed p true = refl
+      pushed p false = refl

@@ -1,5 +1,6 @@
 pub mod Entries
 pub mod Gathering
+pub mod Going
 pub mod Keeping
 pub mod Listing
 pub mod Walking

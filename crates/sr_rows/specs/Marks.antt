@@ -27,13 +27,15 @@ RowMap = map.FinMap place_cmp (List Value)
 abbrev pub coded_rows : Coded RowMap
 coded_rows = map.code (coded× (coded_list coded_ℕ) (coded_list coded_value)) (coded_list coded_value)
 
--- the rows, and the rows at the mark
+-- the rows, the rows at the mark, and the way from there: the rows before each step since the mark, the first step's first
 pub record Marked : Type 0 where
   pub rows : RowMap
   pub marked : RowMap
+  pub trail : List RowMap
 
 abbrev pub coded_marked : Coded Marked
-coded_marked = code_by (RowMap × RowMap) (coded× coded_rows coded_rows) (λ m. (m.rows, m.marked)) (λ p. record { rows = p.0; marked = p.1 }) (λ _. refl)
+coded_marked = code_by (RowMap × (RowMap × List RowMap)) (coded× coded_rows (coded× coded_rows (coded_list coded_rows)))
+    (λ m. (m.rows, (m.marked, m.trail))) (λ p. record { rows = p.0; marked = p.1.0; trail = p.1.1 }) (λ _. refl)
 
 -- the key comes after another one; each key does where there is no other
 abbrev pub IsPast : Option (List Value) → List Value → Type 0

@@ -2,7 +2,8 @@ use Rattle.std.specs.Prelude.{⊤, List, [], ◌∷◌, Option, Some, None, IsSo
 use Rattle.std.specs.FinMap as map
 use Rattle.sr_base.specs.declared.value.Value.{Value}
 use Rattle.sr_rows.specs.declared.undo.Undo.{Undo}
-use Rattle.sr_rows.specs.Marks.{Place, place_cmp}
+use Rattle.sr_rows.specs.Gathered.{filled}
+use Rattle.sr_rows.specs.Marks.{Place, place_cmp, RowMap, Marked}
 
 -- places that hold a row or nothing
 abbrev pub PlaceMap : Type 0
@@ -20,6 +21,15 @@ put_back places change = with_place places (change.table, change.key) change.pla
 abbrev pub undone : List Undo → PlaceMap → PlaceMap
 undone [] places = places
 undone (change ∷ later) places = put_back (undone later places) change
+
+-- the rows before each of the changes
+abbrev pub trail_of : List Undo → PlaceMap → List RowMap
+trail_of [] places = []
+trail_of (change ∷ later) places = filled (undone (change ∷ later) places) ∷ trail_of later places
+
+-- what contracts see of places and of the changes that led to them
+abbrev pub seen : List Undo → PlaceMap → Marked
+seen changes places = record { rows = filled places; marked = filled (undone changes places); trail = trail_of changes places }
 
 -- each change finds its place when it is taken back
 abbrev pub Undoable : List Undo → PlaceMap → Type 0

@@ -1,7 +1,7 @@
 //! The rows of a database: a finite map from (table, key) to a row, with a mark to which it can go back.
 //!
-//! It stands on sr_base. The contract that matters most is that of `undo`: the rows are those of the mark again, and no memory
-//! is taken. So a row that is taken leaves its empty place in the map until the next `mark`.
+//! It stands on sr_base. The contracts that matter most are those of `undo` and `back_to`: the rows are those of the mark, or of an
+//! earlier step, again, and no memory is taken. So a row that is taken leaves its empty place in the map until the next `mark`.
 #![tactic(auto)]
 
 mod laws;

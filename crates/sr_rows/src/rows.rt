@@ -1,20 +1,23 @@
-ghost use Rattle.std.specs.Prelude.{◌≡◌, ◌∷◌, [], is_some, IfOk, OnOk, OnErr, MatchOption};
+ghost use Rattle.std.specs.Prelude.{◌≡◌, ◌∷◌, [], length, is_some, IfOk, OnOk, OnErr, MatchOption};
 ghost use Rattle.std.specs.Option.{option_copied};
 ghost use Rattle.std.specs.FinMap as map;
-ghost use Rattle.sr_rows.specs.Gathered.{gathered, filled, row_of};
+ghost use Rattle.sr_rows.specs.Gathered.{gathered, filled};
 ghost use Rattle.sr_rows.specs.Marks.{rows_of_table, IsNext, IsLast};
+ghost use Rattle.sr_rows.specs.Steps.{at_mark, back, without_table, GoesOn};
 ghost use Rattle.sr_rows.specs.Walks.{table_rows, past};
 
 use crate::tables::{Tables, insert_at, place_at, remove_at, set_at};
-use crate::undo::{Undo, note_change, take_back, undo_of};
-use sr_base::{Key, Name, NoMemory, Row};
+use crate::undo::{Undo, note_change, take_back};
+use sr_base::{Copied, Key, Name, NoMemory, Row};
 use std::alloc::Global;
 use std::collections::BTreeMap;
 use std::marker::Model;
 
-/// Rows by table and key, with a mark. Contracts see two finite maps: the rows, and the rows at the mark.
+/// Rows by table and key, with a mark. Contracts see finite maps: the rows, the rows at the mark, and those before each step that
+/// was made since.
 ///
-/// A call at one key takes logarithmic time; `mark` and `undo` take it for each change since the mark, and not for each row.
+/// A call at one key takes logarithmic time; `mark`, `undo` and `back_to` take it for each change since the mark, and not for each
+/// row.
 #[derive(Drop)]
 pub struct Rows {
     tables: Tables,
@@ -28,13 +31,10 @@ impl Model for Rows {
 
     ghost coded = { coded_marked };
 
-    ghost use Rattle.sr_rows.specs.Gathered.{gathered, filled};
-    ghost use Rattle.sr_rows.specs.Undoing.{undone, Undoable};
+    ghost use Rattle.sr_rows.specs.Gathered.{gathered};
+    ghost use Rattle.sr_rows.specs.Undoing.{seen, Undoable};
 
-    ghost view = { λ r. record {
-      rows = filled (gathered r.tables.entries);
-      marked = filled (undone r.changes.items (gathered r.tables.entries));
-    } };
+    ghost view = { λ r. seen r.changes.items (gathered r.tables.entries) };
 
     ghost invariant = { λ r. Undoable r.changes.items (gathered r.tables.entries) };
 }
@@ -44,6 +44,7 @@ impl Rows {
     pub fn new(alloc: Global) -> Rows
         ensures rows { result.rows ≡ map.empty }
         ensures marked { result.marked ≡ map.empty }
+        ensures trail { result.trail ≡ [] }
     {
         Rows {
             tables: BTreeMap::new(alloc),
@@ -61,6 +62,8 @@ impl Rows {
 
     /// Of the rows of a table whose keys come after a key, the one with the least key, with that key. All keys come after `None`.
     /// So going on from `None`, each time after the key before, lists the rows of the table in the order of their keys.
+    ///
+    /// It takes logarithmic time, and a step for each place on the way that was emptied since the mark.
     pub fn next(&self, table: &Name, after: Option<&Key>) -> Option<(&Key, &Row)>
         ensures next { MatchOption result (IsLast (rows_of_table self.now.rows table.now) (option_copied after.entry))
             (λ x. IsNext (rows_of_table self.now.rows table.now) (option_copied after.entry) x.0.now x.1.now) }
@@ -82,12 +85,12 @@ impl Rows {
         ensures before { IfOk result (λ before. before ≡ map.get self.old.rows (table.now, key)) }
         ensures rows { OnOk result (self.new.rows ≡ map.insert self.old.rows (table.now, key) row) }
         ensures marked { self.new.marked ≡ self.old.marked }
+        ensures on { GoesOn self.old self.new }
         ensures err { OnErr result (self.new ≡ self.old) }
     {
-        let change = undo_of(alloc, &self.tables, table, &key)?;
-        let before = insert_at(alloc, &mut self.tables, table, key, Some(row))?;
-        note_change(&mut self.tables, &mut self.changes, change)?;
-        Ok(row_in(before))
+        let before = copied_row(alloc, self.get(table, &key))?;
+        self.set(alloc, table, key, row)?;
+        Ok(before)
     }
 
     /// Takes the row under a key of a table away, and answers it. Its place stays until the next `mark`.
@@ -95,21 +98,92 @@ impl Rows {
         ensures before { IfOk result (λ before. before ≡ map.get self.old.rows (table.now, key.now)) }
         ensures rows { OnOk result (self.new.rows ≡ map.remove self.old.rows (table.now, key.now)) }
         ensures marked { self.new.marked ≡ self.old.marked }
+        ensures on { GoesOn self.old self.new }
         ensures err { OnErr result (self.new ≡ self.old) }
     {
-        if !is_place(&self.tables, table, key) {
-            return Ok(None);
-        }
-        let change = undo_of(alloc, &self.tables, table, key)?;
-        let before = set_at(&mut self.tables, table, key, None);
-        note_change(&mut self.tables, &mut self.changes, change)?;
+        let before = copied_row(alloc, self.get(table, key))?;
+        self.unset(alloc, table, key.copy(alloc)?)?;
         Ok(before)
+    }
+
+    /// Puts a row under a key of a table. The row before is kept for the way back, and not copied.
+    pub fn set(&mut self, alloc: Global, table: &Name, key: Key, row: Row) -> Result<(), NoMemory>
+        ensures rows { OnOk result (self.new.rows ≡ map.insert self.old.rows (table.now, key) row) }
+        ensures on { GoesOn self.old self.new }
+        ensures err { OnErr result (self.new ≡ self.old) }
+    {
+        let at = key.copy(alloc)?;
+        let name = table.copy(alloc)?;
+        let place = insert_at(alloc, &mut self.tables, table, key, Some(row))?;
+        let change = Undo {
+            table: name,
+            key: at,
+            place,
+        };
+        note_change(&mut self.tables, &mut self.changes, change)?;
+        Ok(())
+    }
+
+    /// Takes the row under a key of a table away. The row is kept for the way back, and its place until the next `mark`.
+    pub fn unset(&mut self, alloc: Global, table: &Name, key: Key) -> Result<(), NoMemory>
+        ensures rows { OnOk result (self.new.rows ≡ map.remove self.old.rows (table.now, key)) }
+        ensures on { GoesOn self.old self.new }
+        ensures err { OnErr result (self.new ≡ self.old) }
+    {
+        if !is_place(&self.tables, table, &key) {
+            return Ok(());
+        }
+        let name = table.copy(alloc)?;
+        let place = set_at(&mut self.tables, table, &key, None);
+        let change = Undo {
+            table: name,
+            key,
+            place: Some(place),
+        };
+        note_change(&mut self.tables, &mut self.changes, change)?;
+        Ok(())
+    }
+
+    /// Puts a row under a key of a table, at the mark too. No step has been made since the mark, and none is made: this is how rows
+    /// are read in that nothing will take back.
+    pub fn put_at_mark(
+        &mut self,
+        alloc: Global,
+        table: &Name,
+        key: Key,
+        row: Row,
+    ) -> Result<(), NoMemory>
+        requires fresh { self.old.trail ≡ [] }
+        ensures ok { OnOk result (self.new ≡ at_mark (map.insert self.old.rows (table.now, key) row)) }
+        ensures err { OnErr result (self.new ≡ self.old) }
+    {
+        insert_at(alloc, &mut self.tables, table, key, Some(row))?;
+        Ok(())
+    }
+
+    /// Takes the row under a key of a table away, at the mark too, where no step has been made since the mark. It takes no memory.
+    pub fn take_at_mark(&mut self, table: &Name, key: &Key)
+        requires fresh { self.old.trail ≡ [] }
+        ensures taken { self.new ≡ at_mark (map.remove self.old.rows (table.now, key.now)) }
+    {
+        if is_place(&self.tables, table, key) {
+            remove_at(&mut self.tables, table, key);
+        }
+    }
+
+    /// Takes all rows of a table away, at the mark too, where no step has been made since the mark. It takes no memory.
+    pub fn clear(&mut self, table: &Name)
+        requires fresh { self.old.trail ≡ [] }
+        ensures cleared { self.new ≡ at_mark (without_table self.old.rows table.now) }
+    {
+        self.tables.remove(table);
     }
 
     /// Sets the mark here: `undo` goes back to these rows.
     pub fn mark(&mut self)
         ensures rows { self.new.rows ≡ self.old.rows }
         ensures marked { self.new.marked ≡ self.old.rows }
+        ensures trail { self.new.trail ≡ [] }
     {
         while let Some(change) = self.changes.pop() {
             sweep(&mut self.tables, change);
@@ -120,19 +194,39 @@ impl Rows {
     pub fn undo(&mut self)
         ensures rows { self.new.rows ≡ self.old.marked }
         ensures marked { self.new.marked ≡ self.old.marked }
+        ensures trail { self.new.trail ≡ [] }
     {
         while let Some(change) = self.changes.pop() {
             take_back(&mut self.tables, change);
         }
     }
+
+    /// How many steps lead from the mark to these rows: one for each call that put a row or took one away.
+    pub fn steps(&self) -> usize
+        ensures steps { result ≡ length self.now.trail }
+    {
+        self.changes.as_slice().len()
+    }
+
+    /// Goes back to the rows as they were when so many steps had been made. It takes no memory.
+    pub fn back_to(&mut self, steps: usize)
+        ensures back { self.new ≡ back steps self.old }
+    {
+        'changes: while self.changes.as_slice().len() > steps {
+            let Some(change) = self.changes.pop() else {
+                return;
+            };
+            take_back(&mut self.tables, change);
+        }
+    }
 }
 
-fn row_in(place: Option<Option<Row>>) -> Option<Row>
-    ensures row { result ≡ row_of place }
+fn copied_row(alloc: Global, row: Option<&Row>) -> Result<Option<Row>, NoMemory>
+    ensures equal { IfOk result (λ copy. copy ≡ option_copied row.entry) }
 {
-    match place {
-        Some(row) => row,
-        None => None,
+    match row {
+        Some(row) => Ok(Some(row.copy(alloc)?)),
+        None => Ok(None),
     }
 }
 

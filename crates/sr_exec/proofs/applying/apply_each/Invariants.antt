@@ -1,11 +1,12 @@
 use Rattle.std.proofs.Common.{◌≡◌, length}
+use Rattle.sr_rows.specs.Steps.{GoesOn}
 use Rattle.sr_exec.specs.Applying.{applied}
-use Rattle.sr_exec.proofs.applying.apply.Given as goal
+use Rattle.sr_exec.proofs.applying.apply_each.Given as goal
 
 abbrev pub invariant-changes : goal.invariant-changes
 invariant-changes l = record {
   rows : applied l.catalog l.left l.rows.rows ≡ applied l.catalog l.changes l.fn.rows.rows;
-  marked : l.rows.marked ≡ l.fn.rows.marked;
+  on : GoesOn l.fn.rows l.rows;
 }
 
 abbrev pub decreases-changes : goal.decreases-changes
