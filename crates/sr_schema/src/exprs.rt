@@ -10,11 +10,7 @@ use sr_base::{Copied, Name, NoMemory};
 use std::alloc::{AllocError, Global};
 
 /// The leftmost column that is not in the scope.
-pub fn unknown_in(
-    alloc: Global,
-    scope: &Scope,
-    expr: &Expr,
-) -> Result<Option<Name>, NoMemory>
+pub fn unknown_in(alloc: Global, scope: &Scope, expr: &Expr) -> Result<Option<Name>, NoMemory>
     ensures { IfOk result (λ found. found ≡ unknown_in scope.now (term_of expr.now)) }
 {
     match class_of(alloc, expr, scope) {

@@ -73,10 +73,7 @@ pub fn owned(alloc: Global, name: Option<&Name>) -> Result<Option<Name>, NoMemor
 }
 
 /// The first name that is named twice.
-pub fn first_twice<'a>(
-    alloc: Global,
-    names: &'a [Name],
-) -> Result<Option<&'a Name>, NoMemory>
+pub fn first_twice<'a>(alloc: Global, names: &'a [Name]) -> Result<Option<&'a Name>, NoMemory>
     ensures { IfOk result (λ found. option_copied found ≡ first_twice names.now) }
 {
     let mut seen = Seen::new(alloc);
@@ -91,10 +88,7 @@ pub fn first_twice<'a>(
 }
 
 /// The first name that two of the items have.
-pub fn first_twice_of<T: HasName>(
-    alloc: Global,
-    items: &[T],
-) -> Result<Option<&Name>, NoMemory>
+pub fn first_twice_of<T: HasName>(alloc: Global, items: &[T]) -> Result<Option<&Name>, NoMemory>
     ensures { IfOk result (λ found. option_copied found ≡ first_twice (map T.name_of items.now)) }
 {
     let mut seen = Seen::new(alloc);

@@ -26,8 +26,8 @@ pub use exprs::{
 };
 pub use fault::{DdlFault, DmlFault};
 pub use firsts::{
-    Seen, first, first_absent, first_name, first_twice, first_twice_of, is_empty, is_full, is_taken,
-    item_named, limit_where, owned, paired, where_true,
+    Seen, first, first_absent, first_name, first_twice, first_twice_of, is_empty, is_full,
+    is_taken, item_named, limit_where, owned, paired, where_true,
 };
 pub use named::{HasName, Named, item_at};
 pub use publication::{Article, Publication};
