@@ -18,18 +18,17 @@ mod stream;
 mod tests;
 mod words;
 
+use fault::Fault;
 use host::{HostSink, HostSite, HostSource};
 use std::process::ExitCode;
 
-/// The status of a run that found no memory for its words.
-const NO_MEMORY: u8 = 8;
-
 fn main(rt: HostRuntime) -> ExitCode {
+    let mut output = HostSink::new(rt);
     let Ok(words) = host::words(rt.alloc(), &rt) else {
-        return ExitCode::from(NO_MEMORY);
+        let told = report::report(rt.alloc(), &mut output, &[], Fault::Memory);
+        return ExitCode::from(told.status());
     };
-    let mut site = HostSite::new(rt);
-    let (mut input, mut output) = (HostSource::new(rt), HostSink::new(rt));
+    let (mut site, mut input) = (HostSite::new(rt), HostSource::new(rt));
     let now = host::now(&rt);
     ExitCode::from(run::run(
         rt.alloc(),
