@@ -6,9 +6,10 @@ use Rattle.sr_site.specs.Causes.{DiskStays}
 use Rattle.sr_site.specs.Growing.{disk_stays_on}
 use Rattle.sr_site.specs.Files.{Files, bytes_of}
 use Rattle.sr_site.specs.Seen.{Seen}
-use Rattle.sr_logfile.specs.declared.fault.LogFault.{LogFault}
 use Rattle.sr_logfile.specs.declared.fault.LogFault.TheVariants as log_fault
-use Rattle.sr_logfile.specs.Faults.{NextCause}
+use Rattle.sr_logfile.specs.declared.fault.RecordFault.{RecordFault}
+use Rattle.sr_logfile.specs.declared.fault.RecordFault.TheVariants as record_fault
+use Rattle.sr_logfile.specs.Faults.{RecordAfterCause}
 use Rattle.sr_logfile.specs.Log.{Log}
 use Rattle.sr_logfile.specs.Logs.{IsLog, HasLog, IsAt}
 use Rattle.sr_logfile.specs.Records.{Spells, open_records}
@@ -19,28 +20,12 @@ use Rattle.sr_exchange.specs.Entries.{body, IsEntry}
 use Rattle.sr_exchange.specs.Exchange.{goes_on, size, state_of, is_lawful, State, end_of, fresh, next}
 use Rattle.sr_exchange.specs.Logs.{bodies_of, LacksEntry}
 use Rattle.sr_exchange.proofs.Histories.{state_more}
-use Rattle.dbremote.specs.declared.fault.Fault.{Fault}
-use Rattle.dbremote.specs.declared.fault.Fault.TheVariants.{Words, Memory, Disk, Damaged, Source, TooLong, Script, Refused, Full, Sink}
-use Rattle.dbremote.specs.FaultsOfLogs.{fault_of}
+use Rattle.dbremote.specs.FaultsOfLogs.{fault_of_record}
 use Rattle.dbremote.specs.Histories.{HasStanding}
-use Rattle.dbremote.specs.Openings.{ReadCause, TookEntry, TakesEntry, FoldCause}
+use Rattle.dbremote.specs.Openings.{TookEntry, TakesEntry, FoldCause}
 use Rattle.dbremote.proofs.Still.{stays_same}
 use Rattle.dbremote.proofs.Lawful.{bodies-append, records-append, no_bodies, span_more, lawful_more, on_of}
 use Rattle.sr_exchange.proofs.OneBody.{one_entry}
-
--- the log's refusal of a read, as the run's
-pub read_fault : (log : Log) (after : ℕ) (before now : Seen) (fault : LogFault) → NextCause log after before now fault → ReadCause log after before now (fault_of fault)
-read_fault log after before now log_fault.Disk cause = cause
-read_fault log after before now (log_fault.Full end need) cause = absurd cause
-read_fault log after before now (log_fault.Damaged place) cause = cause
-
--- the same of a second read
-pub read_fault_again : (log : Log) (after : ℕ) (before mid now : Seen) (fault : LogFault) → DiskStays before mid → (IsTrue before.told → mid.files ≡ before.files)
-    → NextCause log after mid now fault → ReadCause log after before now (fault_of fault)
-read_fault_again log after before mid now log_fault.Disk stays files cause = omega (arith, stays.later, cause)
-read_fault_again log after before mid now (log_fault.Full end need) stays files cause = absurd cause
-read_fault_again log after before mid now (log_fault.Damaged place) stays files cause = λ told done left at.
-    cause (subst IsTrue (sym stays.told) told) done left (subst (λ (f : Files). IsAt log after done left f) (sym (files told)) at)
 
 -- a place that parts the log
 record Parted (log : Log) (after : ℕ) (files : Files) : Type 0 where
@@ -49,19 +34,13 @@ record Parted (log : Log) (after : ℕ) (files : Files) : Type 0 where
   at : IsAt log after done left files
 
 -- a refusal to read, where the position parts the log: damage does not come
-fold_fault : (role : Role) (log : Log) (after : ℕ) (bytes : List ℕ) (before mid now : Seen) (fault : Fault) → before.disk_faults ≤ mid.disk_faults → mid.told ≡ before.told
-    → (IsTrue before.told → Parted log after mid.files) → ReadCause log after mid now fault → FoldCause role bytes before now fault
-fold_fault role log after bytes before mid now Disk later same parted cause = omega (arith, later, cause)
-fold_fault role log after bytes before mid now (Damaged place) later same parted cause = λ told.
+fold_fault : (role : Role) (log : Log) (after : ℕ) (bytes : List ℕ) (before mid now : Seen) (fault : RecordFault) → before.disk_faults ≤ mid.disk_faults → mid.told ≡ before.told
+    → (IsTrue before.told → Parted log after mid.files) → RecordAfterCause log after mid now fault → FoldCause role bytes before now (fault_of_record fault)
+fold_fault role log after bytes before mid now (record_fault.Log log_fault.Disk) later same parted cause = omega (arith, later, cause)
+fold_fault role log after bytes before mid now (record_fault.Log (log_fault.Full end need)) later same parted cause = absurd cause
+fold_fault role log after bytes before mid now (record_fault.Log (log_fault.Damaged place)) later same parted cause = λ told.
     let p = parted told in absurd (cause (subst IsTrue (sym same) told) p.done p.left p.at)
-fold_fault role log after bytes before mid now Memory later same parted cause = tt
-fold_fault role log after bytes before mid now Words later same parted cause = cause
-fold_fault role log after bytes before mid now Source later same parted cause = cause
-fold_fault role log after bytes before mid now TooLong later same parted cause = cause
-fold_fault role log after bytes before mid now (Script place) later same parted cause = cause
-fold_fault role log after bytes before mid now (Refused number id) later same parted cause = cause
-fold_fault role log after bytes before mid now (Full end need) later same parted cause = cause
-fold_fault role log after bytes before mid now Sink later same parted cause = cause
+fold_fault role log after bytes before mid now record_fault.Memory later same parted cause = tt
 
 -- what folding the entry of a body answers
 takes : (old new : State) (bytes : List ℕ) (e : Entry) (goes : Bool) → IsEntry e → bytes ≡ body e → goes ≡ goes_on old e → (goes ≡ true → new ≡ next old e) → TakesEntry old new bytes goes
@@ -110,8 +89,8 @@ folding_start role log after fold before e order fresh has = record {
 }
 
 -- a read, refused
-pub later_fault : (role : Role) (log : Log) (after : ℕ) (fold : State) (before mid now : Seen) (fault : Fault) → Folding role log after fold before mid
-    → ReadCause log after mid now fault → FoldCause role (bytes_of before.files log.file) before now fault
+pub later_fault : (role : Role) (log : Log) (after : ℕ) (fold : State) (before mid now : Seen) (fault : RecordFault) → Folding role log after fold before mid
+    → RecordAfterCause log after mid now fault → FoldCause role (bytes_of before.files log.file) before now (fault_of_record fault)
 later_fault role log after fold before mid now fault f cause =
     fold_fault role log after (bytes_of before.files log.file) before mid now fault f.stays.later f.stays.told
     (λ told. let g = f.parts told in record { done = bodies_of f.es; left = g.left; at = subst (λ (s : Files). IsAt log after (bodies_of f.es) g.left s) (sym (f.files told)) g.is_at }) cause

@@ -3,7 +3,7 @@ use Rattle.sr_site.specs.Causes.{DiskStays, Rose}
 use Rattle.sr_site.specs.Seen.{Seen}
 use Rattle.sr_base.specs.Fields.{bytes_spelling}
 use Rattle.sr_logfile.specs.Log.{Log}
-use Rattle.sr_logfile.specs.Logs.{IsAt, IsFull, gate_of}
+use Rattle.sr_logfile.specs.Logs.{IsFull, gate_of}
 use Rattle.sr_logfile.specs.Records.{Spells, framed_of}
 use Rattle.sr_exchange.specs.declared.entry.Entry.{Entry}
 use Rattle.sr_exchange.specs.declared.role.Role.{Role}
@@ -14,19 +14,6 @@ use Rattle.dbremote.specs.declared.fault.Fault.{Fault}
 use Rattle.dbremote.specs.declared.fault.Fault.TheVariants.{Words, Memory, Disk, Damaged, Source, TooLong, Script, Refused, Full, Sink}
 use Rattle.dbremote.specs.Limits.{log_bound}
 use Rattle.dbremote.specs.Histories.{Stands, LacksRoomFor}
-
--- why a record is not read: damage only where the file is not as the log's calls left it
-abbrev pub ReadCause : Log → ℕ → Seen → Seen → Fault → Type 0
-ReadCause log after before now Disk = Rose before.disk_faults now.disk_faults
-ReadCause log after before now (Damaged place) = IsTrue before.told → (done left : List (List ℕ)) → IsAt log after done left before.files → ⊥
-ReadCause log after before now Memory = Unit {0}
-ReadCause log after before now Words = ⊥
-ReadCause log after before now Source = ⊥
-ReadCause log after before now TooLong = ⊥
-ReadCause log after before now (Script place) = ⊥
-ReadCause log after before now (Refused number id) = ⊥
-ReadCause log after before now (Full end need) = ⊥
-ReadCause log after before now Sink = ⊥
 
 -- the log's file is there: it was made where there was none, and is else as it was
 pub record IsPrepared (before now : Seen) : Type 0 where

@@ -4,7 +4,7 @@ ghost use Rattle.dbremote.specs.declared.fault.Fault.TheVariants.{Memory as memo
 
 use crate::statement::ScriptFault;
 use crate::stream::InputFault;
-use sr_logfile::LogFault;
+use sr_logfile::{LogFault, RecordFault};
 use sr_site::Failed;
 use std::alloc::{AllocError, AllocFailed};
 use std::fmt;
@@ -69,6 +69,20 @@ impl From<LogFault> for Fault {
             LogFault::Disk => Fault::Disk,
             LogFault::Full { end, need } => Fault::Full { end, need },
             LogFault::Damaged { at } => Fault::Damaged { at },
+        }
+    }
+}
+
+impl From<RecordFault> for Fault {
+    ghost use Rattle.std.specs.Prelude.{◌≡◌};
+    ghost use Rattle.dbremote.specs.FaultsOfLogs.{fault_of_record};
+
+    ghost from_gives = { λ fault e. e ≡ fault_of_record fault };
+
+    fn from(fault: RecordFault) -> Fault {
+        match fault {
+            RecordFault::Log(refused) => refused.into(),
+            RecordFault::Memory => Fault::Memory,
         }
     }
 }

@@ -1,23 +1,22 @@
-ghost use Rattle.std.specs.Prelude.{◌≡◌, ◌≢◌, ◌+◌, ◌^◌, ◌≤◌, ◌<◌, ◌⊎◌, ℕ, List, [], ◌∷◌, ◌++◌, length, true, IsTrue, MatchOption, IfOk, IfErr, IfSome, IsErr, OnOk, OnErr};
+ghost use Rattle.std.specs.Prelude.{◌≡◌, ◌≢◌, ◌+◌, ◌^◌, ◌≤◌, ◌<◌, ◌⊎◌, ℕ, List, [], ◌∷◌, ◌++◌, length, true, IsTrue, IfOk, IfErr, IsErr, OnOk, OnErr};
 ghost use Rattle.sr_site.specs.Causes.{DiskStays, Rose};
 ghost use Rattle.sr_site.specs.Files.{OthersStay, bytes_of};
 ghost use Rattle.sr_site.specs.declared.file.File.TheVariants.{Log0 as log0};
-ghost use Rattle.sr_logfile.specs.Logs.{HasLog, IsLog, IsAt, longer};
+ghost use Rattle.sr_logfile.specs.Logs.{HasLog, IsLog, longer};
 ghost use Rattle.sr_logfile.specs.Records.{Spells, framed_of};
-ghost use Rattle.sr_logfile.specs.Steps.{IsNext};
 ghost use Rattle.sr_exchange.specs.declared.entry.Entry.{Entry};
 ghost use Rattle.sr_exchange.specs.Exchange.{waiting_of};
 ghost use Rattle.sr_exchange.specs.Logs.{HasHistory, IsDamagedDatabase, completed};
 ghost use Rattle.dbremote.specs.declared.fault.Fault.TheVariants.{Disk as disk};
 ghost use Rattle.dbremote.specs.Histories.{Stands, HasStanding, HoldsBeginning, HoldsSome, IsOpened};
 ghost use Rattle.dbremote.specs.Stops.{IsOfDamage};
-ghost use Rattle.dbremote.specs.Openings.{ReadCause, MakeCause, FoldCause, CompleteCause, OpenFault, IsPrepared, TakesEntry, statement_body};
+ghost use Rattle.dbremote.specs.Openings.{MakeCause, FoldCause, CompleteCause, OpenFault, IsPrepared, TakesEntry, statement_body};
 
 use crate::fault::Fault;
 use crate::session::LOG_BOUND;
 use sr_base::{NoMemory, Offset};
 use sr_exchange::{Fold, Role, ddl_body, read_entry};
-use sr_logfile::{LogFile, Step, frame, fresh, one_spelling_or_one_damage, open};
+use sr_logfile::{LogFile, frame, fresh, one_spelling_or_one_damage, open};
 use sr_site::{Disk, File};
 use std::alloc::Global;
 
@@ -28,36 +27,6 @@ fn place_of(log: &LogFile, position: Offset) -> u64
 {
     let base = log.base().0;
     position.0 - base + 16
-}
-
-/// Reads the record behind a position into the buffer, which grows where the record is longer, and answers its offset and length.
-#[tactic(auto, using(sr_site::specs::Growing::disk_stays_on))]
-fn read_record<S: Disk>(
-    site: &mut S,
-    log: &LogFile,
-    after: Offset,
-    buffer: &mut Vec<u8>,
-) -> Result<Option<(Offset, usize)>, Fault>
-    requires { (log.now.base ≤ after.0) × (after.0 ≤ log.now.end) }
-    ensures step { IsTrue (S.seen site.old).told → IfOk result (λ found. (done left : List (List ℕ)) → IsAt log.now after.0 done left (S.seen site.old).files → MatchOption found (left ≡ []) (λ x. IsNext log.now after.0 done left (S.seen site.new).files buffer.new.items x.0.0 x.1)) }
-    ensures within { IfOk result (λ found. IfSome found (λ x. (x.0.0 ≡ after.0 + 5 + x.1) × (x.0.0 ≤ log.now.end) × (x.1 ≤ length buffer.new.items))) }
-    ensures files { IsTrue (S.seen site.old).told → (S.seen site.new).files ≡ (S.seen site.old).files }
-    ensures stays { DiskStays (S.seen site.old) (S.seen site.new) }
-    ensures steady { OnOk result ((S.seen site.new).disk_faults ≡ (S.seen site.old).disk_faults) }
-    ensures cause { IfErr result (ReadCause log.now after.0 (S.seen site.old) (S.seen site.new)) }
-{
-    let mut step = log.next(site, after, buffer.as_mut_slice())?;
-    if let Step::Short { need } = step {
-        buffer.resize(need, 0u8)?;
-        step = log.next(site, after, buffer.as_mut_slice())?;
-    }
-    match step {
-        Step::End => Ok(None),
-        Step::Record { end, length } => Ok(Some((end, length))),
-        Step::Short { .. } => Err(Fault::Damaged {
-            at: place_of(log, after),
-        }),
-    }
 }
 
 /// Folds the entry of this body in, and answers whether it goes on from those before it.
@@ -87,7 +56,7 @@ fn fold_log<S: Disk>(alloc: Global, site: &mut S, log: &LogFile, role: Role) -> 
     let mut after = log.base();
     let last = log.end();
     'entries: while after.0 < last.0 {
-        let found = read_record(site, log, after, &mut buffer)?;
+        let found = log.record_after(site, after, &mut buffer)?;
         let Some((end, length)) = found else {
             return Err(Fault::Damaged {
                 at: place_of(log, after),

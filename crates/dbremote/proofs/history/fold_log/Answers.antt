@@ -12,7 +12,7 @@ pub returns-in_err-found-clause-cause : goal.returns-in_err-found-clause-cause
 returns-in_err-found-clause-cause g c =
     let seen = g.S.Held.seen in
     let p = err_from_is_err_and c.from_residual.result c.from_residual.ensures.1 in
-    rw (p.1, p.2) (later_fault c.args.role c.args.log.now c.entries.after.0 c.entries.fold (seen c.args.site.now) (seen c.entries.site) (seen c.read_record.new.site) _ c.entries.invariant c.in_err-found.ensures.cause)
+    rw (p.1, p.2) (later_fault c.args.role c.args.log.now c.entries.after.0 c.entries.fold (seen c.args.site.now) (seen c.entries.site) (seen c.record_after.new.site) _ c.entries.invariant c.in_err-found.ensures.cause)
 
 pub returns-in_default-clause-cause : goal.returns-in_default-clause-cause
 returns-in_default-clause-cause g c = λ told. absurd (
@@ -24,21 +24,21 @@ pub returns-then-not-branch-clause-cause : goal.returns-then-not-branch-clause-c
 returns-then-not-branch-clause-cause g c = λ told.
     let seen = g.S.Held.seen in
     let entry : TakesEntry c.entries.fold c.take_body.new.fold c.split_at.result.0.now false = subst (TakesEntry c.entries.fold c.take_body.new.fold c.split_at.result.0.now) c.if-not-branch.true c.in_ok-take_body.ensures.entry in
-    let reads : IsTrue (seen c.entries.site).told → Reads c.args.log.now c.entries.after.0 (seen c.entries.site).files (seen c.read_record.new.site).files c.read_record.new.buffer.items c.in-Some.end.0 c.in-Some.length =
+    let reads : IsTrue (seen c.entries.site).told → Reads c.args.log.now c.entries.after.0 (seen c.entries.site).files (seen c.record_after.new.site).files c.record_after.new.buffer.items c.in-Some.end.0 c.in-Some.length =
     λ inside done left at. search (rules, c.in_ok-found.ensures.step inside done left at) in
     lacks_entry c.args.role c.args.log.now c.entries.after.0 c.in-Some.end.0 c.in-Some.length c.place_of-then-not-branch.result c.entries.fold c.take_body.new.fold
-    (seen c.args.site.now) (seen c.entries.site) (seen c.read_record.new.site).files c.read_record.new.buffer.items c.split_at.result.0.now
+    (seen c.args.site.now) (seen c.entries.site) (seen c.record_after.new.site).files c.record_after.new.buffer.items c.split_at.result.0.now
     c.entries.invariant reads (c.split_at.ensures.front ∙ ap (take c.in-Some.length) c.as_slice.ensures.value) entry c.place_of-then-not-branch.ensures told
 
 pub entries-preserved : goal.entries-preserved
 entries-preserved g c =
     let seen = g.S.Held.seen in
     let entry : TookEntry c.entries.fold c.take_body.new.fold c.split_at.result.0.now = subst (TakesEntry c.entries.fold c.take_body.new.fold c.split_at.result.0.now) c.if-not-branch.false c.in_ok-take_body.ensures.entry in
-    let reads : IsTrue (seen c.entries.site).told → Reads c.args.log.now c.entries.after.0 (seen c.entries.site).files (seen c.read_record.new.site).files c.read_record.new.buffer.items c.in-Some.end.0 c.in-Some.length =
+    let reads : IsTrue (seen c.entries.site).told → Reads c.args.log.now c.entries.after.0 (seen c.entries.site).files (seen c.record_after.new.site).files c.record_after.new.buffer.items c.in-Some.end.0 c.in-Some.length =
     λ inside done left at. search (rules, c.in_ok-found.ensures.step inside done left at) in
-    let within : (c.in-Some.end.0 ≡ c.entries.after.0 + 5 + c.in-Some.length) × (c.in-Some.end.0 ≤ c.args.log.now.end) × (c.in-Some.length ≤ length c.read_record.new.buffer.items) = search (rules, c.in_ok-found.ensures.within) in
+    let within : (c.in-Some.end.0 ≡ c.entries.after.0 + 5 + c.in-Some.length) × (c.in-Some.end.0 ≤ c.args.log.now.end) × (c.in-Some.length ≤ length c.record_after.new.buffer.items) = search (rules, c.in_ok-found.ensures.within) in
     folding_more c.args.role c.args.log.now c.entries.after.0 c.in-Some.end.0 c.in-Some.length c.entries.fold c.take_body.new.fold
-    (seen c.args.site.now) (seen c.entries.site) (seen c.read_record.new.site) c.read_record.new.buffer.items c.split_at.result.0.now
+    (seen c.args.site.now) (seen c.entries.site) (seen c.record_after.new.site) c.record_after.new.buffer.items c.split_at.result.0.now
     c.entries.invariant c.in_ok-found.ensures.stays c.in_ok-found.ensures.steady c.in_ok-found.ensures.files c.base-after.ensures.order.limit within.0 within.1 within.2 reads
     (c.split_at.ensures.front ∙ ap (take c.in-Some.length) c.as_slice.ensures.value) entry
 
