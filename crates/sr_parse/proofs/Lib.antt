@@ -13,6 +13,7 @@ pub mod Keyings
 pub mod Kinded
 pub mod Normals
 pub mod Pieces
+pub mod Prints
 pub mod Ruling
 pub mod Rulings
 pub mod Stuck

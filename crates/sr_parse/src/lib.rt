@@ -11,6 +11,8 @@ mod acting;
 mod creating;
 mod normal;
 mod parsing;
+mod printed;
 
 pub use parsing::parse;
+pub use printed::{a_text_prints_one_statement, printed_statement};
 pub use sr_grammar::{ParseFault, a_text_spells_one_script, what_prints_is_read_so};
