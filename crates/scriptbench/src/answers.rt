@@ -1,17 +1,16 @@
 //! What each statement of some scripts is answered. The scripts stand in sections, with a line `----` between them, and each begins
 //! with a new database. A statement that is refused changes nothing, and the section goes on.
 
-ghost use Rattle.std.specs.Prelude.{IfOk, OnOk};
+ghost use Rattle.std.specs.Prelude.{OnOk};
 ghost use Rattle.sr_exec.specs.Conditions.{RowsFit};
 
-use crate::execution::{Answer, Stopped, new_catalog, on_rows};
+use crate::execution::{Answer, Stopped, new_catalog, no_rows, on_rows, step};
 use crate::reloading::reloaded;
 use crate::rows::say_rows;
 use crate::saying::{say, say_changes, say_ddl_fault, say_dml_fault};
 use sr_ast::{Dml, Stmt, print};
 use sr_base::{Name, Text};
 use sr_catalog::{Catalog, DdlFault};
-use sr_exec::rows_stay_fitting;
 use sr_parse::{ParseFault, parse};
 use sr_rows::Rows;
 use std::alloc::Global;
@@ -23,11 +22,13 @@ const BETWEEN: &str = "\n----\n";
 pub fn answers(alloc: Global, text: &str) -> Result<Vec<u8>, Stopped> {
     let mut out = Vec::new(alloc);
     let text = text.strip_suffix("\n").unwrap_or(text);
-    let mut between = "";
+    let mut is_first = true;
     for section in text.split(BETWEEN) {
-        say(&mut out, between)?;
+        if !is_first {
+            say(&mut out, "----\n")?;
+        }
         say_section(alloc, &mut out, section)?;
-        between = "----\n";
+        is_first = false;
     }
     Ok(out)
 }
@@ -47,54 +48,73 @@ fn say_section(alloc: Global, out: &mut Vec<u8>, section: &str) -> Result<(), St
 
 /// Appends the answers to a script, and what it leaves.
 fn say_answers(alloc: Global, out: &mut Vec<u8>, script: &[Stmt]) -> Result<(), Stopped> {
-    rows_stay_fitting();
-    let mut at = (new_catalog(alloc)?, Rows::new(alloc));
+    let mut catalog = new_catalog(alloc)?;
+    let mut rows = no_rows(alloc, &catalog);
     let mut left = script;
     'statements: while let Some((statement, rest)) = left.split_first() {
-        say(out, print(alloc, statement)?.as_str())?;
-        say(out, " => ")?;
-        let (catalog, rows) = at;
-        at = after(alloc, out, catalog, rows, statement)?;
+        say_statement(alloc, out, statement)?;
+        go_on(alloc, out, &mut catalog, &mut rows, statement)?;
         say(out, "\n")?;
         left = rest;
     }
-    say_left(alloc, out, &at.0, &at.1)
+    say_left(alloc, out, &catalog, &rows)
 }
 
-/// The database after a statement, whose answer is appended.
-fn after(
+fn say_statement(alloc: Global, out: &mut Vec<u8>, statement: &Stmt) -> Result<(), Stopped> {
+    let text = print(alloc, statement)?;
+    say(out, text.as_str())?;
+    say(out, " => ")
+}
+
+/// Goes on by a statement, whose answer is appended.
+fn go_on(
     alloc: Global,
     out: &mut Vec<u8>,
-    catalog: Catalog,
-    rows: Rows,
+    catalog: &mut Catalog,
+    rows: &mut Rows,
     statement: &Stmt,
-) -> Result<(Catalog, Rows), Stopped>
-    requires rows { RowsFit catalog rows.rows }
-    requires marked { RowsFit catalog rows.marked }
-    ensures rows { IfOk result (λ x. RowsFit x.0 x.1.rows) }
-    ensures marked { IfOk result (λ x. RowsFit x.0 x.1.marked) }
+) -> Result<(), Stopped>
+    requires rows { RowsFit catalog.old rows.old.rows }
+    ensures rows { OnOk result (RowsFit catalog.new rows.new.rows) }
 {
-    let mut rows = rows;
-    match statement {
-        Stmt::Dml(statement) => {
-            say_changed(alloc, out, &catalog, &mut rows, statement)?;
-            Ok((catalog, rows))
+    match after_change(alloc, out, catalog, statement)? {
+        Some(after) => {
+            let held = reloaded(alloc, &after, rows)?;
+            *catalog = after;
+            *rows = held;
+            Ok(())
         }
+        None => on_statement(alloc, out, catalog, rows, statement),
+    }
+}
+
+/// Appends the answer to a statement that leaves the catalog as it is, and was not answered by the catalog.
+fn on_statement(
+    alloc: Global,
+    out: &mut Vec<u8>,
+    catalog: &Catalog,
+    rows: &mut Rows,
+    statement: &Stmt,
+) -> Result<(), Stopped>
+    requires rows { RowsFit catalog.now rows.old.rows }
+    ensures rows { OnOk result (RowsFit catalog.now rows.new.rows) }
+{
+    match statement {
+        Stmt::Dml(statement) => say_changed(alloc, out, catalog, rows, statement),
         Stmt::Commit => {
-            rows.mark();
             say(out, "ok")?;
-            Ok((catalog, rows))
+            step(alloc, catalog, rows, statement)?;
+            Ok(())
         }
         Stmt::Rollback => {
-            rows.undo();
             say(out, "rolled back")?;
-            Ok((catalog, rows))
+            rows.undo();
+            let held = reloaded(alloc, catalog, rows)?;
+            *rows = held;
+            Ok(())
         }
-        Stmt::Select(_) => {
-            say(out, "not executed")?;
-            Ok((catalog, rows))
-        }
-        _ => after_change(alloc, out, catalog, rows, statement),
+        Stmt::Select(_) => say(out, "not executed"),
+        _ => Ok(()),
     }
 }
 
@@ -107,45 +127,52 @@ fn say_changed(
     statement: &Dml,
 ) -> Result<(), Stopped>
     requires rows { RowsFit catalog.now rows.old.rows }
-    requires marked { RowsFit catalog.now rows.old.marked }
     ensures rows { OnOk result (RowsFit catalog.now rows.new.rows) }
-    ensures marked { OnOk result (RowsFit catalog.now rows.new.marked) }
 {
-    match on_rows(alloc, catalog, rows, statement)? {
-        Answer::Changed(changes) => say_changes(alloc, out, &changes),
+    let answer = on_rows(alloc, catalog, rows, statement)?;
+    say_answer(alloc, out, &answer)
+}
+
+fn say_answer(alloc: Global, out: &mut Vec<u8>, answer: &Answer) -> Result<(), Stopped> {
+    match answer {
+        Answer::Changed(changes) => say_changes(alloc, out, changes),
         Answer::Refused(fault) => {
             say(out, "refused: ")?;
-            say_dml_fault(alloc, out, &fault)
+            say_dml_fault(alloc, out, fault)
         }
     }
 }
 
-/// The database after a statement on the catalog, which commits; its answer is appended.
+/// The catalog after a statement that may change it, whose answer is appended; nothing after any other statement, or where it is refused.
 fn after_change(
     alloc: Global,
     out: &mut Vec<u8>,
-    catalog: Catalog,
-    rows: Rows,
+    catalog: &Catalog,
     statement: &Stmt,
-) -> Result<(Catalog, Rows), Stopped>
-    requires rows { RowsFit catalog rows.rows }
-    requires marked { RowsFit catalog rows.marked }
-    ensures rows { IfOk result (λ x. RowsFit x.0 x.1.rows) }
-    ensures marked { IfOk result (λ x. RowsFit x.0 x.1.marked) }
-{
+) -> Result<Option<Catalog>, Stopped> {
+    if is_on_rows(statement) {
+        return Ok(None);
+    }
     match catalog.change(alloc, statement) {
         Ok(after) => {
-            let rows = reloaded(alloc, &after, &rows)?;
             say(out, word_of(statement))?;
-            Ok((after, rows))
+            Ok(Some(after))
         }
         Err(DdlFault::Memory) => Err(Stopped::Memory),
         Err(fault) => {
             say(out, "refused: ")?;
             say_ddl_fault(alloc, out, &fault)?;
-            Ok((catalog, rows))
+            Ok(None)
         }
     }
+}
+
+/// Whether a statement leaves the catalog alone.
+fn is_on_rows(statement: &Stmt) -> bool {
+    matches!(
+        statement,
+        Stmt::Dml(_) | Stmt::Select(_) | Stmt::Commit | Stmt::Rollback
+    )
 }
 
 /// The answer to a statement on the catalog that is not refused.

@@ -1,4 +1,4 @@
-ghost use Rattle.std.specs.Prelude.{◌≡◌, OnOk};
+ghost use Rattle.std.specs.Prelude.{OnOk};
 ghost use Rattle.sr_exec.specs.Conditions.{RowsFit};
 
 use sr_ast::{Dml, Stmt};
@@ -81,10 +81,18 @@ fn changed(alloc: Global, catalog: &Catalog, statement: &Stmt) -> Result<Catalog
     }
 }
 
+/// No rows, which fit any catalog.
+pub fn no_rows(alloc: Global, catalog: &Catalog) -> Rows
+    ensures rows { RowsFit catalog.now result.rows }
+{
+    rows_stay_fitting();
+    let _catalog = catalog;
+    Rows::new(alloc)
+}
+
 /// Executes the statements on rows, of which there are none at first.
 fn counted(alloc: Global, catalog: &Catalog, script: &[Stmt]) -> Result<u64, Stopped> {
-    rows_stay_fitting();
-    let mut rows = Rows::new(alloc);
+    let mut rows = no_rows(alloc, catalog);
     let mut count = 0u64;
     let mut left = script;
     'statements: while let Some((statement, rest)) = left.split_first() {
@@ -94,8 +102,13 @@ fn counted(alloc: Global, catalog: &Catalog, script: &[Stmt]) -> Result<u64, Sto
     Ok(count)
 }
 
-/// How many rows a statement changes; its changes are applied.
-fn step(alloc: Global, catalog: &Catalog, rows: &mut Rows, statement: &Stmt) -> Result<u64, Stopped>
+/// How many rows a statement changes; its changes are applied. A COMMIT sets the mark.
+pub fn step(
+    alloc: Global,
+    catalog: &Catalog,
+    rows: &mut Rows,
+    statement: &Stmt,
+) -> Result<u64, Stopped>
     requires rows { RowsFit catalog.now rows.old.rows }
     ensures rows { OnOk result (RowsFit catalog.now rows.new.rows) }
 {
@@ -121,7 +134,6 @@ pub fn on_rows(
 ) -> Result<Answer, Stopped>
     requires rows { RowsFit catalog.now rows.old.rows }
     ensures rows { OnOk result (RowsFit catalog.now rows.new.rows) }
-    ensures marked { rows.new.marked ≡ rows.old.marked }
 {
     rows_stay_fitting();
     match exec(alloc, catalog, rows, statement) {

@@ -1,29 +1,27 @@
 //! Rows under another catalog.
 
-ghost use Rattle.std.specs.Prelude.{◌≡◌, IfOk, OnOk};
+ghost use Rattle.std.specs.Prelude.{IfOk, OnOk};
 ghost use Rattle.sr_exec.specs.Conditions.{RowsFit};
 
-use crate::execution::{Stopped, on_rows};
+use crate::execution::{Stopped, no_rows, on_rows, step};
 use crate::rows::insertion;
+use sr_ast::Stmt;
 use sr_base::Name;
 use sr_catalog::Catalog;
-use sr_exec::rows_stay_fitting;
 use sr_rows::Rows;
 use std::alloc::Global;
 
 /// Those of the rows whose table stands in the catalog, also at the mark. Each is inserted anew, so that it fits its table there.
 pub fn reloaded(alloc: Global, catalog: &Catalog, rows: &Rows) -> Result<Rows, Stopped>
     ensures rows { IfOk result (λ held. RowsFit catalog.now held.rows) }
-    ensures marked { IfOk result (λ held. RowsFit catalog.now held.marked) }
 {
-    rows_stay_fitting();
-    let mut held = Rows::new(alloc);
+    let mut held = no_rows(alloc, catalog);
     let mut left = catalog.tables();
     'tables: while let Some((table, rest)) = left.split_first() {
         reload(alloc, catalog, &table.name, rows, &mut held)?;
         left = rest;
     }
-    held.mark();
+    step(alloc, catalog, &mut held, &Stmt::Commit)?;
     Ok(held)
 }
 

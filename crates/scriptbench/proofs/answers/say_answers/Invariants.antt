@@ -3,7 +3,7 @@ use Rattle.sr_exec.specs.Conditions.{RowsFit}
 use Rattle.scriptbench.proofs.answers.say_answers.Given as goal
 
 abbrev pub invariant-statements : goal.invariant-statements
-invariant-statements l = RowsFit l.at.0 l.at.1.rows × RowsFit l.at.0 l.at.1.marked
+invariant-statements l = RowsFit l.catalog l.rows.rows
 
 abbrev pub decreases-statements : goal.decreases-statements
 decreases-statements l = length l.left
