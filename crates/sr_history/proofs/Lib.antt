@@ -1,0 +1,9 @@
+pub mod Bounds
+pub mod Conflicts
+pub mod Granted
+pub mod Joined
+pub mod Kept
+pub mod Once
+pub mod Sampled
+pub mod Tables
+pub mod Taking

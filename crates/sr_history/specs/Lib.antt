@@ -1,0 +1,5 @@
+pub mod Recorded
+pub mod Folds
+pub mod Fitting
+pub mod Laws
+pub mod Sample
