@@ -1,0 +1,71 @@
+-- The whole of a SELECT, from its parts.
+use Rattle.std.proofs.Common.{◌≡◌, Bool, true, false, ◌&&◌, List, [], ◌∷◌, ◌++◌, map, Result, Ok, IsTrue, refl, sym, ap, ◌∙◌}
+use Rattle.std.proofs.lemmas.List.{append-nil}
+use Rattle.sr_base.specs.declared.value.Value.{Value as Cell}
+use Rattle.sr_ast.specs.declared.expr.Expr.{Expr}
+use Rattle.sr_ast.specs.declared.query.Items.{Items}
+use Rattle.sr_ast.specs.declared.query.Items.TheVariants.{All, Each}
+use Rattle.sr_ast.specs.declared.query.Join.{Join}
+use Rattle.sr_ast.specs.declared.query.Select.{Select}
+use Rattle.sr_eval.specs.Bounds.{values_of}
+use Rattle.sr_eval.specs.declared.bound.Bound.{Bound}
+use Rattle.sr_rows.specs.Marks.{RowMap}
+use Rattle.sr_schema.specs.Catalogs.{Lists}
+use Rattle.sr_schema.specs.declared.fault.DmlFault.{DmlFault}
+use Rattle.sr_exec.specs.Checks.{Scope}
+use Rattle.sr_exec.specs.Edits.{prefixed}
+use Rattle.sr_exec.specs.Sequences.{followed}
+use Rattle.sr_exec.specs.Statements.{in_order}
+use Rattle.sr_exec.proofs.Fitted.{prefixed-none}
+use Rattle.sr_query.specs.Checks.{all_pass, is_good, is_good_condition, is_good_item, is_good_order, are_good_items, are_together, are_distinct, unknown_in_select}
+use Rattle.sr_query.specs.Combinations.{combinations, kept}
+use Rattle.sr_query.specs.Rows.{listed, AreItemsGood}
+use Rattle.sr_query.specs.Selecting.{selected, selected_from, bad_in_select}
+use Rattle.sr_query.specs.Sources.{Origin, sources_of, conditions_of, origins_of, scope_of, alias_of}
+use Rattle.sr_query.specs.Walks.{columns_left, found, seen}
+use Rattle.sr_query.specs.declared.joined.Joined.{Joined}
+use Rattle.sr_query.specs.declared.joined.Combination.{Combination}
+
+-- all combinations, from none that is kept and no row that is chosen
+pub from_nothing : (scope : Scope) (conditions : List Expr) (before : List Combination) (bounds : List Bound) (origins : List Origin) (answer : Result (List (List Cell)) DmlFault) → before ≡ [] → bounds ≡ []
+    → prefixed (found before) (kept scope conditions (combinations (values_of bounds) origins ++ [])) ≡ answer → kept scope conditions (combinations [] origins) ≡ answer
+from_nothing scope conditions before bounds origins answer e f h =
+    ap (kept scope conditions) (sym (append-nil (combinations [] origins))) ∙ sym (prefixed-none (kept scope conditions (combinations [] origins ++ [])))
+    ∙ sym (ap (λ bs. prefixed (found bs) (kept scope conditions (combinations [] origins ++ []))) e)
+    ∙ sym (ap (λ bs. prefixed (found before) (kept scope conditions (combinations (values_of bs) origins ++ []))) f) ∙ h
+
+scope_seen : (rows : RowMap) (js : List Joined) → scope_of (map (seen rows) js) ≡ columns_left js
+scope_seen rows [] = refl
+scope_seen rows (j ∷ js) = ap (λ columns. j.scope ++ columns) (scope_seen rows js)
+
+-- a SELECT whose sources are there
+pub by_sources : (catalog : Lists) (rows : RowMap) (s : Select) (js found_js : List Joined) (scope : Scope) → found_js ≡ js → origins_of catalog rows (sources_of s) ≡ Ok (map (seen rows) js) → scope ≡ columns_left js
+    → selected catalog rows s ≡ in_order (unknown_in_select scope s) (bad_in_select scope s) (followed (kept scope (conditions_of s) (combinations [] (map (seen rows) found_js))) (listed scope s.items s.order))
+by_sources catalog rows s js found_js scope same origins e =
+    ap (λ o. followed o (λ os. selected_from os s)) origins
+    ∙ ap (λ sc. in_order (unknown_in_select sc s) (bad_in_select sc s) (followed (kept sc (conditions_of s) (combinations [] (map (seen rows) js))) (listed sc s.items s.order))) (scope_seen rows js ∙ sym e)
+    ∙ ap (λ ls. in_order (unknown_in_select scope s) (bad_in_select scope s) (followed (kept scope (conditions_of s) (combinations [] (map (seen rows) ls))) (listed scope s.items s.order))) (sym same)
+
+left_true : (a b : Bool) → (a && b) ≡ true → IsTrue a
+left_true true b e = refl
+left_true false b e = cc
+
+right_true : (a b : Bool) → (a && b) ≡ true → b ≡ true
+right_true true b e = e
+right_true false b e = cc
+
+-- of a SELECT with which nothing is wrong, the conditions and the items are right
+pub good_conditions : (scope : Scope) (s : Select) → is_good scope s ≡ true → IsTrue (all_pass (is_good_condition scope) (conditions_of s))
+good_conditions scope s e =
+    left_true _ (all_pass (is_good_order scope) s.order) (right_true (are_good_items scope s.items s.joins) _ (right_true (are_distinct (map alias_of (sources_of s))) _ e))
+
+items_good : (scope : Scope) (items : Items) (joins : List Join) → IsTrue (are_good_items scope items joins) → AreItemsGood scope items
+items_good scope All joins h = tt
+items_good scope (Each list) joins h = both (are_together list joins) h where
+  both : (a : Bool) → IsTrue (a && all_pass (is_good_item scope) list) → IsTrue (all_pass (is_good_item scope) list)
+  both true g = g
+  both false g = cc
+
+pub good_items : (scope : Scope) (s : Select) → is_good scope s ≡ true → AreItemsGood scope s.items
+good_items scope s e =
+    items_good scope s.items s.joins (left_true (are_good_items scope s.items s.joins) _ (right_true (are_distinct (map alias_of (sources_of s))) _ e))

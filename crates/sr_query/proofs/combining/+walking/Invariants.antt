@@ -1,0 +1,27 @@
+use Rattle.std.proofs.Common.{◌≡◌, ◌+◌, ◌*◌, ◌++◌, List, map, length}
+use Rattle.std.specs.Option.{option_copied}
+use Rattle.sr_base.specs.declared.value.Value.{Value}
+use Rattle.sr_eval.specs.Bounds.{values_of}
+use Rattle.sr_rows.specs.Walks.{Entry, table_rows, past}
+use Rattle.sr_exec.specs.Edits.{prefixed}
+use Rattle.sr_query.specs.Combinations.{combinations, kept, over_each}
+use Rattle.sr_query.specs.Sources.{conditions_of}
+use Rattle.sr_query.specs.Walks.{AreCombinations, found, seen}
+use Rattle.sr_query.proofs.combining.+walking.Given as goal
+
+abbrev pub decreases-walk : goal.decreases-walk
+decreases-walk l = 2 * length l.left.now
+
+abbrev pub decreases-walk_row : goal.decreases-walk_row
+decreases-walk_row l = 2 * length l.after.now + 1
+
+abbrev pub invariant-walk-rows : goal.invariant-walk-rows
+invariant-walk-rows l = record {
+  same : l.combination.items ≡ l.fn.combination.items;
+  whole : AreCombinations l.scope l.kept.items;
+  kept : (rest : List (List Value)) → prefixed (found l.fn.kept.items) (kept l.scope (conditions_of l.select) (combinations (values_of l.fn.combination.items) (map (seen l.rows.rows) l.left) ++ rest))
+      ≡ prefixed (found l.kept.items) (kept l.scope (conditions_of l.select) (over_each (λ row. combinations (values_of l.fn.combination.items ++ row) (map (seen l.rows.rows) l.after)) (map (λ (e : Entry). e.1) (past (option_copied l.last) (table_rows l.rows.rows l.joined.table.now.name))) ++ rest));
+}
+
+abbrev pub decreases-walk-rows : goal.decreases-walk-rows
+decreases-walk-rows l = length (past (option_copied l.last) (table_rows l.rows.rows l.joined.table.now.name))

@@ -1,0 +1,120 @@
+ghost use Rattle.std.specs.Prelude.{◌≡◌, refl};
+ghost use Rattle.std.proofs.Common.{rules};
+ghost use Rattle.std.specs.Cmp.{po, eq_by_cmp_equiv, partial_equiv_from_equiv};
+ghost use Rattle.std.specs.Cmp.Rules.{comparing};
+ghost use Rattle.std.specs.Ordering.{eq_by_cmp, as_partial_cmp};
+ghost use Rattle.sr_query.specs.Orders.{rank_of, rank_cmp, rank_cmp_total, listed_cmp, listed_cmp_total};
+
+use sr_base::{Row, Seq, Value};
+use std::cmp::Ordering;
+
+/// A value under a column of ORDER BY: rising where the column is ascending, falling where it is descending. The other one is NULL.
+#[derive(Drop)]
+pub(crate) struct Rank {
+    pub rising: Value,
+    pub falling: Value,
+}
+
+/// A row with the ranks of its combination, by which it is put in order.
+#[derive(Drop)]
+pub(crate) struct Listed {
+    pub ranks: Seq<Rank>,
+    pub row: Row,
+}
+
+impl Rank {
+    /// The rank of a value under a column that is descending or not.
+    pub(crate) fn new(descending: bool, value: Value) -> Rank
+        ensures rank { result ≡ rank_of descending value }
+    {
+        if descending {
+            Rank {
+                rising: Value::Null,
+                falling: value,
+            }
+        } else {
+            Rank {
+                rising: value,
+                falling: Value::Null,
+            }
+        }
+    }
+}
+
+impl PartialEq for Rank {
+    ghost eq = { eq_by_cmp rank_cmp };
+
+    ghost laws = { partial_equiv_from_equiv (eq_by_cmp_equiv rank_cmp_total) };
+
+    fn eq(&self, other: &Rank) -> bool {
+        self.cmp(other).is_eq()
+    }
+}
+
+impl Eq for Rank {
+    ghost laws = { eq_by_cmp_equiv rank_cmp_total };
+}
+
+impl PartialOrd for Rank {
+    ghost partial_cmp = { as_partial_cmp rank_cmp };
+
+    ghost laws = { po rank_cmp_total (λ x y. refl) };
+
+    fn partial_cmp(&self, other: &Rank) -> Option<Ordering> {
+        Some(self.cmp(other))
+    }
+}
+
+impl Ord for Rank {
+    ghost cmp = { rank_cmp };
+
+    ghost total = { rank_cmp_total };
+
+    ghost matches_partial_cmp = { Prim.search (comparing, rules) };
+
+    ghost matches_eq = { Prim.search (comparing, rules) };
+
+    fn cmp(&self, other: &Rank) -> Ordering {
+        self.rising
+            .cmp(&other.rising)
+            .then(other.falling.cmp(&self.falling))
+    }
+}
+
+impl PartialEq for Listed {
+    ghost eq = { eq_by_cmp listed_cmp };
+
+    ghost laws = { partial_equiv_from_equiv (eq_by_cmp_equiv listed_cmp_total) };
+
+    fn eq(&self, other: &Listed) -> bool {
+        self.cmp(other).is_eq()
+    }
+}
+
+impl Eq for Listed {
+    ghost laws = { eq_by_cmp_equiv listed_cmp_total };
+}
+
+impl PartialOrd for Listed {
+    ghost partial_cmp = { as_partial_cmp listed_cmp };
+
+    ghost laws = { po listed_cmp_total (λ x y. refl) };
+
+    fn partial_cmp(&self, other: &Listed) -> Option<Ordering> {
+        Some(self.cmp(other))
+    }
+}
+
+impl Ord for Listed {
+    ghost cmp = { listed_cmp };
+
+    ghost total = { listed_cmp_total };
+
+    ghost matches_partial_cmp = { Prim.search (comparing, rules) };
+
+    ghost matches_eq = { Prim.search (comparing, rules) };
+
+    fn cmp(&self, other: &Listed) -> Ordering {
+        self.ranks.as_slice().cmp(other.ranks.as_slice())
+    }
+}

@@ -1,0 +1,101 @@
+ghost use Rattle.std.specs.Prelude.{◌≡◌, ◌≢◌, [], map, None, Ok, Err, IsTrue, IfOk, MatchResult};
+ghost use Rattle.sr_exec.specs.Conditions.{RowsFit};
+ghost use Rattle.sr_exec.specs.Sequences.{first_in};
+ghost use Rattle.sr_query.specs.Checks.{all_pass, is_good_condition, is_good, unknown_in_order, unknown_in_select};
+ghost use Rattle.sr_query.specs.Combinations.{combinations, kept};
+ghost use Rattle.sr_query.specs.Rows.{listed, AreItemsGood};
+ghost use Rattle.sr_query.specs.Selecting.{selected, Answered};
+ghost use Rattle.sr_query.specs.Sources.{conditions_of};
+ghost use Rattle.sr_query.specs.Walks.{AreJoined, AreCombinations, columns_left, found, seen};
+
+use crate::aggregates::listed;
+use crate::checks::is_good;
+use crate::combining::walk;
+use crate::joined::{Combination, Joined};
+use crate::joining::{joined_sources, scope_of};
+use crate::ordering::ordered;
+use crate::rank::Listed;
+use crate::unknown::unknown_in_select;
+use sr_ast::{Scope, Select};
+use sr_base::{Copied, Row};
+use sr_catalog::{Catalog, DmlFault};
+use sr_rows::Rows;
+use std::alloc::Global;
+
+/// The rows that a SELECT answers over these rows, each of which fits its table.
+///
+/// The refusals, of which the first in this order is answered: `NoTable` at the first source whose table is not there; `NoColumn` at the
+/// leftmost unknown column of items, conditions and ORDER BY; `BadValue` of the first table where two sources have one alias, two sources
+/// have a column that is named without an alias, a class is wrong, or an aggregate stands beside an item that is none or in a statement
+/// with JOIN; `Overflow` where a test of a combination has no value, an item of one that meets all tests, or a whole sum or count passes
+/// BIGINT.
+pub fn select(
+    alloc: Global,
+    catalog: &Catalog,
+    rows: &Rows,
+    stmt: &Select,
+) -> Result<Vec<Row>, DmlFault>
+    requires rows { RowsFit catalog.now rows.now.rows }
+    ensures answer { MatchResult result (λ found. Answered (selected catalog.now rows.now.rows stmt.now) found.items) (λ fault. fault ≢ DmlFault.Memory → selected catalog.now rows.now.rows stmt.now ≡ Err fault) }
+{
+    let listed = selected(alloc, catalog, rows, stmt)?;
+    Ok(ordered(alloc, listed)?)
+}
+
+/// The rows with their ranks, or the first refusal.
+fn selected(
+    alloc: Global,
+    catalog: &Catalog,
+    rows: &Rows,
+    stmt: &Select,
+) -> Result<Vec<Listed>, DmlFault>
+    requires rows { RowsFit catalog.now rows.now.rows }
+    ensures answer { MatchResult result (λ listed. selected catalog.now rows.now.rows stmt.now ≡ Ok listed.items) (λ fault. fault ≢ DmlFault.Memory → selected catalog.now rows.now.rows stmt.now ≡ Err fault) }
+{
+    let joined = joined_sources(alloc, catalog, rows, stmt)?;
+    let scope = scope_of(alloc, joined.as_slice())?;
+    if let Some(name) = unknown_in_select(alloc, &scope, stmt)? {
+        return Err(DmlFault::NoColumn { name });
+    }
+    if !is_good(alloc, &scope, stmt)? {
+        return Err(DmlFault::BadValue {
+            name: stmt.source.table.copy(alloc)?,
+        });
+    }
+    let kept = kept(alloc, rows, stmt, &scope, joined.as_slice())?;
+    listed(
+        alloc,
+        &scope,
+        &stmt.items,
+        stmt.order.as_slice(),
+        kept.as_slice(),
+    )
+}
+
+/// The combinations that meet the conditions.
+fn kept<'a>(
+    alloc: Global,
+    rows: &'a Rows,
+    select: &Select,
+    scope: &Scope,
+    joined: &'a [Joined<'a>],
+) -> Result<Vec<Combination<'a>>, DmlFault>
+    requires scope { columns_left joined.now ≡ scope.now }
+    requires joined { AreJoined rows.now.rows joined.now }
+    requires good { IsTrue (all_pass (is_good_condition scope.now) (conditions_of select.now)) }
+    ensures whole { IfOk result (λ kept. AreCombinations scope.now kept.items) }
+    ensures answer { MatchResult result (λ found_now. kept scope.now (conditions_of select.now) (combinations [] (map (seen rows.now.rows) joined.now)) ≡ Ok (found found_now.items)) (λ fault. fault ≢ DmlFault.Memory → kept scope.now (conditions_of select.now) (combinations [] (map (seen rows.now.rows) joined.now)) ≡ Err fault) }
+{
+    let mut combination = Vec::new(alloc);
+    let mut kept = Vec::new(alloc);
+    walk(
+        alloc,
+        rows,
+        select,
+        scope,
+        joined,
+        &mut combination,
+        &mut kept,
+    )?;
+    Ok(kept)
+}

@@ -1,0 +1,119 @@
+ghost use Rattle.std.specs.Prelude.{◌≡◌, ◌++◌, map, IfOk};
+ghost use Rattle.std.specs.Option.{option_copied};
+ghost use Rattle.sr_ast.specs.Classes.{kind_of};
+ghost use Rattle.sr_exec.specs.Checks.{unknown_in};
+ghost use Rattle.sr_exec.specs.Sequences.{first_in};
+ghost use Rattle.sr_query.specs.Checks.{unknown_in_item, unknown_in_items, unknown_in_order, unknown_in_select};
+ghost use Rattle.sr_query.specs.Sources.{conditions_of};
+
+use crate::classes::unknown_in;
+use crate::names::is_meant;
+use sr_ast::{Item, Items, OrderBy, Scope, Select};
+use sr_base::{Copied, Kind, Name, NoMemory};
+use std::alloc::Global;
+
+/// The leftmost unknown column of a SELECT. Each expression is looked at once.
+pub(crate) fn unknown_in_select(
+    alloc: Global,
+    scope: &Scope,
+    select: &Select,
+) -> Result<Option<Name>, NoMemory>
+    ensures unknown { IfOk result (λ found. found ≡ unknown_in_select scope.now select.now) }
+{
+    if let Some(unknown) = unknown_in_items(alloc, scope, &select.items)? {
+        return Ok(Some(unknown));
+    }
+    if let Some(unknown) = unknown_in_conditions(alloc, scope, select)? {
+        return Ok(Some(unknown));
+    }
+    unknown_in_orders(alloc, scope, select.order.as_slice())
+}
+
+fn unknown_in_items(alloc: Global, scope: &Scope, items: &Items) -> Result<Option<Name>, NoMemory>
+    ensures unknown { IfOk result (λ found. found ≡ unknown_in_items scope.now items.now) }
+{
+    match items {
+        Items::All => Ok(None),
+        Items::Each(list) => unknown_in_list(alloc, scope, list.as_slice()),
+    }
+}
+
+fn unknown_in_list(alloc: Global, scope: &Scope, items: &[Item]) -> Result<Option<Name>, NoMemory>
+    ensures unknown { IfOk result (λ found. found ≡ first_in (unknown_in_item scope.now) items.now) }
+{
+    let mut left = items;
+    'items: while let Some((item, rest)) = left.split_first() {
+        if let Some(unknown) = unknown_in_item(alloc, scope, item)? {
+            return Ok(Some(unknown));
+        }
+        left = rest;
+    }
+    Ok(None)
+}
+
+fn unknown_in_item(alloc: Global, scope: &Scope, item: &Item) -> Result<Option<Name>, NoMemory>
+    ensures unknown { IfOk result (λ found. found ≡ unknown_in_item scope.now item.now) }
+{
+    match item {
+        Item::Value(expr) => unknown_in(alloc, scope, expr),
+        Item::Count => Ok(None),
+        Item::Sum(expr) => unknown_in(alloc, scope, expr),
+        Item::Min(expr) => unknown_in(alloc, scope, expr),
+        Item::Max(expr) => unknown_in(alloc, scope, expr),
+    }
+}
+
+fn unknown_in_conditions(
+    alloc: Global,
+    scope: &Scope,
+    select: &Select,
+) -> Result<Option<Name>, NoMemory>
+    ensures unknown { IfOk result (λ found. found ≡ first_in (unknown_in scope.now) (conditions_of select.now)) }
+{
+    let mut left = select.joins.as_slice();
+    'joins: while let Some((join, rest)) = left.split_first() {
+        if let Some(unknown) = unknown_in(alloc, scope, &join.condition)? {
+            return Ok(Some(unknown));
+        }
+        left = rest;
+    }
+    match &select.condition {
+        None => Ok(None),
+        Some(condition) => unknown_in(alloc, scope, condition),
+    }
+}
+
+fn unknown_in_orders(
+    alloc: Global,
+    scope: &Scope,
+    order: &[OrderBy],
+) -> Result<Option<Name>, NoMemory>
+    ensures unknown { IfOk result (λ found. found ≡ first_in (unknown_in_order scope.now) order.now) }
+{
+    let mut left = order;
+    'order: while let Some((by, rest)) = left.split_first() {
+        if kind_of(scope.as_slice(), &by.table, &by.column).is_none() {
+            return Ok(Some(by.column.copy(alloc)?));
+        }
+        left = rest;
+    }
+    Ok(None)
+}
+
+/// The type of the first column that a reference means. It looks at each.
+fn kind_of(
+    columns: &[(Option<Name>, Name, Kind)],
+    table: &Option<Name>,
+    name: &Name,
+) -> Option<Kind>
+    ensures { result ≡ kind_of columns.now table.now name.now }
+{
+    let mut left = columns;
+    'columns: while let Some((column, rest)) = left.split_first() {
+        if is_meant(&column.0, &column.1, table, name) {
+            return Some(column.2);
+        }
+        left = rest;
+    }
+    None
+}
