@@ -1,6 +1,6 @@
-ghost use Rattle.std.specs.Prelude.{◌≡◌, IfOk};
+ghost use Rattle.std.specs.Prelude.{◌≡◌, None, IfOk, OnErr, OnOk};
 ghost use Rattle.std.specs.Option.{option_copied};
-ghost use Rattle.sr_change.specs.Changes.{IsChange};
+ghost use Rattle.sr_change.specs.Changes.{IsChange, next, refusal};
 ghost use Rattle.sr_replay.specs.Scripts.{IsMade};
 ghost use Rattle.sr_schema.specs.Catalogs.{nothing_but};
 ghost use Rattle.sr_schema.specs.Members.{publication_name, table_name, user_name};
@@ -63,6 +63,23 @@ impl Catalog {
             Ok(()) => Ok(Catalog { schema }),
             Err(_) => Err(DdlFault::Memory),
         }
+    }
+
+    /// The fault that refuses a statement, where one does: the one with which `change` answers.
+    pub fn refusal(&self, alloc: Global, stmt: &Stmt) -> Result<Option<DdlFault>, NoMemory>
+        ensures refusal { IfOk result (λ fault. fault ≡ refusal self.now stmt.now) }
+    {
+        refusal(&self.schema, alloc, stmt)
+    }
+
+    /// Does to this catalog what a statement does that is not refused: `change` without a copy. Where memory lacks it stays as it was.
+    #[tactic(auto, using(sr_replay::proofs::Made::changed))]
+    pub fn apply(&mut self, alloc: Global, stmt: &Stmt) -> Result<(), NoMemory>
+        ensures ok { OnOk result (self.new ≡ next self.old stmt.now) }
+        ensures made { refusal self.old stmt.now ≡ None → IsMade self.old → OnOk result (IsMade self.new) }
+        ensures err { OnErr result (self.new ≡ self.old) }
+    {
+        apply(&mut self.schema, alloc, stmt)
     }
 
     /// The publisher.
