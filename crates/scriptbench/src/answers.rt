@@ -7,11 +7,12 @@ ghost use Rattle.sr_exec.specs.Conditions.{RowsFit};
 use crate::execution::{Answer, Stopped, new_catalog, no_rows, on_rows, step};
 use crate::reloading::reloaded;
 use crate::rows::say_rows;
-use crate::saying::{say, say_changes, say_ddl_fault, say_dml_fault};
-use sr_ast::{Dml, Stmt, print};
+use crate::saying::{say, say_changes, say_ddl_fault, say_dml_fault, say_found};
+use sr_ast::{Dml, Select, Stmt, print};
 use sr_base::{Name, Text};
 use sr_catalog::{Catalog, DdlFault};
 use sr_parse::{ParseFault, parse};
+use sr_query::select;
 use sr_rows::Rows;
 use std::alloc::Global;
 
@@ -113,7 +114,7 @@ fn on_statement(
             *rows = held;
             Ok(())
         }
-        Stmt::Select(_) => say(out, "not executed"),
+        Stmt::Select(statement) => say_selected(alloc, out, catalog, rows, statement),
         _ => Ok(()),
     }
 }
@@ -131,6 +132,25 @@ fn say_changed(
 {
     let answer = on_rows(alloc, catalog, rows, statement)?;
     say_answer(alloc, out, &answer)
+}
+
+/// Appends the answer to a SELECT: the number of its rows, and these.
+fn say_selected(
+    alloc: Global,
+    out: &mut Vec<u8>,
+    catalog: &Catalog,
+    rows: &Rows,
+    statement: &Select,
+) -> Result<(), Stopped>
+    requires rows { RowsFit catalog.now rows.now.rows }
+{
+    match select(alloc, catalog, rows, statement) {
+        Ok(found) => say_found(alloc, out, found.as_slice()),
+        Err(fault) => {
+            say(out, "refused: ")?;
+            say_dml_fault(alloc, out, &fault)
+        }
+    }
 }
 
 fn say_answer(alloc: Global, out: &mut Vec<u8>, answer: &Answer) -> Result<(), Stopped> {

@@ -1,10 +1,11 @@
 ghost use Rattle.std.specs.Prelude.{OnOk};
 ghost use Rattle.sr_exec.specs.Conditions.{RowsFit};
 
-use sr_ast::{Dml, Stmt};
+use sr_ast::{Dml, Select, Stmt};
 use sr_base::name_of;
 use sr_catalog::{Catalog, DdlFault, DmlFault};
 use sr_exec::{Changes, apply, exec, rows_stay_fitting};
+use sr_query::select;
 use sr_rows::Rows;
 use std::alloc::{AllocError, AllocFailed, Global};
 
@@ -35,7 +36,7 @@ pub enum Answer {
     Refused(DmlFault),
 }
 
-/// How many rows the statements of a script insert, update and delete. All tables are made first; a COMMIT keeps what was done.
+/// How many rows the statements of a script insert, update, delete and answer. All tables are made first; a COMMIT keeps what was done.
 pub fn changed_rows(alloc: Global, script: &[Stmt]) -> Result<u64, Stopped> {
     let catalogs = catalogs(alloc, script)?;
     match catalogs.last() {
@@ -73,7 +74,8 @@ fn go_on(alloc: Global, catalogs: &mut Vec<Catalog>, statement: &Stmt) -> Result
     Ok(())
 }
 
-fn changed(alloc: Global, catalog: &Catalog, statement: &Stmt) -> Result<Catalog, Stopped> {
+/// The catalog after a statement on it.
+pub fn changed(alloc: Global, catalog: &Catalog, statement: &Stmt) -> Result<Catalog, Stopped> {
     match catalog.change(alloc, statement) {
         Ok(after) => Ok(after),
         Err(DdlFault::Memory) => Err(Stopped::Memory),
@@ -102,7 +104,7 @@ fn counted(alloc: Global, catalog: &Catalog, script: &[Stmt]) -> Result<u64, Sto
     Ok(count)
 }
 
-/// How many rows a statement changes; its changes are applied. A COMMIT sets the mark.
+/// How many rows a statement changes, or a SELECT answers; changes are applied. A COMMIT sets the mark.
 pub fn step(
     alloc: Global,
     catalog: &Catalog,
@@ -121,7 +123,24 @@ pub fn step(
             rows.mark();
             Ok(0)
         }
+        Stmt::Select(statement) => selected(alloc, catalog, rows, statement),
         _ => Ok(0),
+    }
+}
+
+/// How many rows a SELECT answers.
+fn selected(
+    alloc: Global,
+    catalog: &Catalog,
+    rows: &Rows,
+    statement: &Select,
+) -> Result<u64, Stopped>
+    requires rows { RowsFit catalog.now rows.now.rows }
+{
+    match select(alloc, catalog, rows, statement) {
+        Ok(found) => Ok(found.len() as u64),
+        Err(DmlFault::Memory) => Err(Stopped::Memory),
+        Err(_) => Err(Stopped::Refused),
     }
 }
 

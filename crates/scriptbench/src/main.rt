@@ -1,6 +1,8 @@
 //! `scriptbench`: reads standard input as a script and says how many statements it has, or the byte at which it is refused. With the
-//! word `run` it then makes the tables of the script and executes its INSERTs, UPDATEs and DELETEs in memory, and says how many rows
-//! these inserted, updated and deleted. With the word `answers` it says what each statement is answered, section by section (`answers`).
+//! word `run` it then makes the tables of the script and executes its INSERTs, UPDATEs, DELETEs and SELECTs in memory, and says how many
+//! rows these inserted, updated, deleted and answered. With the word `answers` it says what each statement is answered, section by
+//! section (`answers`). With the word `bodies` it goes over the bodies of a log's records, each behind its length, and with the word
+//! `fold` it reads each as an entry and applies it.
 //!
 //! It is there to measure and to try the SQL front, the catalog and the statements on rows before the program uses them: it keeps no
 //! database.
@@ -8,12 +10,14 @@
 
 mod answers;
 mod execution;
+mod folding;
 mod reloading;
 mod rows;
 mod saying;
 
 use answers::answers;
 use execution::{Stopped, changed_rows};
+use folding::{bodies, folded};
 use sr_ast::Stmt;
 use sr_base::Text;
 use sr_parse::{ParseFault, parse};
@@ -29,6 +33,12 @@ const STOPPED: u8 = 4;
 const FAILED: u8 = 8;
 
 fn main(rt: HostRuntime) -> ExitCode {
+    if has_word(rt, "bodies") {
+        return ExitCode::from(counted(rt, false));
+    }
+    if has_word(rt, "fold") {
+        return ExitCode::from(counted(rt, true));
+    }
     let Some(text) = input(rt) else {
         return ExitCode::from(FAILED);
     };
@@ -51,6 +61,27 @@ fn input(rt: HostRuntime) -> Option<Text> {
     match rt.reader().read_to_string(&mut text) {
         Ok(_) => Some(Text::from_string(text)),
         Err(_) => None,
+    }
+}
+
+/// Says how many bodies standard input has; each is read and applied as an entry of a log where `is_folded`. Answers the status.
+fn counted(rt: HostRuntime, is_folded: bool) -> u8 {
+    let mut bytes = Vec::new(rt.alloc());
+    if rt.reader().read_to_end(&mut bytes).is_err() {
+        return FAILED;
+    }
+    let count = if is_folded {
+        folded(rt.alloc(), bytes.as_slice())
+    } else {
+        Ok(bodies(bytes.as_slice()))
+    };
+    match count {
+        Ok(count) => match println!(rt; "{count} bodies") {
+            Ok(_) => 0,
+            Err(_) => FAILED,
+        },
+        Err(Stopped::Refused) => STOPPED,
+        Err(Stopped::Memory) => FAILED,
     }
 }
 

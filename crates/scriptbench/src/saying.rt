@@ -67,6 +67,16 @@ pub fn say_changes(alloc: Global, out: &mut Vec<u8>, changes: &Changes) -> Resul
     Ok(())
 }
 
+/// Appends the number of rows that a SELECT answers, and each of them.
+pub fn say_found(alloc: Global, out: &mut Vec<u8>, rows: &[Row]) -> Result<(), Stopped> {
+    let count = format!(in alloc; "{} rows", rows.len())?;
+    say(out, count.as_str())?;
+    for row in rows {
+        say_list(alloc, out, " ", row.values())?;
+    }
+    Ok(())
+}
+
 /// Appends why a statement that changes the catalog is refused.
 pub fn say_ddl_fault(alloc: Global, out: &mut Vec<u8>, fault: &DdlFault) -> Result<(), Stopped> {
     match fault {

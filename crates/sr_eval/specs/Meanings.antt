@@ -109,6 +109,12 @@ IsEvaluated (Ok v) found = found ≡ Some (value v)
 IsEvaluated (Err Overflow) found = found ≡ None
 IsEvaluated (Err Memory) found = IsTrue (is_text found)
 
+-- what `value_over` answers: the value, NULL in the place of a truth, or Overflow where there is none; a text may want memory
+abbrev pub IsValued : Result Cell EvalFault → Option Meaning → Type 0
+IsValued (Ok v) found = option_map cell_of found ≡ Some v
+IsValued (Err Overflow) found = found ≡ None
+IsValued (Err Memory) found = IsTrue (is_text found)
+
 -- what `holds` answers: whether there is a value that is true, or Overflow where there is no value; it takes no memory
 abbrev pub IsHeld : Result Bool EvalFault → Option Meaning → Type 0
 IsHeld (Ok held) found = (held ≡ is_true found) × IsSome found

@@ -1,7 +1,7 @@
 ghost use Rattle.std.specs.Prelude.{◌≡◌, IsTrue};
 ghost use Rattle.sr_ast.specs.Exprs.{term_of};
 ghost use Rattle.sr_ast.specs.Classes.{class_in};
-ghost use Rattle.sr_eval.specs.Uses.{gives_value, gives_truth, is_plain};
+ghost use Rattle.sr_eval.specs.Uses.{gives_value, gives_truth};
 ghost use Rattle.sr_eval.specs.Bounds.{IsRowOf, AreRows, columns_of, values_of};
 ghost use Rattle.sr_eval.specs.Meanings.{meaning, is_true, IsEvaluated, IsHeld};
 ghost use Rattle.sr_eval.specs.Worths.{meant};
@@ -47,7 +47,7 @@ pub fn eval_over(alloc: Global, expr: &Expr, sources: &[Bound]) -> Result<Value,
 }
 
 /// A copy of a value. Only a text takes memory.
-fn held(alloc: Global, value: &Value) -> Result<Value, EvalFault>
+pub(crate) fn held(alloc: Global, value: &Value) -> Result<Value, EvalFault>
     ensures value { IsEvaluated result (Some (a_value value.now)) }
 {
     match value {
@@ -84,14 +84,13 @@ pub fn holds_over(expr: &Expr, sources: &[Bound]) -> Result<bool, EvalFault>
     }
 }
 
-/// Whether a condition without arithmetic is true over a row: not where it is false or unknown.
+/// Whether a condition is true over a row: not where it is false or unknown. It is asked of conditions without arithmetic, which always
+/// have a value; of another one it is not true where it has none.
 ///
 /// It takes no memory. Each column that is named takes one pass over the scope.
 #[tactic(auto, using(crate::proofs::Sources::of_one_source))]
 pub fn holds_plain(expr: &Expr, row: &Bound) -> bool
-    requires typed { IsTrue (gives_truth (class_in row.now.scope.now (term_of expr.now))) }
-    requires fits { IsRowOf row.now.scope.now row.now.values.now }
-    requires plain { IsTrue (is_plain (term_of expr.now)) }
+    requires { IsRowOf row.now.scope.now row.now.values.now }
     ensures held { result ≡ is_true (meaning row.now.scope.now row.now.values.now (term_of expr.now)) }
 {
     match meaning(expr, slice::from_ref(row)) {

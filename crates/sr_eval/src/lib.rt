@@ -12,6 +12,7 @@ mod laws;
 mod meaning;
 mod number;
 mod truth;
+mod untyped;
 mod worth;
 
 pub use bound::Bound;
@@ -21,3 +22,4 @@ pub use laws::{
     a_value_is_of_its_class, and_holds_where_both_hold, null_equals_nothing,
     without_arithmetic_there_is_a_value,
 };
+pub use untyped::{is_true_over, value_over};

@@ -58,7 +58,7 @@ followed-Ok (Err e) next y h = cc
 followed-Ok (Ok x) next y h = (x, refl, h)
 
 -- a table stands under its name
-found_named : (name : List ℕ) (ts : List Table) (table : Table) → find_in (λ t. bytes_eq name t.name) ts ≡ Some table → bytes_eq name table.name ≡ true
+pub found_named : (name : List ℕ) (ts : List Table) (table : Table) → find_in (λ t. bytes_eq name t.name) ts ≡ Some table → bytes_eq name table.name ≡ true
 found_named name [] table h = cc
 found_named name (t ∷ ts) table h = go (bytes_eq name t.name) refl h (found_named name ts table) where
   go : (b : Bool) → bytes_eq name t.name ≡ b → cond b (Some t) (find_in (λ t. bytes_eq name t.name) ts) ≡ Some table → (find_in (λ t. bytes_eq name t.name) ts ≡ Some table → bytes_eq name table.name ≡ true) → bytes_eq name table.name ≡ true

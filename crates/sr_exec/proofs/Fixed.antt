@@ -104,7 +104,7 @@ at_place row place = unwrap_or (slice_get row place) Null
 pub same_name : (s t : List ℕ) → bytes_eq s t ≡ true → s ≡ t
 same_name s t p = exact_bytes s t ((Equal-is (name_cmp s t)).0 (is_eq-slice_cmp s t ∙ p))
 
-bytes_itself : (s : List ℕ) → bytes_eq s s ≡ true
+pub bytes_itself : (s : List ℕ) → bytes_eq s s ≡ true
 bytes_itself s = sym (is_eq-slice_cmp s s) ∙ ap is_eq (tied_itself name_cmp_total s)
 
 both_true : (a b : Bool) → (a && b) ≡ true → (a ≡ true) × (b ≡ true)

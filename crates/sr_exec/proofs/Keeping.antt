@@ -36,7 +36,7 @@ fitted_day : (o : Option ℤ) (w : Value) → option_map Date o ≡ Some w → f
 fitted_day None w h = cc
 fitted_day (Some d) w h = let is : Date d ≡ w = cc in subst (λ v. fitted v kind.Date ≡ Some v) is refl
 
-fitted_again : (v : Value) (k : Kind) (w : Value) → fitted v k ≡ Some w → fitted w k ≡ Some w
+pub fitted_again : (v : Value) (k : Kind) (w : Value) → fitted v k ≡ Some w → fitted w k ≡ Some w
 fitted_again Null k w h = let is : Null ≡ w = cc in subst (λ v. fitted v k ≡ Some v) is refl
 fitted_again (Int n) kind.Int w h = fitted_int (is_int n) n w refl h
 fitted_again (Int n) kind.Big w h = let is : Big n ≡ w = cc in subst (λ v. fitted v kind.Big ≡ Some v) is refl

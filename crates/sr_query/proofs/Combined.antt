@@ -1,5 +1,5 @@
 -- Combinations and sources, one more.
-use Rattle.std.proofs.Common.{◌≡◌, ℕ, reverse, List, [], ◌∷◌, ◌++◌, map, length, take, None, Some, Result, Ok, Err, refl, sym, ap, subst, ◌∙◌}
+use Rattle.std.proofs.Common.{◌≡◌, ℕ, reverse, List, [], ◌∷◌, ◌++◌, map, length, take, Option, None, Some, Result, Ok, Err, refl, sym, ap, subst, ◌∙◌}
 use Rattle.std.proofs.lemmas.List.{append-nil, append_assoc, reverse-append}
 use Rattle.sr_base.specs.declared.value.Value.{Value as Cell}
 use Rattle.sr_eval.specs.Bounds.{IsRowOf, AreRows, columns_of, values_of}
@@ -13,14 +13,15 @@ use Rattle.sr_exec.specs.Edits.{prefixed}
 use Rattle.sr_exec.specs.Sequences.{front}
 use Rattle.sr_exec.proofs.Fitted.{row_of}
 use Rattle.sr_query.specs.Combinations.{combinations, kept, over_each}
-use Rattle.sr_query.specs.Sources.{Origin}
+use Rattle.sr_query.specs.Sources.{Origin, rows_by_key}
 use Rattle.sr_exec.specs.Checks.{Scope}
 use Rattle.sr_query.specs.Walks.{IsCombination, AreCombinations, IsJoined, AreJoined, seen}
 use Rattle.sr_query.specs.declared.joined.Joined.{Joined}
 use Rattle.sr_query.specs.declared.joined.Combination.{Combination}
 
 -- one more combination
-pub with_one : (scope : Scope) (cs : List Combination) (c : Combination) → AreCombinations scope cs → IsCombination scope c → AreCombinations scope (cs ++ c ∷ [])
+pub with_one : (scope : Scope) (cs : List Combination) (c : Combination) → AreCombinations scope cs → IsCombination scope c
+    → AreCombinations scope (cs ++ c ∷ [])
 with_one scope [] c whole one = (one, tt)
 with_one scope (d ∷ cs) c whole one = (whole.0, with_one scope cs c whole.1 one)
 
@@ -42,8 +43,10 @@ rows_of_one [] b fit row = (row, tt)
 rows_of_one (x ∷ xs) b fit row = (fit.0, rows_of_one xs b fit.1 row)
 
 -- a combination with a row more: its columns, its values, and that they fit
-pub columns_on : (xs ys : List Bound) (b : Bound) (rest scope : Scope) → ys ≡ xs ++ b ∷ [] → columns_of xs ++ (b.scope.now ++ rest) ≡ scope → columns_of ys ++ rest ≡ scope
-columns_on xs ys b rest scope e h = ap (λ zs. columns_of zs ++ rest) e ∙ ap (λ zs. zs ++ rest) (columns_of_one xs b) ∙ append_assoc (columns_of xs) b.scope.now rest ∙ h
+pub columns_on : (xs ys : List Bound) (b : Bound) (rest scope : Scope) → ys ≡ xs ++ b ∷ [] → columns_of xs ++ (b.scope.now ++ rest) ≡ scope
+    → columns_of ys ++ rest ≡ scope
+columns_on xs ys b rest scope e h = ap (λ zs. columns_of zs ++ rest) e ∙ ap (λ zs. zs ++ rest) (columns_of_one xs b)
+    ∙ append_assoc (columns_of xs) b.scope.now rest ∙ h
 
 pub values_on : (xs ys : List Bound) (b : Bound) → ys ≡ xs ++ b ∷ [] → values_of ys ≡ values_of xs ++ b.values.now
 values_on xs ys b e = ap values_of e ∙ values_of_one xs b
@@ -60,13 +63,33 @@ pub ruleset on_rules = (columns_on, values_on, fit_on, taken_back)
 
 pub ruleset joined_lists = (append_assoc, append-nil)
 
--- the rows of the first source are all still to come
-pub begins_walk : (rows : RowMap) (scope : Scope) (conditions : List Expr) (before : List (List Cell)) (values : List Cell) (left : List Joined) (joined : Joined) (after : List Joined) → left ≡ joined ∷ after → (rest : List (List Cell))
-    → prefixed before (kept scope conditions (combinations values (map (seen rows) left) ++ rest))
-    ≡ prefixed before (kept scope conditions (over_each (λ row. combinations (values ++ row) (map (seen rows) after)) (map (λ (e : Entry). e.1) (past None (table_rows rows joined.table.now.name))) ++ rest))
-begins_walk rows scope conditions before values left joined after begins rest =
-    ap (λ ls. prefixed before (kept scope conditions (combinations values (map (seen rows) ls) ++ rest))) begins
-    ∙ sym (ap (λ es. prefixed before (kept scope conditions (over_each (λ row. combinations (values ++ row) (map (seen rows) after)) (map (λ (e : Entry). e.1) es) ++ rest))) (past-None (table_rows rows joined.table.now.name)))
+-- the rows of a source are all still to come
+pub begins_walk : (rows : RowMap) (scope : Scope) (conditions : List Expr) (before : List (List Cell)) (values : List Cell) (joined : Joined)
+    (after : List Joined) (rest : List (List Cell))
+    → prefixed before (kept scope conditions (over_each (λ row. combinations (values ++ row) (map (seen rows) after)) (rows_by_key rows joined.table.now)
+    ++ rest))
+    ≡ prefixed before (kept scope conditions (over_each (λ row. combinations (values ++ row) (map (seen rows) after))
+    (map (λ (e : Entry). e.1) (past None (table_rows rows joined.table.now.name))) ++ rest))
+begins_walk rows scope conditions before values joined after rest =
+    sym (ap (λ es. prefixed before
+    (kept scope conditions (over_each (λ row. combinations (values ++ row) (map (seen rows) after)) (map (λ (e : Entry). e.1) es) ++ rest)))
+    (past-None (table_rows rows joined.table.now.name)))
+
+-- the next one is gone over before those behind it
+pub goes_on : (rows : RowMap) (scope : Scope) (conditions : List Expr) (before : List (List Cell)) (bounds held : List Bound) (joined : Joined)
+    (after : List Joined) (last : Option (List Cell)) (key row : List Cell) (rest : List (List Cell)) → held ≡ bounds
+    → past last (table_rows rows joined.table.now.name) ≡ (key, row) ∷ past (Some key) (table_rows rows joined.table.now.name)
+    → prefixed before (kept scope conditions (over_each (λ r. combinations (values_of bounds ++ r) (map (seen rows) after))
+    (map (λ (e : Entry). e.1) (past last (table_rows rows joined.table.now.name))) ++ rest))
+    ≡ prefixed before (kept scope conditions (combinations (values_of held ++ row) (map (seen rows) after)
+    ++ (over_each (λ r. combinations (values_of bounds ++ r) (map (seen rows) after))
+    (map (λ (e : Entry). e.1) (past (Some key) (table_rows rows joined.table.now.name))) ++ rest)))
+goes_on rows scope conditions before bounds held joined after last key row rest same begins =
+    let behind = over_each (λ r. combinations (values_of bounds ++ r) (map (seen rows) after)) in
+    let entries = map (λ (e : Entry). e.1) (past (Some key) (table_rows rows joined.table.now.name)) in
+    ap (λ es. prefixed before (kept scope conditions (behind (map (λ (e : Entry). e.1) es) ++ rest))) begins
+    ∙ ap (λ cs. prefixed before (kept scope conditions cs)) (append_assoc (combinations (values_of bounds ++ row) (map (seen rows) after)) (behind entries) rest)
+    ∙ ap (λ bs. prefixed before (kept scope conditions (combinations (values_of bs ++ row) (map (seen rows) after) ++ (behind entries ++ rest)))) (sym same)
 
 -- an answer more behind those that are there
 pub prefixed_front : {A E : Type 0} (xs : List A) (x : A) (rest : Result (List A) E) → prefixed xs (front (Ok x) rest) ≡ prefixed (xs ++ x ∷ []) rest
@@ -77,13 +100,15 @@ seen_one : (rows : RowMap) (xs : List Joined) (j : Joined) → map (seen rows) (
 seen_one rows [] j = refl
 seen_one rows (x ∷ xs) j = ap (λ ys. seen rows x ∷ ys) (seen_one rows xs j)
 
-pub one_more : (rows : RowMap) (xs js : List Joined) (j : Joined) (o : Result Origin DmlFault) (rest : Result (List Origin) DmlFault) → js ≡ xs ++ j ∷ [] → o ≡ Ok (seen rows j) → prefixed (map (seen rows) xs) (front o rest) ≡ prefixed (map (seen rows) js) rest
+pub one_more : (rows : RowMap) (xs js : List Joined) (j : Joined) (o : Result Origin DmlFault) (rest : Result (List Origin) DmlFault) → js ≡ xs ++ j ∷ []
+    → o ≡ Ok (seen rows j) → prefixed (map (seen rows) xs) (front o rest) ≡ prefixed (map (seen rows) js) rest
 one_more rows xs js j o rest pushed is =
     ap (λ p. prefixed (map (seen rows) xs) (front p rest)) is ∙ prefixed_front (map (seen rows) xs) (seen rows j) rest
     ∙ ap (λ ys. prefixed ys rest) (sym (ap (map (seen rows)) pushed ∙ seen_one rows xs j))
 
 -- a row of a source fits its columns
-pub row_of_source : (rows : RowMap) (joined : Joined) (key row : List Cell) → IsJoined rows joined → rows_of_table rows joined.table.now.name key ≡ Some row → IsRowOf joined.scope row
+pub row_of_source : (rows : RowMap) (joined : Joined) (key row : List Cell) → IsJoined rows joined
+    → rows_of_table rows joined.table.now.name key ≡ Some row → IsRowOf joined.scope row
 row_of_source rows joined key row is held =
     subst (λ s. IsRowOf s row) (sym is.scope) (row_of is.alias joined.table.now.columns row (is.fits key row held).0)
 

@@ -1,2 +1,5 @@
 pub mod Combined
+pub mod Equated
+pub mod OtherRows
+pub mod Places
 pub mod Whole

@@ -17,7 +17,8 @@ use Rattle.sr_exec.specs.Edits.{prefixed}
 use Rattle.sr_exec.specs.Sequences.{followed}
 use Rattle.sr_exec.specs.Statements.{in_order}
 use Rattle.sr_exec.proofs.Fitted.{prefixed-none}
-use Rattle.sr_query.specs.Checks.{all_pass, is_good, is_good_condition, is_good_item, is_good_order, are_good_items, are_together, are_distinct, unknown_in_select}
+use Rattle.sr_query.specs.Checks.{all_pass, is_good, is_good_condition, is_good_item, is_good_order, are_good_items, are_together, are_distinct}
+use Rattle.sr_query.specs.Checks.{unknown_in_select}
 use Rattle.sr_query.specs.Combinations.{combinations, kept}
 use Rattle.sr_query.specs.Rows.{listed, AreItemsGood}
 use Rattle.sr_query.specs.Selecting.{selected, selected_from, bad_in_select}
@@ -27,8 +28,10 @@ use Rattle.sr_query.specs.declared.joined.Joined.{Joined}
 use Rattle.sr_query.specs.declared.joined.Combination.{Combination}
 
 -- all combinations, from none that is kept and no row that is chosen
-pub from_nothing : (scope : Scope) (conditions : List Expr) (before : List Combination) (bounds : List Bound) (origins : List Origin) (answer : Result (List (List Cell)) DmlFault) → before ≡ [] → bounds ≡ []
-    → prefixed (found before) (kept scope conditions (combinations (values_of bounds) origins ++ [])) ≡ answer → kept scope conditions (combinations [] origins) ≡ answer
+pub from_nothing : (scope : Scope) (conditions : List Expr) (before : List Combination) (bounds : List Bound) (origins : List Origin)
+    (answer : Result (List (List Cell)) DmlFault) → before ≡ [] → bounds ≡ []
+    → prefixed (found before) (kept scope conditions (combinations (values_of bounds) origins ++ [])) ≡ answer
+    → kept scope conditions (combinations [] origins) ≡ answer
 from_nothing scope conditions before bounds origins answer e f h =
     ap (kept scope conditions) (sym (append-nil (combinations [] origins))) ∙ sym (prefixed-none (kept scope conditions (combinations [] origins ++ [])))
     ∙ sym (ap (λ bs. prefixed (found bs) (kept scope conditions (combinations [] origins ++ []))) e)
@@ -39,12 +42,16 @@ scope_seen rows [] = refl
 scope_seen rows (j ∷ js) = ap (λ columns. j.scope ++ columns) (scope_seen rows js)
 
 -- a SELECT whose sources are there
-pub by_sources : (catalog : Lists) (rows : RowMap) (s : Select) (js found_js : List Joined) (scope : Scope) → found_js ≡ js → origins_of catalog rows (sources_of s) ≡ Ok (map (seen rows) js) → scope ≡ columns_left js
-    → selected catalog rows s ≡ in_order (unknown_in_select scope s) (bad_in_select scope s) (followed (kept scope (conditions_of s) (combinations [] (map (seen rows) found_js))) (listed scope s.items s.order))
+pub by_sources : (catalog : Lists) (rows : RowMap) (s : Select) (js found_js : List Joined) (scope : Scope) → found_js ≡ js
+    → origins_of catalog rows (sources_of s) ≡ Ok (map (seen rows) js) → scope ≡ columns_left js
+    → selected catalog rows s ≡ in_order (unknown_in_select scope s) (bad_in_select scope s)
+    (followed (kept scope (conditions_of s) (combinations [] (map (seen rows) found_js))) (listed scope s.items s.order))
 by_sources catalog rows s js found_js scope same origins e =
     ap (λ o. followed o (λ os. selected_from os s)) origins
-    ∙ ap (λ sc. in_order (unknown_in_select sc s) (bad_in_select sc s) (followed (kept sc (conditions_of s) (combinations [] (map (seen rows) js))) (listed sc s.items s.order))) (scope_seen rows js ∙ sym e)
-    ∙ ap (λ ls. in_order (unknown_in_select scope s) (bad_in_select scope s) (followed (kept scope (conditions_of s) (combinations [] (map (seen rows) ls))) (listed scope s.items s.order))) (sym same)
+    ∙ ap (λ sc. in_order (unknown_in_select sc s) (bad_in_select sc s) (followed (kept sc (conditions_of s) (combinations [] (map (seen rows) js)))
+    (listed sc s.items s.order))) (scope_seen rows js ∙ sym e)
+    ∙ ap (λ ls. in_order (unknown_in_select scope s) (bad_in_select scope s)
+    (followed (kept scope (conditions_of s) (combinations [] (map (seen rows) ls))) (listed scope s.items s.order))) (sym same)
 
 left_true : (a b : Bool) → (a && b) ≡ true → IsTrue a
 left_true true b e = refl
@@ -57,7 +64,8 @@ right_true false b e = cc
 -- of a SELECT with which nothing is wrong, the conditions and the items are right
 pub good_conditions : (scope : Scope) (s : Select) → is_good scope s ≡ true → IsTrue (all_pass (is_good_condition scope) (conditions_of s))
 good_conditions scope s e =
-    left_true _ (all_pass (is_good_order scope) s.order) (right_true (are_good_items scope s.items s.joins) _ (right_true (are_distinct (map alias_of (sources_of s))) _ e))
+    left_true _ (all_pass (is_good_order scope) s.order) (right_true (are_good_items scope s.items s.joins) _
+    (right_true (are_distinct (map alias_of (sources_of s))) _ e))
 
 items_good : (scope : Scope) (items : Items) (joins : List Join) → IsTrue (are_good_items scope items joins) → AreItemsGood scope items
 items_good scope All joins h = tt

@@ -44,7 +44,8 @@ unknown_in_order scope o = no_kind o.column (kind_of scope o.table o.column)
 
 -- the leftmost unknown column: of the items, the conditions, ORDER BY
 abbrev pub unknown_in_select : Scope → Select → Option (List ℕ)
-unknown_in_select scope s = or_else (unknown_in_items scope s.items) (or_else (first_in (unknown_in scope) (conditions_of s)) (first_in (unknown_in_order scope) s.order))
+unknown_in_select scope s =
+    or_else (unknown_in_items scope s.items) (or_else (first_in (unknown_in scope) (conditions_of s)) (first_in (unknown_in_order scope) s.order))
 
 -- whether a reference means two of these columns. No table has a column twice, so they are of two sources
 abbrev pub means_two : Scope → Option (List ℕ) → List ℕ → Bool
@@ -115,4 +116,5 @@ are_distinct (name ∷ names) = not (is_among name names) && are_distinct names
 -- whether nothing of this is wrong
 abbrev pub is_good : Scope → Select → Bool
 is_good scope s =
-    are_distinct (map alias_of (sources_of s)) && (are_good_items scope s.items s.joins && (all_pass (is_good_condition scope) (conditions_of s) && all_pass (is_good_order scope) s.order))
+    are_distinct (map alias_of (sources_of s))
+    && (are_good_items scope s.items s.joins && (all_pass (is_good_condition scope) (conditions_of s) && all_pass (is_good_order scope) s.order))

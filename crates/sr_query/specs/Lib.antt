@@ -1,5 +1,6 @@
 pub mod Checks
 pub mod Combinations
+pub mod Lookups
 pub mod Orders
 pub mod Rows
 pub mod Selecting

@@ -1,5 +1,6 @@
 -- The rows that a SELECT answers: the items of each combination, or the aggregates over all of them.
-use Rattle.std.specs.Prelude.{ℕ, ◌*◌, ◌^◌, ◌+ℤ◌, ◌≤ℤ◌, ℤ, pos, neg_ℤ, Bool, true, false, cond, List, [], ◌∷◌, length, Option, Some, None, Result, Ok, Err, IsTrue}
+use Rattle.std.specs.Prelude.{ℕ, ◌*◌, ◌^◌, ◌+ℤ◌, ◌≤ℤ◌, ℤ, pos, neg_ℤ, Bool, true, false, cond, List, [], ◌∷◌, length, Option, Some, None, Result, Ok}
+use Rattle.std.specs.Prelude.{Err, IsTrue}
 use Rattle.std.specs.List.{list_any}
 use Rattle.std.specs.Ordering.{is_lt}
 use Rattle.sr_base.specs.declared.value.Value.{Value as Cell}

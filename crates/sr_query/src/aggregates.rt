@@ -6,7 +6,8 @@ ghost use Rattle.sr_eval.specs.Uses.{gives_value};
 ghost use Rattle.sr_exec.specs.Conditions.{Answers};
 ghost use Rattle.sr_exec.specs.Sequences.{each, first_in};
 ghost use Rattle.sr_query.specs.Checks.{all_pass, is_good_item, unknown_in_order};
-ghost use Rattle.sr_query.specs.Rows.{value_in, aggregate, listed, AreItemsGood, as_big, as_sum, sum_from, plus, number_in, is_better, best_from, is_less, is_greater, IsBounded};
+ghost use Rattle.sr_query.specs.Rows.{value_in, aggregate, listed, AreItemsGood, as_big, as_sum, sum_from, plus, number_in, is_better, best_from};
+ghost use Rattle.sr_query.specs.Rows.{is_less, is_greater, IsBounded};
 ghost use Rattle.sr_query.specs.Walks.{AreCombinations, found};
 
 use crate::checks::has_aggregate;
@@ -30,7 +31,8 @@ pub(crate) fn listed(
     requires whole { AreCombinations scope.now kept.now }
     requires good { AreItemsGood scope.now items.now }
     requires known { first_in (unknown_in_order scope.now) order.now ≡ None }
-    ensures answer { MatchResult result (λ rows. listed scope.now items.now order.now (found kept.now) ≡ Ok rows.items) (λ fault. fault ≢ DmlFault.Memory → listed scope.now items.now order.now (found kept.now) ≡ Err fault) }
+    ensures answer { MatchResult result (λ rows. listed scope.now items.now order.now (found kept.now) ≡ Ok rows.items)
+        (λ fault. fault ≢ DmlFault.Memory → listed scope.now items.now order.now (found kept.now) ≡ Err fault) }
 {
     let Items::Each(list) = items else {
         return listed_rows(alloc, scope, items, order, kept);
@@ -103,7 +105,8 @@ fn values_over(
 ) -> Result<Vec<Value>, DmlFault>
     requires whole { AreCombinations scope.now kept.now }
     requires typed { IsTrue (gives_value (class_in scope.now (term_of expr.now))) }
-    ensures answer { MatchResult result (λ values. each (value_in scope.now expr.now) (found kept.now) ≡ Ok values.items) (λ fault. fault ≢ DmlFault.Memory → each (value_in scope.now expr.now) (found kept.now) ≡ Err fault) }
+    ensures answer { MatchResult result (λ values. each (value_in scope.now expr.now) (found kept.now) ≡ Ok values.items)
+        (λ fault. fault ≢ DmlFault.Memory → each (value_in scope.now expr.now) (found kept.now) ≡ Err fault) }
 {
     let mut values = Vec::new(alloc);
     'kept: for combination in kept {

@@ -1,7 +1,8 @@
 ghost use Rattle.std.specs.Prelude.{◌≡◌, ◌++◌, map, IfOk};
 ghost use Rattle.std.specs.List.{list_any};
 ghost use Rattle.sr_ast.specs.declared.query.Item.TheVariants.{Value};
-ghost use Rattle.sr_query.specs.Checks.{all_pass, is_good_item, are_good_items, is_good_condition, is_good_order, is_aggregate, is_single, are_together, is_good};
+ghost use Rattle.sr_query.specs.Checks.{all_pass, is_good_item, are_good_items, is_good_condition, is_good_order, is_aggregate, is_single};
+ghost use Rattle.sr_query.specs.Checks.{are_together, is_good};
 ghost use Rattle.sr_query.specs.Sources.{conditions_of};
 
 use crate::classes::{class_in, gives_number, gives_truth, gives_value};

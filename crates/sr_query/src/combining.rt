@@ -5,23 +5,26 @@ ghost use Rattle.sr_eval.specs.Meanings.{meaning};
 ghost use Rattle.sr_exec.specs.Conditions.{Answers};
 ghost use Rattle.sr_exec.specs.Statements.{tested};
 ghost use Rattle.sr_query.specs.Checks.{all_pass, is_good_condition};
-ghost use Rattle.sr_query.specs.Combinations.{combinations, meets, Keeps};
-ghost use Rattle.sr_query.specs.Sources.{conditions_of};
-ghost use Rattle.sr_query.specs.Walks.{AreJoined, AreCombinations, columns_left, found, seen};
+ghost use Rattle.sr_query.specs.Combinations.{combinations, meets, over_each, Keeps};
+ghost use Rattle.sr_query.specs.Lookups.{over_one};
+ghost use Rattle.sr_query.specs.Sources.{conditions_of, rows_by_key};
+ghost use Rattle.sr_query.specs.Walks.{IsJoined, AreJoined, AreCombinations, columns_left, found, seen};
+ghost use Rattle.sr_rows.specs.Marks.{rows_of_table};
 
+use crate::fixing::fixed_key;
 use crate::joined::{Combination, Joined};
 use crate::lists::push;
 use sr_ast::{Expr, Scope, Select};
-use sr_base::Row;
+use sr_base::{Key, Row};
 use sr_catalog::DmlFault;
-use sr_eval::{Bound, EvalFault, holds_over};
+use sr_eval::{Bound, EvalFault, and_holds_where_both_hold, holds_over};
 use sr_rows::Rows;
 use std::alloc::Global;
 
 /// Keeps those of the combinations that begin with this one and meet the conditions.
 ///
-/// It goes over the rows of the first source left, and behind each over those of the others. So it takes the product of the numbers of
-/// rows, each time the conditions, up to the first that is not true, and logarithmic time.
+/// Where the conditions fix the key of the first source left, its row is looked up, in logarithmic time: its other rows stand in no
+/// combination that meets them. Else it goes over all rows of that source. Behind each row it does so for the sources behind.
 #[cycle(walking)]
 pub(crate) fn walk<'a>(
     alloc: Global,
@@ -39,11 +42,95 @@ pub(crate) fn walk<'a>(
     requires whole { AreCombinations scope.now kept.old.items }
     ensures same { OnOk result (combination.new.items ≡ combination.old.items) }
     ensures whole { OnOk result (AreCombinations scope.now kept.new.items) }
-    ensures kept { Keeps result scope.now (conditions_of select.now) (found kept.old.items) (combinations (values_of combination.old.items) (map (seen rows.now.rows) left.now)) (found kept.new.items) }
+    ensures kept { Keeps result scope.now (conditions_of select.now) (found kept.old.items)
+        (combinations (values_of combination.old.items) (map (seen rows.now.rows) left.now)) (found kept.new.items) }
 {
     let Some((joined, after)) = left.split_first() else {
         return keep(alloc, select, scope, combination.as_slice(), kept);
     };
+    and_holds_where_both_hold();
+    match fixed_key(alloc, select, combination.as_slice(), joined)? {
+        Some(key) => walk_at(
+            alloc,
+            rows,
+            select,
+            scope,
+            joined,
+            &key,
+            after,
+            combination,
+            kept,
+        ),
+        None => walk_along(alloc, rows, select, scope, joined, after, combination, kept),
+    }
+}
+
+/// Keeps those of the combinations that begin with this one and the row of the next source under a key, if it is there.
+#[cycle(walking)]
+fn walk_at<'a>(
+    alloc: Global,
+    rows: &'a Rows,
+    select: &Select,
+    scope: &Scope,
+    joined: &'a Joined<'a>,
+    key: &Key,
+    after: &'a [Joined<'a>],
+    combination: &mut Vec<Bound<'a>>,
+    kept: &mut Vec<Combination<'a>>,
+) -> Result<(), DmlFault>
+    requires scope { columns_of combination.old.items ++ (joined.now.scope ++ columns_left after.now) ≡ scope.now }
+    requires fit { AreRows combination.old.items }
+    requires source { IsJoined rows.now.rows joined.now }
+    requires joined { AreJoined rows.now.rows after.now }
+    requires good { IsTrue (all_pass (is_good_condition scope.now) (conditions_of select.now)) }
+    requires whole { AreCombinations scope.now kept.old.items }
+    ensures same { OnOk result (combination.new.items ≡ combination.old.items) }
+    ensures whole { OnOk result (AreCombinations scope.now kept.new.items) }
+    ensures kept { Keeps result scope.now (conditions_of select.now) (found kept.old.items)
+        (over_one (λ row. combinations (values_of combination.old.items ++ row) (map (seen rows.now.rows) after.now))
+        (rows_of_table rows.now.rows joined.now.table.now.name key.now)) (found kept.new.items) }
+{
+    let Some(row) = rows.get(&joined.table.name, key) else {
+        return Ok(());
+    };
+    walk_row(
+        alloc,
+        rows,
+        select,
+        scope,
+        joined,
+        row,
+        after,
+        combination,
+        kept,
+    )
+}
+
+/// Keeps those of the combinations that begin with this one and a row of the next source: it goes over each of its rows, and comes to one
+/// in logarithmic time.
+#[cycle(walking)]
+fn walk_along<'a>(
+    alloc: Global,
+    rows: &'a Rows,
+    select: &Select,
+    scope: &Scope,
+    joined: &'a Joined<'a>,
+    after: &'a [Joined<'a>],
+    combination: &mut Vec<Bound<'a>>,
+    kept: &mut Vec<Combination<'a>>,
+) -> Result<(), DmlFault>
+    requires scope { columns_of combination.old.items ++ (joined.now.scope ++ columns_left after.now) ≡ scope.now }
+    requires fit { AreRows combination.old.items }
+    requires source { IsJoined rows.now.rows joined.now }
+    requires joined { AreJoined rows.now.rows after.now }
+    requires good { IsTrue (all_pass (is_good_condition scope.now) (conditions_of select.now)) }
+    requires whole { AreCombinations scope.now kept.old.items }
+    ensures same { OnOk result (combination.new.items ≡ combination.old.items) }
+    ensures whole { OnOk result (AreCombinations scope.now kept.new.items) }
+    ensures kept { Keeps result scope.now (conditions_of select.now) (found kept.old.items)
+        (over_each (λ row. combinations (values_of combination.old.items ++ row) (map (seen rows.now.rows) after.now))
+        (rows_by_key rows.now.rows joined.now.table.now)) (found kept.new.items) }
+{
     let mut last = None;
     'rows: while let Some((key, row)) = rows.next(&joined.table.name, last) {
         walk_row(
@@ -84,7 +171,8 @@ fn walk_row<'a>(
     requires whole { AreCombinations scope.now kept.old.items }
     ensures same { OnOk result (combination.new.items ≡ combination.old.items) }
     ensures whole { OnOk result (AreCombinations scope.now kept.new.items) }
-    ensures kept { Keeps result scope.now (conditions_of select.now) (found kept.old.items) (combinations (values_of combination.old.items ++ row.now) (map (seen rows.now.rows) after.now)) (found kept.new.items) }
+    ensures kept { Keeps result scope.now (conditions_of select.now) (found kept.old.items)
+        (combinations (values_of combination.old.items ++ row.now) (map (seen rows.now.rows) after.now)) (found kept.new.items) }
 {
     let depth = combination.len();
     let bound = Bound {

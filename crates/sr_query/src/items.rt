@@ -1,7 +1,7 @@
 ghost use Rattle.std.specs.Prelude.{◌≡◌, ◌≢◌, ◌++◌, [], None, Ok, Err, IsTrue, IfOk, OnOk, MatchResult};
 ghost use Rattle.sr_ast.specs.Exprs.{term_of};
 ghost use Rattle.sr_ast.specs.Classes.{class_in};
-ghost use Rattle.sr_eval.specs.Bounds.{columns_of, values_of};
+ghost use Rattle.sr_eval.specs.Bounds.{AreRows, columns_of, values_of};
 ghost use Rattle.sr_eval.specs.Meanings.{value_at};
 ghost use Rattle.sr_eval.specs.Uses.{gives_value};
 ghost use Rattle.sr_exec.specs.Conditions.{Answers};
@@ -14,11 +14,12 @@ ghost use Rattle.sr_query.specs.Walks.{IsCombination, AreCombinations, found};
 use crate::joined::Combination;
 use crate::lists::push;
 use crate::rank::{Listed, Rank};
+use crate::referring::value_among;
 use sr_ast::{Expr, Item, Items, OrderBy, Scope};
 use sr_base::{Copied, NoMemory, Row, Seq, Value};
 use sr_catalog::DmlFault;
 use sr_eval::{Bound, EvalFault, eval_over};
-use std::alloc::{AllocError, Global};
+use std::alloc::Global;
 
 /// The rows of combinations, with the ranks of each.
 pub(crate) fn listed_rows(
@@ -31,7 +32,8 @@ pub(crate) fn listed_rows(
     requires whole { AreCombinations scope.now kept.now }
     requires good { AreItemsGood scope.now items.now }
     requires known { first_in (unknown_in_order scope.now) order.now ≡ None }
-    ensures answer { MatchResult result (λ rows. each (listed_row scope.now items.now order.now) (found kept.now) ≡ Ok rows.items) (λ fault. fault ≢ DmlFault.Memory → each (listed_row scope.now items.now order.now) (found kept.now) ≡ Err fault) }
+    ensures answer { MatchResult result (λ rows. each (listed_row scope.now items.now order.now) (found kept.now) ≡ Ok rows.items)
+        (λ fault. fault ≢ DmlFault.Memory → each (listed_row scope.now items.now order.now) (found kept.now) ≡ Err fault) }
 {
     let mut rows = Vec::new(alloc);
     'kept: for combination in kept {
@@ -173,28 +175,21 @@ fn ranks_of(
     let mut ranks = Vec::new(alloc);
     let mut left = order;
     'order: while let Some((by, rest)) = left.split_first() {
-        let value = column_value(alloc, scope, by, combination)?;
+        let value = column_value(alloc, by, combination.rows.as_slice())?;
         push(&mut ranks, Rank::new(by.descending, value))?;
         left = rest;
     }
     Ok(Seq::from_vec(ranks))
 }
 
-/// The value of a column of ORDER BY.
-fn column_value(
-    alloc: Global,
-    scope: &Scope,
-    by: &OrderBy,
-    combination: &Combination,
-) -> Result<Value, NoMemory>
-    requires whole { IsCombination scope.now combination.now }
-    requires known { unknown_in_order scope.now by.now ≡ None }
-    ensures value { IfOk result (λ value. value ≡ value_at scope.now (values_of combination.now.rows.items) by.now.table by.now.column) }
+/// The value of a column of ORDER BY, which is looked for by its name.
+#[tactic(auto, using(crate::proofs::Places::value_rules))]
+fn column_value(alloc: Global, by: &OrderBy, combination: &[Bound]) -> Result<Value, NoMemory>
+    requires fit { AreRows combination.now }
+    ensures value { IfOk result (λ value. value ≡ value_at (columns_of combination.now) (values_of combination.now) by.now.table by.now.column) }
 {
-    let column = Expr::Column(by.table.copy(alloc)?, by.column.copy(alloc)?);
-    match eval_over(alloc, &column, combination.rows.as_slice()) {
-        Ok(value) => Ok(value),
-        Err(EvalFault::Overflow) => Ok(Value::Null),
-        Err(EvalFault::Memory) => Err(AllocError),
+    match value_among(combination, &by.table, &by.column) {
+        Some(value) => value.copy(alloc),
+        None => Ok(Value::Null),
     }
 }

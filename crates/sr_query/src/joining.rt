@@ -22,7 +22,8 @@ pub(crate) fn joined_sources<'a>(
 ) -> Result<Vec<Joined<'a>>, DmlFault>
     requires rows { RowsFit catalog.now rows.now.rows }
     ensures fit { IfOk result (λ found. AreJoined rows.now.rows found.items) }
-    ensures answer { MatchResult result (λ found. origins_of catalog.now rows.now.rows (sources_of select.now) ≡ Ok (map (seen rows.now.rows) found.items)) (λ fault. fault ≢ DmlFault.Memory → origins_of catalog.now rows.now.rows (sources_of select.now) ≡ Err fault) }
+    ensures answer { MatchResult result (λ found. origins_of catalog.now rows.now.rows (sources_of select.now) ≡ Ok (map (seen rows.now.rows) found.items))
+        (λ fault. fault ≢ DmlFault.Memory → origins_of catalog.now rows.now.rows (sources_of select.now) ≡ Err fault) }
 {
     let mut found = Vec::new(alloc);
     push(&mut found, joined(alloc, catalog, rows, &select.source)?)?;
@@ -43,7 +44,8 @@ fn joined<'a>(
 ) -> Result<Joined<'a>, DmlFault>
     requires rows { RowsFit catalog.now _rows.now.rows }
     ensures fit { IfOk result (λ joined. IsJoined _rows.now.rows joined) }
-    ensures answer { MatchResult result (λ joined. as_origin _rows.now.rows source.now (table_of catalog.now source.now) ≡ Ok (seen _rows.now.rows joined)) (λ fault. fault ≢ DmlFault.Memory → as_origin _rows.now.rows source.now (table_of catalog.now source.now) ≡ Err fault) }
+    ensures answer { MatchResult result (λ joined. as_origin _rows.now.rows source.now (table_of catalog.now source.now) ≡ Ok (seen _rows.now.rows joined))
+        (λ fault. fault ≢ DmlFault.Memory → as_origin _rows.now.rows source.now (table_of catalog.now source.now) ≡ Err fault) }
 {
     let Some(table) = catalog.table(&source.table) else {
         return Err(DmlFault::NoTable {

@@ -8,6 +8,7 @@ mod aggregates;
 mod checks;
 mod classes;
 mod combining;
+mod fixing;
 mod items;
 mod joined;
 mod joining;
@@ -15,6 +16,7 @@ mod lists;
 mod names;
 mod ordering;
 mod rank;
+mod referring;
 mod selecting;
 mod unknown;
 

@@ -9,7 +9,8 @@ use std::alloc::Global;
 
 /// The rows in the order of their ranks; of equal ranks the earlier one stays the earlier one. It takes n log n comparisons.
 pub(crate) fn ordered(alloc: Global, listed: Vec<Listed>) -> Result<Vec<Row>, NoMemory>
-    ensures ordered { IfOk result (λ rows. (ordered : List ListedRow) × (IsOrdered listed.items ordered × (rows.items ≡ map (λ (l : ListedRow). l.row) ordered))) }
+    ensures ordered { IfOk result
+        (λ rows. (ordered : List ListedRow) × (IsOrdered listed.items ordered × (rows.items ≡ map (λ (l : ListedRow). l.row) ordered))) }
 {
     let mut left = listed;
     left.sort()?;

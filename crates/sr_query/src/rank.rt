@@ -75,9 +75,10 @@ impl Ord for Rank {
     ghost matches_eq = { Prim.search (comparing, rules) };
 
     fn cmp(&self, other: &Rank) -> Ordering {
-        self.rising
-            .cmp(&other.rising)
-            .then(other.falling.cmp(&self.falling))
+        match self.rising.cmp(&other.rising) {
+            Ordering::Equal => other.falling.cmp(&self.falling),
+            order => order,
+        }
     }
 }
 

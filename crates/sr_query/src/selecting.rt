@@ -36,7 +36,8 @@ pub fn select(
     stmt: &Select,
 ) -> Result<Vec<Row>, DmlFault>
     requires rows { RowsFit catalog.now rows.now.rows }
-    ensures answer { MatchResult result (λ found. Answered (selected catalog.now rows.now.rows stmt.now) found.items) (λ fault. fault ≢ DmlFault.Memory → selected catalog.now rows.now.rows stmt.now ≡ Err fault) }
+    ensures answer { MatchResult result (λ found. Answered (selected catalog.now rows.now.rows stmt.now) found.items)
+        (λ fault. fault ≢ DmlFault.Memory → selected catalog.now rows.now.rows stmt.now ≡ Err fault) }
 {
     let listed = selected(alloc, catalog, rows, stmt)?;
     Ok(ordered(alloc, listed)?)
@@ -50,7 +51,8 @@ fn selected(
     stmt: &Select,
 ) -> Result<Vec<Listed>, DmlFault>
     requires rows { RowsFit catalog.now rows.now.rows }
-    ensures answer { MatchResult result (λ listed. selected catalog.now rows.now.rows stmt.now ≡ Ok listed.items) (λ fault. fault ≢ DmlFault.Memory → selected catalog.now rows.now.rows stmt.now ≡ Err fault) }
+    ensures answer { MatchResult result (λ listed. selected catalog.now rows.now.rows stmt.now ≡ Ok listed.items)
+        (λ fault. fault ≢ DmlFault.Memory → selected catalog.now rows.now.rows stmt.now ≡ Err fault) }
 {
     let joined = joined_sources(alloc, catalog, rows, stmt)?;
     let scope = scope_of(alloc, joined.as_slice())?;
@@ -84,7 +86,9 @@ fn kept<'a>(
     requires joined { AreJoined rows.now.rows joined.now }
     requires good { IsTrue (all_pass (is_good_condition scope.now) (conditions_of select.now)) }
     ensures whole { IfOk result (λ kept. AreCombinations scope.now kept.items) }
-    ensures answer { MatchResult result (λ found_now. kept scope.now (conditions_of select.now) (combinations [] (map (seen rows.now.rows) joined.now)) ≡ Ok (found found_now.items)) (λ fault. fault ≢ DmlFault.Memory → kept scope.now (conditions_of select.now) (combinations [] (map (seen rows.now.rows) joined.now)) ≡ Err fault) }
+    ensures answer { MatchResult result
+        (λ found_now. kept scope.now (conditions_of select.now) (combinations [] (map (seen rows.now.rows) joined.now)) ≡ Ok (found found_now.items))
+        (λ fault. fault ≢ DmlFault.Memory → kept scope.now (conditions_of select.now) (combinations [] (map (seen rows.now.rows) joined.now)) ≡ Err fault) }
 {
     let mut combination = Vec::new(alloc);
     let mut kept = Vec::new(alloc);

@@ -5,23 +5,34 @@ use Rattle.sr_eval.specs.Bounds.{values_of}
 use Rattle.sr_rows.specs.Walks.{Entry, table_rows, past}
 use Rattle.sr_exec.specs.Edits.{prefixed}
 use Rattle.sr_query.specs.Combinations.{combinations, kept, over_each}
-use Rattle.sr_query.specs.Sources.{conditions_of}
+use Rattle.sr_query.specs.Sources.{conditions_of, rows_by_key}
 use Rattle.sr_query.specs.Walks.{AreCombinations, found, seen}
 use Rattle.sr_query.proofs.combining.+walking.Given as goal
 
 abbrev pub decreases-walk : goal.decreases-walk
-decreases-walk l = 2 * length l.left.now
+decreases-walk l = 3 * length l.left.now
+
+abbrev pub decreases-walk_at : goal.decreases-walk_at
+decreases-walk_at l = 3 * length l.after.now + 2
+
+abbrev pub decreases-walk_along : goal.decreases-walk_along
+decreases-walk_along l = 3 * length l.after.now + 2
 
 abbrev pub decreases-walk_row : goal.decreases-walk_row
-decreases-walk_row l = 2 * length l.after.now + 1
+decreases-walk_row l = 3 * length l.after.now + 1
 
-abbrev pub invariant-walk-rows : goal.invariant-walk-rows
-invariant-walk-rows l = record {
+abbrev pub invariant-walk_along-rows : goal.invariant-walk_along-rows
+invariant-walk_along-rows l = record {
   same : l.combination.items ≡ l.fn.combination.items;
   whole : AreCombinations l.scope l.kept.items;
-  kept : (rest : List (List Value)) → prefixed (found l.fn.kept.items) (kept l.scope (conditions_of l.select) (combinations (values_of l.fn.combination.items) (map (seen l.rows.rows) l.left) ++ rest))
-      ≡ prefixed (found l.kept.items) (kept l.scope (conditions_of l.select) (over_each (λ row. combinations (values_of l.fn.combination.items ++ row) (map (seen l.rows.rows) l.after)) (map (λ (e : Entry). e.1) (past (option_copied l.last) (table_rows l.rows.rows l.joined.table.now.name))) ++ rest));
+  kept : (rest : List (List Value))
+      → prefixed (found l.fn.kept.items) (kept l.scope (conditions_of l.select)
+      (over_each (λ row. combinations (values_of l.fn.combination.items ++ row) (map (seen l.rows.rows) l.after))
+      (rows_by_key l.rows.rows l.joined.table.now) ++ rest))
+      ≡ prefixed (found l.kept.items) (kept l.scope (conditions_of l.select)
+      (over_each (λ row. combinations (values_of l.fn.combination.items ++ row) (map (seen l.rows.rows) l.after))
+      (map (λ (e : Entry). e.1) (past (option_copied l.last) (table_rows l.rows.rows l.joined.table.now.name))) ++ rest));
 }
 
-abbrev pub decreases-walk-rows : goal.decreases-walk-rows
-decreases-walk-rows l = length (past (option_copied l.last) (table_rows l.rows.rows l.joined.table.now.name))
+abbrev pub decreases-walk_along-rows : goal.decreases-walk_along-rows
+decreases-walk_along-rows l = length (past (option_copied l.last) (table_rows l.rows.rows l.joined.table.now.name))

@@ -8,7 +8,8 @@ use Rattle.sr_query.proofs.combining.meets.Given as goal
 
 abbrev pub invariant-joins : goal.invariant-joins
 invariant-joins l = record {
-  answer : meets l.scope (map (λ (j : Join). j.condition) l.left ++ where_of l.select.condition) (values_of l.combination) ≡ meets l.scope (conditions_of l.select) (values_of l.combination);
+  answer : meets l.scope (map (λ (j : Join). j.condition) l.left ++ where_of l.select.condition) (values_of l.combination)
+      ≡ meets l.scope (conditions_of l.select) (values_of l.combination);
   good : IsTrue (all_pass (is_good_condition l.scope) (map (λ (j : Join). j.condition) l.left ++ where_of l.select.condition));
 }
 

@@ -8,7 +8,8 @@ use Rattle.sr_query.proofs.items.item_values.Given as goal
 
 abbrev pub invariant-items : goal.invariant-items
 invariant-items l = record {
-  answer : prefixed l.values.items (each (item_value l.scope (values_of l.combination.rows.items)) l.left) ≡ each (item_value l.scope (values_of l.combination.rows.items)) l.items;
+  answer : prefixed l.values.items (each (item_value l.scope (values_of l.combination.rows.items)) l.left)
+      ≡ each (item_value l.scope (values_of l.combination.rows.items)) l.items;
   good : IsTrue (all_pass (is_good_item l.scope) l.left);
 }
 

@@ -7,6 +7,7 @@ use Rattle.sr_query.proofs.items.listed_rows.Given as goal
 
 abbrev pub invariant-kept : goal.invariant-kept
 invariant-kept l = record {
-  answer : prefixed l.rows.items (each (listed_row l.scope l.items l.order) (found (drop l.combination-index l.kept))) ≡ each (listed_row l.scope l.items l.order) (found l.kept);
+  answer : prefixed l.rows.items (each (listed_row l.scope l.items l.order) (found (drop l.combination-index l.kept)))
+      ≡ each (listed_row l.scope l.items l.order) (found l.kept);
   whole : AreCombinations l.scope (drop l.combination-index l.kept);
 }

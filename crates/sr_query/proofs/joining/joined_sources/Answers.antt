@@ -13,5 +13,6 @@ joins-preserved c =
     record {
       fit = subst (AreJoined rows) (sym c.in_ok-push-2.ensures.ok) (joined_one rows c.joins.found.items _ c.joins.invariant.fit c.in_ok-joined-2.ensures.fit);
       answer = sym (one_more rows c.joins.found.items _ _ _ _ c.in_ok-push-2.ensures.ok c.in_ok-joined-2.ensures.answer)
-          ∙ ap (λ (ls : List Join). prefixed (map (seen rows) c.joins.found.items) (origins_of c.args.catalog.now rows (map (λ (j : Join). j.source) ls))) (sym begins) ∙ c.joins.invariant.answer;
+          ∙ ap (λ (ls : List Join). prefixed (map (seen rows) c.joins.found.items) (origins_of c.args.catalog.now rows (map (λ (j : Join). j.source) ls)))
+          (sym begins) ∙ c.joins.invariant.answer;
     }

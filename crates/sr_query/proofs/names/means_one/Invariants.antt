@@ -6,7 +6,8 @@ use Rattle.sr_ast.specs.Classes.{is_meant}
 use Rattle.sr_query.proofs.names.means_one.Given as goal
 
 abbrev pub invariant-columns : goal.invariant-columns
-invariant-columns l = list_any (λ (d : Option (List ℕ) × List ℕ × Kind). is_meant d.0 d.1 l.table l.name) l.left ≡ list_any (λ (d : Option (List ℕ) × List ℕ × Kind). is_meant d.0 d.1 l.table l.name) l.columns
+invariant-columns l = list_any (λ (d : Option (List ℕ) × List ℕ × Kind). is_meant d.0 d.1 l.table l.name) l.left
+    ≡ list_any (λ (d : Option (List ℕ) × List ℕ × Kind). is_meant d.0 d.1 l.table l.name) l.columns
 
 abbrev pub decreases-columns : goal.decreases-columns
 decreases-columns l = length l.left

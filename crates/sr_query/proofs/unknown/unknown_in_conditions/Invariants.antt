@@ -6,7 +6,8 @@ use Rattle.sr_exec.specs.Checks.{unknown_in}
 use Rattle.sr_query.proofs.unknown.unknown_in_conditions.Given as goal
 
 abbrev pub invariant-joins : goal.invariant-joins
-invariant-joins l = first_in (unknown_in l.scope) (map (λ (j : Join). j.condition) l.left ++ where_of l.select.condition) ≡ first_in (unknown_in l.scope) (conditions_of l.select)
+invariant-joins l = first_in (unknown_in l.scope) (map (λ (j : Join). j.condition) l.left ++ where_of l.select.condition)
+    ≡ first_in (unknown_in l.scope) (conditions_of l.select)
 
 abbrev pub decreases-joins : goal.decreases-joins
 decreases-joins l = length l.left

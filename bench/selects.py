@@ -1,0 +1,126 @@
+"""SELECTs on tables of up to 1,000,000 rows in memory, beside SQLite, and the entries of a log read and applied.
+
+    python3 bench/selects.py crates/scriptbench/out/scriptbench [--folder F] [--times N] [--small]
+
+A line for each kind of SELECT, with `sqlite3` on the path: how many times as long SQLite takes in memory, on the same script in the same run, so that
+more is better. The time of each is that of a script beyond that of the same script without the SELECTs, so that reading the SELECTs is part of it and
+loading the tables is not. SQLite writes its rows to /dev/null, ours counts them.
+
+The last line is of a log: so many records, each a transaction that inserts one row, read as entries and applied to rows, beyond going over
+the records alone.
+"""
+
+import shutil
+import struct
+
+import common
+
+COMMIT = b"COMMIT;\n"
+# how many rows an INSERT has
+TOGETHER = 1_000
+
+
+def rows_of(table, rows):
+    """INSERTs of the rows into a table."""
+    script = [COMMIT]
+    for at in range(0, len(rows), TOGETHER):
+        script.append(b"INSERT INTO %s VALUES %s;\n" % (table, b", ".join(b"(%d, %d)" % row for row in rows[at : at + TOGETHER])))
+    return b"".join([*script, COMMIT])
+
+
+def mixed(key, rows):
+    """A number for a key, below the number of rows and another one for each: as if drawn."""
+    return (key * 7_919 + 12_345) % rows
+
+
+def pairs(table, rows):
+    """A table of keys and mixed numbers."""
+    return b"CREATE TABLE %s (id INTEGER PRIMARY KEY, n INTEGER);\n" % table + rows_of(table, [(key, mixed(key, rows)) for key in range(rows)])
+
+
+def points(rows, count):
+    """SELECTs of one row by its key, the keys mixed."""
+    return b"".join(b"SELECT n FROM p WHERE id = %d;\n" % mixed(at, rows) for at in range(0, rows, rows // count))
+
+
+def measurements(rows):
+    """What is measured on tables of so many rows at most: a name, the script that loads the tables, and the SELECTs."""
+    few = rows // 10
+    p = pairs(b"p", rows)
+    both = pairs(b"a", few) + pairs(b"b", few)
+    return [
+        (f"{few:,} SELECTs of one row by its key, of {rows:,} rows", p, points(rows, few)),
+        (f"join on the key of the second table, {few:,} rows by {few:,}", both, b"SELECT a.id, b.n FROM a JOIN b ON b.id = a.n;\n"),
+        (f"all rows, {rows:,} of them", p, b"SELECT id, n FROM p;\n"),
+        (f"all rows with ORDER BY, {rows:,} of them", p, b"SELECT id, n FROM p ORDER BY n;\n"),
+        (f"all rows with ORDER BY .. DESC, {rows:,} of them", p, b"SELECT id, n FROM p ORDER BY n DESC, id;\n"),
+        (f"a walk that keeps none, {rows:,} rows", p, b"SELECT id FROM p WHERE n < 0;\n"),
+        (f"aggregates over {rows:,} rows", p, b"SELECT COUNT(*), SUM(n), MIN(n), MAX(n) FROM p;\n"),
+    ]
+
+
+def written(path, script):
+    with open(path, "wb") as file:
+        file.write(script)
+
+
+def beyond(words, folder, runner, load, end):
+    """The least time of both parts of a script beyond the least of the first one, run in turn."""
+    loads, wholes = [], []
+    for _ in range(words.times):
+        for script, times in ((load, loads), (load + end, wholes)):
+            written(f"{folder}/script", script)
+            times.append(common.run(runner, f"{folder}/script", folder)[0])
+    return min(wholes) - min(loads)
+
+
+def for_sqlite(script):
+    """The script in SQLite's words, with its rows written nowhere."""
+    return b".output /dev/null\nBEGIN;\n" + script.replace(COMMIT, b"COMMIT; BEGIN;\n")
+
+
+def against_sqlite(words, folder, rows):
+    """Prints a line for each measurement: the ratio, and the seconds that it comes from."""
+    for name, load, end in measurements(rows):
+        ours = beyond(words, folder, [words.program, "run"], load, end)
+        theirs = beyond(words, folder, [shutil.which("sqlite3"), ":memory:"], for_sqlite(load), end)
+        print(f"{name}: sqlite3 / ours {theirs / ours:.2f} ({theirs:.3f} s / {ours:.3f} s)", flush=True)
+
+
+def body(entry):
+    """An entry behind its length."""
+    return struct.pack(">I", len(entry)) + entry
+
+
+def transaction(key):
+    """The entry of a transaction that inserts the row (key, 7) into p."""
+    row = struct.pack(">IBiBi", 2, 1, key, 1, 7)
+    return body(b"\x01" + struct.pack(">I", 1) + b"\x01p" + b"\x00\x01" + row)
+
+
+def folded(words, folder, records):
+    """Prints the time that a record takes to be read as an entry and applied, beyond going over it."""
+    statement = b"CREATE TABLE p (id INTEGER NOT NULL, n INTEGER, PRIMARY KEY (id))"
+    first = body(b"\x03" + struct.pack(">I", len(statement)) + statement)
+    written(f"{folder}/bodies", first + b"".join(transaction(mixed(key, records)) for key in range(records)))
+    times = {"bodies": [], "fold": []}
+    for _ in range(words.times):
+        for word, least in times.items():
+            least.append(common.run([words.program, word], f"{folder}/bodies", folder)[0])
+    over, all_of_it = min(times["bodies"]), min(times["fold"])
+    each = (all_of_it - over) / records * 1_000_000
+    each = f"{records:,} entries of one row read and applied: {each:.2f} microseconds each beyond going over them"
+    print(f"{each} ({all_of_it:.3f} s - {over:.3f} s)", flush=True)
+
+
+def main():
+    words = common.arguments("Measures SELECTs on tables of many rows, and entries of a log.")
+    rows = 100_000 if words.small else 1_000_000
+    with common.room(words.folder) as folder:
+        if shutil.which("sqlite3"):
+            against_sqlite(words, folder, rows)
+        folded(words, folder, rows)
+
+
+if __name__ == "__main__":
+    main()

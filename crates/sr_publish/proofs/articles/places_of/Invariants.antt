@@ -1,0 +1,10 @@
+use Rattle.std.proofs.Common.{◌≡◌, ◌++◌, filter_map, length}
+use Rattle.sr_schema.specs.Members.{column_name}
+use Rattle.sr_schema.specs.Names.{place_of}
+use Rattle.sr_publish.proofs.articles.places_of.Given as goal
+
+abbrev pub invariant-names : goal.invariant-names
+invariant-names l = l.places.items ++ filter_map (λ n. place_of column_name n l.table.columns) l.rest ≡ filter_map (λ n. place_of column_name n l.table.columns) l.names
+
+abbrev pub decreases-names : goal.decreases-names
+decreases-names l = length l.rest

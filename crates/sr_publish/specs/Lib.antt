@@ -1,0 +1,6 @@
+pub mod Fits
+pub mod Laws
+pub mod Numbers
+pub mod Shares
+pub mod Subscribed
+pub mod Views

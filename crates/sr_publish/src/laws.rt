@@ -1,0 +1,48 @@
+//! What holds of views. Each function does nothing: it carries a law as its clauses.
+
+ghost use Rattle.std.specs.Prelude.{◌≡◌, ◌↔◌, ◌&&◌, true, ℕ, List, Some, None, is_some};
+ghost use Rattle.std.specs.List.{list_any, AllByRecursion};
+ghost use Rattle.sr_ast.specs.declared.stmt.Stmt.TheVariants.{DropTable};
+ghost use Rattle.sr_base.specs.declared.value.Value.{Value as Cell};
+ghost use Rattle.sr_change.specs.Changes.{refusal};
+ghost use Rattle.sr_exec.specs.Conditions.{IsRow};
+ghost use Rattle.sr_exec.specs.Statements.{table_named};
+ghost use Rattle.sr_replay.specs.Scripts.{IsMade};
+ghost use Rattle.sr_schema.specs.Catalogs.{Lists};
+ghost use Rattle.sr_schema.specs.declared.table.Column.{Column as AColumn};
+ghost use Rattle.sr_schema.specs.declared.table.Table.{Table as ATable};
+ghost use Rattle.sr_publish.specs.Fits.{is_row};
+ghost use Rattle.sr_publish.specs.Laws.{holds, IsTheSource, HasKey, IsInOrder};
+ghost use Rattle.sr_publish.specs.Shares.{Share, share_of};
+ghost use Rattle.sr_publish.specs.Views.{seen};
+
+/// The test of rows says what is asked of them elsewhere: a row passes it exactly where it fits.
+#[tactic(auto, using(crate::proofs::Fitted::fits_iff))]
+pub fn rows_fit_where_the_test_says()
+    ensures fits { (columns : List AColumn) (row : List Cell) → (is_row columns row ≡ true) ↔ IsRow columns row }
+{}
+
+/// START takes no second publication of a table for one user: so whichever of his started subscriptions has the table, he has it by that one's
+/// publication and article.
+pub fn one_article()
+    ensures source { (c : Lists) (user table : List ℕ) → IsMade c → AllByRecursion (IsTheSource c user table) c.subscriptions }
+{}
+
+/// A row is seen exactly where it fits its table and some started subscription of the user holds it: his publication has an article of the table whose
+/// WHERE is true of it, and SUBSCRIBE BY, where there is one, gives the subscription's value.
+pub fn seen_where_held()
+    ensures seen { (c : Lists) (user table : List ℕ) (t : ATable) (row : List Cell) → IsMade c → table_named c table ≡ Some t
+        → is_some (seen c user table row) ≡ (is_row t.columns row && list_any (holds c user table t row) c.subscriptions) }
+{}
+
+/// A table that may be dropped is in no publication, so nobody has it.
+pub fn nobody_has_a_dropped_table()
+    ensures none { (c : Lists) (user table : List ℕ) → refusal c (DropTable table) ≡ None → share_of c user table ≡ None }
+{}
+
+/// What every catalog keeps: a table has a key, whose columns are among its own, none twice; and of what a user has of a table the columns are the
+/// table's, none twice, with those of its key among them.
+pub fn catalogs_are_in_order()
+    ensures tables { (c : Lists) (name : List ℕ) (t : ATable) → IsMade c → table_named c name ≡ Some t → HasKey t }
+    ensures shares { (c : Lists) (user table : List ℕ) (s : Share) → IsMade c → share_of c user table ≡ Some s → IsInOrder s }
+{}

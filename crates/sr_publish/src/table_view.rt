@@ -1,0 +1,233 @@
+//! What a user has of a table.
+
+ghost use Rattle.std.specs.Prelude.{◌≡◌, true, Some, IfOk};
+ghost use Rattle.std.specs.Option.{option_copied};
+ghost use Rattle.sr_ast.specs.Classes.{is_meant};
+ghost use Rattle.sr_ast.specs.Exprs.{term_of};
+ghost use Rattle.sr_eval.specs.Meanings.{found_at};
+ghost use Rattle.sr_publish.specs.Fits.{is_row};
+ghost use Rattle.sr_publish.specs.Shares.{share_of, share_by};
+ghost use Rattle.sr_publish.specs.Views.{meets, by_value, goes_to, is_in, shown_in};
+
+use crate::articles::{columns_of, places_of, source_of};
+use crate::fits::is_row;
+use crate::subscribed::Subscribed;
+use crate::values::values_at;
+use sr_ast::{Expr, Scope};
+use sr_base::{Copied, Name, NoMemory, Row, Seq, Value};
+use sr_catalog::Catalog;
+use sr_eval::{Bound, holds_plain};
+use sr_schema::{Article, Column, Table, scope_of};
+use std::alloc::Global;
+use std::marker::Model;
+
+/// What a user has of a table: the article of the publication that he subscribes to, and the values of his subscriptions. Contracts
+/// see it as a share.
+///
+/// It is made for a catalog, and serves as long as that stays. What it tells of a row costs by the row, and not by the subscriptions.
+#[derive(Drop)]
+pub struct TableView {
+    table: Table,
+    columns: Seq<Column>,
+    places: Seq<usize>,
+    condition: Option<Expr>,
+    by: Option<Expr>,
+    values: Subscribed,
+    scope: Scope,
+}
+
+impl Model for TableView {
+    ghost use Rattle.std.specs.Coded.{codes};
+    ghost use Rattle.sr_ast.specs.Terms.{term_code};
+    ghost use Rattle.sr_publish.specs.Shares.{Share};
+
+    ghost Value = { Share };
+
+    ghost coded = { Prim.hlevel (codes, term_code) };
+
+    ghost view = { λ v. record {
+      table = v.table;
+      columns = v.columns;
+      places = v.places;
+      condition = v.condition;
+      by = v.by;
+      values = v.values;
+    } };
+
+    ghost use Rattle.std.specs.Prelude.{◌≡◌};
+    ghost use Rattle.sr_schema.specs.Members.{scope_of};
+
+    ghost invariant = { λ v. v.scope ≡ scope_of v.table };
+}
+
+impl TableView {
+    /// What a user has of the table of a name: `None` where there is no such table, or no started subscription of his has it.
+    ///
+    /// It takes a pass or two over the subscriptions of the catalog.
+    #[tactic(auto, unfolding(crate::specs::Shares::share_of))]
+    pub fn of(
+        alloc: Global,
+        catalog: &Catalog,
+        user: &Name,
+        table: &Name,
+    ) -> Result<Option<TableView>, NoMemory>
+        ensures share { IfOk result (λ found. found ≡ share_of catalog.now user.now table.now) }
+    {
+        let Some(table_there) = catalog.table(table) else {
+            return Ok(None);
+        };
+        match source_of(catalog, user, table) {
+            None => Ok(None),
+            Some((publication, article)) => {
+                let view = TableView::by(alloc, catalog, user, table_there, publication, article)?;
+                Ok(Some(view))
+            }
+        }
+    }
+
+    fn by(
+        alloc: Global,
+        catalog: &Catalog,
+        user: &Name,
+        table: &Table,
+        publication: &Name,
+        article: &Article,
+    ) -> Result<TableView, NoMemory>
+        ensures share { IfOk result (λ view. view ≡ share_by catalog.now user.now table.now (publication.now, article.now)) }
+    {
+        let scope = scope_of(alloc, table)?;
+        let values = Subscribed::of(alloc, user, publication, catalog.subscriptions())?;
+        Ok(TableView {
+            table: table.copy(alloc)?,
+            columns: columns_of(alloc, table, article.columns.as_slice())?,
+            places: places_of(alloc, table, article.columns.as_slice())?,
+            condition: article.condition.copy(alloc)?,
+            by: article.by.copy(alloc)?,
+            values,
+            scope,
+        })
+    }
+
+    /// The table.
+    pub fn table(&self) -> &Table
+        ensures table { result.now ≡ self.now.table }
+    {
+        &self.table
+    }
+
+    /// The article's columns, in article order.
+    pub fn columns(&self) -> &[Column]
+        ensures columns { result.now ≡ self.now.columns }
+    {
+        self.columns.as_slice()
+    }
+
+    /// The places of the article's columns in the table.
+    pub fn places(&self) -> &[usize]
+        ensures places { result.now ≡ self.now.places }
+    {
+        self.places.as_slice()
+    }
+
+    /// Whether a row of the table is one of those that the user has: it fits the table, WHERE is true, and one of his subscriptions has
+    /// the value that SUBSCRIBE BY gives. It takes no memory.
+    pub fn has(&self, row: &[Value]) -> bool
+        ensures has { result ≡ is_in self.now row.now }
+    {
+        if !is_row(self.table.columns.as_slice(), row) {
+            return false;
+        }
+        self.meets(row) && self.goes(row)
+    }
+
+    /// What the user has of a row: the values of the article's columns. `None` where he has not the row.
+    pub fn sees(&self, alloc: Global, row: &Row) -> Result<Option<Row>, NoMemory>
+        ensures sees { IfOk result (λ found. found ≡ shown_in (Some self.now) row.now) }
+    {
+        if !self.has(row.values()) {
+            return Ok(None);
+        }
+        let values = values_at(alloc, self.places(), row.values())?;
+        Ok(Some(Row::new(values)))
+    }
+
+    /// Whether a row that fits the table meets the article's WHERE.
+    #[tactic(auto, using(crate::proofs::Fitted::row_bound))]
+    fn meets(&self, row: &[Value]) -> bool
+        requires { is_row self.now.table.columns row.now ≡ true }
+        ensures meets { result ≡ meets self.now.table self.now.condition row.now }
+    {
+        match &self.condition {
+            None => true,
+            Some(condition) => holds_plain(
+                condition,
+                &Bound {
+                    scope: &self.scope,
+                    values: row,
+                },
+            ),
+        }
+    }
+
+    /// Whether the article's SUBSCRIBE BY gives a row to the user's subscriptions.
+    fn goes(&self, row: &[Value]) -> bool
+        ensures goes { result ≡ goes_to self.now.table self.now.by self.now.values row.now }
+    {
+        match &self.by {
+            None => true,
+            Some(by) => match self.by_value(by, row) {
+                None => false,
+                Some(value) => self.values.has(value),
+            },
+        }
+    }
+
+    /// The value that a SUBSCRIBE BY gives a row. It takes a pass over the columns.
+    fn by_value<'a>(&self, by: &'a Expr, row: &'a [Value]) -> Option<&'a Value>
+        ensures value { option_copied result ≡ by_value self.now.table row.now (term_of by.now) }
+    {
+        match by {
+            Expr::Literal(value) => Some(value),
+            Expr::Column(alias, name) => found_at(&self.scope, row, alias, name),
+            Expr::Unary(_, _) | Expr::Binary(_, _, _) => None,
+        }
+    }
+}
+
+/// The value of the first column that a reference means.
+fn found_at<'a>(
+    scope: &Scope,
+    row: &'a [Value],
+    alias: &Option<Name>,
+    name: &Name,
+) -> Option<&'a Value>
+    ensures found { option_copied result ≡ found_at scope.now row.now alias.now name.now }
+{
+    let mut columns_left = scope.as_slice();
+    let mut values_left = row;
+    'columns: while let Some((column, columns_after)) = columns_left.split_first() {
+        let Some((value, values_after)) = values_left.split_first() else {
+            return None;
+        };
+        if is_meant(&column.0, &column.1, alias, name) {
+            return Some(value);
+        }
+        columns_left = columns_after;
+        values_left = values_after;
+    }
+    None
+}
+
+/// Whether a reference, with the name before its dot, means a column and its alias.
+fn is_meant(alias: &Option<Name>, column: &Name, table: &Option<Name>, name: &Name) -> bool
+    ensures { result ≡ is_meant alias.now column.now table.now name.now }
+{
+    if column.bytes() != name.bytes() {
+        return false;
+    }
+    match (alias, table) {
+        (_, None) => true,
+        (None, Some(_)) => false,
+        (Some(alias), Some(table)) => alias.bytes() == table.bytes(),
+    }
+}

@@ -1,0 +1,5 @@
+pub mod Alike
+pub mod Joins
+pub mod Listings
+pub mod Ranks
+pub mod Regions

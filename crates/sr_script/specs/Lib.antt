@@ -1,0 +1,7 @@
+pub mod Acts
+pub mod Answers
+pub mod Meaning
+pub mod Orders
+pub mod Refusals
+pub mod Scripts
+pub mod Works

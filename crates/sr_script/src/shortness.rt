@@ -1,0 +1,89 @@
+//! Whether changes can be spelled in an entry.
+
+ghost use Rattle.std.specs.Prelude.{◌≡◌, ◌<◌, ◌^◌, length, IsTrue, IfSome};
+ghost use Rattle.sr_base.specs.Fields.{IsListOf};
+ghost use Rattle.sr_base.specs.Values.{IsShort};
+ghost use Rattle.sr_logform.specs.Outcomes.{IsShortChange};
+
+use sr_base::{Row, Value};
+use sr_logform::Change;
+
+/// Whether changes can be spelled in an entry: fewer than 2^32 of them, each with two rows that differ, of fewer than 2^32 values of
+/// fewer than 2^32 bytes. Those of a statement always can; the test spares carrying that through every layer.
+pub fn are_short(changes: &[Change]) -> bool
+    ensures short { IsTrue result → IsListOf IsShortChange changes.now }
+{
+    let mut left = changes;
+    'changes: while let Some((change, rest)) = left.split_first() {
+        if !is_short_change(change) {
+            return false;
+        }
+        left = rest;
+    }
+    are_few(changes)
+}
+
+/// Whether there are fewer than 2^32.
+pub fn are_few<T>(items: &[T]) -> bool
+    ensures few { IsTrue result → length items.now < 2 ^ 32 }
+{
+    items.len() < 4294967296
+}
+
+fn is_short_change(change: &Change) -> bool
+    ensures short { IsTrue result → IsShortChange change.now }
+{
+    is_short_image(&change.before)
+        && is_short_image(&change.after)
+        && !is_same(&change.before, &change.after)
+}
+
+/// Whether a row, if there is one, can be spelled.
+fn is_short_image(row: &Option<Row>) -> bool
+    ensures short { IsTrue result → IfSome row.now (IsListOf IsShort) }
+{
+    match row {
+        None => true,
+        Some(row) => is_short_row(row.values()),
+    }
+}
+
+fn is_short_row(values: &[Value]) -> bool
+    ensures short { IsTrue result → IsListOf IsShort values.now }
+{
+    let mut left = values;
+    'values: while let Some((value, rest)) = left.split_first() {
+        if !is_short_value(value) {
+            return false;
+        }
+        left = rest;
+    }
+    are_few(values)
+}
+
+fn is_short_value(value: &Value) -> bool
+    ensures short { IsTrue result → IsShort value.now }
+{
+    match value {
+        Value::Str(text) => are_few(text.bytes()),
+        Value::Null | Value::Int(_) | Value::Big(_) | Value::Date(_) => true,
+    }
+}
+
+/// Whether two rows are one, or neither is there.
+fn is_same(before: &Option<Row>, after: &Option<Row>) -> bool
+    ensures same { before.now ≡ after.now → IsTrue result }
+{
+    match (before, after) {
+        (None, None) => true,
+        (Some(before), Some(after)) => is_same_row(before.values(), after.values()),
+        _ => false,
+    }
+}
+
+#[tactic(auto, using(crate::proofs::Alike::same_rows))]
+fn is_same_row(before: &[Value], after: &[Value]) -> bool
+    ensures same { before.now ≡ after.now → IsTrue result }
+{
+    before.cmp(after).is_eq()
+}
