@@ -12,7 +12,7 @@ import sys
 import tempfile
 
 SCRIPT = b"INSERT INTO t VALUES (%d, 1);\nINSERT INTO t VALUES (%d, 2);\nCOMMIT;\n"
-PUTS = "host::tests::a_message_is_put_listed_fetched_and_removed"
+PUTS = "devices::a_message_is_put_listed_fetched_and_removed"
 WATCHED = "openat,pwrite64,write,ftruncate,fdatasync,fsync,rename,mkdir"
 CALL = re.compile(r"(?:\d+ +)?(\w+)\((.*)\) += (-?\d+)")
 

@@ -14,5 +14,4 @@ pub mod Sessions
 pub mod Stops
 pub mod Streams
 pub mod Transactions
-pub mod Untold
 pub mod Words

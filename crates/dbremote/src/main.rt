@@ -7,7 +7,6 @@
 mod beginning;
 mod fault;
 mod history;
-mod host;
 mod report;
 mod run;
 mod script_run;
@@ -19,17 +18,17 @@ mod tests;
 mod words;
 
 use fault::Fault;
-use host::{HostSink, HostSite, HostSource};
+use sr_hostsite::{HostSink, HostSite, HostSource};
 use std::process::ExitCode;
 
 fn main(rt: HostRuntime) -> ExitCode {
     let mut output = HostSink::new(rt);
-    let Ok(words) = host::words(rt.alloc(), &rt) else {
+    let Ok(words) = sr_hostsite::words(rt.alloc(), &rt) else {
         let told = report::report(rt.alloc(), &mut output, &[], Fault::Memory);
         return ExitCode::from(told.status());
     };
     let (mut site, mut input) = (HostSite::new(rt), HostSource::new(rt));
-    let now = host::now(&rt);
+    let now = sr_hostsite::now(&rt);
     ExitCode::from(run::run(
         rt.alloc(),
         words.as_slice(),

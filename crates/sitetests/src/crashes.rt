@@ -67,7 +67,7 @@ fn run<S: Disk>(alloc: Global, site: &mut S) -> Result<Committed, NoMemory> {
 fn after_a_crash_a_log_ends_at_a_record_that_was_not_lost(rt: HostRuntime) -> Result<(), Fail> {
     let alloc = rt.alloc();
     for calls in 0..24u64 {
-        for pick in 0..8u64 {
+        for pick in 0..66u64 {
             let mut site = MemorySite::new(alloc, SharedMail::new(alloc));
             site.stop_after(calls);
             let done = run(alloc, &mut site)?;

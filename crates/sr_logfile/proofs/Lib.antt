@@ -8,5 +8,6 @@ pub mod Nexts
 pub mod Openings
 pub mod Records
 pub mod Scans
+pub mod Starts
 pub mod Totality
 pub mod Uniqueness

@@ -1,5 +1,5 @@
 -- What a log is that was read, and what damage says of it.
-use Rattle.std.proofs.Common.{◌≡◌, ℕ, ◌≤◌, List, true, Result, Ok, Err, refl, sym, subst, arith}
+use Rattle.std.proofs.Common.{◌≡◌, ℕ, ◌≤◌, List, true, Result, Ok, Err, inl, refl, sym, subst, arith}
 use Rattle.std.specs.Prelude.{IfOk, IfErr, IsErr, IsTrue}
 use Rattle.sr_site.specs.declared.file.File.{File}
 use Rattle.sr_site.specs.Files.{Files, bytes_of}
@@ -7,7 +7,7 @@ use Rattle.sr_site.specs.Seen.{Seen}
 use Rattle.sr_logfile.specs.declared.fault.LogFault.{LogFault}
 use Rattle.sr_logfile.specs.declared.fault.LogFault.TheVariants.{Disk, Full, Damaged}
 use Rattle.sr_logfile.specs.Damage.{IsDamaged}
-use Rattle.sr_logfile.specs.Faults.{IsDisk, IsDiskOrDamaged, OpenCause}
+use Rattle.sr_logfile.specs.Faults.{HeaderCause, IsDisk, IsDiskOrDamaged, OpenCause}
 use Rattle.sr_logfile.specs.Log.{Log}
 use Rattle.sr_logfile.specs.Logs.{IsLog, HasLog}
 use Rattle.sr_logfile.specs.Records.{Spells}
@@ -33,6 +33,12 @@ module _ (file : File) (before now : Seen) (told : IsTrue before.told) (same : n
   damaged_log (Err Disk) has is cause place damage = (refl, tt)
   damaged_log (Err (Full end need)) has is cause place damage = absurd cause
   damaged_log (Err (Damaged at)) has is cause place damage = (refl, one_damage (bytes_of before.files file) at place (cause told) damage)
+
+-- a header that there is not is damage at 0
+pub of_header : (file : File) (before now : Seen) (fault : LogFault) → HeaderCause file before now fault → OpenCause file before now fault
+of_header file before now Disk cause = cause
+of_header file before now (Full end need) cause = absurd cause
+of_header file before now (Damaged at) cause = λ told. inl (cause.1 told, cause.0)
 
 -- a cause that was told of a later moment, where nothing differed
 pub cause_before : (file : File) (before middle now : Seen) (fault : LogFault) → middle.told ≡ before.told → (IsTrue before.told → middle.files ≡ before.files) → before.disk_faults ≤ middle.disk_faults → OpenCause file middle now fault → OpenCause file before now fault

@@ -11,7 +11,7 @@ use Rattle.sr_logfile.proofs.Commits.{length-front}
 use Rattle.sr_logfile.proofs.Ends.{length_is}
 
 -- two headers in one place are one
-same_header : (b c : ℕ) (front other : List ℕ) → b ≤ 2 ^ 62 → c ≤ 2 ^ 62 → header b ++ front ≡ header c ++ other → (b ≡ c) × (front ≡ other)
+pub same_header : (b c : ℕ) (front other : List ℕ) → b ≤ 2 ^ 62 → c ≤ 2 ^ 62 → header b ++ front ≡ header c ++ other → (b ≡ c) × (front ≡ other)
 same_header b c front other b_fits c_fits same =
     let sixteen : header b ≡ header c = sym (take_at (header b) front 16 refl) ∙ ap (take 16) same ∙ take_at (header c) other 16 refl in
     let eight : to_be_bytes w64 b ≡ to_be_bytes w64 c = ap (drop 8) sixteen in (
@@ -20,7 +20,7 @@ same_header b c front other b_fits c_fits same =
     )
 
 -- two records in one place are one
-same_record : (x y front other : List ℕ) → IsBody x → IsBody y → record_of x ++ front ≡ record_of y ++ other → (x ≡ y) × (front ≡ other)
+pub same_record : (x y front other : List ℕ) → IsBody x → IsBody y → record_of x ++ front ≡ record_of y ++ other → (x ≡ y) × (front ≡ other)
 same_record x y front other x_is y_is same =
     let apart : to_be_bytes w32 (length x) ++ (x ++ front) ≡ to_be_bytes w32 (length y) ++ (y ++ other) = sym (append_assoc (to_be_bytes w32 (length x)) x front) ∙ same ∙ append_assoc (to_be_bytes w32 (length y)) y other in
     let long : length x ≡ length y = length_is (length x) (length y) (x ++ front) (y ++ other) (omega arith) (omega arith) apart in
@@ -30,12 +30,12 @@ same_record x y front other x_is y_is same =
     )
 
 -- the second records go on where the first end
-record Extends (xs ys : List (List ℕ)) (gate : ℕ) (rest : List ℕ) (other : ℕ) (tail : List ℕ) : Type 0 where
-  body : List ℕ
-  more : List (List ℕ)
-  is : ys ≡ xs ++ body ∷ more
-  open_gate : gate ≡ 1
-  rest_is : rest ≡ record_of body ++ (open_records more ++ other ∷ tail)
+pub record Extends (xs ys : List (List ℕ)) (gate : ℕ) (rest : List ℕ) (other : ℕ) (tail : List ℕ) : Type 0 where
+  pub body : List ℕ
+  pub more : List (List ℕ)
+  pub is : ys ≡ xs ++ body ∷ more
+  pub open_gate : gate ≡ 1
+  pub rest_is : rest ≡ record_of body ++ (open_records more ++ other ∷ tail)
 
 -- one is the front of the other
 compare : (xs ys : List (List ℕ)) (g h : ℕ) (r t : List ℕ) → AllByRecursion IsBody xs → AllByRecursion IsBody ys → open_records xs ++ g ∷ r ≡ open_records ys ++ h ∷ t
@@ -57,7 +57,7 @@ compare (x ∷ xs) (y ∷ ys) g h r t xs_are ys_are e =
     ]
 
 -- two readings of one file
-compared : (b c : ℕ) (xs ys : List (List ℕ)) (g h : ℕ) (r t bytes : List ℕ) → AllByRecursion IsBody xs → AllByRecursion IsBody ys → b ≤ 2 ^ 62 → c ≤ 2 ^ 62
+pub compared : (b c : ℕ) (xs ys : List (List ℕ)) (g h : ℕ) (r t bytes : List ℕ) → AllByRecursion IsBody xs → AllByRecursion IsBody ys → b ≤ 2 ^ 62 → c ≤ 2 ^ 62
     → bytes ≡ (header b ++ open_records xs) ++ g ∷ r → bytes ≡ (header c ++ open_records ys) ++ h ∷ t → (b ≡ c) × (((xs ≡ ys) × (g ≡ h)) ⊎ (Extends xs ys g r h t ⊎ Extends ys xs h t g r))
 compared b c xs ys g h r t bytes xs_are ys_are b_fits c_fits first second =
     let apart = sym (append_assoc (header b) (open_records xs) (g ∷ r)) ∙ sym first ∙ second ∙ append_assoc (header c) (open_records ys) (h ∷ t) in

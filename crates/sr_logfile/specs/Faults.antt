@@ -7,7 +7,7 @@ use Rattle.sr_logfile.specs.declared.fault.LogFault.{LogFault}
 use Rattle.sr_logfile.specs.declared.fault.LogFault.TheVariants.{Disk, Full, Damaged}
 use Rattle.sr_logfile.specs.declared.fault.RecordFault.{RecordFault}
 use Rattle.sr_logfile.specs.declared.fault.RecordFault.TheVariants.{Log as FromLog, Memory}
-use Rattle.sr_logfile.specs.Damage.{IsDamaged}
+use Rattle.sr_logfile.specs.Damage.{IsDamaged, LacksHeader}
 use Rattle.sr_logfile.specs.Log.{Log}
 use Rattle.sr_logfile.specs.Logs.{IsAt, IsFull, gate_of, spent}
 
@@ -28,6 +28,12 @@ abbrev pub FreshCause : Seen → Seen → LogFault → Type 0
 FreshCause before now Disk = Rose before.disk_faults now.disk_faults
 FreshCause before now (Full end need) = ⊥
 FreshCause before now (Damaged at) = ⊥
+
+-- why a header is refused: there is none
+abbrev pub HeaderCause : File → Seen → Seen → LogFault → Type 0
+HeaderCause file before now Disk = Rose before.disk_faults now.disk_faults
+HeaderCause file before now (Full end need) = ⊥
+HeaderCause file before now (Damaged at) = (at ≡ 0) × (IsTrue before.told → LacksHeader (bytes_of before.files file))
 
 -- why `open` is refused
 abbrev pub OpenCause : File → Seen → Seen → LogFault → Type 0

@@ -1,5 +1,5 @@
-use Rattle.std.specs.Prelude.{◌≡◌, ◌⊎◌, ℕ, List, [], ◌∷◌, ◌++◌, length}
-use Rattle.sr_site.specs.Files.{Files, bytes_of}
+use Rattle.std.specs.Prelude.{◌≡◌, ◌⊎◌, ◌≤◌, ℕ, List, [], ◌∷◌, ◌++◌, length}
+use Rattle.sr_site.specs.Files.{Files, bytes_of, OthersStay}
 use Rattle.sr_site.specs.Images.{IsImage}
 use Rattle.sr_site.specs.Seen.{Seen}
 use Rattle.sr_site.specs.declared.file.File.{File}
@@ -21,3 +21,11 @@ pub record IsPartPut (gate : ℕ) (framed : List ℕ) (file : File) (before : Se
 -- every crash leaves the file as a read gives it
 abbrev pub IsAsRead : File → Seen → Files → Type 0
 IsAsRead file seen image = bytes_of image file ≡ bytes_of seen.files file
+
+-- a log without records has been begun in the file: it is no longer than a crash might have left it before, or has no more than the 17 bytes;
+-- the other files are as that crash might have left them
+pub record IsPartFresh (file : File) (before : Seen) (image : Files) : Type 0 where
+  pub old : Files
+  pub stood : IsImage before old
+  pub others : OthersStay file old image
+  pub short : (length (bytes_of image file) ≤ length (bytes_of old file)) ⊎ (length (bytes_of image file) ≤ 17)

@@ -19,6 +19,6 @@ pub use fault::{LogFault, RecordFault};
 pub use framing::frame;
 pub use laws::one_spelling_or_one_damage;
 pub use log::LogFile;
-pub use opening::open;
+pub use opening::{base_of, open, record_end};
 pub use reading::Step;
 pub use starting::fresh;

@@ -1,6 +1,6 @@
 ghost use Rattle.std.specs.Prelude.{◌≡◌, ◌⊎◌, ◌+◌, ◌^◌, ◌≤◌, [], ◌∷◌, ◌++◌, List, ℕ, length, true, IsTrue, IfOk, OnOk, OnErr, IfErr, Err, is_ok};
 ghost use Rattle.sr_site.specs.Happenings.{Made};
-ghost use Rattle.sr_site.specs.Images.{IsSettled, RestsThroughout};
+ghost use Rattle.sr_site.specs.Images.{IsSettled, KeepsOthers, RestsThroughout};
 ghost use Rattle.sr_logfile.specs.Calls.{commit_calls};
 ghost use Rattle.sr_logfile.specs.Moments.{HasOrLacks, IsAsRead};
 ghost use Rattle.sr_site.specs.Causes.{DiskStays};
@@ -40,8 +40,8 @@ impl Model for LogFile {
 }
 
 impl LogFile {
-    /// The log of a file whose first gate stands at the stream position `base` and whose first closed gate stands at `end`.
-    pub(crate) fn at(file: File, base: u64, end: u64) -> LogFile
+    /// The log of a file that was read up to its first closed gate, which stands at the stream position `end`; the first gate stands at `base`.
+    pub fn at(file: File, base: u64, end: u64) -> LogFile
         requires { InOrder base end }
         ensures { result ≡ record { file = file; base = base; end = end; usable = true } }
     {
@@ -105,6 +105,7 @@ impl LogFile {
         ensures happened { IsTrue (S.seen site.old).told → (IsFull self.old (length framed.now) bound → ⊥) → Made (commit_calls self.old.file (gate_of self.old) framed.now) (S.seen site.old).happened (S.seen site.new).happened (is_ok result) }
         ensures room { OnOk result (IsFull self.old (length framed.now) bound → ⊥) }
         ensures moments { IsTrue (S.seen site.old).told → (bodies : List (List ℕ)) → IsLog self.old bodies (S.seen site.old).files → IsSettled (IsLog self.old bodies) (S.seen site.old) → RestsThroughout (HasOrLacks self.old bodies framed.now) (S.seen site.old) (S.seen site.new) }
+        ensures beside { IsTrue (S.seen site.old).told → RestsThroughout (KeepsOthers self.old.file (S.seen site.old)) (S.seen site.old) (S.seen site.new) }
         ensures settled { IsTrue (S.seen site.old).told → OnOk result (IsSettled (IsAsRead self.old.file (S.seen site.new)) (S.seen site.new)) }
         ensures others { IsTrue (S.seen site.old).told → OthersStay self.old.file (S.seen site.old).files (S.seen site.new).files }
         ensures full { IsFull self.old (length framed.now) bound → result ≡ Err (Full (gate_of self.old + 1) (length framed.now)) }

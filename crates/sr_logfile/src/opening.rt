@@ -1,12 +1,12 @@
 ghost use Rattle.std.specs.Prelude.{◌≡◌, ◌∷◌, ◌+◌, ◌-◌, ◌^◌, ◌≤◌, ◌<◌, List, ℕ, length, take, drop, true, IsTrue, IfOk, OnOk, IfErr, IfSome, IsErr, IsNone};
 ghost use Rattle.std.specs.Option.{SomeIff};
-ghost use Rattle.sr_site.specs.Images.{IsSettled};
+ghost use Rattle.sr_site.specs.Images.{IsSettled, KeepsOthers, RestsThroughout};
 ghost use Rattle.sr_logfile.specs.Calls.{HasSynced};
 ghost use Rattle.sr_logfile.specs.Moments.{IsAsRead};
 ghost use Rattle.sr_site.specs.Causes.{DiskStays};
 ghost use Rattle.sr_site.specs.Files.{bytes_of};
 ghost use Rattle.sr_logfile.specs.Damage.{IsDamaged};
-ghost use Rattle.sr_logfile.specs.Faults.{IsDisk, IsDiskOrDamaged, OpenCause};
+ghost use Rattle.sr_logfile.specs.Faults.{HeaderCause, IsDisk, IsDiskOrDamaged, OpenCause};
 ghost use Rattle.sr_logfile.specs.Heads.{FitsBody, IsRecordEnd, RecordCause, RecordsCause, SpellsTo};
 ghost use Rattle.sr_logfile.specs.Log.{InOrder};
 ghost use Rattle.sr_logfile.specs.Logs.{HasLog, IsLog};
@@ -28,6 +28,7 @@ pub fn open<S: Disk>(site: &mut S, file: File) -> Result<LogFile, LogFault>
     ensures damaged { IsTrue (S.seen site.old).told → (place : ℕ) → IsDamaged (bytes_of (S.seen site.old).files file) place → IsErr result × IfErr result (IsDiskOrDamaged place) }
     ensures files { IsTrue (S.seen site.old).told → (S.seen site.new).files ≡ (S.seen site.old).files }
     ensures happened { IsTrue (S.seen site.old).told → HasSynced file result (S.seen site.old) (S.seen site.new) }
+    ensures beside { IsTrue (S.seen site.old).told → RestsThroughout (KeepsOthers file (S.seen site.old)) (S.seen site.old) (S.seen site.new) }
     ensures settled { IsTrue (S.seen site.old).told → OnOk result (IsSettled (IsAsRead file (S.seen site.new)) (S.seen site.new)) }
     ensures stays { DiskStays (S.seen site.old) (S.seen site.new) }
     ensures steady { OnOk result ((S.seen site.new).disk_faults ≡ (S.seen site.old).disk_faults) }
@@ -55,15 +56,15 @@ fn read_records<S: Disk>(site: &mut S, file: File) -> Result<LogFile, LogFault>
     Ok(LogFile::at(file, base, end))
 }
 
-/// The base that the file's header has, where a gate stands behind it.
-fn base_of<S: Disk>(site: &mut S, file: File) -> Result<u64, LogFault>
+/// The base that the file's header has, where a gate stands behind it. `Damaged { at: 0 }` comes exactly where there is no such header.
+pub fn base_of<S: Disk>(site: &mut S, file: File) -> Result<u64, LogFault>
     ensures header { IsTrue (S.seen site.old).told → IfOk result (λ base. HasHeader base (bytes_of (S.seen site.old).files file)) }
     ensures limit { IfOk result (λ base. base ≤ 2 ^ 62) }
     ensures files { IsTrue (S.seen site.old).told → (S.seen site.new).files ≡ (S.seen site.old).files }
     ensures happened { IsTrue (S.seen site.old).told → (S.seen site.new).happened ≡ (S.seen site.old).happened }
     ensures stays { DiskStays (S.seen site.old) (S.seen site.new) }
     ensures steady { OnOk result ((S.seen site.new).disk_faults ≡ (S.seen site.old).disk_faults) }
-    ensures cause { IfErr result (OpenCause file (S.seen site.old) (S.seen site.new)) }
+    ensures cause { IfErr result (HeaderCause file (S.seen site.old) (S.seen site.new)) }
 {
     let mut front = [0; 17];
     let count = site.read_at(file, 0, &mut front)?;
@@ -125,8 +126,9 @@ fn end_of<S: Disk>(site: &mut S, file: File, base: u64, size: u64) -> Result<u64
     Ok(position)
 }
 
-/// The position behind the record whose gate stands at `position`; `None` where that gate is closed.
-fn record_end<S: Disk>(
+/// The position behind the record whose gate stands at `position`, in a file of `size` bytes; `None` where that gate is closed. `Damaged` comes
+/// exactly where the gate is open and no whole record follows it, with the gate's place.
+pub fn record_end<S: Disk>(
     site: &mut S,
     file: File,
     base: u64,

@@ -1,8 +1,8 @@
 ghost use Rattle.std.specs.Prelude.{◌≡◌, ◌^◌, ◌≤◌, ◌⊎◌, [], ◌∷◌, length, IsTrue, OnOk, OnErr, IfErr, is_ok};
 ghost use Rattle.sr_site.specs.Happenings.{Made};
-ghost use Rattle.sr_site.specs.Images.{IsSettled};
+ghost use Rattle.sr_site.specs.Images.{IsSettled, RestsThroughout};
 ghost use Rattle.sr_logfile.specs.Calls.{fresh_calls};
-ghost use Rattle.sr_logfile.specs.Moments.{IsAsRead};
+ghost use Rattle.sr_logfile.specs.Moments.{IsAsRead, IsPartFresh};
 ghost use Rattle.sr_site.specs.Causes.{DiskStays};
 ghost use Rattle.sr_site.specs.Files.{bytes_of, with_bytes, OthersStay};
 ghost use Rattle.sr_logfile.specs.Faults.{FreshCause};
@@ -15,7 +15,7 @@ use sr_site::{Disk, File};
 /// Makes the file a log without records: the 17 bytes of a header with this base, at most 2^62, and a closed gate.
 ///
 /// It cuts the file to nothing, writes the 17 bytes and syncs. After `Disk` the file is no longer than it was, or has no more than
-/// these 17 bytes; nothing is said of which they are.
+/// these 17 bytes; nothing is said of which they are. A crash at any moment leaves no more of it, and the other files as they were.
 pub fn fresh<S: Disk>(site: &mut S, file: File, base: Offset) -> Result<(), LogFault>
     requires base { base.0 ≤ 2 ^ 62 }
     ensures bytes { IsTrue (S.seen site.old).told → OnOk result ((S.seen site.new).files ≡ with_bytes (S.seen site.old).files file (fresh_bytes base.0)) }
@@ -23,6 +23,7 @@ pub fn fresh<S: Disk>(site: &mut S, file: File, base: Offset) -> Result<(), LogF
     ensures left { IsTrue (S.seen site.old).told → OnErr result ((length (bytes_of (S.seen site.new).files file) ≤ length (bytes_of (S.seen site.old).files file)) ⊎ (length (bytes_of (S.seen site.new).files file) ≤ 17)) }
     ensures others { IsTrue (S.seen site.old).told → OthersStay file (S.seen site.old).files (S.seen site.new).files }
     ensures happened { IsTrue (S.seen site.old).told → Made (fresh_calls file base.0) (S.seen site.old).happened (S.seen site.new).happened (is_ok result) }
+    ensures moments { IsTrue (S.seen site.old).told → RestsThroughout (IsPartFresh file (S.seen site.old)) (S.seen site.old) (S.seen site.new) }
     ensures settled { IsTrue (S.seen site.old).told → OnOk result (IsSettled (IsAsRead file (S.seen site.new)) (S.seen site.new)) }
     ensures stays { DiskStays (S.seen site.old) (S.seen site.new) }
     ensures steady { OnOk result ((S.seen site.new).disk_faults ≡ (S.seen site.old).disk_faults) }

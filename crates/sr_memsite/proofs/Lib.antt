@@ -1,5 +1,1 @@
-mod Backing
 mod Crashes
-mod Entries
-mod Listings
-mod Rising

@@ -1,9 +1,5 @@
 pub mod Disks
-pub mod Folders
 pub mod Meaning
 pub mod Numbering
-pub mod Places
 pub mod Steps
-pub mod Store
-pub mod Stores
 pub mod Streams

@@ -1,4 +1,5 @@
-use Rattle.std.specs.Prelude.{ℕ, List, true, drop}
+use Rattle.std.specs.Prelude.{ℕ, ◌+◌, ◌<◌, List, true, drop}
+use Rattle.std.specs.Vec.{vec_len, vec_capacity}
 use Rattle.sr_site.specs.Streams.{Input, Output}
 use Rattle.sr_memsite.specs.Numbering.{Numbering}
 use Rattle.sr_memsite.specs.declared.source.MemorySource.{MemorySource}
@@ -27,6 +28,10 @@ sink_numbering sink = sink.turns
 -- how many of its calls have failed
 abbrev pub sink_faults : MemorySink → ℕ
 sink_faults sink = sink.faults
+
+-- there is no room for so many bytes more: it takes memory to have them
+abbrev pub IsFull : MemorySink → ℕ → Type 0
+IsFull sink count = vec_capacity sink.bytes < vec_len sink.bytes + count
 
 -- what they mean: they tell everything
 abbrev pub input_of : MemorySource → Input

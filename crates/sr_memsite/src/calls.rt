@@ -2,27 +2,22 @@ ghost use Rattle.std.specs.Prelude.{◌≡◌, ℕ, List, [], ◌∷◌};
 ghost use Rattle.std.specs.Borrow.{ftrue};
 ghost use Rattle.sr_memsite.specs.declared.calls.Step.{Step as step};
 
-use crate::mail::SharedMail;
 use sr_base::{Name, Text};
+use sr_memdisk::{FiveFiles, Stored};
+use sr_memmail::SharedMail;
 use sr_site::{File, Listing, MailFault};
 use std::marker::Model;
 use std::snapshot::Snapshot;
 
 /// A call of a site, as contracts see it, with its outcome: a snapshot takes no memory. A call of the disk has its file as it stood then, a
-/// listing all folders. `Began` is no call: five files with which all begins anew.
+/// listing all folders. `Began` is no call: the five files with which all begins anew.
 #[derive(Drop)]
 pub enum Step {
-    Began(
-        Snapshot<Vec<u8>>,
-        Snapshot<Vec<u8>>,
-        Snapshot<Vec<u8>>,
-        Snapshot<Vec<u8>>,
-        Snapshot<Vec<u8>>,
-    ),
+    Began(Snapshot<FiveFiles>),
     Attached(Snapshot<Text>, Snapshot<Text>, bool),
-    Wrote(File, u64, bool, Snapshot<Vec<u8>>),
-    Cut(File, u64, bool, Snapshot<Vec<u8>>),
-    Synced(File, bool, Snapshot<Vec<u8>>),
+    Wrote(File, u64, bool, Snapshot<Stored>),
+    Cut(File, u64, bool, Snapshot<Stored>),
+    Synced(File, bool, Snapshot<Stored>),
     Listed(Snapshot<Name>, Snapshot<SharedMail>, Snapshot<Result<Listing, MailFault>>),
     Fetched(Snapshot<Name>, Snapshot<Text>, usize, Snapshot<Result<Option<Vec<u8>>, MailFault>>),
     Put(Snapshot<Name>, Snapshot<Text>, bool),

@@ -48,15 +48,15 @@ impl MemorySink {
 }
 
 impl Sink for MemorySink {
-    ghost use Rattle.std.specs.Prelude.{◌≡◌, ◌++◌, ◌<◌, ◌≤◌, take, length, IsTrue, IfOk, OnOk, OnErr, IsErr};
+    ghost use Rattle.std.specs.Prelude.{◌≡◌, ◌⊎◌, ◌++◌, ◌<◌, ◌≤◌, take, length, IsTrue, IfOk, OnOk, OnErr, IsErr};
     ghost use Rattle.sr_site.specs.Causes.{Rose};
     ghost use Rattle.sr_site.specs.Streams.{OutputStays};
-    ghost use Rattle.sr_memsite.specs.Streams.{output_of, taken_of, sink_numbering, sink_faults};
+    ghost use Rattle.sr_memsite.specs.Streams.{output_of, taken_of, sink_numbering, sink_faults, IsFull};
     ghost use Rattle.sr_memsite.specs.Numbering.{fails, counted};
 
     ghost seen = { output_of };
 
-    /// It takes the whole piece.
+    /// It takes the whole piece. It fails where it is to fail, and where there is no room for the piece and no memory for more.
     fn write(&mut self, bytes: &[u8]) -> Result<usize, Failed>
         ensures within { IfOk result (λ n. n ≤ length bytes.now) }
         ensures some { 0 < length bytes.now → IfOk result (λ n. 0 < n) }
@@ -64,6 +64,7 @@ impl Sink for MemorySink {
         ensures taken { IfOk result (λ n. taken_of self.new ≡ taken_of self.old ++ take n bytes.now) }
         ensures err { OnErr result (taken_of self.new ≡ taken_of self.old) }
         ensures fails { IsTrue (fails (sink_numbering self.old)) → IsErr result }
+        ensures only { IsErr result → IsTrue (fails (sink_numbering self.old)) ⊎ IsFull self.old (length bytes.now) }
         ensures numbering { sink_numbering self.new ≡ counted (sink_numbering self.old) }
         ensures stays { OutputStays (output_of self.old) (output_of self.new) }
         ensures steady { OnOk result (sink_faults self.new ≡ sink_faults self.old) }

@@ -1,7 +1,7 @@
 use crate::disk::MemoryDisk;
-use crate::mail::SharedMail;
 use crate::turns::Turns;
 use sr_base::{NoMemory, Text};
+use sr_memmail::SharedMail;
 use sr_site::{Held, MailFault, Site};
 use std::alloc::Global;
 
@@ -16,27 +16,33 @@ pub struct MemorySite {
     turns: Turns,
     disk_faults: u64,
     mail_faults: u64,
+    /// A write has failed for want of memory.
+    wanted: bool,
 }
 
 impl Held for MemorySite {
+    ghost use Rattle.sr_memdisk.proofs.Standing.{standing_is_image};
     ghost use Rattle.sr_memsite.specs.Meaning.{seen_of};
 
     ghost seen = { seen_of };
+
+    ghost read_is_image = { λ site told. standing_is_image site.disk.first site.disk.happened };
 }
 
 impl MemorySite {
-    ghost use Rattle.std.specs.Prelude.{◌≡◌, ◌≤◌, [], IsTrue, IsFalse, OnOk, OnErr};
+    ghost use Rattle.std.specs.Prelude.{◌≡◌, ◌≤◌, [], false, IsTrue, IsFalse, OnOk, OnErr};
     ghost use Rattle.sr_site.specs.Causes.{Rose};
-    ghost use Rattle.sr_memsite.specs.Meaning.{seen_of, disk_of, folders_of, numbering_of, parts_of, begun};
+    ghost use Rattle.sr_memsite.specs.Meaning.{seen_of, disk_of, folders_of, numbering_of, parts_of, wanted_of, begun};
     ghost use Rattle.sr_memsite.specs.Disks.{begun_with, HasCrashed};
     ghost use Rattle.sr_memsite.specs.Numbering.{failing_at};
-    ghost use Rattle.sr_memsite.specs.Steps.{no_bytes};
+    ghost use Rattle.sr_memdisk.specs.Stores.{no_bytes};
 
     /// A site with empty files over the folders of `mail`. It takes no memory.
     pub fn new(alloc: Global, mail: SharedMail) -> MemorySite
         ensures seen { seen_of result ≡ begun (begun_with no_bytes) }
         ensures folders { folders_of result ≡ mail }
         ensures numbering { numbering_of result ≡ failing_at [] }
+        ensures wanted { wanted_of result ≡ false }
     {
         MemorySite::with(MemoryDisk::new(alloc), mail)
     }
@@ -46,6 +52,7 @@ impl MemorySite {
         ensures seen { seen_of result ≡ begun disk }
         ensures parts { parts_of result ≡ (disk, mail) }
         ensures numbering { numbering_of result ≡ failing_at [] }
+        ensures wanted { wanted_of result ≡ false }
     {
         let turns = Turns::new(disk.alloc());
         MemorySite {
@@ -54,7 +61,15 @@ impl MemorySite {
             turns,
             disk_faults: 0,
             mail_faults: 0,
+            wanted: false,
         }
+    }
+
+    /// Whether a write has failed for want of memory: no other call but those of the mail, which answer it, asks for any.
+    pub fn wanted_memory(&self) -> bool
+        ensures wanted { result ≡ wanted_of self.now }
+    {
+        self.wanted
     }
 
     /// The files and the folders as they stand, what is not yet synced included.
@@ -71,6 +86,7 @@ impl MemorySite {
         ensures err { OnErr result (numbering_of self.new ≡ numbering_of self.old) }
         ensures seen { seen_of self.new ≡ seen_of self.old }
         ensures folders { folders_of self.new ≡ folders_of self.old }
+        ensures wanted { wanted_of self.new ≡ wanted_of self.old }
     {
         self.turns = Turns::failing(alloc, calls)?;
         Ok(())
@@ -81,13 +97,14 @@ impl MemorySite {
         ensures numbering { numbering_of self.new ≡ record (numbering_of self.old) { made = 0; stop = calls } }
         ensures seen { seen_of self.new ≡ seen_of self.old }
         ensures folders { folders_of self.new ≡ folders_of self.old }
+        ensures wanted { wanted_of self.new ≡ wanted_of self.old }
     {
         self.turns.stop_after(calls);
     }
 
     /// A crash: it puts one of the things in place that it may leave of the files, and all begins anew, the counts of faults aside. At `pick`
-    /// 0 each file is as its last sync left it, at 1 as it stood, else another byte stands all over the range of its last write since then.
-    /// For want of memory all stays as it was.
+    /// 0 each file is as its last sync left it, at 1 as it stood; else the pick's digits say what became of each write and cut since then, as
+    /// `MemoryDisk::crash` has it. For want of memory all stays as it was.
     pub fn crash(&mut self, alloc: Global, pick: u64) -> Result<(), NoMemory>
         ensures crashed { OnOk result (HasCrashed pick (disk_of self.old) (disk_of self.new)) }
         ensures err { OnErr result (disk_of self.new ≡ disk_of self.old) }
@@ -95,6 +112,7 @@ impl MemorySite {
         ensures counts { ((seen_of self.new).disk_faults ≡ (seen_of self.old).disk_faults) × ((seen_of self.new).mail_faults ≡ (seen_of self.old).mail_faults) }
         ensures numbering { numbering_of self.new ≡ numbering_of self.old }
         ensures folders { folders_of self.new ≡ folders_of self.old }
+        ensures wanted { wanted_of self.new ≡ wanted_of self.old }
     {
         self.disk.crash(alloc, pick)
     }
@@ -108,6 +126,7 @@ impl MemorySite {
         ensures rose { IsTrue failed → Rose self.old.disk_faults self.new.disk_faults }
         ensures steady { IsFalse failed → self.new.disk_faults ≡ self.old.disk_faults }
         ensures mail_faults { self.new.mail_faults ≡ self.old.mail_faults }
+        ensures wanted { self.new.wanted ≡ self.old.wanted }
     {
         if failed {
             self.disk_faults = self.disk_faults.saturating_add(1);
@@ -123,6 +142,7 @@ impl MemorySite {
         ensures rose { IsTrue failed → Rose self.old.mail_faults self.new.mail_faults }
         ensures steady { IsFalse failed → self.new.mail_faults ≡ self.old.mail_faults }
         ensures disk_faults { self.new.disk_faults ≡ self.old.disk_faults }
+        ensures wanted { self.new.wanted ≡ self.old.wanted }
     {
         if failed {
             self.mail_faults = self.mail_faults.saturating_add(1);
@@ -134,7 +154,7 @@ impl Site for MemorySite {
     ghost use Rattle.std.specs.Prelude.{◌≡◌, ◌∷◌, OnOk, OnErr, IfErr, is_ok, is_err};
     ghost use Rattle.sr_site.specs.Causes.{DiskStays, Rose};
     ghost use Rattle.sr_site.specs.Happenings.{attached};
-    ghost use Rattle.sr_memsite.specs.Meaning.{seen_of, folders_of, numbering_of};
+    ghost use Rattle.sr_memsite.specs.Meaning.{seen_of, folders_of, numbering_of, wanted_of};
     ghost use Rattle.sr_memsite.specs.Numbering.{fails, counted};
 
     /// Nothing needs to be opened. It fails only where `fail_calls` named it.
@@ -142,6 +162,7 @@ impl Site for MemorySite {
         ensures fails { is_err result ≡ fails (numbering_of self.old) }
         ensures numbering { numbering_of self.new ≡ counted (numbering_of self.old) }
         ensures folders { folders_of self.new ≡ folders_of self.old }
+        ensures wanted { wanted_of self.new ≡ wanted_of self.old }
         ensures files { (seen_of self.new).files ≡ (seen_of self.old).files }
         ensures attached { (seen_of self.new).happened ≡ attached name.now mail.now (is_ok result) ∷ (seen_of self.old).happened }
         ensures stays { DiskStays (seen_of self.old) (seen_of self.new) }

@@ -2,6 +2,7 @@ use Rattle.std.specs.Prelude.{◌≡◌, ◌⊎◌, true, false, List, [], ◌�
 use Rattle.sr_site.specs.Files.{Files, bytes_of, with_bytes, OthersStay, IsTorn, IsCutInPart}
 use Rattle.sr_site.specs.Happenings.{Happening, Throughout, attached, wrote, cut_to, synced, listed, fetched, sent, removed}
 use Rattle.sr_site.specs.Seen.{Seen}
+use Rattle.sr_site.specs.declared.file.File.{File}
 
 -- what a crash may leave of the files that stood at first, after what happened: a write or a cut may be there in part, whether it succeeded
 -- or not, until a sync of its file succeeds; from then on that file is as a read gave it
@@ -36,3 +37,9 @@ pub record RestsThroughout (holds : Files → Type 0) (old new : Seen) : Type 0 
   pub more : List Happening
   pub is : new.happened ≡ more ++ old.happened
   pub moments : Throughout (λ moment. (image : Files) → MayLeave old.first moment image → holds image) old.happened more
+
+-- in all files but one it is as a crash might have left it then
+pub record KeepsOthers (file : File) (then : Seen) (image : Files) : Type 0 where
+  pub old : Files
+  pub stood : IsImage then old
+  pub others : OthersStay file old image

@@ -1,5 +1,5 @@
 /// One of the five files of a database. The root's first byte names the generation, whose log and snapshot are in force.
-#[derive(Clone, Copy, PartialEq, Eq)]
+#[derive(Clone, Copy, Debug, PartialEq, Eq)]
 pub enum File {
     Root,
     Log0,

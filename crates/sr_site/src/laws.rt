@@ -1,8 +1,18 @@
-ghost use Rattle.std.specs.Prelude.{◌≡◌, ◌≤◌, [], ◌∷◌, ◌++◌, Bool, List, ℕ, length, take, true};
+ghost use Rattle.std.specs.Prelude.{◌≡◌, ◌≤◌, [], ◌∷◌, ◌++◌, Bool, List, ℕ, length, take, true, IsTrue};
+ghost use Rattle.std.specs.List.{AllByRecursion};
+ghost use Rattle.sr_site.specs.Calls.{Call, IsCallOn};
 ghost use Rattle.sr_site.specs.Files.{Files, bytes_of, with_bytes, overwritten, IsTorn, IsCutInPart, OthersStay};
-ghost use Rattle.sr_site.specs.Happenings.{Happening, Grows, wrote, cut_to, synced};
-ghost use Rattle.sr_site.specs.Images.{MayLeave};
+ghost use Rattle.sr_site.specs.Happenings.{Happening, Grows, Made, wrote, cut_to, synced};
+ghost use Rattle.sr_site.specs.Images.{MayLeave, IsImage, KeepsOthers, RestsThroughout};
+ghost use Rattle.sr_site.specs.Seen.{Seen};
 ghost use Rattle.sr_site.specs.declared.file.File.{File as file};
+
+use crate::held::Held;
+
+/// What a site that tells its files gives of them to a read is an image: one of the things that a crash may leave at this moment.
+pub fn a_site_reads_an_image<S: Held>(_site: &S)
+    ensures image { IsTrue (S.seen _site.now).told → IsImage (S.seen _site.now) (S.seen _site.now).files }
+{}
 
 /// What a read gives is an image, and stays one: after a write, a cut and a sync, whether they succeed or fail.
 pub fn what_is_read_is_an_image()
@@ -23,4 +33,9 @@ pub fn a_sync_settles()
 /// What happened at an earlier moment is the end of what happened by now.
 pub fn what_happened_grows()
     ensures { (before now : List Happening) → Grows before now → (more : List Happening) × (now ≡ more ++ before) }
+{}
+
+/// Calls on one file leave the other files in every image as an image before had them, at each moment, also where a call fails.
+pub fn calls_on_one_file_leave_the_others()
+    ensures { (f : file) (calls : List Call) (before now : Seen) (done : Bool) → AllByRecursion (IsCallOn f) calls → Made calls before.happened now.happened done → RestsThroughout (KeepsOthers f before) before now }
 {}

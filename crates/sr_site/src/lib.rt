@@ -15,6 +15,9 @@ mod stream;
 pub use disk::Disk;
 pub use file::File;
 pub use held::{Failed, Held};
-pub use laws::{a_sync_settles, what_happened_grows, what_is_read_is_an_image};
+pub use laws::{
+    a_site_reads_an_image, a_sync_settles, calls_on_one_file_leave_the_others, what_happened_grows,
+    what_is_read_is_an_image,
+};
 pub use mail::{Listing, Mail, MailFault, Site};
 pub use stream::{Sink, Source};

@@ -3,12 +3,12 @@ use crate::bytes::fill;
 use sr_site::{Disk, Failed, File};
 
 impl Disk for MemorySite {
-    ghost use Rattle.std.specs.Prelude.{◌≡◌, ◌≤◌, ◌∷◌, length, take, IsTrue, IfOk, OnOk, OnErr, IsErr, is_ok, is_err};
+    ghost use Rattle.std.specs.Prelude.{◌≡◌, ◌≤◌, ◌∷◌, ◌&&◌, ◌||◌, not, length, take, IsTrue, IfOk, OnOk, OnErr, IsErr, is_ok, is_err};
     ghost use Rattle.sr_site.specs.Happenings.{wrote, cut_to, synced};
     ghost use Rattle.sr_site.specs.Files.{bytes_of, with_bytes, overwritten, OthersStay};
     ghost use Rattle.sr_site.specs.Causes.{DiskStays, Rose};
     ghost use Rattle.sr_site.specs.Reads.{HasRead};
-    ghost use Rattle.sr_memsite.specs.Meaning.{seen_of, folders_of, numbering_of};
+    ghost use Rattle.sr_memsite.specs.Meaning.{seen_of, folders_of, numbering_of, wanted_of};
     ghost use Rattle.sr_memsite.specs.Numbering.{fails, counted};
 
     fn length(&mut self, file: File) -> Result<u64, Failed>
@@ -20,6 +20,7 @@ impl Disk for MemorySite {
         ensures steady { OnOk result ((seen_of self.new).disk_faults ≡ (seen_of self.old).disk_faults) }
         ensures cause { OnErr result (Rose (seen_of self.old).disk_faults (seen_of self.new).disk_faults) }
         ensures numbering { numbering_of self.new ≡ counted (numbering_of self.old) }
+        ensures wanted { wanted_of self.new ≡ wanted_of self.old }
         ensures folders { folders_of self.new ≡ folders_of self.old }
     {
         let fails = self.turns.next_fails();
@@ -40,6 +41,7 @@ impl Disk for MemorySite {
         ensures steady { OnOk result ((seen_of self.new).disk_faults ≡ (seen_of self.old).disk_faults) }
         ensures cause { OnErr result (Rose (seen_of self.old).disk_faults (seen_of self.new).disk_faults) }
         ensures numbering { numbering_of self.new ≡ counted (numbering_of self.old) }
+        ensures wanted { wanted_of self.new ≡ wanted_of self.old }
         ensures folders { folders_of self.new ≡ folders_of self.old }
     {
         let fails = self.turns.next_fails();
@@ -52,6 +54,7 @@ impl Disk for MemorySite {
         Ok(fill(buffer, rest))
     }
 
+    /// It fails where it is to fail, and for want of memory, which the site tells.
     fn write_at(&mut self, file: File, at: u64, bytes: &[u8]) -> Result<(), Failed>
         requires { at ≤ length (bytes_of (seen_of self.old).files file) }
         ensures written { OnOk result ((seen_of self.new).files ≡ with_bytes (seen_of self.old).files file (overwritten (bytes_of (seen_of self.old).files file) at bytes.now)) }
@@ -63,10 +66,12 @@ impl Disk for MemorySite {
         ensures steady { OnOk result ((seen_of self.new).disk_faults ≡ (seen_of self.old).disk_faults) }
         ensures cause { OnErr result (Rose (seen_of self.old).disk_faults (seen_of self.new).disk_faults) }
         ensures numbering { numbering_of self.new ≡ counted (numbering_of self.old) }
+        ensures wanted { wanted_of self.new ≡ (wanted_of self.old || (is_err result && not (fails (numbering_of self.old)))) }
         ensures folders { folders_of self.new ≡ folders_of self.old }
     {
         let fails = self.turns.next_fails();
         let answer = self.disk.write(file, at, bytes, fails);
+        self.wanted = self.wanted || (answer.is_err() && !fails);
         self.count_disk(answer.is_err());
         answer
     }
@@ -82,6 +87,7 @@ impl Disk for MemorySite {
         ensures steady { OnOk result ((seen_of self.new).disk_faults ≡ (seen_of self.old).disk_faults) }
         ensures cause { OnErr result (Rose (seen_of self.old).disk_faults (seen_of self.new).disk_faults) }
         ensures numbering { numbering_of self.new ≡ counted (numbering_of self.old) }
+        ensures wanted { wanted_of self.new ≡ wanted_of self.old }
         ensures folders { folders_of self.new ≡ folders_of self.old }
     {
         let fails = self.turns.next_fails();
@@ -92,18 +98,19 @@ impl Disk for MemorySite {
 
     fn sync(&mut self, file: File) -> Result<(), Failed>
         ensures files { (seen_of self.new).files ≡ (seen_of self.old).files }
-        ensures fails { IsTrue (fails (numbering_of self.old)) → IsErr result }
+        ensures fails { is_err result ≡ fails (numbering_of self.old) }
         ensures others { OthersStay file (seen_of self.old).files (seen_of self.new).files }
         ensures happened { (seen_of self.new).happened ≡ synced file (is_ok result) (bytes_of (seen_of self.old).files file) ∷ (seen_of self.old).happened }
         ensures stays { DiskStays (seen_of self.old) (seen_of self.new) }
         ensures steady { OnOk result ((seen_of self.new).disk_faults ≡ (seen_of self.old).disk_faults) }
         ensures cause { OnErr result (Rose (seen_of self.old).disk_faults (seen_of self.new).disk_faults) }
         ensures numbering { numbering_of self.new ≡ counted (numbering_of self.old) }
+        ensures wanted { wanted_of self.new ≡ wanted_of self.old }
         ensures folders { folders_of self.new ≡ folders_of self.old }
     {
         let fails = self.turns.next_fails();
         let answer = self.disk.sync(file, fails);
-        self.count_disk(answer.is_err());
+        self.count_disk(fails);
         answer
     }
 }

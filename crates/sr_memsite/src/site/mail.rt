@@ -1,26 +1,26 @@
-ghost use Rattle.std.specs.Prelude.{◌≡◌, ◌≤◌, length, take, IsTrue, IfOk, IfSome, OnOk, OnErr, IsErrOf};
+ghost use Rattle.std.specs.Prelude.{◌≡◌, ◌≤◌, length, take, IsTrue, IfOk, IfSome, OnOk, OnErr, IsErrOf, is_err};
 ghost use Rattle.std.specs.Option.{option_map};
 ghost use Rattle.sr_site.specs.Listings.{IsListing, Lists};
 ghost use Rattle.sr_site.specs.declared.mail.MailFault.TheVariants.{Failed as failed_mail};
-ghost use Rattle.sr_memsite.specs.Folders.{place, file_at, after_put, without_file, names_in};
+ghost use Rattle.sr_memmail.specs.Folders.{place, file_at, after_put, after_remove, names_in};
 
 use super::MemorySite;
-use crate::mail::SharedMail;
 use sr_base::{Name, Text};
+use sr_memmail::SharedMail;
 use sr_site::{Listing, Mail, MailFault};
 use std::alloc::{AllocError, Global};
 
 impl Mail for MemorySite {
-    ghost use Rattle.std.specs.Prelude.{◌≡◌, ◌≤◌, ◌∷◌, length, take, IsTrue, IfOk, IfSome, OnOk, OnErr, IsErrOf, is_ok};
+    ghost use Rattle.std.specs.Prelude.{◌≡◌, ◌≤◌, ◌∷◌, length, take, IsTrue, IfOk, IfSome, OnOk, OnErr, IsErrOf, is_ok, is_err};
     ghost use Rattle.std.specs.Option.{option_map};
     ghost use Rattle.std.specs.Result.{result_map_both};
     ghost use Rattle.sr_site.specs.Causes.{MailStays, Rose};
     ghost use Rattle.sr_site.specs.Happenings.{listed, fetched, sent, removed};
     ghost use Rattle.sr_site.specs.Listings.{IsListing, Lists};
     ghost use Rattle.sr_site.specs.declared.mail.MailFault.TheVariants.{Failed as failed_mail};
-    ghost use Rattle.sr_memsite.specs.Meaning.{seen_of, folders_of, numbering_of};
+    ghost use Rattle.sr_memsite.specs.Meaning.{seen_of, folders_of, numbering_of, wanted_of};
     ghost use Rattle.sr_memsite.specs.Numbering.{fails, counted};
-    ghost use Rattle.sr_memsite.specs.Folders.{place, file_at, after_put, without_file, names_in};
+    ghost use Rattle.sr_memmail.specs.Folders.{place, file_at, after_put, after_remove, names_in};
 
     fn list(&mut self, alloc: Global, address: &Name) -> Result<Listing, MailFault>
         ensures listing { IfOk result IsListing }
@@ -33,6 +33,7 @@ impl Mail for MemorySite {
         ensures fails { IsTrue (fails (numbering_of self.old)) → IsErrOf result failed_mail }
         ensures only { IsErrOf result failed_mail → IsTrue (fails (numbering_of self.old)) }
         ensures numbering { numbering_of self.new ≡ counted (numbering_of self.old) }
+        ensures wanted { wanted_of self.new ≡ wanted_of self.old }
     {
         let fails = self.turns.next_fails();
         let answer = listing(&self.mail, alloc, address, fails);
@@ -58,6 +59,7 @@ impl Mail for MemorySite {
         ensures fails { IsTrue (fails (numbering_of self.old)) → IsErrOf result failed_mail }
         ensures only { IsErrOf result failed_mail → IsTrue (fails (numbering_of self.old)) }
         ensures numbering { numbering_of self.new ≡ counted (numbering_of self.old) }
+        ensures wanted { wanted_of self.new ≡ wanted_of self.old }
     {
         let fails = self.turns.next_fails();
         let answer = found(&self.mail, alloc, address, name, limit, fails);
@@ -82,6 +84,7 @@ impl Mail for MemorySite {
         ensures fails { IsTrue (fails (numbering_of self.old)) → IsErrOf result failed_mail }
         ensures only { IsErrOf result failed_mail → IsTrue (fails (numbering_of self.old)) }
         ensures numbering { numbering_of self.new ≡ counted (numbering_of self.old) }
+        ensures wanted { wanted_of self.new ≡ wanted_of self.old }
     {
         let fails = self.turns.next_fails();
         let answer = lay(&mut self.mail, alloc, address, name, bytes, fails);
@@ -90,19 +93,22 @@ impl Mail for MemorySite {
         answer
     }
 
-    fn remove(&mut self, alloc: Global, address: &Name, name: &Text) -> Result<(), MailFault>
-        ensures folders { OnOk result (folders_of self.new ≡ without_file (folders_of self.old) (place address.now name.now)) }
+    /// It takes no memory.
+    fn remove(&mut self, _alloc: Global, address: &Name, name: &Text) -> Result<(), MailFault>
+        ensures folders { OnOk result (folders_of self.new ≡ after_remove (folders_of self.old) (place address.now name.now)) }
         ensures folders_err { OnErr result (folders_of self.new ≡ folders_of self.old) }
         ensures removed { (seen_of self.new).happened ≡ removed address.now name.now (is_ok result) ∷ (seen_of self.old).happened }
         ensures stays { MailStays (seen_of self.old) (seen_of self.new) }
         ensures steady { OnOk result ((seen_of self.new).mail_faults ≡ (seen_of self.old).mail_faults) }
         ensures cause { IsErrOf result failed_mail → Rose (seen_of self.old).mail_faults (seen_of self.new).mail_faults }
+        ensures exact { is_err result ≡ fails (numbering_of self.old) }
         ensures fails { IsTrue (fails (numbering_of self.old)) → IsErrOf result failed_mail }
         ensures only { IsErrOf result failed_mail → IsTrue (fails (numbering_of self.old)) }
         ensures numbering { numbering_of self.new ≡ counted (numbering_of self.old) }
+        ensures wanted { wanted_of self.new ≡ wanted_of self.old }
     {
         let fails = self.turns.next_fails();
-        let answer = take_away(&mut self.mail, alloc, address, name, fails);
+        let answer = take_away(&mut self.mail, address, name, fails);
         self.disk.note_remove(address, name, answer.is_ok());
         self.count_mail(fails);
         answer
@@ -170,20 +176,21 @@ fn lay(
 /// Takes a file away, where the call is not to fail.
 fn take_away(
     mail: &mut SharedMail,
-    alloc: Global,
     address: &Name,
     name: &Text,
     fails: bool,
 ) -> Result<(), MailFault>
-    ensures ok { OnOk result (mail.new ≡ without_file mail.old (place address.now name.now)) }
+    ensures ok { OnOk result (mail.new ≡ after_remove mail.old (place address.now name.now)) }
     ensures err { OnErr result (mail.new ≡ mail.old) }
+    ensures exact { is_err result ≡ fails }
     ensures fails { IsTrue fails → IsErrOf result failed_mail }
     ensures only { IsErrOf result failed_mail → IsTrue fails }
 {
     if fails {
         return Err(MailFault::Failed);
     }
-    mail.remove(alloc, address, name).map_err(no_memory)
+    mail.remove(address, name);
+    Ok(())
 }
 
 /// The mail fault for want of memory.

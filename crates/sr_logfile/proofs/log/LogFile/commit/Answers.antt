@@ -9,7 +9,9 @@ use Rattle.sr_logfile.specs.Logs.{IsLog, gate_of}
 use Rattle.sr_logfile.specs.Records.{Spells, body_of}
 use Rattle.sr_logfile.proofs.Appends.{OnErr-always}
 use Rattle.sr_logfile.proofs.Commits.{part_committed, record_committed}
-use Rattle.sr_site.specs.Images.{IsSettled, RestsThroughout}
+use Rattle.sr_site.specs.Images.{IsSettled, KeepsOthers, RestsThroughout}
+use Rattle.sr_site.proofs.Others.{rests}
+use Rattle.sr_site.proofs.Images.{with_same}
 use Rattle.sr_logfile.specs.Moments.{HasOrLacks}
 use Rattle.sr_logfile.proofs.Moments.{has_or_lacks}
 use Rattle.sr_logfile.proofs.log.LogFile.commit.Goals as goal
@@ -82,3 +84,26 @@ returns-clause-moments g c told bodies is settled =
 
 pub returns-then-need-gt-LAST_OFFSET-clause-moments : goal.returns-then-need-gt-LAST_OFFSET-clause-moments
 returns-then-need-gt-LAST_OFFSET-clause-moments g c told bodies is settled = record { more = []; is = refl; moments = λ image there. inl (settled image there) }
+
+-- the other files, seen through the fields of the log
+pub returns-in_err-append-clause-beside : goal.returns-in_err-append-clause-beside
+returns-in_err-append-clause-beside g c told =
+    let log : Log = record { file = c.self.inside.file; base = c.self.inside.base; end = c.self.inside.end; usable = c.self.inside.usable } in
+    let before = g.S.Held.seen c.args.site.now in
+    let now = g.S.Held.seen c.append.new.site in
+    let view_is : log ≡ c.args.self.now = c.self.view_is in
+    subst (λ (l : Log). RestsThroughout (KeepsOthers l.file before) before now) view_is
+    (rests log.file before (commit_calls log.file (gate_of log) c.args.framed.now) now _ (refl, (refl, (refl, (refl, tt)))) (c.append.ensures.happened told))
+
+pub returns-clause-beside : goal.returns-clause-beside
+returns-clause-beside g c told =
+    let log : Log = record { file = c.self.inside.file; base = c.self.inside.base; end = c.self.inside.end; usable = c.self.inside.usable } in
+    let before = g.S.Held.seen c.args.site.now in
+    let now = g.S.Held.seen c.append.new.site in
+    let view_is : log ≡ c.args.self.now = c.self.view_is in
+    subst (λ (l : Log). RestsThroughout (KeepsOthers l.file before) before now) view_is
+    (rests log.file before (commit_calls log.file (gate_of log) c.args.framed.now) now _ (refl, (refl, (refl, (refl, tt)))) (c.append.ensures.happened told))
+
+pub returns-then-need-gt-LAST_OFFSET-clause-beside : goal.returns-then-need-gt-LAST_OFFSET-clause-beside
+returns-then-need-gt-LAST_OFFSET-clause-beside g c told =
+    record { more = []; is = refl; moments = λ image there. record { old = image; stood = there; others = with_same image c.args.self.now.file } }

@@ -1,0 +1,156 @@
+//! The mail of the host: each call goes to a folder of message files, and a fault is counted.
+ghost use Rattle.std.specs.Prelude.{◌≡◌, ◌≤◌, length, true, Ok, IfOk, IfSome, OnOk, IsErrOf};
+ghost use Rattle.sr_site.specs.Causes.{Rose};
+ghost use Rattle.sr_site.specs.Listings.{IsListing, AreAscending};
+ghost use Rattle.sr_site.specs.declared.mail.MailFault.TheVariants.{Failed as failed_mail};
+
+use crate::folder::{self, MOST_NAMES};
+use crate::site::{HostSite, unattached};
+use sr_base::{Name, Seq, Text};
+use sr_site::{Listing, Mail, MailFault};
+use std::alloc::Global;
+use std::cmp::Ordering;
+use std::fs;
+use std::io::{self, ErrorKind};
+use std::rt::{Files, Runtime};
+
+/// The names as a listing. Names out of order, twice or too many are none, which the folder's listing never gives.
+fn listing_of(names: Vec<Text>, more: bool) -> io::Result<Listing>
+    ensures listing { IfOk result IsListing }
+{
+    let count = names.len();
+    if !are_ascending(names.as_slice()) || count > MOST_NAMES || more && count < MOST_NAMES {
+        return Err(io::Error::from(ErrorKind::InvalidData));
+    }
+    Ok(Listing {
+        names: Seq::from_vec(names),
+        more,
+    })
+}
+
+/// Whether the names are in byte order, none of them twice.
+fn are_ascending(names: &[Text]) -> bool
+    ensures ascending { result ≡ true → AreAscending names.now }
+{
+    let mut i = 1;
+    'names: while i < names.len() {
+        if !matches!(names[i - 1].bytes().cmp(names[i].bytes()), Ordering::Less) {
+            return false;
+        }
+        i += 1;
+    }
+    true
+}
+
+impl<R: Runtime + Files<File = fs::File>> HostSite<R> {
+    /// The answer of a call of the mail; a fault other than want of memory is counted.
+    fn mail_answer<T: Drop>(&mut self, answer: io::Result<T>) -> Result<T, MailFault>
+        ensures ok { IfOk result (λ x. answer ≡ Ok x) }
+        ensures later { self.old.mail_faults ≤ self.new.mail_faults }
+        ensures cause { IsErrOf result failed_mail → Rose self.old.mail_faults self.new.mail_faults }
+        ensures steady { OnOk result (self.new.mail_faults ≡ self.old.mail_faults) }
+        ensures disk { self.new.disk_faults ≡ self.old.disk_faults }
+    {
+        match answer {
+            Ok(value) => Ok(value),
+            Err(fault) if fault.kind() == ErrorKind::OutOfMemory => Err(MailFault::Memory),
+            Err(_) => {
+                self.mail_faults = self.mail_faults.saturating_add(1);
+                Err(MailFault::Failed)
+            }
+        }
+    }
+
+    /// The mail folder, where the site is attached to one.
+    fn mail_folder(&self) -> io::Result<&str> {
+        match &self.folder {
+            Some(folder) if !folder.is_empty() => Ok(folder.as_str()),
+            _ => Err(unattached()),
+        }
+    }
+
+    /// FOLDER/ADDRESS, where the messages for ADDRESS lie.
+    fn inbox(&self, alloc: Global, address: &Name) -> io::Result<String> {
+        let folder = self.mail_folder()?;
+        match std::str::from_utf8(address.bytes()) {
+            Ok(address) => Ok(format!(in alloc; "{folder}/{address}")?),
+            Err(_) => Err(io::Error::from(ErrorKind::InvalidFilename)),
+        }
+    }
+
+    /// FOLDER/ADDRESS/NAME.
+    fn message(&self, alloc: Global, address: &Name, name: &Text) -> io::Result<String> {
+        let inbox = self.inbox(alloc, address)?;
+        let name = name.as_str();
+        Ok(format!(in alloc; "{inbox}/{name}")?)
+    }
+
+    fn listed(&self, alloc: Global, address: &Name) -> io::Result<Listing>
+        ensures listing { IfOk result IsListing }
+    {
+        let inbox = self.inbox(alloc, address)?;
+        let found = folder::list(&self.rt, alloc, inbox.as_str())?;
+        let mut names = Vec::new(alloc);
+        for name in found.first {
+            names.push(Text::from_string(name))?;
+        }
+        listing_of(names, found.more)
+    }
+
+    fn fetched(
+        &self,
+        alloc: Global,
+        address: &Name,
+        name: &Text,
+        limit: usize,
+    ) -> io::Result<Option<Vec<u8>>>
+        ensures within { IfOk result (λ found. IfSome found (λ bytes. length bytes.items ≤ limit)) }
+    {
+        let path = self.message(alloc, address, name)?;
+        folder::fetch(&self.rt, alloc, path.as_str(), limit)
+    }
+
+    fn sent(&self, alloc: Global, address: &Name, name: &Text, bytes: &[u8]) -> io::Result<()> {
+        let inbox = self.inbox(alloc, address)?;
+        folder::put(&self.rt, alloc, inbox.as_str(), name.as_str(), bytes)
+    }
+
+    fn removed(&self, alloc: Global, address: &Name, name: &Text) -> io::Result<()> {
+        let path = self.message(alloc, address, name)?;
+        folder::remove(&self.rt, path.as_str())
+    }
+}
+
+impl<R: Runtime + Files<File = fs::File>> Mail for HostSite<R> {
+    fn list(&mut self, alloc: Global, address: &Name) -> Result<Listing, MailFault> {
+        let answer = self.listed(alloc, address);
+        self.mail_answer(answer)
+    }
+
+    fn fetch(
+        &mut self,
+        alloc: Global,
+        address: &Name,
+        name: &Text,
+        limit: usize,
+    ) -> Result<Option<Vec<u8>>, MailFault> {
+        let answer = self.fetched(alloc, address, name, limit);
+        self.mail_answer(answer)
+    }
+
+    fn put(
+        &mut self,
+        alloc: Global,
+        address: &Name,
+        name: &Text,
+        bytes: &[u8],
+    ) -> Result<(), MailFault> {
+        let answer = self.sent(alloc, address, name, bytes);
+        self.mail_answer(answer)
+    }
+
+    fn remove(&mut self, alloc: Global, address: &Name, name: &Text) -> Result<(), MailFault> {
+        let answer = self.removed(alloc, address, name);
+        self.mail_answer(answer)
+    }
+}

@@ -1,0 +1,3 @@
+pub mod Folders
+pub mod Letter
+pub mod Places

@@ -1,0 +1,4 @@
+pub mod Going
+pub mod Joining
+pub mod Snapshots
+pub mod Standing

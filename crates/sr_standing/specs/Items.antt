@@ -1,0 +1,63 @@
+-- What a call did to the world, one thing after the other: entries that it committed, messages that it put.
+use Rattle.std.specs.Prelude.{ℕ, List, [], ◌∷◌, ◌++◌}
+use Rattle.sr_book.specs.Entries.{Name}
+use Rattle.sr_history.specs.Recorded.{Recorded}
+use Rattle.sr_site.specs.Happenings.{Happening, attached, wrote, cut_to, synced, listed, fetched, sent, removed}
+
+-- each counts from the moment it begins
+pub data Item : Type 0 where
+  commit : Recorded → Item
+  -- the folder's address, the file's name, its bytes
+  put : Name → List ℕ → List ℕ → Item
+
+-- the entries that were committed, in order
+abbrev pub commits : List Item → List Recorded
+commits [] = []
+commits (commit r ∷ items) = r ∷ commits items
+commits (put address name bytes ∷ items) = commits items
+
+-- an address, a name and bytes
+abbrev pub Letter : Type 0
+Letter = Name × List ℕ × List ℕ
+
+-- the messages that were put, in order
+abbrev pub puts : List Item → List Letter
+puts [] = []
+puts (commit r ∷ items) = puts items
+puts (put address name bytes ∷ items) = (address, name, bytes) ∷ puts items
+
+-- the messages of all puts that were begun at a site, in order
+abbrev pub puts_in : List Happening → List Letter
+puts_in [] = []
+puts_in (attached name folder done ∷ before) = puts_in before
+puts_in (wrote file place bytes done after ∷ before) = puts_in before
+puts_in (cut_to file to done after ∷ before) = puts_in before
+puts_in (synced file done after ∷ before) = puts_in before
+puts_in (listed address folder listing ∷ before) = puts_in before
+puts_in (fetched address name limit found ∷ before) = puts_in before
+puts_in (sent address name bytes done ∷ before) = puts_in before ++ (address, name, bytes) ∷ []
+puts_in (removed address name done ∷ before) = puts_in before
+
+-- no commit is under way: nothing has happened yet, or the last that did is a put
+abbrev pub IsBetween : List Happening → Type 0
+IsBetween [] = Unit {0}
+IsBetween (attached name folder done ∷ before) = ⊥
+IsBetween (wrote file place bytes done after ∷ before) = ⊥
+IsBetween (cut_to file to done after ∷ before) = ⊥
+IsBetween (synced file done after ∷ before) = ⊥
+IsBetween (listed address folder listing ∷ before) = ⊥
+IsBetween (fetched address name limit found ∷ before) = ⊥
+IsBetween (sent address name bytes done ∷ before) = Unit {0}
+IsBetween (removed address name done ∷ before) = ⊥
+
+-- these changed no file, and put nothing
+abbrev pub AreQuiet : List Happening → Type 0
+AreQuiet [] = Unit {0}
+AreQuiet (attached name folder done ∷ before) = AreQuiet before
+AreQuiet (wrote file place bytes done after ∷ before) = ⊥
+AreQuiet (cut_to file to done after ∷ before) = ⊥
+AreQuiet (synced file done after ∷ before) = ⊥
+AreQuiet (listed address folder listing ∷ before) = AreQuiet before
+AreQuiet (fetched address name limit found ∷ before) = AreQuiet before
+AreQuiet (sent address name bytes done ∷ before) = ⊥
+AreQuiet (removed address name done ∷ before) = AreQuiet before

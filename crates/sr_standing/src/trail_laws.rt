@@ -1,0 +1,65 @@
+//! Trails of commits and puts. Each function does nothing: it carries laws as its clauses.
+
+ghost use Rattle.std.specs.Prelude.{◌≡◌, ◌⊎◌, Bool, List, ℕ, [], ◌∷◌, ◌++◌};
+ghost use Rattle.sr_book.specs.Entries.{Name};
+ghost use Rattle.sr_history.specs.Recorded.{Recorded};
+ghost use Rattle.sr_site.specs.Files.{Files};
+ghost use Rattle.sr_site.specs.Happenings.{Happening, sent};
+ghost use Rattle.sr_site.specs.Images.{IsImage, IsSettled, RestsThroughout};
+ghost use Rattle.sr_site.specs.Seen.{Seen};
+ghost use Rattle.sr_standing.specs.Items.{Item, commit, put, commits, puts, puts_in, AreQuiet};
+ghost use Rattle.sr_standing.specs.Standing.{StandsAs};
+ghost use Rattle.sr_standing.specs.Trails.{MayStandFor, IsOnTrail, Went};
+
+/// Where nothing happens, and where nothing happens but an attach, listings, fetches and removals, a settled site goes through the empty
+/// trail, and a crash leaves what it might have left before.
+#[tactic(auto, using(crate::proofs::Going::nothing, crate::proofs::Going::quiet, crate::proofs::Going::quiet_before))]
+pub fn nothing_is_no_item()
+    ensures went_none { (seen : Seen) (publisher : Name) (es : List Recorded) → IsSettled (StandsAs publisher es) seen → Went seen seen publisher es [] }
+    ensures went_quiet { (before now : Seen) (publisher : Name) (es : List Recorded) (more : List Happening) → IsSettled (StandsAs publisher es) before
+        → now.told ≡ before.told → now.first ≡ before.first → now.happened ≡ more ++ before.happened → AreQuiet more → Went before now publisher es [] }
+    ensures images { (before now : Seen) (more : List Happening) (image : Files) → now.first ≡ before.first → now.happened ≡ more ++ before.happened → AreQuiet more
+        → IsImage now image → IsImage before image }
+{}
+
+/// Where each image at each moment stands for the history before or for it and one entry more, and something happens but no put, the site
+/// goes through that one commit.
+#[tactic(auto, using(crate::proofs::Going::one_commit))]
+pub fn a_commit_is_an_item()
+    ensures went_one_commit { (before now : Seen) (publisher : Name) (es : List Recorded) (r : Recorded) → now.told ≡ before.told → now.first ≡ before.first
+        → IsSettled (StandsAs publisher es) before → puts_in now.happened ≡ puts_in before.happened → ¬ (now.happened ≡ before.happened)
+        → RestsThroughout (λ image. StandsAs publisher es image ⊎ StandsAs publisher (es ++ r ∷ []) image) before now
+        → Went before now publisher es (commit r ∷ []) }
+{}
+
+/// Where one put happens, done or not, a settled site goes through that one item, and a crash leaves what it
+/// might have left before.
+#[tactic(auto, using(crate::proofs::Going::one_put, crate::proofs::Going::put_before))]
+pub fn a_put_is_an_item()
+    ensures went_one_put { (before now : Seen) (publisher : Name) (es : List Recorded) (address name bytes : List ℕ) (done : Bool) → IsSettled (StandsAs publisher es) before
+        → now.told ≡ before.told → now.first ≡ before.first → now.happened ≡ sent address name bytes done ∷ before.happened
+        → Went before now publisher es (put address name bytes ∷ []) }
+    ensures images { (before now : Seen) (address name bytes : List ℕ) (done : Bool) (image : Files) → now.first ≡ before.first
+        → now.happened ≡ sent address name bytes done ∷ before.happened → IsImage now image → IsImage before image }
+{}
+
+/// What goes through one trail, and from there, with the entries that it committed, through another, goes through both joined.
+#[tactic(auto, using(crate::proofs::Joining::joined))]
+pub fn trails_join()
+    ensures went_on { (before middle now : Seen) (publisher : Name) (es : List Recorded) (trail more : List Item) → Went before middle publisher es trail
+        → Went middle now publisher (es ++ commits trail) more → Went before now publisher es (trail ++ more) }
+{}
+
+/// What one may read off: the messages that were put, in order; what a crash may leave in the end; and at each moment on the way a front
+/// of the trail that has begun.
+#[tactic(auto, using(crate::proofs::Going::telling))]
+pub fn trails_tell()
+    ensures put { (before now : Seen) (publisher : Name) (es : List Recorded) (trail : List Item) → Went before now publisher es trail
+        → puts_in now.happened ≡ puts_in before.happened ++ puts trail }
+    ensures images { (before now : Seen) (publisher : Name) (es : List Recorded) (trail : List Item) → Went before now publisher es trail
+        → (image : Files) → IsImage now image → MayStandFor publisher es trail image }
+    ensures moments { (before now : Seen) (publisher : Name) (es : List Recorded) (trail : List Item) (later earlier : List Happening) → Went before now publisher es trail
+        → now.happened ≡ later ++ (earlier ++ before.happened) → IsOnTrail before.first publisher es before.happened trail earlier }
+    ensures grows { (before now : Seen) (publisher : Name) (es : List Recorded) (trail : List Item) → Went before now publisher es trail
+        → (now.told ≡ before.told) × (now.first ≡ before.first) }
+{}
