@@ -13,8 +13,6 @@ mod script_run;
 mod session;
 mod statement;
 mod stream;
-#[cfg(test)]
-mod tests;
 mod words;
 
 use fault::Fault;
