@@ -88,6 +88,73 @@ fn done(alloc: Global, mail: &mut SharedMail, address: &Name, act: Act) -> Resul
     })
 }
 
+/// The two folders of the tables.
+#[derive(Clone, Copy)]
+enum Folder {
+    R1,
+    Cons,
+}
+
+/// The address of a folder.
+fn address_of<'a>(folder: Folder, r1: &'a Name, cons: &'a Name) -> &'a Name {
+    match folder {
+        Folder::R1 => r1,
+        Folder::Cons => cons,
+    }
+}
+
+const ACTS: &[(Folder, Act)] = &[
+    (Folder::R1, Act::Put("2", b"two")),
+    (Folder::R1, Act::Put("1", b"old one")),
+    (Folder::R1, Act::Put("1", b"one")),
+    (Folder::Cons, Act::Put("1", b"elsewhere")),
+    (Folder::R1, Act::List(2)),
+    (Folder::Cons, Act::List(1)),
+    (Folder::R1, Act::Fetch("1", 2, Some(b"on"))),
+    (Folder::R1, Act::Fetch("1", 3, Some(b"one"))),
+    (Folder::R1, Act::Fetch("1", 9, Some(b"one"))),
+    (Folder::R1, Act::Fetch("3", 9, None)),
+    (Folder::R1, Act::Hold("2", true)),
+    (Folder::R1, Act::Hold("2", true)),
+    (Folder::R1, Act::Hold("3", false)),
+    (Folder::Cons, Act::Hold("2", false)),
+    (Folder::R1, Act::List(1)),
+    (Folder::R1, Act::File("2", None)),
+    (Folder::R1, Act::Fetch("2", 9, None)),
+    (Folder::R1, Act::Remove("2")),
+    (Folder::R1, Act::Repeat("2", "4", true)),
+    (Folder::R1, Act::Repeat("3", "1", false)),
+    (Folder::R1, Act::Fetch("4", 9, Some(b"two"))),
+    (Folder::R1, Act::Release),
+    (Folder::R1, Act::List(3)),
+    (Folder::R1, Act::File("2", Some(b"two"))),
+    (Folder::R1, Act::Hold("2", true)),
+    (Folder::R1, Act::Put("2", b"new")),
+    (Folder::R1, Act::Fetch("2", 9, Some(b"new"))),
+    (Folder::R1, Act::Release),
+    (Folder::R1, Act::Fetch("2", 9, Some(b"new"))),
+    (Folder::R1, Act::Hold("2", true)),
+    (Folder::R1, Act::Lose("2", true)),
+    (Folder::R1, Act::Lose("2", false)),
+    (Folder::R1, Act::Release),
+    (Folder::R1, Act::File("2", None)),
+    (Folder::R1, Act::Remove("4")),
+    (Folder::R1, Act::Remove("4")),
+    (Folder::R1, Act::Lay("1", b"forged")),
+    (Folder::R1, Act::Fetch("1", 9, Some(b"forged"))),
+    (Folder::R1, Act::List(1)),
+    (Folder::Cons, Act::Fetch("1", 9, Some(b"elsewhere"))),
+];
+
+/// What was put, in order, by folder and name.
+const PUTS: &[(Folder, &[u8])] = &[
+    (Folder::R1, b"2"),
+    (Folder::R1, b"1"),
+    (Folder::R1, b"1"),
+    (Folder::Cons, b"1"),
+    (Folder::R1, b"2"),
+];
+
 #[test]
 fn a_file_is_put_held_repeated_and_lost(rt: HostRuntime) -> Result<(), Fail> {
     let alloc = rt.alloc();
@@ -95,58 +162,13 @@ fn a_file_is_put_held_repeated_and_lost(rt: HostRuntime) -> Result<(), Fail> {
         panic!(rt; "names, and memory for them");
     };
     let mut mail = SharedMail::new(alloc);
-    for (address, act) in [
-        (&r1, Act::Put("2", b"two")),
-        (&r1, Act::Put("1", b"old one")),
-        (&r1, Act::Put("1", b"one")),
-        (&cons, Act::Put("1", b"elsewhere")),
-        (&r1, Act::List(2)),
-        (&cons, Act::List(1)),
-        (&r1, Act::Fetch("1", 2, Some(b"on"))),
-        (&r1, Act::Fetch("1", 3, Some(b"one"))),
-        (&r1, Act::Fetch("1", 9, Some(b"one"))),
-        (&r1, Act::Fetch("3", 9, None)),
-        (&r1, Act::Hold("2", true)),
-        (&r1, Act::Hold("2", true)),
-        (&r1, Act::Hold("3", false)),
-        (&cons, Act::Hold("2", false)),
-        (&r1, Act::List(1)),
-        (&r1, Act::File("2", None)),
-        (&r1, Act::Fetch("2", 9, None)),
-        (&r1, Act::Remove("2")),
-        (&r1, Act::Repeat("2", "4", true)),
-        (&r1, Act::Repeat("3", "1", false)),
-        (&r1, Act::Fetch("4", 9, Some(b"two"))),
-        (&r1, Act::Release),
-        (&r1, Act::List(3)),
-        (&r1, Act::File("2", Some(b"two"))),
-        (&r1, Act::Hold("2", true)),
-        (&r1, Act::Put("2", b"new")),
-        (&r1, Act::Fetch("2", 9, Some(b"new"))),
-        (&r1, Act::Release),
-        (&r1, Act::Fetch("2", 9, Some(b"new"))),
-        (&r1, Act::Hold("2", true)),
-        (&r1, Act::Lose("2", true)),
-        (&r1, Act::Lose("2", false)),
-        (&r1, Act::Release),
-        (&r1, Act::File("2", None)),
-        (&r1, Act::Remove("4")),
-        (&r1, Act::Remove("4")),
-        (&r1, Act::Lay("1", b"forged")),
-        (&r1, Act::Fetch("1", 9, Some(b"forged"))),
-        (&r1, Act::List(1)),
-        (&cons, Act::Fetch("1", 9, Some(b"elsewhere"))),
-    ] {
-        assert!(rt; done(alloc, &mut mail, address, act)?);
+    for (folder, act) in ACTS {
+        let address = address_of(*folder, &r1, &cons);
+        assert!(rt; done(alloc, &mut mail, address, *act)?);
     }
     let puts = mail.puts();
-    for (put, (address, name)) in puts.iter().zip(&[
-        (&r1, b"2".as_slice()),
-        (&r1, b"1"),
-        (&r1, b"1"),
-        (&cons, b"1"),
-        (&r1, b"2"),
-    ]) {
+    for (put, (folder, name)) in puts.iter().zip(PUTS) {
+        let address = address_of(*folder, &r1, &cons);
         assert!(rt; put.0.bytes() == address.bytes() && put.1.bytes() == *name);
     }
     assert_eq!(rt; puts.len(), 5);

@@ -65,50 +65,55 @@ const SYNCED: &[(File, Call)] = &[
     (File::Snap1, Call::Write(1, b"Y")),
 ];
 
+/// Calls, a pick, and what it leaves of the root and of the last snapshot.
+type Pick = (&'static [(File, Call)], u64, &'static [u8], &'static [u8]);
+
+const PICKS: &[Pick] = &[
+    (TWO, 0, b"", b"abcde"),
+    (TWO, 1, b"", b"aXYPQRS"),
+    (TWO, 2, b"", b"abcde"),
+    (TWO, 3, b"", b"aXYZe"),
+    (TWO, 10, b"", b"abcPQRS"),
+    (TWO, 11, b"", b"aXYPQRS"),
+    (TWO, 4, b"", b"aXcde"),
+    (TWO, 5, b"", b"a\0YZe"),
+    (TWO, 6, b"", b"a\0\0\0e"),
+    (TWO, 9, b"", b"a\xff\xff\xffe"),
+    (TWO, 18, b"", b"abcPQ"),
+    (TWO, 26, b"", b"abc\0\0RS"),
+    (TWO, 50, b"", b"abcUUUU"),
+    (CUT_ALONE, 0, b"", b"abcde"),
+    (CUT_ALONE, 1, b"", b"ab"),
+    (CUT_ALONE, 3, b"", b"ab"),
+    (CUT_ALONE, 4, b"", b"abc"),
+    (CUT_ALONE, 5, b"", b"ab\0de"),
+    (CUT_ALONE, 7, b"", b"ab\x01\x01\x01"),
+    (CUT, 1, b"", b"abP"),
+    (CUT, 2, b"", b"abcde"),
+    (CUT, 3, b"", b"ab"),
+    (CUT, 10, b"", b"abPde"),
+    (CUT, 12, b"", b"abP"),
+    (GROWS, 0, b"", b"abcde"),
+    (GROWS, 1, b"abcd", b"abcde"),
+    (GROWS, 3, b"ab", b"abcde"),
+    (GROWS, 10, b"", b"abcde"),
+    (GROWS, 14, b"\0\0cd", b"abcde"),
+    (BOTH, 3, b"r", b"abcde"),
+    (BOTH, 10, b"", b"Zbcde"),
+    (BOTH, 11, b"r", b"Zbcde"),
+    (SYNCED, 0, b"", b"Zbcde"),
+    (SYNCED, 3, b"", b"ZYcde"),
+];
+
 #[test]
 fn a_pick_says_what_became_of_each_change(rt: HostRuntime) -> Result<(), Fail> {
     let alloc = rt.alloc();
-    for (calls, pick, root, snap1) in [
-        (TWO, 0, b"".as_slice(), b"abcde".as_slice()),
-        (TWO, 1, b"", b"aXYPQRS"),
-        (TWO, 2, b"", b"abcde"),
-        (TWO, 3, b"", b"aXYZe"),
-        (TWO, 10, b"", b"abcPQRS"),
-        (TWO, 11, b"", b"aXYPQRS"),
-        (TWO, 4, b"", b"aXcde"),
-        (TWO, 5, b"", b"a\0YZe"),
-        (TWO, 6, b"", b"a\0\0\0e"),
-        (TWO, 9, b"", b"a\xff\xff\xffe"),
-        (TWO, 18, b"", b"abcPQ"),
-        (TWO, 26, b"", b"abc\0\0RS"),
-        (TWO, 50, b"", b"abcUUUU"),
-        (CUT_ALONE, 0, b"", b"abcde"),
-        (CUT_ALONE, 1, b"", b"ab"),
-        (CUT_ALONE, 3, b"", b"ab"),
-        (CUT_ALONE, 4, b"", b"abc"),
-        (CUT_ALONE, 5, b"", b"ab\0de"),
-        (CUT_ALONE, 7, b"", b"ab\x01\x01\x01"),
-        (CUT, 1, b"", b"abP"),
-        (CUT, 2, b"", b"abcde"),
-        (CUT, 3, b"", b"ab"),
-        (CUT, 10, b"", b"abPde"),
-        (CUT, 12, b"", b"abP"),
-        (GROWS, 0, b"", b"abcde"),
-        (GROWS, 1, b"abcd", b"abcde"),
-        (GROWS, 3, b"ab", b"abcde"),
-        (GROWS, 10, b"", b"abcde"),
-        (GROWS, 14, b"\0\0cd", b"abcde"),
-        (BOTH, 3, b"r", b"abcde"),
-        (BOTH, 10, b"", b"Zbcde"),
-        (BOTH, 11, b"r", b"Zbcde"),
-        (SYNCED, 0, b"", b"Zbcde"),
-        (SYNCED, 3, b"", b"ZYcde"),
-    ] {
-        let Some(left) = crashed(alloc, calls, pick)? else {
+    for (calls, pick, root, snap1) in PICKS {
+        let Some(left) = crashed(alloc, calls, *pick)? else {
             panic!(rt; "pick {pick}: each call succeeds");
         };
-        assert!(rt; left.root.as_slice() == root, "pick {pick}");
-        assert!(rt; left.snap1.as_slice() == snap1, "pick {pick}");
+        assert!(rt; left.root.as_slice() == *root, "pick {pick}");
+        assert!(rt; left.snap1.as_slice() == *snap1, "pick {pick}");
     }
     Ok(())
 }

@@ -1,7 +1,8 @@
 -- What holds of a state goes on to hold behind each entry that fits it.
-use Rattle.std.proofs.Common.{ℕ, ◌+◌, Bool, true, false, List, [], ◌∷◌}
+use Rattle.std.proofs.Common.{◌≡◌, ℕ, ◌+◌, Bool, true, false, List, [], ◌∷◌, None}
 use Rattle.sr_ast.specs.declared.stmt.Stmt.{Stmt}
 use Rattle.sr_book.specs.Entries.{Name}
+use Rattle.sr_change.specs.Changes.{refusal}
 use Rattle.sr_exec.specs.FittingChanges.{ChangesFit}
 use Rattle.sr_exec.proofs.Applied.{no_rows_fit, fitting_changes_keep}
 use Rattle.sr_logform.specs.declared.change.Change.{Change}
@@ -10,7 +11,7 @@ use Rattle.sr_history.specs.Recorded.{Done, plain, ran, conflict, clash}
 use Rattle.sr_history.specs.Recorded.{Recorded, own, taken, ddl, sync, pass, note}
 use Rattle.sr_history.specs.Folds.{State, fresh, with_changes, with_statement, done_changes, after_done, after_dones, after_pass}
 use Rattle.sr_history.specs.Folds.{next, state_from, state_of, size}
-use Rattle.sr_history.specs.Fitting.{IsAccepted, IsAcceptedPass, DoneFits, DonesFit, FitsState, Fits, stored_from, Stored}
+use Rattle.sr_history.specs.Fitting.{IsAcceptedPass, DoneFits, DonesFit, FitsState, Fits, stored_from, Stored}
 use Rattle.sr_history.specs.Laws.{Holds}
 use Rattle.sr_history.proofs.Tables.{statement_keeps}
 
@@ -20,7 +21,7 @@ fresh_holds publisher = record { rows = no_rows_fit (fresh publisher).catalog; c
 changes_hold : (s : State) (changes : List Change) → Holds s → ChangesFit s.catalog s.rows changes → Holds (with_changes changes s)
 changes_hold s changes h fit = record { rows = fitting_changes_keep s.catalog s.rows changes h.rows fit; catalog = h.catalog }
 
-statement_holds : (s : State) (statement : Stmt) → Holds s → IsAccepted s statement → Holds (with_statement statement s)
+statement_holds : (s : State) (statement : Stmt) → Holds s → refusal s.catalog statement ≡ None → Holds (with_statement statement s)
 unfolding with_statement
 statement_holds s statement h accepted = record {
   rows = statement_keeps statement s.catalog s.rows accepted h.rows;
@@ -29,7 +30,7 @@ statement_holds s statement h accepted = record {
 
 done_holds : (s : State) (d : Done) → Holds s → DoneFits s d → Holds (after_done d s)
 done_holds s (plain op changes) h fit = changes_hold s changes h fit.changes
-done_holds s (ran statement changes) h fit = statement_holds (with_changes changes s) statement (changes_hold s changes h fit.changes) fit.outcome
+done_holds s (ran statement changes) h fit = statement_holds (with_changes changes s) statement (changes_hold s changes h fit.changes) fit.outcome.catalog
 done_holds s (conflict op inserts before after) h fit = changes_hold s (done_changes (conflict op inserts before after)) h fit.changes
 done_holds s (clash op why) h fit = h
 
@@ -40,13 +41,13 @@ dones_hold s (d ∷ dones) h fit = dones_hold (after_done d s) dones (done_holds
 pass_holds : (s : State) (only : Bool) (statement : Stmt) (changes : List Change) → Holds s → ChangesFit s.catalog s.rows changes
     → IsAcceptedPass s only statement → Holds (after_pass only statement changes s)
 pass_holds s true statement changes h fit accepted = h
-pass_holds s false statement changes h fit accepted = statement_holds (with_changes changes s) statement (changes_hold s changes h fit) accepted
+pass_holds s false statement changes h fit accepted = statement_holds (with_changes changes s) statement (changes_hold s changes h fit) accepted.catalog
 
 entry_holds : (s : State) (r : Recorded) → Holds s → FitsState s r → Holds (next s r)
 unfolding next FitsState
 entry_holds s (own changes) h fit = changes_hold s changes h fit
 entry_holds s (taken user at dones) h fit = dones_hold s dones h fit.1
-entry_holds s (ddl statement) h fit = statement_holds s statement h fit
+entry_holds s (ddl statement) h fit = statement_holds s statement h fit.catalog
 entry_holds s (sync user tables) h fit = h
 entry_holds s (pass users only statement changes) h fit = pass_holds s only statement changes h fit.1 fit.2
 entry_holds s (note user what) h fit = h

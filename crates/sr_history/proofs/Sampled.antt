@@ -364,7 +364,7 @@ next8 = refl
 -- what each asks
 fits1 : FitsState s0 e1
 unfolding FitsState refusal first_fault create_table_causes
-fits1 = refl
+fits1 = record { catalog = refl; rows = tt }
 
 fits2 : FitsState s1 e2
 unfolding FitsState
@@ -388,7 +388,7 @@ fits2 = (
 
 fits3 : FitsState s2 e3
 unfolding FitsState refusal first_fault grant_causes
-fits3 = refl
+fits3 = record { catalog = refl; rows = tt }
 
 fits4 : FitsState s3 e4
 unfolding FitsState
@@ -439,7 +439,7 @@ fits5 = (
     (
       record { changes = (insert_changes, tt); outcome = tt },
       (
-        record { changes = tt; outcome = accepted_u },
+        record { changes = tt; outcome = record { catalog = accepted_u; rows = tt } },
         (record { changes = tt; outcome = tt }, tt),
       ),
     ),
@@ -448,7 +448,7 @@ fits5 = (
 
 fits6 : FitsState s5 e6
 unfolding FitsState refusal first_fault drop_table_causes
-fits6 = ((refl, tt), tt, refl)
+fits6 = ((refl, tt), tt, record { catalog = refl; rows = tt })
 
 fits7 : FitsState s6 e7
 unfolding FitsState

@@ -1,20 +1,23 @@
 -- Which entry fits which state, and which histories may stand in a log.
-use Rattle.std.specs.Prelude.{◌≡◌, ⊤, ℕ, ◌+◌, ◌≤◌, ◌^◌, Bool, true, false, cond, List, [], ◌∷◌, length, map, Option, Some, None, IsSome, slice_get, bytes_eq}
+use Rattle.std.specs.Prelude.{◌≡◌, ⊤, ℕ, ◌+◌, ◌≤◌, ◌^◌, Bool, true, false, cond, List, [], ◌∷◌, length, map, Option, Some, None, IsSome, Result, Ok, Err, slice_get, bytes_eq}
 use Rattle.std.specs.List.{AllByRecursion}
 use Rattle.sr_base.specs.declared.value.Value.{Value as Cell}
 use Rattle.sr_ast.specs.declared.stmt.Stmt.{Stmt}
+use Rattle.sr_ast.specs.declared.stmt.Stmt.TheVariants as stmt
 use Rattle.sr_book.specs.Entries.{Name}
 use Rattle.sr_change.specs.Changes.{refusal}
 use Rattle.sr_dates.specs.Fitting.{fitted}
 use Rattle.sr_exec.specs.Conditions.{IsRow}
 use Rattle.sr_exec.specs.FittingChanges.{ChangesFit}
-use Rattle.sr_exec.specs.Statements.{key_of, table_named}
+use Rattle.sr_exec.specs.declared.changes.Changes.{Changes}
+use Rattle.sr_exec.specs.Statements.{done, key_of, table_named}
 use Rattle.sr_logform.specs.declared.change.Change.{Change}
 use Rattle.sr_logform.specs.declared.op.Op.{Op}
 use Rattle.sr_logform.specs.declared.op.Op.TheVariants as ops
 use Rattle.sr_logform.specs.Entries.{IsEntry}
 use Rattle.sr_logform.specs.Limits.{longest_body}
 use Rattle.sr_schema.specs.Catalogs.{Lists}
+use Rattle.sr_schema.specs.declared.fault.DmlFault.{DmlFault}
 use Rattle.sr_schema.specs.Members.{user_name}
 use Rattle.sr_schema.specs.Names.{named}
 use Rattle.sr_schema.specs.declared.table.Column.{Column}
@@ -29,9 +32,20 @@ use Rattle.sr_history.specs.Folds.{State, fresh, done_changes, after_done, next,
 abbrev pub Knows : State → Name → Type 0
 Knows s user = IsSome (named user_name user s.catalog.users)
 
--- the catalog does not refuse the statement
-abbrev pub IsAccepted : State → Stmt → Type 0
-IsAccepted s statement = refusal s.catalog statement ≡ None
+-- there are changes, and no refusal
+abbrev pub HasChanges : Result Changes DmlFault → Type 0
+HasChanges (Ok changes) = ⊤
+HasChanges (Err fault) = ⊥
+
+-- an INSERT, UPDATE or DELETE is not refused by the rows that it meets
+abbrev pub IsDone : State → Stmt → Type 0
+IsDone s (stmt.Dml d) = HasChanges (done s.catalog s.rows d)
+IsDone s statement = ⊤
+
+-- the statement is accepted: the catalog does not refuse it, nor do the rows
+pub record IsAccepted (s : State) (statement : Stmt) : Type 0 where
+  pub catalog : refusal s.catalog statement ≡ None
+  pub rows : IsDone s statement
 
 -- a change that inserts
 abbrev pub IsInsertion : Change → Type 0

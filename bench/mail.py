@@ -1,0 +1,44 @@
+"""Inboxes of many messages, a long transaction, and many small ones: seconds, and the peak memory.
+
+    python3 bench/mail.py crates/mailbench/out/mailbench [--times N] [--small]
+
+`growth` is the time beside that of half the size: about 2 is wanted. `windows` adds windows, one behind the other, takes them all, and takes and drops
+them once more; `nested` drops windows each of which lies in the one before it; `fragments` adds the fragments of one window, the last first. `long`
+cuts one transaction into messages, puts it together and reads it; its memory is also told as a multiple of the body. `small` cuts transactions as they come.
+"""
+
+import re
+
+import common
+
+SIZES = {
+    "windows": (16_384, 32_768, 65_536, 131_072),
+    "nested": (16_384, 32_768, 65_536, 131_072),
+    "fragments": (16_384, 32_768, 65_536, 131_072),
+    "long": (16_000_000, 32_000_000, 64_000_000),
+    "small": (250_000, 500_000, 1_000_000),
+}
+
+
+def main():
+    words = common.arguments("Inboxes of many messages, a long transaction, and many small ones.")
+    rows = []
+    with common.room(words.folder) as folder:
+        open(f"{folder}/nothing", "wb").close()
+        for name, sizes in SIZES.items():
+            before = None
+            for size in sizes:
+                if words.small:
+                    size //= 10
+                runs = [common.run([words.program, name, str(size)], f"{folder}/nothing", folder) for _ in range(words.times)]
+                seconds, memory, wrote = min(runs, key=lambda run: run[0])
+                told = wrote.decode().strip()
+                body = re.search(r"(\d+) bytes,", told)
+                multiple = memory * 1024 * 1024 / int(body[1]) if body else ""
+                rows.append((name, size, seconds, seconds / before if before else "", memory, multiple, told))
+                before = seconds
+    common.table(("run", "size", "seconds", "growth", "MiB", "x body", "told"), rows)
+
+
+if __name__ == "__main__":
+    main()

@@ -1,0 +1,10 @@
+pub mod Existing
+pub mod Filling
+pub mod Giving
+pub mod Items
+pub mod Lists
+pub mod Once
+pub mod Parting
+pub mod Reading
+pub mod Rising
+pub mod Truth

@@ -1,0 +1,4 @@
+pub mod Bodies
+pub mod Cuts
+pub mod Hexadecimal
+pub mod Truths

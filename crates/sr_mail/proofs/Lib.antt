@@ -1,0 +1,11 @@
+pub mod Covered
+pub mod Far
+pub mod Following
+pub mod Looping
+pub mod Observing
+pub mod Order
+pub mod Overwriting
+pub mod Paired
+pub mod Shelved
+pub mod Shelving
+pub mod Spanning
