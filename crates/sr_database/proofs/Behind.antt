@@ -1,0 +1,150 @@
+-- The entry behind an offset.
+use Rattle.std.proofs.Common.{◌≡◌, ◌≢◌, ℕ, ◌+◌, ◌≤◌, List, [], ◌∷◌, ◌++◌, length, map, take, Option, Some, None, Result, Ok, Err, refl, sym, ◌∙◌, ap, subst, arith}
+use Rattle.std.specs.Prelude.{IsTrue, IfErr, MatchOption}
+use Rattle.std.proofs.lemmas.List.{map-append}
+use Rattle.sr_base.specs.declared.offset.Offset.{Offset}
+use Rattle.sr_book.specs.Entries.{Name}
+use Rattle.sr_history.specs.Fitting.{Fits, stored_from, Stored}
+use Rattle.sr_history.specs.Folds.{State, fresh, state_from, end_from, end_of, size}
+use Rattle.sr_history.specs.Recorded.{Recorded, entry_of}
+use Rattle.sr_history.proofs.Joined.{end_from-more, stored_from-append}
+use Rattle.sr_logfile.specs.Faults.{NextCause, RecordAfterCause}
+use Rattle.sr_logfile.specs.Log.{Log}
+use Rattle.sr_logfile.specs.Logs.{IsLog, IsAt}
+use Rattle.sr_logfile.specs.Steps.{IsNext as IsNextBody}
+use Rattle.sr_logfile.specs.declared.fault.LogFault.{LogFault}
+use Rattle.sr_logfile.specs.declared.fault.LogFault.TheVariants as logs
+use Rattle.sr_logfile.specs.declared.fault.RecordFault.{RecordFault}
+use Rattle.sr_logfile.specs.declared.fault.RecordFault.TheVariants as records
+use Rattle.sr_logform.specs.Entries.{entry_spelling, IsEntry}
+use Rattle.sr_logform.specs.EntryLaws.{entry_format}
+use Rattle.sr_logform.specs.declared.entry.Entry.{Entry}
+use Rattle.sr_logform.proofs.Once.{spells_once}
+use Rattle.sr_site.specs.Files.{Files}
+use Rattle.sr_site.specs.Images.{MayLeave, IsSettled}
+use Rattle.sr_site.specs.Seen.{Seen}
+use Rattle.sr_site.specs.declared.file.File.{File}
+use Rattle.sr_standing.specs.Standing.{body, bodies}
+use Rattle.sr_standing.proofs.Standing.{ends_are, size_is}
+use Rattle.sr_database.specs.Causes.{EntryCause, IsRecordFault}
+use Rattle.sr_database.specs.Databases.{IsHeld, IsDatabase}
+use Rattle.sr_database.specs.Entries.{IsNext, IsEntryAfter, Parts, BehindCause}
+use Rattle.sr_database.specs.Openings.{IsLogFault}
+use Rattle.sr_database.specs.Replays.{SpellingCause}
+use Rattle.sr_database.specs.Views.{View}
+use Rattle.sr_database.specs.declared.fault.DatabaseFault.{DatabaseFault}
+use Rattle.sr_database.specs.declared.fault.DatabaseFault.TheVariants.{Missing, Exists, Damaged, Disk, Full, Long, Memory}
+use Rattle.sr_database.proofs.Commits.{log_of_held}
+
+-- the position parts the log as the offset parts the history
+pub is_at : (view : View) (publisher : Name) (done left : List Recorded) (seen : Seen) (after : ℕ) → IsDatabase view publisher (done ++ left) seen → after ≡ end_of done → IsAt view.log after (bodies done) (bodies left) seen.files
+is_at view publisher done left seen after database is =
+    record {
+      is_log = subst (λ (l : List (List ℕ)). IsLog view.log l seen.files) (map-append body done left) (log_of_held view publisher (done ++ left) seen.files database.is database.held);
+      after_is = omega (arith, is, database.is.base, ends_are 0 done);
+    }
+
+-- nothing is left
+pub none_left : (left : List Recorded) → bodies left ≡ [] → left ≡ []
+none_left [] is = refl
+none_left (r ∷ rs) is = cc
+
+-- the entry of the next body
+module _ (log : Log) (publisher : Name) (done : List Recorded) (after : ℕ) (at : after ≡ end_of done) where
+  first_fits : (r : Recorded) (rs : List Recorded) → Stored publisher (done ++ r ∷ rs) → IsEntry (entry_of r)
+  first_fits r rs stored = ((stored_from-append (fresh publisher) 0 done (r ∷ rs)).0 stored).1.0.spelled
+
+  one_entry : (r : Recorded) (rs : List Recorded) (entry : Entry) → Stored publisher (done ++ r ∷ rs) → IsEntry entry → entry_spelling entry ≡ body r → entry ≡ entry_of r
+  one_entry r rs entry stored spelled same =
+      ((spells_once entry_format).no_other entry (entry_of r) [] [] spelled (first_fits r rs stored) (ap (λ (l : List ℕ). l ++ []) same)).0
+
+  pub next_is : (left : List Recorded) (files : Files) (buffer : List ℕ) (end : Offset) (count : ℕ) (entry : Entry) → Stored publisher (done ++ left) → IsNextBody log after (bodies done) (bodies left) files buffer end.0 count
+      → IsEntry entry → take count buffer ≡ entry_spelling entry → IsNext done left end entry
+  next_is [] files buffer end count entry stored n spelled read = let is = n.left_is in absurd cc
+  next_is (r ∷ rs) files buffer end count entry stored n spelled read =
+      let heads : body r ≡ n.body = let is = n.left_is in cc in
+      let same : entry_spelling entry ≡ body r = sym read ∙ n.front ∙ sym heads in
+      record {
+        r = r;
+        rest = rs;
+        left_is = refl;
+        entry_is = one_entry r rs entry stored spelled same;
+        end_is = omega (arith, n.end_is, n.count_is, at, end_from-more 0 done r, size_is r, ap length heads);
+      }
+
+  -- what is read there is spelled
+  pub always_spelled : (left : List Recorded) (files : Files) (buffer : List ℕ) (end count : ℕ) → Stored publisher (done ++ left) → IsNextBody log after (bodies done) (bodies left) files buffer end count
+      → ((entry : Entry) → IsEntry entry → take count buffer ≢ entry_spelling entry) → ⊥
+  always_spelled [] files buffer end count stored n none = let left = n.left_is in cc
+  always_spelled (r ∷ rs) files buffer end count stored n none =
+      let heads : body r ≡ n.body = let left = n.left_is in cc in
+      none (entry_of r) (first_fits r rs stored) (n.front ∙ sym heads)
+
+-- what the log tells of the record behind a position
+abbrev StepOf : Log → ℕ → Seen → Files → List ℕ → Option (Offset × ℕ) → Type 0
+StepOf log after before files buffer found = (done left : List (List ℕ)) → IsAt log after done left before.files → MatchOption found (left ≡ []) (λ x. IsNextBody log after done left files buffer x.0.0 x.1)
+
+-- an entry that was read
+module _ (log : Log) (after : ℕ) (before now : Seen) where
+  pub ends_behind : (files : Files) (buffer : List ℕ) (found : Option (Offset × ℕ)) → found ≡ None → StepOf log after before files buffer found → (publisher : Name) (done left : List Recorded) → Parts log after publisher done left before → left ≡ []
+  ends_behind files buffer found is step publisher done left parts =
+      none_left left (subst (λ (o : Option (Offset × ℕ)). StepOf log after before files buffer o) is step (bodies done) (bodies left) parts.at)
+
+  module _ (files : Files) (buffer body : List ℕ) (found : Option (Offset × ℕ)) (end : Offset) (count : ℕ) (found_is : found ≡ Some (end, count)) (body_is : body ≡ take count buffer) where
+    pub read_behind : StepOf log after before files buffer found → (entry : Entry) → IsEntry entry → body ≡ entry_spelling entry → (publisher : Name) (done left : List Recorded) → Parts log after publisher done left before → IsNext done left end entry
+    read_behind step entry spelled read publisher done left parts =
+        next_is log publisher done after parts.after_is left files buffer end count entry parts.stored
+        (subst (λ (o : Option (Offset × ℕ)). StepOf log after before files buffer o) found_is step (bodies done) (bodies left) parts.at) spelled (sym body_is ∙ read)
+
+    pub spelling_behind : (IsTrue before.told → StepOf log after before files buffer found) → (file : File) (place : ℕ) (fault : DatabaseFault) → SpellingCause file place body fault → BehindCause log after before now fault
+    spelling_behind step file place Missing cause = absurd cause
+    spelling_behind step file place Exists cause = absurd cause
+    spelling_behind step file place (Damaged other at) cause = λ told publisher done left parts.
+        always_spelled log publisher done after parts.after_is left files buffer end.0 count parts.stored
+        (subst (λ (o : Option (Offset × ℕ)). StepOf log after before files buffer o) found_is (step told) (bodies done) (bodies left) parts.at)
+        (λ entry spelled same. cause.2 entry spelled (body_is ∙ same))
+    spelling_behind step file place Disk cause = absurd cause
+    spelling_behind step file place (Full last need) cause = absurd cause
+    spelling_behind step file place (Long size limit) cause = absurd cause
+    spelling_behind step file place Memory cause = tt
+
+  -- the log's refusal
+  next_refused : (file : File) (fault : LogFault) (answer : DatabaseFault) → IsLogFault file fault answer → NextCause log after before now fault → BehindCause log after before now answer
+  next_refused file logs.Disk answer is cause = subst (λ (a : DatabaseFault). BehindCause log after before now a) (sym is) cause
+  next_refused file (logs.Full end need) answer is cause = absurd cause
+  next_refused file (logs.Damaged at) answer is cause =
+      subst (λ (a : DatabaseFault). BehindCause log after before now a) (sym is) (λ told publisher done left parts. cause told (bodies done) (bodies left) parts.at)
+
+  pub refused_behind : (file : File) (fault : RecordFault) (answer : DatabaseFault) → IsRecordFault file fault answer → RecordAfterCause log after before now fault → BehindCause log after before now answer
+  refused_behind file records.Memory answer is cause = subst (λ (a : DatabaseFault). BehindCause log after before now a) (sym is) tt
+  refused_behind file (records.Log fault) answer is cause = next_refused file fault answer is cause
+
+-- ---- seen from the database
+
+module _ (view : View) (log : Log) (log_is : view.log ≡ log) (after : Offset) (before now : Seen) where
+  pub parts_of : (publisher : Name) (done left : List Recorded) → IsDatabase view publisher (done ++ left) before → after.0 ≡ end_of done → Parts log after.0 publisher done left before
+  parts_of publisher done left database is =
+      record { stored = database.is.stored; at = subst (λ (l : Log). IsAt l after.0 (bodies done) (bodies left) before.files) log_is (is_at view publisher done left before after.0 database is); after_is = is }
+
+  behind_cause : (fault : DatabaseFault) → BehindCause log after.0 before now fault → EntryCause view after before now fault
+  behind_cause Missing cause = absurd cause
+  behind_cause Exists cause = absurd cause
+  behind_cause (Damaged file at) cause = λ told end. cause told end.publisher end.done end.left (parts_of end.publisher end.done end.left end.is end.after_is)
+  behind_cause Disk cause = cause
+  behind_cause (Full end need) cause = absurd cause
+  behind_cause (Long size limit) cause = absurd cause
+  behind_cause Memory cause = tt
+
+  pub behind_refused : (result : Result (Option (Offset × Entry)) DatabaseFault) → IfErr result (BehindCause log after.0 before now) → IfErr result (EntryCause view after before now)
+  behind_refused (Ok found) cause = tt
+  behind_refused (Err fault) cause = behind_cause fault cause
+
+-- the database stays where nothing happens to the files
+pub stays_database : (view : View) (publisher : Name) (es : List Recorded) (before now : Seen) → now.first ≡ before.first → now.files ≡ before.files → now.happened ≡ before.happened → IsDatabase view publisher es before → IsDatabase view publisher es now
+stays_database view publisher es before now first files happened d =
+    record {
+      is = d.is;
+      held = subst (λ (f : Files). IsHeld view publisher es f) (sym files) d.held;
+      settled = λ image there. d.settled image
+          (subst (λ h. MayLeave before.first h image) happened (subst (λ (f : Files). MayLeave f now.happened image) first there));
+    }

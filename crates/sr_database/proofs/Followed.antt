@@ -1,0 +1,129 @@
+-- A record of a log that is read again: its body, its entry, and whether this may stand there.
+use Rattle.std.proofs.Common.{◌≡◌, ◌≢◌, ◌⊎◌, inl, inr, ℕ, ◌+◌, ◌-◌, ◌≤◌, ◌<◌, ◌^◌, Bool, true, false, List, [], ◌∷◌, ◌++◌, length, take, drop, refl, sym, ◌∙◌, ap, subst, arith, append_assoc, length-append}
+use Rattle.std.specs.Prelude.{IsTrue}
+use Rattle.std.proofs.lemmas.List.{drop-drop, drop_at, take_at, length-drop}
+use Rattle.sr_book.specs.Entries.{Name}
+use Rattle.sr_exec.specs.Conditions.{RowsFit}
+use Rattle.sr_fold.specs.Readings.{state_in, FitsAs}
+use Rattle.sr_history.specs.Fitting.{FitsState, Fits, Stored}
+use Rattle.sr_history.specs.Folds.{State, fresh, next, state_of, size, end_of, books_of}
+use Rattle.sr_history.specs.Recorded.{Recorded, entry_of}
+use Rattle.sr_history.proofs.Joined.{state_from-more, end_from-more}
+use Rattle.sr_history.proofs.Kept.{stored_holds}
+use Rattle.sr_logfile.specs.Heads.{HasWhole, IsBroken}
+use Rattle.sr_logfile.specs.Records.{record_of}
+use Rattle.sr_logfile.proofs.Records.{length-record}
+use Rattle.sr_logform.specs.Entries.{entry_spelling, IsEntry}
+use Rattle.sr_logform.specs.EntryLaws.{entry_format}
+use Rattle.sr_logform.specs.Limits.{longest_body}
+use Rattle.sr_logform.specs.declared.entry.Entry.{Entry}
+use Rattle.sr_logform.proofs.Once.{spells_once}
+use Rattle.sr_rows.specs.Marks.{Marked, RowMap}
+use Rattle.sr_rows.specs.Steps.{at_mark}
+use Rattle.sr_schema.specs.Catalogs.{Lists}
+use Rattle.sr_standing.specs.Standing.{body}
+use Rattle.sr_standing.proofs.Standing.{size_is}
+use Rattle.sr_database.specs.Books.{BookMap}
+use Rattle.sr_database.specs.Replays.{IsReplayed, BeginsWith, HasRead, IsOneMore, IsNone, piece, LacksNext}
+use Rattle.sr_database.specs.Taking.{BooksFollow}
+use Rattle.sr_database.proofs.Opened.{other_record}
+use Rattle.sr_database.proofs.Values.{stored_more, books_more}
+
+-- ---- what was read so far
+
+module _ (catalog : Lists) (rows : Marked) (books : BookMap) (position : ℕ) (publisher : Name) (es : List Recorded) (is : IsReplayed catalog rows books position publisher es) where
+  pub state_is : state_in catalog rows ≡ state_of publisher es
+  state_is = λ i. record { catalog = is.catalog_is i; rows = ap (λ (m : Marked). m.rows) is.rows_are i }
+
+  pub replay_fit : RowsFit catalog rows.rows
+  replay_fit = subst (λ (s : State). RowsFit s.catalog s.rows) (sym state_is) (stored_holds publisher es is.stored).rows
+
+  pub replay_fresh : rows ≡ at_mark rows.rows
+  replay_fresh = is.rows_are ∙ ap (λ (m : RowMap). at_mark m) (sym (ap (λ (m : Marked). m.rows) is.rows_are))
+
+  -- an entry that is too long may not stand there
+  pub too_long : (entry : Entry) (count : ℕ) → length (entry_spelling entry) ≡ count → longest_body entry < count → IsNone publisher es entry
+  too_long entry count sized long r same fits =
+      let short : size r ≤ longest_body entry = subst (λ (e : Entry). size r ≤ longest_body e) same fits.short in
+      absurd (omega (arith, short, size_is r, ap (λ (e : Entry). length (entry_spelling e)) same))
+
+  -- nor may one that is meant by none that fits
+  pub unfit : (entry : Entry) → ((r : Recorded) → ¬ (FitsAs (state_in catalog rows) entry r)) → IsNone publisher es entry
+  unfit entry none r same fits = none r (record { is = same; meant = fits.meant; fits = subst (λ (s : State). FitsState s r) (sym state_is) fits.state })
+
+  -- one that fits may stand there
+  pub one_more_read : (entry : Entry) (count : ℕ) (new_catalog : Lists) (new_rows : Marked) (new_books : BookMap) (r : Recorded) → IsEntry entry → length (entry_spelling entry) ≡ count → count ≤ longest_body entry → position + (count + 5) ≤ 2 ^ 62
+      → FitsAs (state_in catalog rows) entry r → state_in new_catalog new_rows ≡ next (state_in catalog rows) r → new_rows ≡ at_mark new_rows.rows → BooksFollow books new_books r
+      → IsOneMore catalog new_catalog rows new_rows books new_books position (position + (count + 5)) publisher es entry
+  one_more_read entry count new_catalog new_rows new_books r spelled sized short room fits state fresh_rows follow =
+      record {
+        r = r;
+        entry_is = fits.is;
+        fits = fits_there;
+        is = record {
+          name = is.name;
+          stored = stored_more publisher es r is.stored fits_there;
+          catalog_is = ap (λ (s : State). s.catalog) states;
+          rows_are = fresh_rows ∙ ap (λ (s : State). at_mark s.rows) states;
+          books_are = books_more es r books new_books is.books_are follow;
+          position_is = omega (arith, is.position_is, end_from-more 0 es r, size_here);
+        };
+      }
+    where
+      size_here : size r ≡ count
+      size_here = size_is r ∙ ap (λ (e : Entry). length (entry_spelling e)) fits.is ∙ sized
+
+      fits_there : Fits (state_of publisher es) (end_of es) r
+      fits_there =
+          record {
+            meant = fits.meant;
+            spelled = subst IsEntry (sym fits.is) spelled;
+            short = subst (λ (e : Entry). size r ≤ longest_body e) (sym fits.is) (let le : size r ≤ longest_body entry = omega (arith, size_here) in le);
+            ends = omega (arith, size_here, is.position_is);
+            state = subst (λ (s : State). FitsState s r) state_is fits.fits;
+          }
+
+      states : state_in new_catalog new_rows ≡ state_of publisher (es ++ r ∷ [])
+      states = state ∙ ap (λ (s : State). next s r) state_is ∙ sym (state_from-more (fresh publisher) es r)
+
+-- ---- the body of a whole record
+
+module _ (position : ℕ) (bytes : List ℕ) (end : ℕ) (whole : HasWhole position (drop (16 + position) bytes) end) where
+  pub whole_is : drop (16 + position) bytes ≡ 1 ∷ (record_of whole.body ++ whole.begins.gate ∷ whole.begins.more)
+  whole_is = whole.bytes_are ∙ ap (λ (l : List ℕ). 1 ∷ l) whole.begins.rest_is
+
+  behind_length : drop (16 + position + 5) bytes ≡ whole.body ++ whole.begins.gate ∷ whole.begins.more
+  behind_length =
+      sym (drop-drop 5 (16 + position) bytes) ∙ ap (drop 5) whole_is
+
+  pub piece_is : (count : ℕ) → count ≡ length whole.body → piece (16 + position + 5) count bytes ≡ whole.body
+  piece_is count is = ap (take count) behind_length ∙ take_at whole.body (whole.begins.gate ∷ whole.begins.more) count (sym is)
+
+  pub body_there : (count : ℕ) → count ≡ length whole.body → 16 + position + 5 + count ≤ length bytes
+  body_there count is =
+      omega (arith, length-drop (16 + position + 5) bytes, ap length behind_length, length-append whole.body (whole.begins.gate ∷ whole.begins.more))
+
+  -- the entry of the record
+  module _ (publisher : Name) (es : List Recorded) (count : ℕ) (sized : count ≡ length whole.body) (place : ℕ) (stored : Stored publisher es) (at : position ≡ end_of es) (place_is : place ≡ 16 + position) (read : HasRead es position bytes) where
+    -- no entry spells it
+    pub unspelled : ((e : Entry) → IsEntry e → piece (16 + position + 5) count bytes ≢ entry_spelling e) → LacksNext publisher bytes place
+    unspelled none = other_record publisher es position place end bytes stored at place_is read whole
+        (λ r same fits. none (entry_of r) fits.spelled (piece_is count sized ∙ sym same))
+
+    -- the entry that does may not stand there
+    pub unfitting : (entry : Entry) → IsEntry entry → piece (16 + position + 5) count bytes ≡ entry_spelling entry → IsNone publisher es entry → LacksNext publisher bytes place
+    unfitting entry spelled is none = other_record publisher es position place end bytes stored at place_is read whole
+        (λ r same fits. none r (one_entry r same fits.spelled) fits)
+      where
+        one_entry : (r : Recorded) → body r ≡ whole.body → IsEntry (entry_of r) → entry_of r ≡ entry
+        one_entry r same fit =
+            ((spells_once entry_format).no_other (entry_of r) entry [] [] fit spelled (ap (λ (l : List ℕ). l ++ []) (same ∙ sym (piece_is count sized) ∙ is))).0
+
+  -- the entry that does begins there
+  pub begins_there : (r : Recorded) (entry : Entry) (count : ℕ) → count ≡ length whole.body → entry_of r ≡ entry → piece (16 + position + 5) count bytes ≡ entry_spelling entry → BeginsWith r (drop (16 + position) bytes)
+  begins_there r entry count sized same is =
+      record {
+        gate = whole.begins.gate;
+        more = whole.begins.more;
+        is = whole_is ∙ ap (λ (l : List ℕ). 1 ∷ (record_of l ++ whole.begins.gate ∷ whole.begins.more)) (sym (piece_is count sized) ∙ is ∙ ap entry_spelling (sym same));
+      }

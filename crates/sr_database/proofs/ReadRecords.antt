@@ -1,0 +1,194 @@
+-- A record that is read: its bytes, its entry, and why it is refused.
+use Rattle.std.proofs.Common.{◌≡◌, ◌≢◌, ℕ, ◌+◌, ◌-◌, ◌≤◌, ◌<◌, ◌^◌, min, Bool, true, false, List, [], ◌∷◌, ◌++◌, length, take, drop, Option, Some, None, Result, Ok, Err, refl, sym, ◌∙◌, ap, subst, arith}
+use Rattle.std.specs.Prelude.{IsTrue, IfOk, IfErr}
+use Rattle.std.proofs.lemmas.List.{take_all}
+use Rattle.sr_book.specs.Entries.{Name}
+use Rattle.sr_fold.specs.Answers.{TellsOne}
+use Rattle.sr_fold.specs.Readings.{state_in, FitsAs}
+use Rattle.sr_history.specs.Folds.{State, next}
+use Rattle.sr_history.specs.Recorded.{Recorded, entry_of}
+use Rattle.sr_logfile.specs.Heads.{IsClosed, HasWhole, IsBroken}
+use Rattle.sr_logfile.specs.Heads.{RecordCause as GateCause}
+use Rattle.sr_logfile.specs.declared.fault.LogFault.{LogFault}
+use Rattle.sr_logfile.specs.declared.fault.LogFault.TheVariants as logs
+use Rattle.sr_logform.specs.Entries.{entry_spelling, IsEntry}
+use Rattle.sr_logform.specs.Limits.{longest_body}
+use Rattle.sr_logform.specs.declared.entry.Entry.{Entry}
+use Rattle.sr_rows.specs.Marks.{Marked}
+use Rattle.sr_rows.specs.Steps.{at_mark}
+use Rattle.sr_schema.specs.Catalogs.{Lists}
+use Rattle.sr_site.specs.Files.{Files, bytes_of}
+use Rattle.sr_site.specs.Reads.{HasRead as GaveBytes}
+use Rattle.sr_site.specs.Seen.{Seen}
+use Rattle.sr_site.specs.declared.file.File.{File}
+use Rattle.sr_database.specs.Books.{BookMap}
+use Rattle.sr_database.specs.Openings.{ReadAlone, IsLogFault}
+use Rattle.sr_database.specs.Replays.{IsReplayed, IsReplayedSome, BeginsWith, HasRead, LacksNext, IsNone, Followed, FollowsAny, HasReadOn, IsReadOn, EndsThere, piece, SpellingCause, BodyCause, RecordCause}
+use Rattle.sr_database.specs.Taking.{BooksFollow}
+use Rattle.sr_database.specs.declared.fault.DatabaseFault.{DatabaseFault}
+use Rattle.sr_database.specs.declared.fault.DatabaseFault.TheVariants.{Missing, Exists, Damaged, Disk, Full, Long, Memory}
+use Rattle.sr_database.proofs.Followed.{too_long, unfit, one_more_read, begins_there, body_there, unspelled, unfitting}
+use Rattle.sr_database.proofs.Opened.{broken_record}
+use Rattle.sr_database.proofs.Quiet.{told_then}
+
+-- ---- an entry that is followed, or not
+
+none_told : {Meaning : Type 0} (Fits : Meaning → Type 0) (leaves : Meaning → State) (after : State) (may : Bool) → may ≡ false → TellsOne Fits leaves after may → (meant : Meaning) → ¬ (Fits meant)
+none_told Fits leaves after false is tells = tells
+none_told Fits leaves after true is tells = absurd cc
+
+one_told : {Meaning : Type 0} (Fits : Meaning → Type 0) (leaves : Meaning → State) (after : State) (may : Bool) → may ≡ true → TellsOne Fits leaves after may → (meant : Meaning) × Fits meant × (after ≡ leaves meant)
+one_told Fits leaves after true is tells = tells
+one_told Fits leaves after false is tells = absurd cc
+
+module _ (catalog new_catalog : Lists) (rows new_rows : Marked) (books new_books : BookMap) (count : ℕ) (entry : Entry) (sized : length (entry_spelling entry) ≡ count) where
+  pub follows_none_long : longest_body entry < count → FollowsAny catalog new_catalog rows new_rows books new_books count entry false
+  follows_none_long long position publisher es is room = too_long catalog rows books position publisher es is entry count sized long
+
+  pub follows_none : (after : State) (may : Bool) → may ≡ false → TellsOne (FitsAs (state_in catalog rows) entry) (next (state_in catalog rows)) after may → FollowsAny catalog new_catalog rows new_rows books new_books count entry false
+  follows_none after may is tells position publisher es replayed room =
+      unfit catalog rows books position publisher es replayed entry (none_told (FitsAs (state_in catalog rows) entry) (next (state_in catalog rows)) after may is tells)
+
+  pub follows_one : (may : Bool) → may ≡ true → TellsOne (FitsAs (state_in catalog rows) entry) (next (state_in catalog rows)) (state_in new_catalog new_rows) may → IsEntry entry → count ≤ longest_body entry → new_rows ≡ at_mark new_rows.rows
+      → ((r : Recorded) → entry_of r ≡ entry → BooksFollow books new_books r) → FollowsAny catalog new_catalog rows new_rows books new_books count entry true
+  follows_one may is tells spelled short fresh follow position publisher es replayed room =
+      let one = one_told (FitsAs (state_in catalog rows) entry) (next (state_in catalog rows)) (state_in new_catalog new_rows) may is tells in
+      one_more_read catalog rows books position publisher es replayed entry count new_catalog new_rows new_books one.0 spelled sized short room one.1 one.2 fresh (follow one.0 one.1.is)
+
+-- ---- the bytes of a body
+
+pub read_short : (bytes front : List ℕ) (at wanted count read : ℕ) → GaveBytes bytes at wanted read front → wanted ≡ count → read < count → at + count ≤ length bytes → ⊥
+read_short bytes front at wanted count read gave is less there = let all = gave.count_is in omega arith
+
+pub read_whole : (bytes front : List ℕ) (at wanted count read : ℕ) → GaveBytes bytes at wanted read front → wanted ≡ count → count ≤ read → length front ≡ count → front ≡ piece at count bytes
+read_whole bytes front at wanted count read gave is most long =
+    let all = gave.count_is in
+    let same : read ≡ count = omega arith in
+    sym (take_all count front (omega arith)) ∙ subst (λ (n : ℕ). take n front ≡ take count (drop at bytes)) same (subst (λ (n : ℕ). take read front ≡ take n (drop at bytes)) is gave.front)
+
+-- a short body is no whole one
+pub short_cause : (log : File) (place count : ℕ) (before now : Seen) → (IsTrue before.told → place + 5 + count ≤ length (bytes_of before.files log) → ⊥) → BodyCause log place count before now (Damaged log place)
+short_cause log place count before now none = (refl, refl, λ told there e spelled same. none told there)
+
+module _ (log : File) (place count : ℕ) (before now : Seen) (body : List ℕ) (is : IsTrue before.told → body ≡ piece (place + 5) count (bytes_of before.files log)) where
+  spelling_cause : (fault : DatabaseFault) → SpellingCause log place body fault → BodyCause log place count before now fault
+  spelling_cause Missing cause = absurd cause
+  spelling_cause Exists cause = absurd cause
+  spelling_cause (Damaged file at) cause = (cause.0, cause.1, λ told there e spelled same. cause.2 e spelled (is told ∙ same))
+  spelling_cause Disk cause = absurd cause
+  spelling_cause (Full end need) cause = absurd cause
+  spelling_cause (Long size limit) cause = absurd cause
+  spelling_cause Memory cause = tt
+
+  pub body_refused : (result : Result Entry DatabaseFault) → IfErr result (SpellingCause log place body) → IfErr result (BodyCause log place count before now)
+  body_refused (Ok entry) cause = tt
+  body_refused (Err fault) cause = spelling_cause fault cause
+
+  pub body_read : (result : Result Entry DatabaseFault) → IsTrue before.told → IfOk result (λ entry. IsEntry entry × (body ≡ entry_spelling entry)) → IfOk result (λ entry. piece (place + 5) count (bytes_of before.files log) ≡ entry_spelling entry)
+  body_read (Ok entry) told has = sym (is told) ∙ has.1
+  body_read (Err fault) told has = tt
+
+pub entry_read : (body : List ℕ) (result : Result Entry DatabaseFault) → IfOk result (λ entry. IsEntry entry × (body ≡ entry_spelling entry)) → IfOk result IsEntry
+entry_read body (Ok entry) has = has.0
+entry_read body (Err fault) has = tt
+
+pub size_read : (body : List ℕ) (count : ℕ) (result : Result Entry DatabaseFault) → length body ≡ count → IfOk result (λ entry. IsEntry entry × (body ≡ entry_spelling entry)) → IfOk result (λ entry. length (entry_spelling entry) ≡ count)
+size_read body count (Ok entry) long has = ap (λ (l : List ℕ). length l) (sym has.1) ∙ long
+size_read body count (Err fault) long has = tt
+
+-- ---- a whole record
+
+module _ (log : File) (publisher : Name) (catalog : Lists) (rows : Marked) (books : BookMap) (position end : ℕ) (before now : Seen) (whole : IsTrue before.told → HasWhole position (drop (16 + position) (bytes_of before.files log)) end) where
+  -- the gates are far enough apart
+  pub apart_cause : end < position + 5 → RecordCause log publisher catalog rows books position before now (Damaged log (16 + position))
+  apart_cause near = (refl, λ told es is read. let far = (whole told).end_is in absurd (omega arith))
+
+  module _ (count : ℕ) (apart : position + (count + 5) ≡ end) where
+    sized : (told : IsTrue before.told) → count ≡ length (whole told).body
+    sized told = let far = (whole told).end_is in omega arith
+
+    pub body_cause : (fault : DatabaseFault) → BodyCause log (16 + position) count before now fault → RecordCause log publisher catalog rows books position before now fault
+    body_cause Missing cause = absurd cause
+    body_cause Exists cause = absurd cause
+    body_cause (Damaged file at) cause = (
+      cause.0,
+      λ told es is read.
+          unspelled position (bytes_of before.files log) end (whole told) publisher es count (sized told) at is.stored is.position_is cause.1 read
+          (cause.2 told (body_there position (bytes_of before.files log) end (whole told) count (sized told))),
+    )
+    body_cause Disk cause = cause
+    body_cause (Full end need) cause = absurd cause
+    body_cause (Long size limit) cause = absurd cause
+    body_cause Memory cause = tt
+
+    module _ (new_catalog : Lists) (new_rows : Marked) (new_books : BookMap) (entry : Entry) (body : IsTrue before.told → piece (16 + position + 5) count (bytes_of before.files log) ≡ entry_spelling entry) (limit : end ≤ 2 ^ 62) where
+      room : position + (count + 5) ≤ 2 ^ 62
+      room = omega arith
+
+      none_of : (may : Bool) (es : List Recorded) → may ≡ false → Followed catalog new_catalog rows new_rows books new_books position (position + (count + 5)) publisher es entry may → IsNone publisher es entry
+      none_of false es is follows = follows
+      none_of true es is follows = absurd cc
+
+      pub unfit_cause : IsEntry entry → (may : Bool) → may ≡ false → FollowsAny catalog new_catalog rows new_rows books new_books count entry may → RecordCause log publisher catalog rows books position before now (Damaged log (16 + position))
+      unfit_cause spelled may is follows = (
+        refl,
+        λ told es replayed read.
+            unfitting position (bytes_of before.files log) end (whole told) publisher es count (sized told) (16 + position) replayed.stored replayed.position_is refl read entry spelled (body told)
+            (none_of may es is (follows position publisher es replayed room)),
+      )
+
+      pub record_on : (may : Bool) → may ≡ true → FollowsAny catalog new_catalog rows new_rows books new_books count entry may → IsReadOn catalog new_catalog rows new_rows books new_books position end publisher log before
+      record_on false is follows es replayed = absurd cc
+      record_on true is follows es replayed =
+          let more = follows position publisher es replayed room in
+          record {
+            r = more.r;
+            is = subst (λ (n : ℕ). IsReplayed new_catalog new_rows new_books n publisher (es ++ more.r ∷ [])) apart more.is;
+            begins = λ told. begins_there position (bytes_of before.files log) end (whole told) more.r entry count (sized told) more.entry_is (body told);
+          }
+
+-- ---- the gate at a position
+
+same_place : (position : ℕ) → position - 0 ≡ position
+same_place position = omega arith
+
+module _ (log : File) (publisher : Name) (catalog : Lists) (rows : Marked) (books : BookMap) (position : ℕ) (before now : Seen) where
+  pub closed_there : (new_catalog : Lists) (new_rows : Marked) (new_books : BookMap) → new_catalog ≡ catalog → new_rows ≡ rows → new_books ≡ books → (IsTrue before.told → IsClosed (drop (16 + (position - 0)) (bytes_of before.files log)))
+      → EndsThere catalog new_catalog rows new_rows books new_books position log before
+  closed_there new_catalog new_rows new_books c r b closed =
+      record { catalog_is = c; rows_are = r; books_are = b; closed = λ told. subst (λ (n : ℕ). IsClosed (drop (16 + n) (bytes_of before.files log))) (same_place position) (closed told) }
+
+  pub gate_cause : (fault : LogFault) (answer : DatabaseFault) → IsLogFault log fault answer → GateCause log (16 + (position - 0)) position before now fault → RecordCause log publisher catalog rows books position before now answer
+  gate_cause logs.Disk answer is cause = subst (λ (a : DatabaseFault). RecordCause log publisher catalog rows books position before now a) (sym is) cause
+  gate_cause (logs.Full end need) answer is cause = absurd cause
+  gate_cause (logs.Damaged at) answer is cause = subst (λ (a : DatabaseFault). RecordCause log publisher catalog rows books position before now a) (sym is) (
+    refl,
+    λ told es replayed read.
+        broken_record publisher es position at (bytes_of before.files log) replayed.stored replayed.position_is (cause.0 ∙ ap (λ (n : ℕ). 16 + n) (same_place position)) read
+        (subst (λ (n : ℕ). IsBroken position (drop (16 + n) (bytes_of before.files log))) (same_place position) (cause.1 told)),
+  )
+
+  pub whole_at : (end : ℕ) → ReadAlone before now → (IsTrue before.told → HasWhole position (drop (16 + (position - 0)) (bytes_of before.files log)) end) → IsTrue now.told → HasWhole position (drop (16 + position) (bytes_of now.files log)) end
+  whole_at end alone whole told =
+      let at : IsTrue before.told = subst IsTrue alone.stays.told told in
+      subst (λ (f : Files). HasWhole position (drop (16 + position) (bytes_of f log)) end) (sym (alone.files at))
+      (subst (λ (n : ℕ). HasWhole position (drop (16 + n) (bytes_of before.files log)) end) (same_place position) (whole at))
+
+  pub read_on_before : (new_catalog : Lists) (new_rows : Marked) (new_books : BookMap) (end : ℕ) → ReadAlone before now → IsReadOn catalog new_catalog rows new_rows books new_books position end publisher log now → IsReadOn catalog new_catalog rows new_rows books new_books position end publisher log before
+  read_on_before new_catalog new_rows new_books end alone step es replayed =
+      let more = step es replayed in
+      record { r = more.r; is = more.is; begins = λ told. subst (λ (f : Files). BeginsWith more.r (drop (16 + position) (bytes_of f log))) (alone.files told) (more.begins (told_then before now alone.stays told)) }
+
+  pub record_cause_before : (last : Seen) → ReadAlone before now → (fault : DatabaseFault) → RecordCause log publisher catalog rows books position now last fault → RecordCause log publisher catalog rows books position before last fault
+  record_cause_before last alone Missing cause = absurd cause
+  record_cause_before last alone Exists cause = absurd cause
+  record_cause_before last alone (Damaged file at) cause = (
+    cause.0,
+    λ told es replayed read.
+        subst (λ (f : Files). LacksNext publisher (bytes_of f log) at) (alone.files told)
+        (cause.1 (told_then before now alone.stays told) es replayed (subst (λ (f : Files). HasRead es position (bytes_of f log)) (sym (alone.files told)) read)),
+  )
+  record_cause_before last alone Disk cause = let later : before.disk_faults ≤ now.disk_faults = alone.stays.later in omega arith
+  record_cause_before last alone (Full end need) cause = absurd cause
+  record_cause_before last alone (Long size limit) cause = absurd cause
+  record_cause_before last alone Memory cause = tt

@@ -1,0 +1,66 @@
+-- Which history a database is of, as a value and on its site.
+use Rattle.std.specs.Prelude.{◌≡◌, List, []}
+use Rattle.std.specs.List.{AllByRecursion}
+use Rattle.sr_base.specs.Fields.{IsName}
+use Rattle.sr_book.specs.Entries.{Name}
+use Rattle.sr_exec.specs.Applying.{applied}
+use Rattle.sr_exec.specs.FittingChanges.{ChangesFit}
+use Rattle.sr_history.specs.Fitting.{Stored}
+use Rattle.sr_history.specs.Folds.{state_of, end_of, books_of}
+use Rattle.sr_history.specs.Recorded.{Recorded}
+use Rattle.sr_logform.specs.Outcomes.{IsShortChange}
+use Rattle.sr_logform.specs.declared.change.Change.{Change}
+use Rattle.sr_rows.specs.Marks.{Marked}
+use Rattle.sr_schema.specs.Catalogs.{Lists, nothing_but}
+use Rattle.sr_site.specs.Files.{Files}
+use Rattle.sr_site.specs.Images.{IsSettled}
+use Rattle.sr_site.specs.Seen.{Seen}
+use Rattle.sr_standing.specs.Generations.{log_of}
+use Rattle.sr_standing.specs.Standing.{StandsFor}
+use Rattle.sr_database.specs.Books.{book_in}
+use Rattle.sr_database.specs.Views.{View}
+
+-- changes are pending: they fit the rows of the last commit, at which the mark stands, and are applied to them; where there are none, nothing
+-- was done to the rows since
+pub record ArePending (catalog : Lists) (rows : Marked) (pending : List Change) : Type 0 where
+  pub fit : ChangesFit catalog rows.marked pending
+  pub short : AllByRecursion IsShortChange pending
+  pub rows_are : rows.rows ≡ applied catalog pending rows.marked
+  pub still : pending ≡ [] → rows.trail ≡ []
+
+-- the value is that of a history: catalog, rows and books are what it comes to, pending changes stand in the rows alone, and the log ends
+-- where it does. At the log's base there was nothing but the publisher
+pub record IsOf (view : View) (publisher : Name) (es : List Recorded) : Type 0 where
+  pub name : IsName publisher
+  pub stored : Stored publisher es
+  pub catalog : view.catalog ≡ (state_of publisher es).catalog
+  pub base_catalog : view.base_catalog ≡ nothing_but publisher
+  pub marked : view.rows.marked ≡ (state_of publisher es).rows
+  pub pending : ArePending view.catalog view.rows view.pending
+  pub books : (user : Name) → book_in view.books user ≡ books_of user es
+  pub base : view.log.base ≡ 0
+  pub end : view.log.end ≡ end_of es
+
+-- the value is that of some history
+pub record IsOfSome (view : View) : Type 0 where
+  pub publisher : Name
+  pub es : List Recorded
+  pub is : IsOf view publisher es
+
+-- the files stand for the history, and the log of the value is the one that is in force
+pub record IsHeld (view : View) (publisher : Name) (es : List Recorded) (files : Files) : Type 0 where
+  pub stands : StandsFor publisher es view.log.base files
+  pub log_is : log_of stands.generation ≡ view.log.file
+
+-- the value on its site is the database of this history: the value is that of the history, the files hold it, and every crash leaves files
+-- that do
+pub record IsDatabase (view : View) (publisher : Name) (es : List Recorded) (seen : Seen) : Type 0 where
+  pub is : IsOf view publisher es
+  pub held : IsHeld view publisher es seen.files
+  pub settled : IsSettled (IsHeld view publisher es) seen
+
+-- it is the database of some history
+pub record HasDatabase (view : View) (seen : Seen) : Type 0 where
+  pub publisher : Name
+  pub es : List Recorded
+  pub is : IsDatabase view publisher es seen

@@ -1,0 +1,54 @@
+-- The entry behind an offset.
+use Rattle.std.specs.Prelude.{◌≡◌, ⊤, ℕ, List, [], ◌∷◌, ◌++◌, Option, Some, None, IsTrue}
+use Rattle.sr_base.specs.declared.offset.Offset.{Offset}
+use Rattle.sr_history.specs.Fitting.{Stored}
+use Rattle.sr_history.specs.Folds.{end_of}
+use Rattle.sr_history.specs.Recorded.{Recorded, entry_of}
+use Rattle.sr_logfile.specs.Log.{Log}
+use Rattle.sr_logfile.specs.Logs.{IsAt}
+use Rattle.sr_logform.specs.declared.entry.Entry.{Entry}
+use Rattle.sr_book.specs.Entries.{Name}
+use Rattle.sr_site.specs.Causes.{Rose}
+use Rattle.sr_site.specs.Seen.{Seen}
+use Rattle.sr_standing.specs.Standing.{bodies}
+use Rattle.sr_database.specs.Databases.{IsDatabase}
+use Rattle.sr_database.specs.Views.{View}
+use Rattle.sr_database.specs.declared.fault.DatabaseFault.{DatabaseFault}
+use Rattle.sr_database.specs.declared.fault.DatabaseFault.TheVariants.{Missing, Exists, Damaged, Disk, Full, Long, Memory}
+
+-- the first of those that are left, with the end of its record
+pub record IsNext (done left : List Recorded) (end : Offset) (entry : Entry) : Type 0 where
+  pub r : Recorded
+  pub rest : List Recorded
+  pub left_is : left ≡ r ∷ rest
+  pub entry_is : entry ≡ entry_of r
+  pub end_is : end.0 ≡ end_of (done ++ r ∷ [])
+
+-- none exactly where none is left
+abbrev pub IsEntryAfter : List Recorded → List Recorded → Option (Offset × Entry) → Type 0
+IsEntryAfter done left None = left ≡ []
+IsEntryAfter done left (Some found) = IsNext done left found.0 found.1
+
+-- the offset is the beginning of the database's history, or the end of one of its entries
+pub record IsEnd (view : View) (after : Offset) (seen : Seen) : Type 0 where
+  pub publisher : Name
+  pub done : List Recorded
+  pub left : List Recorded
+  pub is : IsDatabase view publisher (done ++ left) seen
+  pub after_is : after.0 ≡ end_of done
+
+-- the offset parts the history whose entries the log holds: those done before it, those left behind it
+pub record Parts (log : Log) (after : ℕ) (publisher : Name) (done left : List Recorded) (seen : Seen) : Type 0 where
+  pub stored : Stored publisher (done ++ left)
+  pub at : IsAt log after (bodies done) (bodies left) seen.files
+  pub after_is : after ≡ end_of done
+
+-- why the entry behind an offset of a log is not read: damage only where the disk does not tell what it holds, or the offset parts no history
+abbrev pub BehindCause : Log → ℕ → Seen → Seen → DatabaseFault → Type 0
+BehindCause log after before now Missing = ⊥
+BehindCause log after before now Exists = ⊥
+BehindCause log after before now (Damaged file at) = IsTrue before.told → (publisher : Name) (done left : List Recorded) → Parts log after publisher done left before → ⊥
+BehindCause log after before now Disk = Rose before.disk_faults now.disk_faults
+BehindCause log after before now (Full end need) = ⊥
+BehindCause log after before now (Long size limit) = ⊥
+BehindCause log after before now Memory = ⊤

@@ -1,0 +1,272 @@
+ghost use Rattle.std.specs.Prelude.{◌≡◌, ◌≤◌, ◌^◌, [], ℕ, true, List, length, IsTrue, IfOk, IfErr, OnOk};
+ghost use Rattle.sr_book.specs.Entries.{Name as AName};
+ghost use Rattle.sr_history.specs.Recorded.{Recorded};
+ghost use Rattle.sr_base.specs.Fields.{IsName};
+ghost use Rattle.sr_logfile.specs.Moments.{IsAsRead};
+ghost use Rattle.sr_logfile.specs.Records.{HasHeader};
+ghost use Rattle.sr_schema.specs.Catalogs.{nothing_but};
+ghost use Rattle.sr_site.specs.Causes.{DiskStays};
+ghost use Rattle.sr_site.specs.Files.{bytes_of};
+ghost use Rattle.sr_site.specs.Images.{IsImage, IsSettled, RestsThroughout};
+ghost use Rattle.sr_standing.specs.Generations.{snapshot_of, log_of};
+ghost use Rattle.sr_standing.specs.Standing.{StandsFor};
+ghost use Rattle.sr_database.specs.Causes.{OpenCause, IsDiskOrMemory};
+ghost use Rattle.sr_database.specs.Openings.{SyncedAlone, ReadAlone, BeginsWithByte, named_by, AreInForce, RootCause, IsWhole, HasRefused, ShapeRefusal, ShapeCause, BaseCause, LogCause};
+ghost use Rattle.sr_database.specs.Replays.{IsReplayed, IsReplayedBehind, HasReplayed, IsOpened, ReplayCause};
+ghost use Rattle.sr_database.specs.Databases.{IsOf, IsDatabase, HasDatabase};
+
+use crate::database::Database;
+use crate::fault::DatabaseFault;
+use crate::reading::log_fault;
+use crate::replaying::{Replay, next_entry};
+use crate::snapshot::read_publisher;
+use sr_base::Name;
+use sr_catalog::Catalog;
+use sr_logfile::{LogFault, LogFile, base_of, open};
+use sr_site::{Disk, File, Site};
+use std::alloc::Global;
+
+impl Database {
+    /// Opens the database.
+    ///
+    /// `Missing` comes exactly where the root has no byte. `Damaged { file, at }` comes exactly where the files stand for no history: the root at 0
+    /// where its first byte is odd and the odd snapshot has no byte; the snapshot at the first byte of the field that breaks; the log at 0
+    /// where its header breaks, at 8 where its base is not that of the snapshot, at the gate of the first record that is not as written, and
+    /// where each is, at that of the first one that does not fit what stands before it. Of several, the first in this order. Each file is
+    /// synced before it is read, so that what was read stays. It reads the log front to back, first five bytes a record and then whole ones,
+    /// in a buffer of the longest record's length.
+    pub fn open<S: Site>(alloc: Global, site: &mut S) -> Result<Database, DatabaseFault>
+        ensures ready { IfOk result (λ db. (db.log.usable ≡ true) × (db.pending ≡ [])) }
+        ensures opened { IsTrue (S.seen site.old).told → IfOk result (λ db. HasDatabase db (S.seen site.new)) }
+        ensures stood { IsTrue (S.seen site.old).told → (publisher : AName) (es : List Recorded) (base : ℕ) → StandsFor publisher es base (S.seen site.old).files
+            → IfOk result (λ db. IsDatabase db publisher es (S.seen site.new)) × IfErr result IsDiskOrMemory }
+        ensures files { IsTrue (S.seen site.old).told → (S.seen site.new).files ≡ (S.seen site.old).files }
+        ensures moments { IsTrue (S.seen site.old).told → RestsThroughout (IsImage (S.seen site.old)) (S.seen site.old) (S.seen site.new) }
+        ensures stays { DiskStays (S.seen site.old) (S.seen site.new) }
+        ensures steady { OnOk result ((S.seen site.new).disk_faults ≡ (S.seen site.old).disk_faults) }
+        ensures cause { IfErr result (OpenCause (S.seen site.old) (S.seen site.new)) }
+    {
+        open_files(alloc, site)
+    }
+}
+
+/// Opens the files that are in force.
+fn open_files<S: Site>(alloc: Global, site: &mut S) -> Result<Database, DatabaseFault>
+    ensures ready { IfOk result (λ db. (db.log.usable ≡ true) × (db.pending ≡ [])) }
+    ensures opened { IsTrue (S.seen site.old).told → IfOk result (λ db. HasDatabase db (S.seen site.new)) }
+    ensures synced { SyncedAlone (S.seen site.old) (S.seen site.new) }
+    ensures steady { OnOk result ((S.seen site.new).disk_faults ≡ (S.seen site.old).disk_faults) }
+    ensures cause { IfErr result (OpenCause (S.seen site.old) (S.seen site.new)) }
+{
+    let files = files_in_force(site)?;
+    let publisher = read_publisher(alloc, site, files.snapshot)?;
+    open_log(alloc, site, files.log, publisher)
+}
+
+/// The snapshot and the log of the generation that a root names.
+#[derive(Clone, Copy)]
+pub(crate) struct InForce {
+    pub(crate) snapshot: File,
+    pub(crate) log: File,
+}
+
+/// Syncs the root, and tells which files it puts in force: those of the even generation or those of the odd one, as its first byte is.
+fn files_in_force<S: Site>(site: &mut S) -> Result<InForce, DatabaseFault>
+    ensures named { IfOk result (λ files. AreInForce files.snapshot files.log (S.seen site.old)) }
+    ensures settled { IsTrue (S.seen site.old).told → OnOk result (IsSettled (IsAsRead File.Root (S.seen site.new)) (S.seen site.new)) }
+    ensures synced { SyncedAlone (S.seen site.old) (S.seen site.new) }
+    ensures steady { OnOk result ((S.seen site.new).disk_faults ≡ (S.seen site.old).disk_faults) }
+    ensures cause { IfErr result (RootCause (S.seen site.old) (S.seen site.new)) }
+{
+    match first_byte(site) {
+        Ok(byte) => Ok(in_force(byte)),
+        Err(fault) => Err(fault),
+    }
+}
+
+/// Syncs the root, and reads its first byte.
+fn first_byte<S: Site>(site: &mut S) -> Result<u8, DatabaseFault>
+    ensures first { IsTrue (S.seen site.old).told → IfOk result (λ byte. BeginsWithByte byte (S.seen site.old).files.root) }
+    ensures settled { IsTrue (S.seen site.old).told → OnOk result (IsSettled (IsAsRead File.Root (S.seen site.new)) (S.seen site.new)) }
+    ensures synced { SyncedAlone (S.seen site.old) (S.seen site.new) }
+    ensures steady { OnOk result ((S.seen site.new).disk_faults ≡ (S.seen site.old).disk_faults) }
+    ensures cause { IfErr result (RootCause (S.seen site.old) (S.seen site.new)) }
+{
+    site.sync(File::Root)?;
+    let length = site.length(File::Root)?;
+    if length == 0 {
+        return Err(DatabaseFault::Missing);
+    }
+    let mut first = [0; 1];
+    let _count = site.read_at(File::Root, 0, &mut first)?;
+    let [byte] = first;
+    Ok(byte)
+}
+
+/// The files of the generation that a byte names.
+fn in_force(byte: u8) -> InForce
+    ensures snapshot { result.snapshot ≡ snapshot_of (named_by byte) }
+    ensures log { result.log ≡ log_of (named_by byte) }
+{
+    if byte % 2 == 0 {
+        return InForce {
+            snapshot: File::Snap0,
+            log: File::Log0,
+        };
+    }
+    InForce {
+        snapshot: File::Snap1,
+        log: File::Log1,
+    }
+}
+
+/// Syncs the log, and reads its entries, up to the first closed gate.
+fn open_log<S: Site>(
+    alloc: Global,
+    site: &mut S,
+    log: File,
+    publisher: Name,
+) -> Result<Database, DatabaseFault>
+    requires name { IsName publisher }
+    ensures ready { IfOk result (λ db. (db.log.usable ≡ true) × (db.pending ≡ [])) }
+    ensures opened { IfOk result (λ db. IsOpened db log publisher (S.seen site.old)) }
+    ensures settled { IsTrue (S.seen site.old).told → OnOk result (IsSettled (IsAsRead log (S.seen site.new)) (S.seen site.new)) }
+    ensures synced { SyncedAlone (S.seen site.old) (S.seen site.new) }
+    ensures steady { OnOk result ((S.seen site.new).disk_faults ≡ (S.seen site.old).disk_faults) }
+    ensures cause { IfErr result (LogCause log publisher (S.seen site.old) (S.seen site.new)) }
+{
+    open_records(site, log)?;
+    read_entries(alloc, site, log, publisher)
+}
+
+/// Syncs the log, and looks whether it has a header of the base 0 and whole records up to the first closed gate.
+fn open_records<S: Site>(site: &mut S, log: File) -> Result<(), DatabaseFault>
+    ensures whole { IsTrue (S.seen site.old).told → OnOk result (IsWhole (bytes_of (S.seen site.old).files log)) }
+    ensures settled { IsTrue (S.seen site.old).told → OnOk result (IsSettled (IsAsRead log (S.seen site.new)) (S.seen site.new)) }
+    ensures synced { SyncedAlone (S.seen site.old) (S.seen site.new) }
+    ensures steady { OnOk result ((S.seen site.new).disk_faults ≡ (S.seen site.old).disk_faults) }
+    ensures cause { IfErr result (ShapeCause log (S.seen site.old) (S.seen site.new)) }
+{
+    match open(site, log) {
+        Ok(found) => {
+            if found.base().0 > 0 {
+                return Err(DatabaseFault::Damaged { file: log, at: 8 });
+            }
+            Ok(())
+        }
+        Err(fault) => Err(refused_shape(site, log, fault)),
+    }
+}
+
+/// Why the log's header or a record is refused, where the log's own opening is: where its header has another base, this comes first.
+fn refused_shape<S: Site>(site: &mut S, log: File, fault: LogFault) -> DatabaseFault
+    requires damaged { HasRefused fault log (S.seen site.old) }
+    ensures read { ReadAlone (S.seen site.old) (S.seen site.new) }
+    ensures cause { ShapeRefusal log fault (S.seen site.old) (S.seen site.new) result }
+{
+    match fault {
+        LogFault::Damaged { at } => match check_base(site, log) {
+            Ok(()) => DatabaseFault::Damaged { file: log, at },
+            Err(refused) => refused,
+        },
+        LogFault::Disk => DatabaseFault::Disk,
+        LogFault::Full { .. } => DatabaseFault::Disk,
+    }
+}
+
+/// Whether the log has a header, of the base 0.
+fn check_base<S: Site>(site: &mut S, log: File) -> Result<(), DatabaseFault>
+    ensures header { IsTrue (S.seen site.old).told → OnOk result (HasHeader 0 (bytes_of (S.seen site.old).files log)) }
+    ensures read { ReadAlone (S.seen site.old) (S.seen site.new) }
+    ensures steady { OnOk result ((S.seen site.new).disk_faults ≡ (S.seen site.old).disk_faults) }
+    ensures cause { IfErr result (BaseCause log (S.seen site.old) (S.seen site.new)) }
+{
+    match base_of(site, log) {
+        Ok(base) => {
+            if base > 0 {
+                return Err(DatabaseFault::Damaged { file: log, at: 8 });
+            }
+            Ok(())
+        }
+        Err(fault) => Err(log_fault(log, fault)),
+    }
+}
+
+/// Reads the entries of a log whose records are whole, up to the first closed gate.
+fn read_entries<S: Site>(
+    alloc: Global,
+    site: &mut S,
+    log: File,
+    publisher: Name,
+) -> Result<Database, DatabaseFault>
+    requires name { IsName publisher }
+    requires whole { IsTrue (S.seen site.old).told → IsWhole (bytes_of (S.seen site.old).files log) }
+    ensures ready { IfOk result (λ db. (db.log.usable ≡ true) × (db.pending ≡ [])) }
+    ensures opened { IfOk result (λ db. IsOpened db log publisher (S.seen site.old)) }
+    ensures read { ReadAlone (S.seen site.old) (S.seen site.new) }
+    ensures steady { OnOk result ((S.seen site.new).disk_faults ≡ (S.seen site.old).disk_faults) }
+    ensures cause { IfErr result (ReplayCause log publisher (S.seen site.old) (S.seen site.new)) }
+{
+    let size = site.length(log)?;
+    let mut replay = Replay::new(alloc, &publisher)?;
+    let end = replay_all(alloc, site, log, &publisher, &mut replay, size)?;
+    let base_catalog = Catalog::new(alloc, publisher);
+    Ok(database_of(alloc, replay, base_catalog, log, end))
+}
+
+/// Reads all entries, and answers the position behind the last. It reads front to back, once.
+fn replay_all<S: Site>(
+    alloc: Global,
+    site: &mut S,
+    log: File,
+    publisher: &Name,
+    replay: &mut Replay,
+    size: u64,
+) -> Result<u64, DatabaseFault>
+    requires size { IsTrue (S.seen site.old).told → size ≡ length (bytes_of (S.seen site.old).files log) }
+    requires header { IsTrue (S.seen site.old).told → HasHeader 0 (bytes_of (S.seen site.old).files log) }
+    requires new { IsReplayed replay.old.catalog replay.old.rows replay.old.books 0 publisher.now [] }
+    ensures replayed { IfOk result (λ end. HasReplayed replay.new.catalog replay.new.rows replay.new.books end publisher.now log (S.seen site.old)) }
+    ensures end { IfOk result (λ end. end ≤ 2 ^ 62) }
+    ensures read { ReadAlone (S.seen site.old) (S.seen site.new) }
+    ensures steady { OnOk result ((S.seen site.new).disk_faults ≡ (S.seen site.old).disk_faults) }
+    ensures cause { IfErr result (ReplayCause log publisher.now (S.seen site.old) (S.seen site.new)) }
+{
+    let mut position = 0;
+    'entries: while let Some(end) = next_entry(
+        alloc, site, log, publisher, replay, position, size,
+    )? {
+        position = end;
+    }
+    Ok(position)
+}
+
+/// The database of what was read.
+fn database_of(
+    alloc: Global,
+    replay: Replay,
+    base_catalog: Catalog,
+    log: File,
+    end: u64,
+) -> Database
+    requires end { end ≤ 2 ^ 62 }
+    requires replayed { IsReplayedBehind replay.catalog replay.rows replay.books end base_catalog }
+    ensures ready { (result.log.usable ≡ true) × (result.pending ≡ []) }
+    ensures file { result.log.file ≡ log }
+    ensures is { (publisher : AName) (es : List Recorded) → IsReplayed replay.catalog replay.rows replay.books end publisher es → base_catalog ≡ nothing_but publisher → IsOf result publisher es }
+{
+    let Replay {
+        catalog,
+        rows,
+        books,
+        buffer: _,
+    } = replay;
+    Database {
+        catalog,
+        base_catalog,
+        rows,
+        pending: Vec::new(alloc),
+        books,
+        log: LogFile::at(log, 0, end),
+    }
+}

@@ -1,0 +1,99 @@
+ghost use Rattle.std.specs.Prelude.{◌≡◌, ◌+◌, ◌-◌, ◌≤◌, ◌<◌, ◌++◌, true, List, IsTrue, IfOk, IfErr, IfSome, OnOk};
+ghost use Rattle.sr_book.specs.Entries.{Name as AName};
+ghost use Rattle.sr_history.specs.Folds.{end_of};
+ghost use Rattle.sr_history.specs.Recorded.{Recorded};
+ghost use Rattle.sr_site.specs.Causes.{DiskStays};
+ghost use Rattle.sr_database.specs.Causes.{EntryCause, IsRecordFault};
+ghost use Rattle.sr_database.specs.Databases.{IsDatabase};
+ghost use Rattle.sr_database.specs.Entries.{IsEntryAfter, Parts, BehindCause};
+ghost use Rattle.sr_database.specs.Openings.{ReadAlone, IsLogFault};
+
+use crate::database::Database;
+use crate::fault::DatabaseFault;
+use crate::replaying::entry_in;
+use sr_base::Offset;
+use sr_logfile::{LogFault, LogFile, RecordFault};
+use sr_logform::Entry;
+use sr_site::{File, Site};
+use std::alloc::Global;
+
+impl Database {
+    /// The entry that follows the offset `after`, the base or the end of an entry, with its own end. `None` comes exactly where none follows.
+    ///
+    /// It reads one record, in a buffer of its length. Where the disk tells what it holds, it is never `Damaged`.
+    pub fn entry_after<S: Site>(
+        &self,
+        alloc: Global,
+        site: &mut S,
+        after: Offset,
+    ) -> Result<Option<(Offset, Entry)>, DatabaseFault>
+        requires usable { self.now.log.usable ≡ true }
+        requires after { (self.now.log.base ≤ after.0) × (after.0 ≤ self.now.log.end) }
+        ensures entry { IsTrue (S.seen site.old).told → (publisher : AName) (done left : List Recorded) → IsDatabase self.now publisher (done ++ left) (S.seen site.old) → after.0 ≡ end_of done
+            → IfOk result (IsEntryAfter done left) }
+        ensures within { IfOk result (λ found. IfSome found (λ x. (after.0 < x.0.0) × (x.0.0 ≤ self.now.log.end))) }
+        ensures files { IsTrue (S.seen site.old).told → (S.seen site.new).files ≡ (S.seen site.old).files }
+        ensures happened { IsTrue (S.seen site.old).told → (S.seen site.new).happened ≡ (S.seen site.old).happened }
+        ensures database { IsTrue (S.seen site.old).told → (publisher : AName) (es : List Recorded) → IsDatabase self.now publisher es (S.seen site.old) → IsDatabase self.now publisher es (S.seen site.new) }
+        ensures stays { DiskStays (S.seen site.old) (S.seen site.new) }
+        ensures steady { OnOk result ((S.seen site.new).disk_faults ≡ (S.seen site.old).disk_faults) }
+        ensures cause { IfErr result (EntryCause self.now after (S.seen site.old) (S.seen site.new)) }
+    {
+        entry_behind(alloc, &self.log, site, after)
+    }
+}
+
+/// The entry that follows an offset of a log, with its own end.
+fn entry_behind<S: Site>(
+    alloc: Global,
+    log: &LogFile,
+    site: &mut S,
+    after: Offset,
+) -> Result<Option<(Offset, Entry)>, DatabaseFault>
+    requires after { (log.now.base ≤ after.0) × (after.0 ≤ log.now.end) }
+    ensures entry { IsTrue (S.seen site.old).told → (publisher : AName) (done left : List Recorded) → Parts log.now after.0 publisher done left (S.seen site.old) → IfOk result (IsEntryAfter done left) }
+    ensures within { IfOk result (λ found. IfSome found (λ x. (after.0 < x.0.0) × (x.0.0 ≤ log.now.end))) }
+    ensures read { ReadAlone (S.seen site.old) (S.seen site.new) }
+    ensures steady { OnOk result ((S.seen site.new).disk_faults ≡ (S.seen site.old).disk_faults) }
+    ensures cause { IfErr result (BehindCause log.now after.0 (S.seen site.old) (S.seen site.new)) }
+{
+    let mut buffer = Vec::new(alloc);
+    match log.record_after(site, after, &mut buffer) {
+        Ok(None) => Ok(None),
+        Ok(Some((end, length))) => {
+            let (body, _) = buffer.as_slice().split_at(length);
+            let entry = entry_in(alloc, log.file(), place_of(log, after), body)?;
+            Ok(Some((end, entry)))
+        }
+        Err(fault) => Err(record_fault(log.file(), fault)),
+    }
+}
+
+/// The place in the file of the gate at an offset of a log.
+fn place_of(log: &LogFile, after: Offset) -> u64
+    requires after { (log.now.base ≤ after.0) × (after.0 ≤ log.now.end) }
+    ensures place { result ≡ 16 + (after.0 - log.now.base) }
+{
+    16 + (after.0 - log.base().0)
+}
+
+/// The fault of a database where a record of its log is not read.
+fn record_fault(log: File, fault: RecordFault) -> DatabaseFault
+    ensures { IsRecordFault log fault result }
+{
+    match fault {
+        RecordFault::Memory => DatabaseFault::Memory,
+        RecordFault::Log(fault) => log_fault(log, fault),
+    }
+}
+
+/// The fault of a database whose log refuses.
+pub(crate) fn log_fault(log: File, fault: LogFault) -> DatabaseFault
+    ensures { IsLogFault log fault result }
+{
+    match fault {
+        LogFault::Disk => DatabaseFault::Disk,
+        LogFault::Full { end, need } => DatabaseFault::Full { end, need },
+        LogFault::Damaged { at } => DatabaseFault::Damaged { file: log, at },
+    }
+}

@@ -1,0 +1,253 @@
+//! The entries of a log, one after the other, from its beginning.
+
+ghost use Rattle.std.specs.Prelude.{◌≡◌, ◌<◌, ◌≤◌, ◌+◌, ◌^◌, [], length, drop, IsTrue, IfOk, IfErr, OnOk, IfSome, IfNone, vec_len};
+ghost use Rattle.std.specs.FinMap as map;
+ghost use Rattle.sr_base.specs.Fields.{IsName};
+ghost use Rattle.sr_book.specs.Books.{with_taken, with_note};
+ghost use Rattle.sr_history.specs.Recorded.{Recorded, entry_of};
+ghost use Rattle.sr_logfile.specs.Heads.{HasWhole};
+ghost use Rattle.sr_logform.specs.Entries.{entry_spelling, IsEntry};
+ghost use Rattle.sr_site.specs.Files.{bytes_of};
+ghost use Rattle.sr_database.specs.Books.{book_in};
+ghost use Rattle.sr_database.specs.Openings.{ReadAlone};
+ghost use Rattle.sr_database.specs.Replays.{IsReplayed, IsReplayedOf, IsReplayedSome, IsNextEntry, IsReadOn, FollowsAny, piece, SpellingCause, BodyCause, RecordCause};
+ghost use Rattle.sr_database.specs.Taking.{BooksFollow};
+
+use crate::bookkeeping::Books;
+use crate::fault::DatabaseFault;
+use crate::reading::log_fault;
+use sr_base::{Bad, Copied, Name, NoMemory, Offset};
+use sr_book::{Book, Note};
+use sr_catalog::Catalog;
+use sr_fold::go_on;
+use sr_logfile::record_end;
+use sr_logform::{Entry, longest_body, read_entry};
+use sr_rows::Rows;
+use sr_site::{Disk, File, Site};
+use std::alloc::Global;
+
+/// What the entries come to that were read so far, and a buffer for the next one.
+#[derive(Drop)]
+pub(crate) struct Replay {
+    pub(crate) catalog: Catalog,
+    pub(crate) rows: Rows,
+    pub(crate) books: Books,
+    pub(crate) buffer: Vec<u8>,
+}
+
+impl Replay {
+    /// Nothing was read so far, of a database of this publisher.
+    pub(crate) fn new(alloc: Global, publisher: &Name) -> Result<Replay, NoMemory>
+        requires name { IsName publisher.now }
+        ensures new { IfOk result (λ r. IsReplayed r.catalog r.rows r.books 0 publisher.now []) }
+    {
+        let name = publisher.copy(alloc)?;
+        Ok(Replay {
+            catalog: Catalog::new(alloc, name),
+            rows: Rows::new(alloc),
+            books: Books::new(alloc),
+            buffer: Vec::new(alloc),
+        })
+    }
+}
+
+/// Reads the record whose gate stands at `position` of the log, and follows its entry. It answers the position behind it, or `None` where
+/// the gate is closed.
+pub(crate) fn next_entry<S: Site>(
+    alloc: Global,
+    site: &mut S,
+    log: File,
+    publisher: &Name,
+    replay: &mut Replay,
+    position: u64,
+    size: u64,
+) -> Result<Option<u64>, DatabaseFault>
+    requires order { position ≤ 2 ^ 62 }
+    requires size { IsTrue (S.seen site.old).told → size ≡ length (bytes_of (S.seen site.old).files log) }
+    requires replayed { IsReplayedOf replay.old.catalog replay.old.rows replay.old.books position publisher.now }
+    ensures next { IfOk result (IsNextEntry replay.old.catalog replay.new.catalog replay.old.rows replay.new.rows replay.old.books replay.new.books position publisher.now log (S.seen site.old)) }
+    ensures onward { IfOk result (λ found. IfSome found (λ end. (position < end) × (end ≤ 2 ^ 62))) }
+    ensures read { ReadAlone (S.seen site.old) (S.seen site.new) }
+    ensures steady { OnOk result ((S.seen site.new).disk_faults ≡ (S.seen site.old).disk_faults) }
+    ensures cause { IfErr result (RecordCause log publisher.now replay.old.catalog replay.old.rows replay.old.books position (S.seen site.old) (S.seen site.new)) }
+{
+    match record_end(site, log, 0, position, size) {
+        Ok(None) => Ok(None),
+        Ok(Some(end)) => {
+            read_record(alloc, site, log, publisher, replay, position, end)?;
+            Ok(Some(end))
+        }
+        Err(fault) => Err(log_fault(log, fault)),
+    }
+}
+
+/// Reads the whole record behind the open gate at `position`, up to `end`, and follows its entry.
+fn read_record<S: Site>(
+    alloc: Global,
+    site: &mut S,
+    log: File,
+    publisher: &Name,
+    replay: &mut Replay,
+    position: u64,
+    end: u64,
+) -> Result<(), DatabaseFault>
+    requires order { (position < end) × (end ≤ 2 ^ 62) }
+    requires whole { IsTrue (S.seen site.old).told → HasWhole position (drop (16 + position) (bytes_of (S.seen site.old).files log)) end }
+    requires replayed { IsReplayedOf replay.old.catalog replay.old.rows replay.old.books position publisher.now }
+    ensures on { OnOk result (IsReadOn replay.old.catalog replay.new.catalog replay.old.rows replay.new.rows replay.old.books replay.new.books position end publisher.now log (S.seen site.old)) }
+    ensures read { ReadAlone (S.seen site.old) (S.seen site.new) }
+    ensures steady { OnOk result ((S.seen site.new).disk_faults ≡ (S.seen site.old).disk_faults) }
+    ensures cause { IfErr result (RecordCause log publisher.now replay.old.catalog replay.old.rows replay.old.books position (S.seen site.old) (S.seen site.new)) }
+{
+    let place = 16 + position;
+    let Some(count) = body_length(position, end) else {
+        return Err(DatabaseFault::Damaged {
+            file: log,
+            at: place,
+        });
+    };
+    let entry = read_body(alloc, site, log, &mut replay.buffer, place, count)?;
+    let may = follow(
+        alloc,
+        &mut replay.catalog,
+        &mut replay.rows,
+        &mut replay.books,
+        &entry,
+        count,
+    )?;
+    if may {
+        Ok(())
+    } else {
+        Err(DatabaseFault::Damaged {
+            file: log,
+            at: place,
+        })
+    }
+}
+
+/// The length of the body of a record between two gates, where these are far enough from one another.
+fn body_length(position: u64, end: u64) -> Option<usize>
+    requires limit { position ≤ 2 ^ 62 }
+    ensures some { IfSome result (λ count. position + (count + 5) ≡ end) }
+    ensures none { IfNone result (end < position + 5) }
+{
+    if end < position + 5 {
+        return None;
+    }
+    Some((end - position - 5) as usize)
+}
+
+/// Reads the entry whose body of `count` bytes stands behind the gate at `place` and the four bytes of its length.
+fn read_body<S: Site>(
+    alloc: Global,
+    site: &mut S,
+    log: File,
+    buffer: &mut Vec<u8>,
+    place: u64,
+    count: usize,
+) -> Result<Entry, DatabaseFault>
+    requires place { place + 5 < 2 ^ 64 }
+    ensures entry { IfOk result IsEntry }
+    ensures size { IfOk result (λ entry. length (entry_spelling entry) ≡ count) }
+    ensures body { IsTrue (S.seen site.old).told → IfOk result (λ entry. piece (place + 5) count (bytes_of (S.seen site.old).files log) ≡ entry_spelling entry) }
+    ensures read { ReadAlone (S.seen site.old) (S.seen site.new) }
+    ensures steady { OnOk result ((S.seen site.new).disk_faults ≡ (S.seen site.old).disk_faults) }
+    ensures cause { IfErr result (BodyCause log place count (S.seen site.old) (S.seen site.new)) }
+{
+    make_room(buffer, count)?;
+    let (front, _) = buffer.as_mut_slice().split_at_mut(count);
+    let read = site.read_at(log, place + 5, front)?;
+    if read < count {
+        return Err(DatabaseFault::Damaged {
+            file: log,
+            at: place,
+        });
+    }
+    entry_in(alloc, log, place, front)
+}
+
+/// Gives a buffer a length of at least `count`.
+fn make_room(buffer: &mut Vec<u8>, count: usize) -> Result<(), NoMemory>
+    ensures room { OnOk result (count ≤ vec_len buffer.new) }
+{
+    if buffer.as_slice().len() < count {
+        buffer.resize(count, 0u8)?;
+    }
+    Ok(())
+}
+
+/// The entry of a record's body, whose gate stands at `place` of the log.
+pub(crate) fn entry_in(
+    alloc: Global,
+    log: File,
+    place: u64,
+    body: &[u8],
+) -> Result<Entry, DatabaseFault>
+    ensures entry { IfOk result (λ entry. IsEntry entry × (body.now ≡ entry_spelling entry)) }
+    ensures cause { IfErr result (SpellingCause log place body.now) }
+{
+    match read_entry(alloc, body) {
+        Ok(entry) => Ok(entry),
+        Err(Bad::Memory) => Err(DatabaseFault::Memory),
+        Err(Bad::Field { .. }) => Err(DatabaseFault::Damaged {
+            file: log,
+            at: place,
+        }),
+    }
+}
+
+/// Follows an entry whose body has `count` bytes, where it may stand behind those that were read; whether it may. Where it may not, and for
+/// want of memory, nothing of what was read is good for anything.
+fn follow(
+    alloc: Global,
+    catalog: &mut Catalog,
+    rows: &mut Rows,
+    books: &mut Books,
+    entry: &Entry,
+    count: usize,
+) -> Result<bool, NoMemory>
+    requires entry { IsEntry entry.now }
+    requires replayed { IsReplayedSome catalog.old rows.old books.old }
+    requires size { length (entry_spelling entry.now) ≡ count }
+    ensures told { IfOk result (FollowsAny catalog.old catalog.new rows.old rows.new books.old books.new count entry.now) }
+{
+    if count as u64 > longest_body(entry) {
+        return Ok(false);
+    }
+    let may = go_on(alloc, catalog, rows, entry)?;
+    if !may {
+        return Ok(false);
+    }
+    follow_books(alloc, books, entry)?;
+    Ok(true)
+}
+
+/// The book of the entry's partner behind it, where it has one.
+fn follow_books(alloc: Global, books: &mut Books, entry: &Entry) -> Result<(), NoMemory>
+    ensures books { OnOk result ((r : Recorded) → entry_of r ≡ entry.now → BooksFollow books.old books.new r) }
+{
+    match entry {
+        Entry::From { user, at, .. } => follow_taken(alloc, books, user, *at),
+        Entry::Note { user, note } => follow_note(alloc, books, user, note),
+        Entry::Own(_) => Ok(()),
+        Entry::Ddl(_) => Ok(()),
+        Entry::Sync { .. } => Ok(()),
+        Entry::Pass { .. } => Ok(()),
+    }
+}
+
+/// The book of a partner behind a transaction that was taken.
+fn follow_taken(alloc: Global, books: &mut Books, user: &Name, at: Offset) -> Result<(), NoMemory>
+    ensures taken { OnOk result (books.new ≡ map.insert books.old user.now (with_taken (book_in books.old user.now) at.0)) }
+{
+    let book = books.get(user).took(at);
+    books.put(alloc, user, book)
+}
+
+/// The book of a partner behind a note.
+fn follow_note(alloc: Global, books: &mut Books, user: &Name, note: &Note) -> Result<(), NoMemory>
+    ensures noted { OnOk result (books.new ≡ map.insert books.old user.now (with_note (book_in books.old user.now) note.now)) }
+{
+    let book = books.get(user).after(note);
+    books.put(alloc, user, book)
+}

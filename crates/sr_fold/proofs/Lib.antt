@@ -1,0 +1,10 @@
+pub mod Accepting
+pub mod Behind
+pub mod Changing
+pub mod Emptied
+pub mod Marking
+pub mod Meant
+pub mod Named
+pub mod Taking
+pub mod Ties
+pub mod Told

@@ -1,0 +1,18 @@
+use Rattle.std.proofs.Common.{length}
+use Rattle.std.specs.List.{AllByRecursion}
+use Rattle.sr_exec.specs.Conditions.{RowsFit}
+use Rattle.sr_rows.specs.Steps.{GoesOn}
+use Rattle.sr_fold.specs.Movements.{Differs}
+use Rattle.sr_fold.proofs.Changing.{ChangesLeft}
+use Rattle.sr_fold.proofs.changes.try_changes.Given as goal
+
+abbrev pub invariant-changes : goal.invariant-changes
+invariant-changes l = record {
+  rows : RowsFit l.catalog l.rows.rows;
+  on : GoesOn l.fn.rows l.rows;
+  differ : AllByRecursion Differs l.left;
+  more : ChangesLeft l.catalog l.fn.rows.rows l.rows.rows l.changes l.left;
+}
+
+abbrev pub decreases-changes : goal.decreases-changes
+decreases-changes l = length l.left

@@ -1,0 +1,15 @@
+pub mod Catalogs
+pub mod Commits
+pub mod Dispatch
+pub mod Ending
+pub mod Passing
+pub mod Pieces
+pub mod Quiet
+pub mod Reaching
+pub mod Regions
+pub mod Results
+pub mod Statements
+pub mod States
+pub mod Stretches
+pub mod Taking
+pub mod Transactions

@@ -1,0 +1,125 @@
+-- How far a script came: no entry, and one stretch behind another.
+use Rattle.std.proofs.Common.{◌≡◌, true, ℕ, List, [], ◌∷◌, ◌++◌, map, refl, sym, ap, subst, ◌∙◌, append_assoc, le_refl}
+use Rattle.std.specs.Prelude.{IsTrue}
+use Rattle.std.proofs.lemmas.List.{append-nil}
+use Rattle.sr_book.specs.Entries.{Name}
+use Rattle.sr_history.specs.Recorded.{Recorded}
+use Rattle.sr_logfile.specs.Log.{Log}
+use Rattle.sr_site.specs.Causes.{DiskStays, Rose}
+use Rattle.sr_site.specs.Files.{Files}
+use Rattle.sr_site.specs.Growing.{disk_stays_on}
+use Rattle.sr_site.specs.Images.{IsSettled}
+use Rattle.sr_site.specs.Seen.{Seen}
+use Rattle.sr_standing.specs.Generations.{log_of}
+use Rattle.sr_standing.specs.Items.{Item, commit, commits}
+use Rattle.sr_standing.specs.Standing.{StandsFor, StandsAs}
+use Rattle.sr_standing.specs.Trails.{Went}
+use Rattle.sr_standing.proofs.Going.{nothing}
+use Rattle.sr_standing.proofs.Joining.{joined}
+use Rattle.sr_database.specs.Databases.{IsOf, IsHeld, IsDatabase}
+use Rattle.sr_database.specs.Views.{View}
+use Rattle.sr_script.specs.Acts.{Act, entries_of, end_behind, text_from}
+use Rattle.sr_script.proofs.Joins.{entries_of-append, end_behind-append, text_from-append}
+use Rattle.sr_session.specs.Reached.{IsBroken, Reached}
+use Rattle.sr_session.specs.Steps.{Came}
+
+-- ---- a value that keeps its log
+
+abbrev HeldBy : Log → Name → List Recorded → Files → Type 0
+HeldBy log publisher es files = (stands : StandsFor publisher es log.base files) × (log_of stands.generation ≡ log.file)
+
+held_along : (old new : View) (publisher : Name) (es : List Recorded) (files : Files) → new.log ≡ old.log → IsHeld old publisher es files → IsHeld new publisher es files
+held_along old new publisher es files same held =
+    let by : HeldBy old.log publisher es files = (held.stands, held.log_is) in
+    let along : HeldBy new.log publisher es files = subst (λ (log : Log). HeldBy log publisher es files) (sym same) by in
+    record { stands = along.0; log_is = along.1 }
+
+pub database_along : (old new : View) (publisher : Name) (es : List Recorded) (seen : Seen) → new.log ≡ old.log → IsOf new publisher es
+    → IsDatabase old publisher es seen → IsDatabase new publisher es seen
+database_along old new publisher es seen same is database = record {
+  is = is;
+  held = held_along old new publisher es seen.files same database.held;
+  settled = λ image left. held_along old new publisher es image same (database.settled image left);
+}
+
+stands_as : (view : View) (publisher : Name) (es : List Recorded) (seen : Seen) → IsDatabase view publisher es seen → IsSettled (StandsAs publisher es) seen
+stands_as view publisher es seen database = λ image left. record { base = view.log.base; stands = (database.settled image left).stands }
+
+pub still : (seen : Seen) → DiskStays seen seen
+still seen = record { told = refl; first = refl; grows = λ moment there. there; mail = refl; mail_faults = refl; later = le_refl seen.disk_faults }
+
+no_more : (es : List Recorded) (acts : List Act) → entries_of acts ≡ [] → es ≡ es ++ entries_of acts
+no_more es acts none = sym (ap (λ rs. es ++ rs) none ∙ append-nil es)
+
+-- acts without an entry, on a value that keeps its log
+pub reached_still : (old new : View) (seen : Seen) (acts : List Act) → entries_of acts ≡ [] → end_behind old.log.end acts ≡ old.log.end
+    → new.log ≡ old.log → old.log.usable ≡ true → ((publisher : Name) (es : List Recorded) → IsOf old publisher es → IsOf new publisher es)
+    → Reached old new seen seen acts []
+reached_still old new seen acts none ends same usable keeps = record {
+  state = (ap (λ (log : Log). log.usable) same ∙ usable, refl);
+  value = λ yes publisher es is. subst (λ (rs : List Recorded). IsOf new publisher rs) (no_more es acts none) (keeps publisher es is);
+  end = λ yes. ap (λ (log : Log). log.end) same ∙ sym ends;
+  database = λ told yes publisher es database.
+      subst (λ (rs : List Recorded). IsDatabase new publisher rs seen) (no_more es acts none) (database_along old new publisher es seen same (keeps publisher es database.is) database);
+  went = λ told publisher es database.
+      subst (λ (rs : List Recorded). Went seen seen publisher es (map commit (rs ++ []))) (sym none) (nothing seen publisher es (stands_as old publisher es seen database));
+  stays = still seen;
+}
+
+-- ---- one stretch behind another
+
+pub commits_of : (rs : List Recorded) → commits (map commit rs) ≡ rs
+commits_of [] = refl
+commits_of (r ∷ rs) = ap (λ qs. r ∷ qs) (commits_of rs)
+
+map-append : (rs qs : List Recorded) → map commit (rs ++ qs) ≡ map commit rs ++ map commit qs
+map-append [] qs = refl
+map-append (r ∷ rs) qs = ap (λ items. commit r ∷ items) (map-append rs qs)
+
+broken_on : (broken : List Recorded) (middle new : View) (first second third : Seen) → IsBroken [] middle first second → IsBroken broken new second third → IsBroken broken new first third
+broken_on [] middle new first second third one two = (two.0, two.1 ∙ one.1)
+broken_on (r ∷ []) middle new first second third one two = (two.0, subst (λ (count : ℕ). Rose count third.disk_faults) one.1 two.1)
+broken_on (r ∷ other ∷ rs) middle new first second third one two = two
+
+entries_on : (es : List Recorded) (acts more : List Act) → (es ++ entries_of acts) ++ entries_of more ≡ es ++ entries_of (acts ++ more)
+entries_on es acts more = append_assoc es (entries_of acts) (entries_of more) ∙ ap (λ rs. es ++ rs) (sym (entries_of-append acts more))
+
+trail_on : (acts more : List Act) (broken : List Recorded) → map commit (entries_of acts ++ []) ++ map commit (entries_of more ++ broken) ≡ map commit (entries_of (acts ++ more) ++ broken)
+trail_on acts more broken =
+    ap (λ rs. map commit rs ++ map commit (entries_of more ++ broken)) (append-nil (entries_of acts))
+    ∙ sym (map-append (entries_of acts) (entries_of more ++ broken))
+    ∙ ap (λ rs. map commit rs) (sym (append_assoc (entries_of acts) (entries_of more) broken) ∙ ap (λ rs. rs ++ broken) (sym (entries_of-append acts more)))
+
+told_later : (first second : Seen) → DiskStays first second → IsTrue first.told → IsTrue second.told
+told_later first second stays told = subst (λ b. IsTrue b) (sym stays.told) told
+
+pub reached_on : (a b c : View) (first second third : Seen) (acts more : List Act) (broken : List Recorded)
+    → Reached a b first second acts [] → Reached b c second third more broken → Reached a c first third (acts ++ more) broken
+reached_on a b c first second third acts more broken one two = record {
+  state = broken_on broken b c first second third one.state two.state;
+  value = λ yes publisher es is.
+      subst (λ (rs : List Recorded). IsOf c publisher rs) (entries_on es acts more) (two.value yes publisher (es ++ entries_of acts) (one.value one.state.0 publisher es is));
+  end = λ yes. two.end yes ∙ ap (λ place. end_behind place more) (one.end one.state.0) ∙ sym (end_behind-append a.log.end acts more);
+  database = λ told yes publisher es database.
+      subst (λ (rs : List Recorded). IsDatabase c publisher rs third) (entries_on es acts more)
+      (two.database (told_later first second one.stays told) yes publisher (es ++ entries_of acts) (one.database told one.state.0 publisher es database));
+  went = λ told publisher es database.
+      let behind : Went second third publisher (es ++ commits (map commit (entries_of acts ++ []))) (map commit (entries_of more ++ broken)) =
+      subst (λ (rs : List Recorded). Went second third publisher (es ++ rs) (map commit (entries_of more ++ broken))) (sym (commits_of (entries_of acts ++ []) ∙ append-nil (entries_of acts)))
+      (two.went (told_later first second one.stays told) publisher (es ++ entries_of acts) (one.database told one.state.0 publisher es database)) in
+      subst (λ (items : List Item). Went first third publisher es items) (trail_on acts more broken)
+      (joined first second third publisher es (map commit (entries_of acts ++ [])) (map commit (entries_of more ++ broken)) (one.went told publisher es database) behind);
+  stays = disk_stays_on first second third one.stays two.stays;
+}
+
+pub came_on : (a b c : View) (first second third : Seen) (l0 l1 l2 : List ℕ) (acts more : List Act) (broken : List Recorded)
+    → Came a b first second l0 l1 acts [] → Came b c second third l1 l2 more broken → Came a c first third l0 l2 (acts ++ more) broken
+came_on a b c first second third l0 l1 l2 acts more broken one two = record {
+  reached = reached_on a b c first second third acts more broken one.reached two.reached;
+  said =
+      two.said
+      ∙ ap (λ l. l ++ text_from b.log.end more) one.said
+      ∙ append_assoc l0 (text_from a.log.end acts) (text_from b.log.end more)
+      ∙ ap (λ place. l0 ++ (text_from a.log.end acts ++ text_from place more)) (one.reached.end one.reached.state.0)
+      ∙ ap (λ text. l0 ++ text) (sym (text_from-append a.log.end acts more));
+}

@@ -1,0 +1,299 @@
+-- Statements one after the other.
+use Rattle.std.proofs.Common.{◌≡◌, ◌+◌, ℕ, List, [], ◌∷◌, ◌++◌, Option, None, Result, Ok, Err, length, codes, refl, sym, ap, subst, ◌∙◌, append_assoc, le_refl, arith}
+use Rattle.std.specs.Prelude.{IsTrue, IsErrAnd, ◌≢◌, ◌-◌}
+use Rattle.std.specs.List.{AllByRecursion}
+use Rattle.std.proofs.lemmas.List.{append-nil}
+use Rattle.sr_ast.specs.declared.stmt.Passthrough.{Passthrough}
+use Rattle.sr_ast.specs.declared.stmt.Stmt.{Stmt}
+use Rattle.sr_history.specs.Folds.{State}
+use Rattle.sr_history.specs.Recorded.{Recorded}
+use Rattle.sr_logform.specs.declared.change.Change.{Change}
+use Rattle.sr_site.specs.Causes.{Rose}
+use Rattle.sr_site.specs.Seen.{Seen}
+use Rattle.sr_site.specs.Streams.{Output, OutputStays}
+use Rattle.sr_database.specs.Views.{View, committed}
+use Rattle.sr_script.specs.Acts.{Act, rolled_back, line, text_from}
+use Rattle.sr_script.specs.Acts.{end_behind as acts_end}
+use Rattle.sr_script.specs.Meaning.{Stepped, goes, stops, done_by}
+use Rattle.sr_script.specs.Scripts.{Ran as Script, End, refused, last_acts, led, going_on, ran_from, ran}
+use Rattle.sr_script.specs.Works.{Work}
+use Rattle.sr_script.proofs.Joins.{text_from-append}
+use Rattle.sr_session.specs.Ends.{StoreEnd}
+use Rattle.sr_session.specs.Faults.{session_fault}
+use Rattle.sr_session.specs.Reached.{Reached}
+use Rattle.sr_session.specs.Ready.{AreUsers, IsKnown, IsReady, work_of}
+use Rattle.sr_session.specs.Running.{Under, Ran, RanStatements}
+use Rattle.sr_session.specs.Said.{IsFront, WroteFront, Said}
+use Rattle.sr_session.specs.Steps.{acts_in, Came, Took}
+use Rattle.sr_session.specs.declared.fault.SessionFault.{SessionFault}
+use Rattle.sr_session.specs.declared.fault.SessionFault.TheVariants.{Sink, Memory}
+use Rattle.sr_session.specs.declared.fault.StepFault.{StepFault}
+use Rattle.sr_session.specs.declared.fault.StepFault.TheVariants as step
+use Rattle.sr_session.proofs.Dispatch.{ready_on}
+use Rattle.sr_session.proofs.Commits.{came_none}
+use Rattle.sr_session.proofs.Quiet.{came_still}
+use Rattle.sr_session.proofs.Reaching.{reached_on}
+use Rattle.sr_session.proofs.Taking.{end_behind, end_longer, front_behind, front_longer}
+
+-- ---- what a script does, one statement further
+
+abbrev script_with : End → List Act → Script
+script_with end acts = record { acts = acts; end = end }
+
+led_twice : (acts more : List Act) (r : Script) → led acts (led more r) ≡ led (acts ++ more) r
+led_twice acts more r = ap (script_with r.end) (sym (append_assoc acts more r.acts))
+
+abbrev follow : ℕ → List Stmt → Work → Script
+follow count statements w = ran_from count w statements
+
+-- the acts of a script go on behind those of its first statement
+first_acts : (number : ℕ) (rest : Work → Script) (meant : Stepped) → (more : List Act) × ((going_on number rest meant).acts ≡ acts_in meant ++ more)
+first_acts number rest (goes acts w) = ((rest w).acts, refl)
+first_acts number rest (stops acts fault) = ([], sym (append-nil acts))
+
+-- ---- lines
+
+said_on : (text lines lines' old new more : List ℕ) → Said text lines old new → lines' ≡ lines ++ more → Said (text ++ more) lines' old new
+said_on text lines lines' old new more said is = record {
+  written = said.written;
+  new_is = said.new_is;
+  all = ap (λ l. l ++ more) said.all ∙ append_assoc said.written lines more ∙ ap (λ l. said.written ++ l) (sym is);
+}
+
+text_on : (place middle : ℕ) (acts more : List Act) → middle ≡ acts_end place acts → text_from place acts ++ text_from middle more ≡ text_from place (acts ++ more)
+text_on place middle acts more is = ap (λ n. text_from place acts ++ text_from n more) is ∙ sym (text_from-append place acts more)
+
+came_said : (old view new : View) (first seen now : Seen) (written taken lines lines' : List ℕ) (acts more : List Act) (broken : List Recorded) → Reached old view first seen acts [] → Came view new seen now lines lines' more broken
+    → Said (text_from old.log.end acts) lines written taken → Said (text_from old.log.end (acts ++ more)) lines' written taken
+came_said old view new first seen now written taken lines lines' acts more broken reached came said =
+    subst (λ (text : List ℕ). Said text lines' written taken) (text_on old.log.end view.log.end acts more (reached.end reached.state.0))
+    (said_on (text_from old.log.end acts) lines lines' written taken (text_from view.log.end more) said came.said)
+
+-- the lines that are kept are written
+pub said_flush : (text lines old new now : List ℕ) → Said text lines old new → now ≡ new ++ lines → Said text [] old now
+said_flush text lines old new now said is = record {
+  written = said.written ++ lines;
+  new_is = is ∙ ap (λ l. l ++ lines) said.new_is ∙ append_assoc old said.written lines;
+  all = said.all ∙ sym (append-nil (said.written ++ lines));
+}
+
+-- a front of the lines that are kept is written
+pub front_said : (text lines old new now : List ℕ) → Said text lines old new → WroteFront lines new now → WroteFront text old now
+front_said text lines old new now said wrote = record {
+  written = said.written ++ wrote.written;
+  front = (wrote.front.0, said.all ∙ ap (λ l. said.written ++ l) wrote.front.1 ∙ sym (append_assoc said.written wrote.written wrote.front.0));
+  new_is = wrote.new_is ∙ ap (λ l. l ++ wrote.written) said.new_is ∙ append_assoc old said.written wrote.written;
+}
+
+pub outputs_on : (one two three : Output) → OutputStays one two → OutputStays two three → OutputStays one three
+outputs_on one two three first second = record { told = second.told ∙ first.told; later = omega (arith, first.later, second.later) }
+
+abbrev start_of : State → List Change → Option Passthrough → Work
+start_of s p region = record { state = s; pending = p; region = region }
+
+led_none : (r : Script) → led [] r ≡ r
+led_none r = refl
+
+-- ---- one statement
+
+-- it is done
+pub under_step : (old view new : View) (first seen now : Seen) (written taken : Output) (lines lines' : List ℕ) (region region' : Option Passthrough) (all left : List Stmt) (s : Stmt)
+    → Under old view first seen written taken lines region all (s ∷ left) → Took (done_by (work_of view region) s) view new seen now lines lines' region' (Ok tt) → AreUsers (committed new) region'
+    → Under old new first now written taken lines' region' all left
+under_step old view new first seen now written taken lines lines' region region' all left s under took users = record {
+  done = under.done + 1;
+  count = omega (arith, under.count);
+  acts = under.acts ++ took.acts;
+  reached = reached_on old view new first seen now under.acts took.acts [] under.reached took.came.reached;
+  ready = ready_on view new seen now took.acts took.came.reached under.ready;
+  users = users;
+  going =
+      under.going
+      ∙ ap (λ m. led under.acts (going_on (under.done + 1) (follow (under.done + 1) left) m)) took.is
+      ∙ led_twice under.acts took.acts (ran_from (under.done + 1) (work_of new region') left);
+  said = λ told. came_said old view new first seen now written.taken taken.taken lines lines' under.acts took.acts [] under.reached took.came (under.said told);
+  sink = under.sink;
+  stays = under.stays;
+  known = under.known.1;
+}
+
+-- its lines are written
+pub under_flush : (old view : View) (first seen : Seen) (written taken taken' : Output) (lines : List ℕ) (region : Option Passthrough) (all left : List Stmt)
+    → Under old view first seen written taken lines region all left → (IsTrue taken.told → taken'.taken ≡ taken.taken ++ lines) → OutputStays taken taken' → taken'.faults ≡ taken.faults
+    → Under old view first seen written taken' [] region all left
+under_flush old view first seen written taken taken' lines region all left under said stays same = record {
+  done = under.done;
+  count = under.count;
+  acts = under.acts;
+  reached = under.reached;
+  ready = under.ready;
+  users = under.users;
+  going = under.going;
+  said = λ told. said_flush (text_from old.log.end under.acts) lines written.taken taken.taken taken'.taken (under.said told) (said (subst (λ b. IsTrue b) (sym under.stays.told) told));
+  sink = same ∙ under.sink;
+  stays = outputs_on written taken taken' under.stays stays;
+  known = under.known;
+}
+
+-- ---- a statement that ends the script
+
+abbrev numbered : ℕ → StepFault → Result (Unit {0}) SessionFault
+numbered number fault = Err (session_fault number fault)
+
+-- what a script does goes on behind what was done and what its next statement does
+whole_acts : (old view : View) (first seen : Seen) (written taken : Output) (lines : List ℕ) (region : Option Passthrough) (all left : List Stmt) (s : Stmt)
+    → (under : Under old view first seen written taken lines region all (s ∷ left))
+    → (more : List Act) × ((ran (committed old) all).acts ≡ under.acts ++ (acts_in (done_by (work_of view region) s) ++ more))
+whole_acts old view first seen written taken lines region all left s under =
+    let rest = first_acts (under.done + 1) (follow (under.done + 1) left) (done_by (work_of view region) s) in
+    (rest.0, ap (λ (r : Script). r.acts) under.going ∙ ap (λ l. under.acts ++ l) rest.1)
+
+number_is : (done number : ℕ) (s : Stmt) (left : List Stmt) (all : ℕ) → done + length (s ∷ left) ≡ all → number ≡ all - length left → number ≡ done + 1
+number_is done number s left all count is = omega (arith, count, is)
+
+pub ran_fault : (old view new : View) (first seen now : Seen) (written taken : Output) (lines lines' : List ℕ) (region region' : Option Passthrough) (all left : List Stmt) (s : Stmt) (number : ℕ) (fault : StepFault)
+    → Under old view first seen written taken lines region all (s ∷ left) → Took (done_by (work_of view region) s) view new seen now lines lines' region' (Err fault)
+    → number ≡ length all - length left → Ran old new first now written taken lines' all (numbered number fault)
+ran_fault old view new first seen now written taken lines lines' region region' all left s number (step.Refused fault) under took is =
+    let script : ran (committed old) all ≡ led under.acts (going_on (under.done + 1) (follow (under.done + 1) left) (stops took.acts fault)) =
+    under.going ∙ ap (λ m. led under.acts (going_on (under.done + 1) (follow (under.done + 1) left) m)) took.is in
+    record {
+      acts = under.acts ++ took.acts;
+      broken = [];
+      reached = reached_on old view new first seen now under.acts took.acts [] under.reached took.came.reached;
+      ends = (
+        record { acts_are = ap (λ (r : Script). r.acts) script; none = refl },
+        ap (λ (r : Script). r.end) script ∙ ap (λ n. refused n fault) (sym (number_is under.done number s left (length all) under.count is)),
+      );
+      lines = λ told. came_said old view new first seen now written.taken taken.taken lines lines' under.acts took.acts [] under.reached took.came (under.said told);
+      sink = under.sink;
+      stays = under.stays;
+    }
+ran_fault old view new first seen now written taken lines lines' region region' all left s number (step.Store fault) under took is =
+    let whole = whole_acts old view first seen written taken lines region all left s under in
+    record {
+      acts = under.acts ++ took.acts;
+      broken = took.broken;
+      reached = reached_on old view new first seen now under.acts took.acts took.broken under.reached took.came.reached;
+      ends = subst (λ (acts : List Act). StoreEnd new (under.acts ++ took.acts) acts took.broken fault) (sym whole.1)
+          (end_behind under.acts took.acts (acts_in (done_by (work_of view region) s) ++ whole.0) new took.broken fault (end_longer took.acts (acts_in (done_by (work_of view region) s)) whole.0 new took.broken fault took.end));
+      lines = λ told. came_said old view new first seen now written.taken taken.taken lines lines' under.acts took.acts took.broken under.reached took.came (under.said told);
+      sink = under.sink;
+      stays = under.stays;
+    }
+ran_fault old view new first seen now written taken lines lines' region region' all left s number step.Memory under took is =
+    let whole = whole_acts old view first seen written taken lines region all left s under in
+    record {
+      acts = under.acts ++ took.acts;
+      broken = [];
+      reached = reached_on old view new first seen now under.acts took.acts [] under.reached took.came.reached;
+      ends = (
+        refl,
+        subst (λ (acts : List Act). IsFront (under.acts ++ took.acts) acts) (sym whole.1)
+            (front_behind under.acts took.acts (acts_in (done_by (work_of view region) s) ++ whole.0) (front_longer took.acts (acts_in (done_by (work_of view region) s)) whole.0 took.front)),
+      );
+      lines = λ told. came_said old view new first seen now written.taken taken.taken lines lines' under.acts took.acts [] under.reached took.came (under.said told);
+      sink = under.sink;
+      stays = under.stays;
+    }
+
+-- ---- a sink that fails
+
+pub ran_sink : (old view : View) (first seen : Seen) (written taken taken' : Output) (lines kept : List ℕ) (region : Option Passthrough) (all left : List Stmt)
+    → Under old view first seen written taken lines region all left → (IsTrue taken.told → WroteFront lines taken.taken taken'.taken) → OutputStays taken taken' → Rose taken.faults taken'.faults
+    → Ran old view first seen written taken' kept all (Err Sink)
+ran_sink old view first seen written taken taken' lines kept region all left under wrote stays rose = record {
+  acts = under.acts;
+  broken = [];
+  reached = under.reached;
+  ends = (
+    (ran_from under.done (work_of view region) left).acts,
+    ap (λ (r : Script). r.acts) under.going ∙ ap (λ l. l ++ (ran_from under.done (work_of view region) left).acts) (sym (append-nil under.acts)),
+  );
+  lines = λ told. front_said (text_from old.log.end under.acts) lines written.taken taken.taken taken'.taken (under.said told) (wrote (subst (λ b. IsTrue b) (sym under.stays.told) told));
+  sink = subst (λ (count : ℕ). Rose count taken'.faults) under.sink rose;
+  stays = outputs_on written taken taken' under.stays stays;
+}
+
+-- with the answer that tells it
+pub stopped_by_sink : (old view : View) (first seen : Seen) (written taken : Output) (kept : List ℕ) (region : Option Passthrough) (all : List Stmt) (told : SessionFault) (result : Result (Unit {0}) SessionFault)
+    → IsErrAnd result (λ e. e ≡ told) → told ≡ Sink → Ran old view first seen written taken kept all (Err Sink) → RanStatements old view first seen written taken kept region all result
+stopped_by_sink old view first seen written taken kept region all told (Ok done) is sink ran = absurd is
+stopped_by_sink old view first seen written taken kept region all told (Err fault) is sink ran =
+    subst (λ (f : SessionFault). Ran old view first seen written taken kept all (Err f)) (sym (is ∙ sink)) ran
+
+-- ---- the script's end
+
+-- nothing is open
+pub ran_closed : (old view : View) (first seen : Seen) (written taken : Output) (lines : List ℕ) (region : Option Passthrough) (all : List Stmt)
+    → Under old view first seen written taken lines region all [] → view.pending ≡ [] → Ran old view first seen written taken lines all (Ok tt)
+ran_closed old view first seen written taken lines region all under none = record {
+  acts = under.acts;
+  broken = [];
+  reached = under.reached;
+  ends = (
+    record { acts_are = ap (λ (r : Script). r.acts) under.going ∙ ap (λ (p : List Change). under.acts ++ last_acts p) none ∙ append-nil under.acts; none = refl },
+    ap (λ (r : Script). r.end) under.going,
+    refl,
+  );
+  lines = under.said;
+  sink = under.sink;
+  stays = under.stays;
+}
+
+last_open : (p : List Change) → p ≢ [] → last_acts p ≡ rolled_back ∷ []
+last_open [] some = absurd (some refl)
+last_open (c ∷ changes) some = refl
+
+-- a transaction is open: it is rolled back
+pub ran_open : (old view : View) (first seen : Seen) (written taken : Output) (lines lines' : List ℕ) (region : Option Passthrough) (all : List Stmt)
+    → Under old view first seen written taken lines region all [] → view.pending ≢ [] → lines' ≡ lines ++ line (codes "rolled back") → Ran old view first seen written taken lines' all (Ok tt)
+ran_open old view first seen written taken lines lines' region all under some said =
+    let came = came_still view view seen lines lines' (rolled_back ∷ []) refl refl refl under.ready.usable (λ publisher es is. is) said in
+    record {
+      acts = under.acts ++ rolled_back ∷ [];
+      broken = [];
+      reached = reached_on old view view first seen seen under.acts (rolled_back ∷ []) [] under.reached came.reached;
+      ends = (
+        record { acts_are = ap (λ (r : Script). r.acts) under.going ∙ ap (λ l. under.acts ++ l) (last_open view.pending some); none = refl },
+        ap (λ (r : Script). r.end) under.going,
+        refl,
+      );
+      lines = λ told. came_said old view view first seen seen written.taken taken.taken lines lines' under.acts (rolled_back ∷ []) [] under.reached came (under.said told);
+      sink = under.sink;
+      stays = under.stays;
+    }
+
+-- there is no memory for that line
+pub ran_short : (old view : View) (first seen : Seen) (written taken : Output) (lines : List ℕ) (region : Option Passthrough) (all left : List Stmt)
+    → Under old view first seen written taken lines region all left → Ran old view first seen written taken lines all (Err Memory)
+ran_short old view first seen written taken lines region all left under = record {
+  acts = under.acts;
+  broken = [];
+  reached = under.reached;
+  ends = (refl, ((ran_from under.done (work_of view region) left).acts, ap (λ (r : Script). r.acts) under.going));
+  lines = under.said;
+  sink = under.sink;
+  stays = under.stays;
+}
+
+-- ---- the script's beginning
+
+pub under_start : (view : View) (seen : Seen) (written : Output) (lines : List ℕ) (region : Option Passthrough) (all : List Stmt) → IsReady view seen → view.pending ≡ [] → region ≡ None → lines ≡ []
+    → AllByRecursion IsKnown all → Under view view seen seen written written lines region all all
+under_start view seen written lines region all ready none outside empty known = record {
+  done = 0;
+  count = omega arith;
+  acts = [];
+  reached = (came_none view seen [] [] ready.usable refl).reached;
+  ready = ready;
+  users = subst (λ (r : Option Passthrough). AreUsers (committed view) r) (sym outside) tt;
+  going =
+      ap (λ (p : List Change). ran_from 0 (start_of (committed view) p None) all) (sym none)
+      ∙ ap (λ (r : Option Passthrough). ran_from 0 (start_of (committed view) view.pending r) all) (sym outside)
+      ∙ sym (led_none (ran_from 0 (work_of view region) all));
+  said = λ told. record { written = []; new_is = sym (append-nil written.taken); all = sym empty };
+  sink = refl;
+  stays = record { told = refl; later = le_refl written.faults };
+  known = known;
+}

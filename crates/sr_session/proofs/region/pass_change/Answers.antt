@@ -1,0 +1,55 @@
+use Rattle.std.proofs.Common.{◌≡◌, Some, Ok, subst}
+use Rattle.sr_history.specs.Folds.{State}
+use Rattle.sr_script.specs.Answers.{IsStop}
+use Rattle.sr_script.specs.Meaning.{catalog_changes, passed}
+use Rattle.sr_database.specs.Views.{committed}
+use Rattle.sr_session.specs.Faults.{fault_of_stop}
+use Rattle.sr_session.specs.Ready.{work_of}
+use Rattle.sr_session.proofs.Passing.{catalog_passes, passed_entry, passed_stop}
+use Rattle.sr_session.proofs.Results.{took_err}
+use Rattle.sr_session.proofs.States.{shown, shown_committed}
+use Rattle.sr_session.proofs.region.pass_change.Goals as goal
+
+pub returns-in_err-changes : goal.returns-in_err-changes
+returns-in_err-changes g c =
+    let view = c.args.db.now in
+    let region = c.args.region.now in
+    let statement = c.args.stmt.now in
+    let seen = g.S.Held.seen c.args.site.now in
+    let lines = c.args.lines.now.items in
+    let why = c.in_err-changes.field-0.0 in
+    let is : shown c.catalog.result.now c.rows.result.now ≡ committed view = shown_committed view c.catalog.result.now c.rows.result.now c.requires.ready.some c.requires.pending c.catalog.ensures.catalog c.rows.ensures.rows in
+    record {
+      took =
+          took_err (passed region statement (catalog_changes region.only (committed view) statement) (work_of view (Some region))) view view seen seen lines lines (Some region) (fault_of_stop why) c.from_residual.result
+          c.from_residual.ensures.1
+          (passed_stop region statement (catalog_changes region.only (committed view) statement) view seen lines lines (Some region) (Some region) why c.requires.ready.usable (λ i. lines)
+          (subst (λ (s : State). IsStop (catalog_changes region.only s statement) why) is c.in_err-changes.ensures.meant));
+    }
+
+pub pass-requires-clause-fit : goal.pass-requires-clause-fit
+pass-requires-clause-fit g c =
+    let view = c.args.db.now in
+    let is : shown c.catalog.result.now c.rows.result.now ≡ committed view = shown_committed view c.catalog.result.now c.rows.result.now c.requires.ready.some c.requires.pending c.catalog.ensures.catalog c.rows.ensures.rows in
+    (catalog_passes (committed view) c.args.region.now.only c.args.stmt.now c.in_ok-changes.changes c.requires.ddl
+    (subst (λ (s : State). catalog_changes c.args.region.now.only s c.args.stmt.now ≡ Ok c.in_ok-changes.changes) is c.in_ok-changes.ensures.meant)).fit
+
+pub pass-requires-clause-accepted : goal.pass-requires-clause-accepted
+pass-requires-clause-accepted g c =
+    let view = c.args.db.now in
+    let is : shown c.catalog.result.now c.rows.result.now ≡ committed view = shown_committed view c.catalog.result.now c.rows.result.now c.requires.ready.some c.requires.pending c.catalog.ensures.catalog c.rows.ensures.rows in
+    (catalog_passes (committed view) c.args.region.now.only c.args.stmt.now c.in_ok-changes.changes c.requires.ddl
+    (subst (λ (s : State). catalog_changes c.args.region.now.only s c.args.stmt.now ≡ Ok c.in_ok-changes.changes) is c.in_ok-changes.ensures.meant)).accepted
+
+pub returns : goal.returns
+returns g c =
+    let view = c.args.db.now in
+    let region = c.args.region.now in
+    let statement = c.args.stmt.now in
+    let is : shown c.catalog.result.now c.rows.result.now ≡ committed view = shown_committed view c.catalog.result.now c.rows.result.now c.requires.ready.some c.requires.pending c.catalog.ensures.catalog c.rows.ensures.rows in
+    record {
+      took =
+          passed_entry region statement (catalog_changes region.only (committed view) statement) c.in_ok-changes.changes view c.pass.new.db (g.S.Held.seen c.args.site.now) (g.S.Held.seen c.pass.new.site)
+          c.args.lines.now.items c.pass.new.lines.items (Some region) (Some region) c.pass.result
+          (subst (λ (s : State). catalog_changes region.only s statement ≡ Ok c.in_ok-changes.changes) is c.in_ok-changes.ensures.meant) c.pass.ensures.took;
+    }
