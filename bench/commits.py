@@ -21,7 +21,6 @@ def write_script(path, lines):
     """Writes so many INSERT lines, with a COMMIT after each thousand; returns the count of commits."""
     commits = 0
     with open(path, "wb") as script:
-        script.write(common.SETUP)
         for first in range(0, lines, EVERY):
             script.write(b"".join(common.INSERT % (key, key * 7) for key in range(first, min(first + EVERY, lines))))
             script.write(b"COMMIT;\n")
@@ -31,9 +30,8 @@ def write_script(path, lines):
 
 def write_longest(path):
     """Writes a script as long as one may be, up to a line; returns its lines and its bytes."""
-    lines, length = 0, len(common.SETUP)
+    lines, length = 0, 0
     with open(path, "wb") as script:
-        script.write(common.SETUP)
         while True:
             part = b"".join(common.INSERT % (key, -2_000_000_000) for key in range(lines, lines + EVERY)) + b"COMMIT;\n"
             if length + len(part) > LONGEST:
@@ -60,7 +58,7 @@ def measure(words, folder, script, commits):
     """Runs the program and the plain loop in turn; returns the least time of each, and the program's peak memory."""
     runs, loops, peak = [], [], 0
     for _ in range(words.times):
-        common.fresh(folder, "c1")
+        common.make(words.program, folder)
         seconds, memory, _ = common.run([words.program, "sql", "c1"], script, folder)
         runs.append(seconds)
         peak = max(peak, memory)

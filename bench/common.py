@@ -9,9 +9,8 @@ import sys
 import tempfile
 import time
 
-# the script that a new database begins with, before the rows of a measurement
-SETUP = b""
-# the table that the rows go into has two INTEGERs, of which the first is the key
+# the script that makes the table that the rows go into: two INTEGERs, of which the first is the key
+SETUP = b"CREATE TABLE t (id INTEGER PRIMARY KEY, n INTEGER);\n"
 INSERT = b"INSERT INTO t VALUES (%d, %d);\n"
 
 
@@ -57,6 +56,15 @@ def fresh(folder, name):
     for suffix in ("root", "log0", "log1", "snap0", "snap1"):
         with contextlib.suppress(FileNotFoundError):
             os.remove(f"{folder}/{name}.{suffix}")
+
+
+def make(program, folder, name="c1"):
+    """Makes a database anew, with the table."""
+    fresh(folder, name)
+    for words, text in (([program, "init", name, "cons"], b""), ([program, "sql", name], SETUP)):
+        with open(f"{folder}/setup", "wb") as script:
+            script.write(text)
+        run(words, f"{folder}/setup", folder)
 
 
 def table(heads, rows):

@@ -61,13 +61,10 @@ def main():
     words = common.arguments("Opening a log that stands.")
     least = RECORDS // 10 if words.small else RECORDS
     with common.room(words.folder) as folder:
-        with open(f"{folder}/setup", "wb") as script:
-            script.write(common.SETUP)
         open(f"{folder}/empty", "wb").close()
         rows, sizes = [], []
         for records in (least, 10 * least):
-            common.fresh(folder, "c1")
-            common.run([words.program, "sql", "c1"], f"{folder}/setup", folder)
+            common.make(words.program, folder)
             length = write_log(f"{folder}/c1.log0", records)
             runs, plain, peak = [], [], 0
             for _ in range(words.times):

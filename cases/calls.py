@@ -56,14 +56,14 @@ def commit(gate, body):
 
 def commits(program, folder):
     """The steps that two runs of two transactions each make, and those that are wanted."""
-    # the statement of the table has 65 letters, behind a tag and a length of four bytes; an entry of two inserts 5 + 2 * 18 bytes
-    table, gate = commit(16, 1 + 4 + 65)
-    wanted, found = [], []
+    # an entry of two inserts has 5 + 2 * 18 bytes; the table's statement has 65 letters, behind a tag and a length of four bytes
+    for words, script in ((["init", "c1", "cons"], b""), (["sql", "c1"], b"CREATE TABLE t (id INTEGER PRIMARY KEY, n INTEGER);\n")):
+        traced([program, *words], folder, script)
+    wanted, found, gate = [], [], 16 + 1 + 4 + 65 + 5
     for first in (1, 5):
         lines = SCRIPT % (first, first + 1) + SCRIPT % (first + 2, first + 3)
-        found += steps_of_run([program, "sql", "c1"], folder, lines)
-        made = ["pwrite64 log 0 17", "fdatasync log", "fsync folder", "fdatasync log", *table]
-        wanted += made if first == 1 else ["fdatasync log", "fsync folder"]
+        found += [step for step in steps_of_run([program, "sql", "c1"], folder, lines) if step == "print" or step.split()[1] == "log"]
+        wanted += ["fdatasync log"]
         for _ in range(2):
             steps, gate = commit(gate, 5 + 2 * 18)
             wanted += [*steps, "print"]

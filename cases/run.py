@@ -1,4 +1,4 @@
-"""Runs the cases of sql/ with a built program: scripts on logs, and damaged logs. README.md has the form of both."""
+"""Runs the cases of this folder with a built program. README.md has their forms."""
 
 import os
 import re
@@ -16,59 +16,152 @@ def rows_of(path):
         return [line.rstrip("\n") for line in file if line.strip() and not line.startswith("#")]
 
 
-LOGS = {name: bytes.fromhex(digits) for name, digits in (row.split() for row in rows_of("logs.txt"))}
+def run(program, words, folder, script=b""):
+    """The exit status of a run in a folder, and what it printed."""
+    done = subprocess.run([program, *words], cwd=folder, input=script, capture_output=True, check=False)
+    return done.returncode, done.stdout
 
 
-def log_of(expression):
-    """The bytes of names, each with a range where it has one, and of bytes in hex."""
-    log = b""
-    for word in expression.split():
-        part = re.fullmatch(r"(\w+)(?:\[(\d*)\.\.(\d*)\])?", word)
-        name, first, last = part.groups()
-        if name in LOGS:
-            log += LOGS[name][int(first or 0) : int(last) if last else None]
-        elif word != "none":
-            log += bytes.fromhex(word)
-    return log
+def write(folder, name, data):
+    """Writes a file of a folder, and the folders on its way."""
+    path = os.path.join(folder, name)
+    os.makedirs(os.path.dirname(path), exist_ok=True)
+    with open(path, "wb") as file:
+        file.write(data)
 
 
-def run(program, words, log, script):
-    """The exit status of a run, what it printed, and the log of the database that its last word names, afterwards."""
-    with tempfile.TemporaryDirectory() as folder:
-        path = os.path.join(folder, (words[1] if len(words) > 1 and words[1] else "none") + ".log0")
-        if log:
-            with open(path, "wb") as file:
-                file.write(log)
-        done = subprocess.run([program, *words], cwd=folder, input=script, capture_output=True, check=False)
-        left = b""
-        if os.path.exists(path):
-            with open(path, "rb") as file:
-                left = file.read()
-        return done.returncode, done.stdout, left
+def read(folder, name):
+    """The bytes of a file; none where it is not there."""
+    path = os.path.join(folder, name)
+    if not os.path.exists(path):
+        return b""
+    with open(path, "rb") as file:
+        return file.read()
 
 
-def script_cases(path):
-    """The cases of a file: each its name and its lines, by what they begin with."""
-    found = []
-    for row in rows_of(path):
-        word, _, rest = row.partition(" ")
-        if word == "==":
-            found.append((rest, {"script": b"", "lines": b""}))
-        elif word in (">", ">-"):
-            found[-1][1]["script"] += rest.encode() + (b"\n" if word == ">" else b"")
-        elif word == "=":
-            found[-1][1]["lines"] += rest.encode() + b"\n"
-        else:
-            found[-1][1][word] = rest
+def files_in(folder):
+    """The files of a folder that have bytes, by their names."""
+    found = {}
+    for root, _, names in os.walk(folder):
+        for name in names:
+            path = os.path.relpath(os.path.join(root, name), folder)
+            data = read(folder, path)
+            if data:
+                found[path] = data
     return found
 
 
-def is_met(program, case):
-    """Whether a script does on a log what its case says."""
-    before = log_of(case["log"])
-    status, printed, left = run(program, shlex.split(case["words"]), before, case["script"])
-    after = before if case.get("after") == "same" else log_of(case["after"]) if "after" in case else left
-    return status == int(case["status"]) and printed == case["lines"] and left == after and len(left) == int(case.get("length", len(left)))
+# ---- program/*.case
+
+
+def steps_of(path):
+    """The steps of a case: each its words, and the blocks behind it by their names."""
+    steps = []
+    block = None
+    with open(path, encoding="utf-8", newline="") as file:
+        for line in file.read().split("\n"):
+            if line.startswith(("  |", "  \\")):
+                steps[-1][1][block] += line[3:].encode() + (b"\n" if line[2] == "|" else b"")
+            elif line in ("stdin", "stdout"):
+                block = line
+                steps[-1][1][block] = b""
+            elif line.startswith("status "):
+                steps[-1][1]["status"] = int(line[7:])
+            elif line:
+                steps.append((line.split(" "), {}))
+    return steps
+
+
+def step_met(program, folder, words, blocks, held):
+    """Does a step in a folder, and answers whether it went as the case says."""
+    kind, *rest = words
+    if kind == "run":
+        wanted = blocks["status"], blocks.get("stdout", b"")
+        return run(program, rest, folder, blocks.get("stdin", b"")) == wanted
+    name = rest[0]
+    if kind == "file":
+        return read(folder, name).hex() == "".join(rest[1:])
+    if kind == "delete":
+        os.remove(os.path.join(folder, name))
+    elif kind == "copy":
+        write(folder, rest[1], read(folder, name))
+    elif kind == "touch":
+        write(folder, name, b"")
+    elif kind == "part":
+        write(folder, rest[1], read(folder, name)[: int(rest[2])])
+    elif kind == "cut":
+        write(folder, name, read(folder, name)[: int(rest[2])])
+    elif kind == "append":
+        write(folder, name, read(folder, name) + bytes.fromhex(rest[1]))
+    elif kind == "hold":
+        held[name] = read(folder, name)
+        os.remove(os.path.join(folder, name))
+    elif kind == "release":
+        write(folder, name, held[name])
+    else:
+        return False
+    return True
+
+
+def case_met(program, path):
+    """Whether each step of a case goes as it says, and where it names the files that are left, whether they are left."""
+    left = {}
+    held = {}
+    with tempfile.TemporaryDirectory() as folder:
+        for words, blocks in steps_of(path):
+            if words[0] == "left":
+                left[words[1]] = bytes.fromhex(words[3])
+            elif not step_met(program, folder, words, blocks, held):
+                return False
+        return not left or files_in(folder) == left
+
+
+def cases(program):
+    """The cases of program/, each its name and whether it is met."""
+    for name in sorted(os.listdir(os.path.join(HERE, "program"))):
+        yield f"program/{name}", case_met(program, os.path.join(HERE, "program", name))
+
+
+# ---- words.txt, refused.txt, damaged.txt
+
+
+def words(program):
+    """Words that are refused: nothing is made."""
+    for row in rows_of("words.txt"):
+        with tempfile.TemporaryDirectory() as folder:
+            met = run(program, shlex.split(row), folder) == (2, b"words refused\n") and not os.listdir(folder)
+        yield f"words.txt: {row}", met
+
+
+def script_of(text):
+    """The script of a refused statement, and its place: as it stands, or behind so many of its like."""
+    many = re.fullmatch(r"(\d+) times (.*)", text)
+    if not many:
+        return text, 1
+    count = int(many[1])
+    return "\n".join(many[2].replace("#", str(place)) + ";" for place in range(1, count + 1)), count
+
+
+def refused(program):
+    """Statements that are refused on one database. What stands before a limit is met is committed."""
+    rows = rows_of("refused.txt")
+    made = "\n".join(row[2:] for row in rows if row.startswith("> "))
+    with tempfile.TemporaryDirectory() as folder:
+        run(program, ["init", "c1", "cons"], folder)
+        yield "refused.txt: the database", run(program, ["sql", "c1"], folder, made.encode())[0] == 0
+        whole = files_in(folder)
+    for row in rows:
+        if row.startswith("> "):
+            continue
+        fault, _, text = row.partition(": ")
+        script, place = script_of(text)
+        status = 9 if fault.startswith("TooMany") else 4
+        with tempfile.TemporaryDirectory() as folder:
+            for name, data in whole.items():
+                write(folder, name, data)
+            answered, lines = run(program, ["sql", "c1"], folder, script.encode())
+            told = lines.endswith(b"statement %d refused: %s\n" % (place, fault.encode()))
+            yield f"refused.txt: {row}", told and answered == status and lines.count(b"\n") == place and (place > 1 or files_in(folder) == whole)
 
 
 def span(text):
@@ -77,66 +170,61 @@ def span(text):
     return range(int(first), int(last or first) + 1)
 
 
-def damages(path):
-    """The damaged logs of a file: each its name, its bytes, and the place of the damage or None."""
-    log = b""
+def damages():
+    """The damaged databases: each its name, its files, and what is said of them."""
+    files = {}
     single = {}
-    for row in rows_of(path):
-        kind, *words = row.split()
-        place = None if words[-1] == "stands" else words[-1]
-        if kind == "of":
-            log = log_of(" ".join(words))
+    rows = [row.partition(": ") for row in rows_of("damaged.txt")]
+    for left, _, verdict in rows:
+        kind, name, *rest = left.split()
+        if kind == "byte":
+            single[name, int(rest[0]), int(rest[1], 16)] = verdict
+    for left, _, verdict in rows:
+        kind, name, *rest = left.split()
+        old = files.get(name, b"")
+        if kind == "file":
+            files[name] = bytes.fromhex("".join(rest))
+        elif kind == "more":
+            yield left, {**files, name: old + bytes.fromhex(rest[0])}, verdict
         elif kind == "cut":
-            for length in span(words[0]):
-                yield f"{path}: cut {length}", log[:length], place
-        elif kind == "put":
-            at, new = int(words[0]), bytes.fromhex(words[1])
-            single[at, words[1]] = place
-            yield f"{path}: {row}", log[:at] + new + log[at + len(new) :], place
+            for length in span(rest[0]):
+                yield f"cut {name} {length}", {**files, name: old[:length]}, verdict
         elif kind == "turn":
-            for at in span(words[0]):
-                for byte in sorted({log[at] ^ 1, log[at] ^ 128, 0, 255} - {log[at]}):
-                    where = single.get((at, f"{byte:02x}"), place)
-                    yield f"{path}: byte {at} becomes {byte}", log[:at] + bytes([byte]) + log[at + 1 :], where
+            for at in span(rest[0]):
+                for byte in sorted({old[at] ^ 1, old[at] ^ 128, 0, 255} - {old[at]}):
+                    told = single.get((name, at, byte), verdict)
+                    if told == "left out":
+                        continue
+                    yield f"byte {name} {at} becomes {byte}", {**files, name: old[:at] + bytes([byte]) + old[at + 1 :]}, told
+    yield "whole", files, "stands"
 
 
-def is_found(program, log, place):
-    """Whether an empty script on a log says that it stands, or that it is damaged at the place, and then leaves it."""
-    status, printed, left = run(program, ["sql", "c1"], log, b"")
-    if place is None:
-        return (status, printed) == (0, b"")
-    return (status, printed, left) == (3, b"database damaged log0 %s\n" % place.encode(), log)
+def damaged(program):
+    """Whether an empty script on each damaged database says what it is to say, and leaves the files."""
+    for name, files, verdict in damages():
+        lines = b"" if verdict == "stands" else b"database missing\n" if verdict == "missing" else b"database damaged %s\n" % verdict.encode()
+        with tempfile.TemporaryDirectory() as folder:
+            for file, data in files.items():
+                write(folder, f"c1.{file}", data)
+            told = run(program, ["sql", "c1"], folder) == (0 if verdict == "stands" else 3, lines)
+            yield f"damaged.txt: {name}", told and files_in(folder) == {f"c1.{file}": data for file, data in files.items() if data}
 
 
-def refusals(path):
-    """The scripts of a file that are refused: each its name, its bytes, and its first wrong line's place."""
-    for row in rows_of(path):
-        place, _, text = row.partition(" ")
-        yield f"{path}: {row}", text.encode("latin-1").decode("unicode_escape").encode("latin-1"), place
-
-
-def is_refused(program, script, place):
-    """Whether a script is refused at this place, and leaves a log as it was."""
-    log = LOGS["C1"]
-    return run(program, ["sql", "c1"], log, script) == (4, b"script refused at byte %s\n" % place.encode(), log)
-
-
-def main(words):
+def main(arguments):
     """Runs every case, and answers the exit status."""
-    if len(words) != 2:
+    if len(arguments) != 2:
         print("usage: cases/run.sh PROGRAM")
         return 2
-    program = os.path.abspath(words[1])
-    outcomes = []
-    for path in ("sql/scripts.txt", "sql/roles.txt", "sql/words.txt"):
-        outcomes += [(f"{path}: {name}", is_met(program, case)) for name, case in script_cases(path)]
-    outcomes += [(name, is_refused(program, script, place)) for name, script, place in refusals("sql/refused.txt")]
-    outcomes += [(name, is_found(program, log, place)) for name, log, place in damages("sql/damage.txt")]
-    for name, met in outcomes:
-        if not met:
-            print(f"not met: {name}")
-    print(f"cases: {sum(met for _, met in outcomes)} of {len(outcomes)} met")
-    return 0 if all(met for _, met in outcomes) else 1
+    program = os.path.abspath(arguments[1])
+    met = count = 0
+    for group in (cases, words, refused, damaged):
+        for name, good in group(program):
+            count += 1
+            met += good
+            if not good:
+                print(f"not met: {name}")
+    print(f"cases: {met} of {count} met")
+    return 0 if met == count else 1
 
 
 sys.exit(main(sys.argv))

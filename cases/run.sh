@@ -1,5 +1,5 @@
 #!/bin/sh
-# Runs the cases of cases/sql with a built program, and prints each that it does not meet.
+# Runs the cases of this folder with a built program, and prints each that it does not meet.
 #
 # Usage: cases/run.sh PROGRAM
 #

@@ -1,5 +1,5 @@
 #!/bin/sh
-# Three sessions on one database: rows are committed, a held key is refused, and what was not committed is rolled back.
+# A session on one database: it is made, a table and rows are committed, a held key is refused, and a second run goes on where the first one ended.
 #
 # Usage: examples/session.sh [PROGRAM]
 #
@@ -25,29 +25,13 @@ run() {
     [ $status -eq 0 ] || echo "status $status"
 }
 
-# Says how many bytes the log of a database has.
-size() {
-    echo "\$ wc -c $1.log0"
-    wc -c <"$1.log0" | tr -d ' '
-}
-
-run 'INSERT INTO t VALUES (1, 2147483647);
+run '' init c1 cons
+run "CREATE TABLE orders (id INTEGER PRIMARY KEY, item VARCHAR(20) NOT NULL, due DATE);
+INSERT INTO orders VALUES (1, 'lamp', '2024-02-29'), (2, 'chair', NULL);
 COMMIT;
-INSERT INTO t VALUES (1, 0);
-COMMIT;
-' sql c1
-size c1
-run 'INSERT INTO t VALUES (-5, -2147483648);
-INSERT INTO t VALUES (0, 0);
-COMMIT;
-COMMIT;
-INSERT INTO t VALUES (9, 9);
-' sql c1
-size c1
-run 'COMMIT;
-INSERT INTO t VALUES (2147483648, 0);
-' sql c1
-size c1
-run '' sql cons
-size cons
-run '' agent cons --mail mail -s
+SELECT item, due FROM orders WHERE due IS NOT NULL;
+INSERT INTO orders VALUES (2, 'table', NULL);
+" sql c1
+run "UPDATE orders SET item = 'stool' WHERE id = 2; COMMIT; SELECT * FROM orders;" sql c1
+run '' init c1 cons
+run '' agent c1

@@ -1,4 +1,4 @@
-//! `dbremote`: a database of one fixed table, and the scripts that are run on it.
+//! `dbremote`: SQL databases, and the scripts that are run on them.
 //!
 //! `run` of sr_run does all that the program does. Here it is given the host's devices: files, standard input and standard output.
 #![tactic(auto)]
@@ -9,9 +9,12 @@ use std::process::ExitCode;
 
 fn main(rt: HostRuntime) -> ExitCode {
     let mut output = HostSink::new(rt);
-    let Ok(words) = sr_hostsite::words(rt.alloc(), &rt) else {
-        let told = report(rt.alloc(), &mut output, &[], Fault::Memory);
-        return ExitCode::from(told.status());
+    let words = match sr_hostsite::words(rt.alloc(), &rt) {
+        Ok(words) => words,
+        Err(refused) => {
+            let told = report(rt.alloc(), &mut output, Fault::from(refused));
+            return ExitCode::from(told.status());
+        }
     };
     let (mut site, mut input) = (HostSite::new(rt), HostSource::new(rt));
     let now = sr_hostsite::now(&rt);

@@ -1,52 +1,69 @@
--- Scripts, a line at a time.
-use Rattle.std.proofs.Common.{◌≡◌, ℕ, ◌<◌, List, [], ◌∷◌, ◌++◌, length, refl, sym, ap, ◌∙◌, append_assoc, arith, codes}
-use Rattle.std.specs.Fmt.{signed_decimal}
-use Rattle.std.proofs.lemmas.List.{append-nil, length-append}
-use Rattle.sr_exchange.specs.declared.item.Item.{Item}
-use Rattle.sr_run.specs.declared.statement.Statement.{Statement}
-use Rattle.sr_run.specs.declared.statement.Statement.TheVariants.{Insert, Commit}
-use Rattle.sr_run.specs.Lines.{line, script, AreStatements, IsStatement}
+-- How `sql` ends, from how its steps do.
+use Rattle.std.proofs.Common.{◌≡◌, ℕ, List, refl, sym, subst, inl, inr}
+use Rattle.std.specs.Prelude.{Result, Ok, Err, OnOk, IfErr}
+use Rattle.sr_ast.specs.declared.stmt.Stmt.{Stmt}
+use Rattle.sr_database.specs.Views.{View}
+use Rattle.sr_database.specs.declared.fault.DatabaseFault.{DatabaseFault}
+use Rattle.sr_database.specs.declared.fault.DatabaseFault.TheVariants as store
+use Rattle.sr_site.specs.Seen.{Seen}
+use Rattle.sr_site.specs.Streams.{Input, Output}
+use Rattle.sr_run.specs.Outside.{outside}
+use Rattle.sr_run.specs.Running.{IsUntouched, IsOpened, IsScript, IsUnread, OpenedCause, ReadCause, BeginCause, RanWhole, Stopped}
+use Rattle.sr_run.specs.Steps.{RanToEnd, RanToFault}
+use Rattle.sr_run.specs.declared.fault.Fault.{Fault}
+use Rattle.sr_run.specs.declared.fault.Fault.TheVariants.{Words, Database, Source, TooLong, Script, Statement, Sink}
 
-pub script_more : (done : List Statement) (s : Statement) → script (done ++ s ∷ []) ≡ script done ++ line s
-script_more [] s = append-nil (line s)
-script_more (d ∷ done) s = ap (λ (t : List ℕ). line d ++ t) (script_more done s) ∙ sym (append_assoc (line d) (script done) (line s))
+pub on_ok : {T E P Q : Type 0} (r : Result T E) → (P → Q) → OnOk r P → OnOk r Q
+on_ok (Ok x) follows p = follows p
+on_ok (Err e) follows p = tt
 
-pub statements_more : (done : List Statement) (s : Statement) → AreStatements done → IsStatement s → AreStatements (done ++ s ∷ [])
-statements_more [] s h i = (i, tt)
-statements_more (d ∷ done) s h i = (h.0, statements_more done s h.1 i)
+pub if_err : {T E : Type 0} (P Q : E → Type 0) (r : Result T E) → ((e : E) → P e → Q e) → IfErr r P → IfErr r Q
+if_err P Q (Ok x) follows p = tt
+if_err P Q (Err e) follows p = follows e p
 
-pub line_some : (s : Statement) → 0 < length (line s)
-line_some (Insert item) = omega arith
-line_some Commit = omega arith
+unread : (input : Input) (fault : DatabaseFault) → IsUnread input input fault
+unread input store.Missing = refl
+unread input store.Exists = refl
+unread input (store.Damaged file at) = refl
+unread input store.Disk = refl
+unread input (store.Full end need) = refl
+unread input (store.Long size limit) = refl
+unread input store.Memory = tt
 
--- the parts of an insert's line, and what follows it
-pub insert_parts : (item : Item) (rest : List ℕ) → line (Insert item) ++ rest ≡ codes "INSERT INTO t VALUES (" ++ (signed_decimal item.id ++ (codes ", " ++ (signed_decimal item.n ++ (codes ");\n" ++ rest))))
-insert_parts item rest = simp append_assoc
+pub stopped_open : (name : List ℕ) (before now : Seen) (input : Input) (output : Output) (fault : DatabaseFault) → IsUntouched before now → OpenedCause before now fault
+    → Stopped name (outside before input output) (outside now input output) (Database fault)
+stopped_open name before now input output fault untouched cause = inl (record { untouched = untouched; silent = refl; cause = (cause, unread input fault) })
 
-pub script_step : (text rest following : List ℕ) (done : List Statement) (s : Statement) → text ≡ script done ++ rest → rest ≡ line s ++ following → text ≡ script (done ++ s ∷ []) ++ following
-script_step text rest following done s so_far next = so_far ∙ ap (λ (t : List ℕ). script done ++ t) next ∙ sym (append_assoc (script done) (line s) following) ∙ ap (λ (t : List ℕ). t ++ following) (sym (script_more done s))
+wanting : (name : List ℕ) (before now : Seen) (input left : Input) (output : Output) (fault : DatabaseFault) → fault ≡ store.Memory
+    → BeginCause name (outside before input output) (outside now left output) (Database fault)
+wanting name before now input left output fault is = subst (λ (f : DatabaseFault). BeginCause name (outside before input output) (outside now left output) (Database f)) (sym is) (tt, tt)
 
--- by cases on the statement that the text begins with
-pub each : (P : Statement → List ℕ → Type 0) (text : List ℕ) → ((rest : List ℕ) → text ≡ line Commit ++ rest → P Commit rest) → ((item : Item) (rest : List ℕ) → IsStatement (Insert item) → text ≡ line (Insert item) ++ rest → P (Insert item) rest)
-    → (s : Statement) (rest : List ℕ) → IsStatement s → text ≡ line s ++ rest → P s rest
-each P text commit insert (Insert item) rest fits e = insert item rest fits e
-each P text commit insert Commit rest fits e = commit rest e
+begin_cause : (name : List ℕ) (before now : Seen) (input left : Input) (output : Output) (view : View) (fault : Fault) → IsOpened name view before now → ReadCause input left fault
+    → BeginCause name (outside before input output) (outside now left output) fault
+begin_cause name before now input left output view Words opened cause = cause
+begin_cause name before now input left output view (Database fault) opened cause = wanting name before now input left output fault cause
+begin_cause name before now input left output view Source opened cause = (cause, record { view = view; is = opened })
+begin_cause name before now input left output view TooLong opened cause = (cause, record { view = view; is = opened })
+begin_cause name before now input left output view (Script at) opened cause = (cause, record { view = view; is = opened })
+begin_cause name before now input left output view (Statement number fault) opened cause = cause
+begin_cause name before now input left output view Sink opened cause = cause
 
--- of any statements that spell the text, the rest spells those that are left
-abbrev pub StillLeft : List ℕ → List Statement → List ℕ → Type 0
-StillLeft text done rest = (all : List Statement) → AreStatements all → text ≡ script all → (left : List Statement) × AreStatements left × (all ≡ done ++ left) × (rest ≡ script left)
+pub stopped_read : (name : List ℕ) (before now : Seen) (input left : Input) (output : Output) (view : View) (fault : Fault) → IsOpened name view before now → ReadCause input left fault
+    → Stopped name (outside before input output) (outside now left output) fault
+stopped_read name before now input left output view fault opened cause =
+    inl (record { untouched = opened.untouched; silent = refl; cause = begin_cause name before now input left output view fault opened cause })
 
-pub left_some : (left : List Statement) (rest : List ℕ) → rest ≡ script left → 0 < length rest → (s : Statement) × (more : List Statement) × (left ≡ s ∷ more)
-left_some [] rest e lt = absurd (omega (arith, ap (λ (xs : List ℕ). length xs) e))
-left_some (s ∷ more) rest e lt = (s, more, refl)
+pub ran_whole : (name : List ℕ) (before middle now : Seen) (input left : Input) (output said : Output) (view after : View) (statements : List Stmt) → IsOpened name view before middle
+    → IsScript input left statements → RanToEnd view after middle now output said statements → RanWhole name (outside before input output) (outside now left said)
+ran_whole name before middle now input left output said view after statements opened script ran = record {
+  count = ran.count;
+  ran = record { opened = middle; view = view; view' = after; statements = statements; is = opened; script = script; ran = ran.ran };
+}
 
-pub left_none : (left : List Statement) → length (script left) ≡ 0 → left ≡ []
-left_none [] e = refl
-left_none (s ∷ more) e = absurd (omega (arith, line_some s, length-append (line s) (script more)))
-
-pub all_done : (all done left : List Statement) → all ≡ done ++ left → length (script left) ≡ 0 → done ≡ all
-all_done all done left e none = sym (e ∙ ap (λ (t : List Statement). done ++ t) (left_none left none) ∙ append-nil done)
-
-pub all_more : (all done items left more : List Statement) (s t : Statement) → all ≡ done ++ left → left ≡ t ∷ more → s ≡ t → items ≡ done ++ s ∷ [] → all ≡ items ++ more
-all_more all done items left more s t e left-is same pushed =
-    e ∙ ap (λ (xs : List Statement). done ++ xs) (left-is ∙ ap (λ (x : Statement). x ∷ more) (sym same)) ∙ sym (append_assoc done (s ∷ []) more) ∙ ap (λ (xs : List Statement). xs ++ more) (sym pushed)
+pub stopped_after : (name : List ℕ) (before middle now : Seen) (input left : Input) (output said : Output) (view after : View) (statements : List Stmt) (fault : Fault) → IsOpened name view before middle
+    → IsScript input left statements → RanToFault view after middle now output said statements fault → Stopped name (outside before input output) (outside now left said) fault
+stopped_after name before middle now input left output said view after statements fault opened script ran = inr (record {
+  why = ran.why;
+  fault_is = ran.fault_is;
+  ran = record { opened = middle; view = view; view' = after; statements = statements; is = opened; script = script; ran = ran.ran };
+})

@@ -1,23 +1,34 @@
-use Rattle.std.specs.Prelude.{◌≡◌, ◌⊎◌, ℕ, List, ◌++◌}
+-- What is written of the lines of a run.
+use Rattle.std.specs.Prelude.{◌≡◌, ◌⊎◌, ⊤, ℕ, List, ◌++◌}
+use Rattle.sr_database.specs.declared.fault.DatabaseFault.{DatabaseFault}
+use Rattle.sr_database.specs.declared.fault.DatabaseFault.TheVariants.{Missing, Exists, Damaged, Disk, Full, Long, Memory}
 use Rattle.sr_site.specs.Causes.{Rose}
+use Rattle.sr_site.specs.Streams.{Output}
+use Rattle.sr_session.specs.Said.{WroteFront}
 use Rattle.sr_run.specs.declared.fault.Fault.{Fault}
-use Rattle.sr_run.specs.declared.fault.Fault.TheVariants.{Words, Memory, Disk, Damaged, Source, TooLong, Script, Refused, Full, Sink}
-use Rattle.sr_run.specs.Streams.{TookFront}
+use Rattle.sr_run.specs.declared.fault.Fault.TheVariants.{Words, Database, Source, TooLong, Script, Statement, Sink}
 
--- lines and a fault's line were written, whole or, where the sink failed, a front
-pub record Wrote (text old new : List ℕ) (faults faults' : ℕ) : Type 0 where
-  pub front : TookFront text old new
-  pub whole : (new ≡ old ++ text) ⊎ Rose faults faults'
+-- the line of a database's fault has numbers
+abbrev pub HasPlaces : DatabaseFault → Type 0
+HasPlaces Missing = ⊥
+HasPlaces Exists = ⊥
+HasPlaces (Damaged file at) = ⊤
+HasPlaces Disk = ⊥
+HasPlaces (Full end need) = ⊤
+HasPlaces (Long size limit) = ⊤
+HasPlaces Memory = ⊥
 
--- the line of the fault has numbers, and takes memory; every other line is the same each time
+-- the line of the fault has numbers or names, and takes memory; every other line is the same each time
 abbrev pub HasNumbers : Fault → Type 0
-HasNumbers (Damaged place) = Unit {0}
-HasNumbers (Script place) = Unit {0}
-HasNumbers (Refused number id) = Unit {0}
-HasNumbers (Full end need) = Unit {0}
 HasNumbers Words = ⊥
-HasNumbers Memory = ⊥
-HasNumbers Disk = ⊥
+HasNumbers (Database fault) = HasPlaces fault
 HasNumbers Source = ⊥
 HasNumbers TooLong = ⊥
+HasNumbers (Script at) = ⊤
+HasNumbers (Statement number fault) = ⊤
 HasNumbers Sink = ⊥
+
+-- a text was written whole, or a front of it where the sink failed
+pub record Wrote (text : List ℕ) (old new : Output) : Type 0 where
+  pub front : WroteFront text old.taken new.taken
+  pub whole : (new.taken ≡ old.taken ++ text) ⊎ Rose old.faults new.faults

@@ -1,19 +1,26 @@
-use Rattle.std.specs.Prelude.{ℕ, Bool, false, List, [], ◌∷◌, length, ◌&&◌, nat_le, codes}
+-- What the words of a run ask for.
+use Rattle.std.specs.Prelude.{ℕ, Bool, List, [], ◌∷◌, length, ◌&&◌, nat_le, codes, if◌then◌else◌, Option, Some, None}
 use Rattle.std.specs.Str.{bytes_eq}
+use Rattle.sr_base.specs.Names.{is_name, lowered}
+use Rattle.sr_run.specs.declared.order.Order.{Order}
+use Rattle.sr_run.specs.declared.order.Order.TheVariants.{Init, Sql}
 
--- the name of a database: 1 to 255 bytes
+-- the name of a database's files: 1 to 255 bytes
 abbrev pub is_place : List ℕ → Bool
 is_place name = nat_le 1 (length name) && nat_le (length name) 255
 
--- the words are `sql NAME`
-abbrev pub is_sql : List (List ℕ) → Bool
-is_sql [] = false
-is_sql (command ∷ []) = false
-is_sql (command ∷ name ∷ []) = bytes_eq command (codes "sql") && is_place name
-is_sql (command ∷ name ∷ more ∷ words) = false
+-- `sql NAME`
+abbrev pub order_of_two : List ℕ → List ℕ → Option Order
+order_of_two command name = if bytes_eq command (codes "sql") && is_place name then Some (Sql name) else None
 
--- the NAME among them
-abbrev pub name_of : List (List ℕ) → List ℕ
-name_of [] = []
-name_of (command ∷ []) = []
-name_of (command ∷ name ∷ words) = name
+-- `init NAME USER`: the user is kept in lower case
+abbrev pub order_of_three : List ℕ → List ℕ → List ℕ → Option Order
+order_of_three command name user = if bytes_eq command (codes "init") && is_place name && is_name user then Some (Init name (lowered user)) else None
+
+-- what words ask for; none where they are refused
+abbrev pub order_of : List (List ℕ) → Option Order
+order_of [] = None
+order_of (command ∷ []) = None
+order_of (command ∷ name ∷ []) = order_of_two command name
+order_of (command ∷ name ∷ user ∷ []) = order_of_three command name user
+order_of (command ∷ name ∷ user ∷ more ∷ words) = None

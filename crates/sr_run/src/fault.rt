@@ -1,142 +1,50 @@
 ghost use Rattle.std.specs.Prelude.{◌≡◌};
-ghost use Rattle.sr_run.specs.Faults.{status_of};
-ghost use Rattle.sr_run.specs.declared.fault.Fault.TheVariants.{Memory as memory, Disk as disk};
+ghost use Rattle.sr_run.specs.Faults.{database_status, ddl_status, refusal_status, status_of};
 
-use crate::statement::ScriptFault;
-use crate::stream::InputFault;
-use sr_logfile::{LogFault, RecordFault};
-use sr_site::Failed;
-use std::alloc::{AllocError, AllocFailed};
-use std::fmt;
+use sr_base::NoMemory;
+use sr_catalog::DdlFault;
+use sr_database::DatabaseFault;
+use sr_script::Refusal;
 
-/// Why a run ended before its command was done.
-#[derive(Clone, Copy, Drop)]
+/// What ends a run. The first one does.
+#[derive(Drop)]
 pub enum Fault {
-    /// No command has these words.
+    /// The words ask for nothing.
     Words,
-    Memory,
-    /// The disk's count of faults rose.
-    Disk,
-    /// The log stands for no database: the place is that of the gate byte of the first record that does not fit, 0 for the header.
-    Damaged { at: u64 },
-    /// The source's count of faults rose.
+    /// The database is missing, there or damaged, its disk refused, a limit is passed, or there is no memory.
+    Database(DatabaseFault),
+    /// The source refused.
     Source,
-    /// The source has more than the longest script.
+    /// The script has more than 64 MiB.
     TooLong,
-    /// The first byte of the script's first wrong line.
+    /// The script is no UTF-8, or no script goes on with what begins at the byte `at`.
     Script { at: usize },
-    /// The statement of this number, from 1, inserts a key that is held.
-    Refused { number: u64, id: i32 },
-    /// The record has no room in the log: the place past its first closed gate, and the record's bytes.
-    Full { end: u64, need: u64 },
-    /// The sink's count of faults rose.
+    /// The statement of this number, from 1, is refused.
+    Statement { number: u32, fault: Refusal },
+    /// The sink refused.
     Sink,
 }
 
-impl From<AllocError> for Fault {
-    ghost from_gives = { λ _ e. e ≡ memory };
-
-    fn from(_refused: AllocError) -> Fault {
-        Fault::Memory
-    }
-}
-
-impl<T: Drop> From<AllocFailed<T>> for Fault {
-    ghost from_gives = { λ _ e. e ≡ memory };
-
-    fn from(_refused: AllocFailed<T>) -> Fault {
-        Fault::Memory
-    }
-}
-
-/// A refusal of the disk.
-impl From<Failed> for Fault {
-    ghost from_gives = { λ _ e. e ≡ disk };
-
-    fn from(_failed: Failed) -> Fault {
-        Fault::Disk
-    }
-}
-
-impl From<LogFault> for Fault {
+impl From<DatabaseFault> for Fault {
     ghost use Rattle.std.specs.Prelude.{◌≡◌};
-    ghost use Rattle.sr_run.specs.FaultsOfLogs.{fault_of};
+    ghost use Rattle.sr_run.specs.declared.fault.Fault.TheVariants.{Database};
 
-    ghost from_gives = { λ fault e. e ≡ fault_of fault };
+    ghost from_gives = { λ fault e. e ≡ Database fault };
 
-    fn from(fault: LogFault) -> Fault {
-        match fault {
-            LogFault::Disk => Fault::Disk,
-            LogFault::Full { end, need } => Fault::Full { end, need },
-            LogFault::Damaged { at } => Fault::Damaged { at },
-        }
+    fn from(fault: DatabaseFault) -> Fault {
+        Fault::Database(fault)
     }
 }
 
-impl From<RecordFault> for Fault {
+impl From<NoMemory> for Fault {
     ghost use Rattle.std.specs.Prelude.{◌≡◌};
-    ghost use Rattle.sr_run.specs.FaultsOfLogs.{fault_of_record};
+    ghost use Rattle.sr_database.specs.declared.fault.DatabaseFault.TheVariants.{Memory};
+    ghost use Rattle.sr_run.specs.declared.fault.Fault.TheVariants.{Database};
 
-    ghost from_gives = { λ fault e. e ≡ fault_of_record fault };
+    ghost from_gives = { λ _ e. e ≡ Database Memory };
 
-    fn from(fault: RecordFault) -> Fault {
-        match fault {
-            RecordFault::Log(refused) => refused.into(),
-            RecordFault::Memory => Fault::Memory,
-        }
-    }
-}
-
-impl From<ScriptFault> for Fault {
-    ghost use Rattle.std.specs.Prelude.{◌≡◌};
-    ghost use Rattle.sr_run.specs.FaultsOfReading.{fault_of_script};
-
-    ghost from_gives = { λ fault e. e ≡ fault_of_script fault };
-
-    fn from(fault: ScriptFault) -> Fault {
-        match fault {
-            ScriptFault::Line { at } => Fault::Script { at },
-            ScriptFault::Memory => Fault::Memory,
-        }
-    }
-}
-
-impl From<InputFault> for Fault {
-    ghost use Rattle.std.specs.Prelude.{◌≡◌};
-    ghost use Rattle.sr_run.specs.FaultsOfReading.{fault_of_input};
-
-    ghost from_gives = { λ fault e. e ≡ fault_of_input fault };
-
-    fn from(fault: InputFault) -> Fault {
-        match fault {
-            InputFault::Source => Fault::Source,
-            InputFault::TooLong => Fault::TooLong,
-            InputFault::Memory => Fault::Memory,
-        }
-    }
-}
-
-impl fmt::Display for Fault {
-    ghost use Rattle.std.specs.Prelude.{Some};
-    ghost use Rattle.sr_run.specs.Faults.{fault_line};
-
-    ghost output = { λ f. Some (fault_line f) };
-
-    fn fmt<W: fmt::Write>(&self, f: &mut fmt::Formatter<W>) -> fmt::Result {
-        match *self {
-            Fault::Words => write!(f, "words refused"),
-            Fault::Memory => write!(f, "out of memory"),
-            Fault::Disk => write!(f, "disk fault"),
-            Fault::Damaged { at } => write!(f, "database damaged log0 {at}"),
-            Fault::Source => write!(f, "source fault"),
-            Fault::TooLong => write!(f, "script too long"),
-            Fault::Script { at } => write!(f, "script refused at byte {at}"),
-            Fault::Refused { number, id } => {
-                write!(f, "statement {number} refused: Duplicate ({id})")
-            }
-            Fault::Full { end, need } => write!(f, "full {end} {need}"),
-            Fault::Sink => write!(f, "sink fault"),
-        }
+    fn from(_refused: NoMemory) -> Fault {
+        Fault::Database(DatabaseFault::Memory)
     }
 }
 
@@ -147,12 +55,34 @@ impl Fault {
     {
         match self {
             Fault::Words => 2,
-            Fault::Damaged { .. } => 3,
-            Fault::Script { .. } | Fault::Refused { .. } => 4,
-            Fault::Disk => 5,
-            Fault::Source | Fault::Sink => 7,
-            Fault::Memory => 8,
-            Fault::TooLong | Fault::Full { .. } => 9,
+            Fault::Database(fault) => database_status(fault),
+            Fault::Source => 7,
+            Fault::TooLong => 9,
+            Fault::Script { .. } => 4,
+            Fault::Statement { fault, .. } => refusal_status(fault),
+            Fault::Sink => 7,
         }
+    }
+}
+
+fn database_status(fault: &DatabaseFault) -> u8
+    ensures { result ≡ database_status fault.now }
+{
+    match fault {
+        DatabaseFault::Missing | DatabaseFault::Exists | DatabaseFault::Damaged { .. } => 3,
+        DatabaseFault::Disk => 5,
+        DatabaseFault::Full { .. } | DatabaseFault::Long { .. } => 9,
+        DatabaseFault::Memory => 8,
+    }
+}
+
+fn refusal_status(fault: &Refusal) -> u8
+    ensures { result ≡ refusal_status fault.now }
+{
+    match fault {
+        Refusal::Ddl(DdlFault::TooMany { .. }) => 9,
+        Refusal::Ddl(DdlFault::Memory) => 8,
+        Refusal::Ddl(_) => 4,
+        Refusal::Dml(_) => 4,
     }
 }

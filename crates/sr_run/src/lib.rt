@@ -1,20 +1,23 @@
-//! What the program does: a database of one fixed table, and the scripts that are run on it.
+//! What the program does: it makes databases, and runs scripts on them.
 //!
 //! `run` does all of it, over any site, source and sink; its contract is what the program is claimed to do. The program gives it the host's:
-//! files, standard input and standard output. The tests give it devices in memory.
+//! files, standard input and standard output. The tests give it devices in memory. It stands on sr_database and sr_session for all that touches
+//! a database, and on sr_parse for scripts.
 #![tactic(auto)]
 
-mod beginning;
+mod attaching;
+mod commands;
 mod fault;
-mod history;
+mod making;
+mod order;
+mod reading;
 mod reporting;
 mod running;
-mod script_run;
-mod session;
-mod statement;
 mod stream;
+mod unknown;
+mod whole;
 mod words;
 
 pub use fault::Fault;
 pub use reporting::report;
-pub use running::run;
+pub use whole::run;

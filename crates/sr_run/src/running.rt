@@ -1,104 +1,121 @@
-ghost use Rattle.std.specs.Prelude.{◌≡◌, ◌≢◌, ◌⊎◌, ◌↔◌, [], ◌∷◌, ℕ, Bool, false, IsTrue, IsErr, IfErr, OnOk};
-ghost use Rattle.sr_site.specs.Causes.{DiskStays, Rose};
-ghost use Rattle.sr_site.specs.Files.{OthersStay};
-ghost use Rattle.sr_site.specs.Happenings.{IsMoment, attached};
-ghost use Rattle.sr_site.specs.declared.file.File.TheVariants.{Log0 as log0};
-ghost use Rattle.sr_run.specs.Commands.{RunsWords};
-ghost use Rattle.sr_run.specs.Runs.{RanScript, RanSql, outside};
-ghost use Rattle.sr_run.specs.Stops.{StopsSql, IsOfDamage};
-ghost use Rattle.sr_run.specs.Words.{is_sql, name_of};
-ghost use Rattle.sr_exchange.specs.Logs.{IsDamagedDatabase};
+ghost use Rattle.std.specs.Prelude.{◌≡◌, [], true, ℕ, List, IsTrue, IfOk, IfErr, OnOk};
+ghost use Rattle.std.specs.List.{AllByRecursion};
+ghost use Rattle.sr_database.specs.Databases.{HasDatabase};
+ghost use Rattle.sr_session.specs.Ready.{IsKnown};
+ghost use Rattle.sr_site.specs.Causes.{DiskStays};
+ghost use Rattle.sr_site.specs.Seen.{Seen};
+ghost use Rattle.sr_run.specs.Outside.{outside, IsAttachTried};
+ghost use Rattle.sr_run.specs.Running.{IsOpened, IsUntouched, OpenedCause, RanWhole, Stopped, fault_of};
+ghost use Rattle.sr_run.specs.Steps.{RanToEnd, RanToFault};
 
-use crate::beginning::begin;
+use crate::attaching::attach;
 use crate::fault::Fault;
-use crate::reporting::{refuse_words, report};
-use crate::script_run::run_script;
-use crate::words::{is_sql, name_in};
+use crate::reading::read_script;
+use sr_ast::Script;
 use sr_base::Text;
-use sr_exchange::{Role, role_of};
+use sr_database::{Database, DatabaseFault};
+use sr_session::{SessionFault, run_script};
 use sr_site::{Sink, Site, Source};
 use std::alloc::Global;
 
-/// `sql NAME`: opens the database of this role, reads the script and runs it. After a fault `kept` has the lines that were not written.
-#[tactic(auto, using(sr_site::specs::Growing::disk_stays_on))]
-fn sql<S: Site, I: Source, O: Sink>(
+/// Attaches the files of a name and opens the database.
+#[tactic(auto, using(sr_site::specs::Growing::disk_stays_on, crate::proofs::Opened::attaching))]
+fn open<S: Site>(alloc: Global, name: &Text, site: &mut S) -> Result<Database, DatabaseFault>
+    ensures opened { IfOk result (λ db. IsOpened name.now db (S.seen site.old) (S.seen site.new)) }
+    ensures ready { IfOk result (λ db. (db.log.usable ≡ true) × (db.pending ≡ [])) }
+    ensures stands { IsTrue (S.seen site.new).told → IfOk result (λ db. HasDatabase db (S.seen site.new)) }
+    ensures tried { IsAttachTried name.now (S.seen site.old) (S.seen site.new) }
+    ensures untouched { IsUntouched (S.seen site.old) (S.seen site.new) }
+    ensures stays { DiskStays (S.seen site.old) (S.seen site.new) }
+    ensures cause { IfErr result (OpenedCause (S.seen site.old) (S.seen site.new)) }
+{
+    attach(alloc, name, site)?;
+    let database = Database::open(alloc, site)?;
+    let usable = database.usable();
+    prove!(usable);
+    Ok(database)
+}
+
+/// Runs a script on a database that was opened.
+fn run_on<S: Site, O: Sink>(
     alloc: Global,
-    name: &Text,
-    role: Role,
+    database: &mut Database,
     site: &mut S,
-    input: &mut I,
+    script: &Script,
     output: &mut O,
-    kept: &mut Vec<u8>,
 ) -> Result<(), Fault>
-    requires kept { kept.old.items ≡ [] }
-    ensures done { OnOk result (RanScript role (outside (S.seen site.old) (I.seen input.old) (O.seen output.old)) (outside (S.seen site.new) (I.seen input.new) (O.seen output.new))) }
-    ensures stopped { IfErr result (StopsSql role (outside (S.seen site.old) (I.seen input.old) (O.seen output.old)) (outside (S.seen site.new) (I.seen input.new) (O.seen output.new)) kept.new.items) }
-    ensures damaged { IsTrue (S.seen site.old).told → (place : ℕ) → IsDamagedDatabase role (S.seen site.old).files.log0 place → IsErr result × IfErr result IsOfDamage × ((S.seen site.new).files ≡ (S.seen site.old).files) }
-    ensures attached { IsTrue (S.seen site.old).told → (done : Bool) × IsMoment (attached name.now [] done ∷ (S.seen site.old).happened) (S.seen site.new).happened }
-    ensures others { IsTrue (S.seen site.old).told → OthersStay log0 (S.seen site.old).files (S.seen site.new).files }
+    requires usable { database.old.log.usable ≡ true }
+    requires pending { database.old.pending ≡ [] }
+    requires known { AllByRecursion IsKnown script.now }
+    requires stands { IsTrue (S.seen site.old).told → HasDatabase database.old (S.seen site.old) }
+    ensures done { OnOk result (RanToEnd database.old database.new (S.seen site.old) (S.seen site.new) (O.seen output.old) (O.seen output.new) script.now) }
+    ensures stopped { IfErr result (RanToFault database.old database.new (S.seen site.old) (S.seen site.new) (O.seen output.old) (O.seen output.new) script.now) }
     ensures stays { DiskStays (S.seen site.old) (S.seen site.new) }
 {
-    let beginning = begin(alloc, name, role, site, input)?;
-    let table = beginning.fold.into_table();
-    run_script(
-        alloc,
-        site,
-        output,
-        table,
-        beginning.log,
-        beginning.statements.as_slice(),
-        kept,
-    )?;
-    Ok(())
+    match run_script(alloc, database, site, script, output) {
+        Ok(_) => Ok(()),
+        Err(fault) => Err(fault_of(fault)),
+    }
 }
 
-/// `sql NAME`, to the last line of its script or to that of the fault that ended it. Answers the exit status.
-fn run_sql<S: Site, I: Source, O: Sink>(
+/// Reads the whole script and runs it on the database that was opened.
+#[tactic(auto, using(crate::proofs::Known::script_known))]
+fn read_and_run<S: Site, I: Source, O: Sink>(
+    alloc: Global,
+    database: &mut Database,
+    site: &mut S,
+    input: &mut I,
+    output: &mut O,
+) -> Result<(), Fault>
+    requires usable { database.old.log.usable ≡ true }
+    requires pending { database.old.pending ≡ [] }
+    requires stands { IsTrue (S.seen site.old).told → HasDatabase database.old (S.seen site.old) }
+    ensures done { (name : List ℕ) (before : Seen) → IsOpened name database.old before (S.seen site.old) → OnOk result (RanWhole name (outside before (I.seen input.old) (O.seen output.old)) (outside (S.seen site.new) (I.seen input.new) (O.seen output.new))) }
+    ensures stopped { (name : List ℕ) (before : Seen) → IsOpened name database.old before (S.seen site.old) → IfErr result (Stopped name (outside before (I.seen input.old) (O.seen output.old)) (outside (S.seen site.new) (I.seen input.new) (O.seen output.new))) }
+    ensures stays { DiskStays (S.seen site.old) (S.seen site.new) }
+{
+    match read_script(alloc, input) {
+        Ok(script) => {
+            let ran = run_on(alloc, database, site, &script, output);
+            drop(script);
+            ran
+        }
+        Err(fault) => Err(fault),
+    }
+}
+
+/// `sql NAME`: opens the database, reads the whole script and runs it.
+#[tactic(auto, using(sr_site::specs::Growing::disk_stays_on))]
+pub fn run_sql<S: Site, I: Source, O: Sink>(
     alloc: Global,
     name: &Text,
     site: &mut S,
     input: &mut I,
     output: &mut O,
-) -> u8
-    ensures ran { RanSql name.now (outside (S.seen site.old) (I.seen input.old) (O.seen output.old)) (outside (S.seen site.new) (I.seen input.new) (O.seen output.new)) result }
+) -> Result<(), Fault>
+    ensures done { OnOk result (RanWhole name.now (outside (S.seen site.old) (I.seen input.old) (O.seen output.old)) (outside (S.seen site.new) (I.seen input.new) (O.seen output.new))) }
+    ensures stopped { IfErr result (Stopped name.now (outside (S.seen site.old) (I.seen input.old) (O.seen output.old)) (outside (S.seen site.new) (I.seen input.new) (O.seen output.new))) }
+    ensures tried { IsAttachTried name.now (S.seen site.old) (S.seen site.new) }
     ensures stays { DiskStays (S.seen site.old) (S.seen site.new) }
-    ensures disk { result ≡ 5 → Rose (S.seen site.old).disk_faults (S.seen site.new).disk_faults }
-    ensures streams { result ≡ 7 → Rose ((I.seen input.old).faults) ((I.seen input.new).faults) ⊎ Rose ((O.seen output.old).faults) ((O.seen output.new).faults) }
-    ensures never { (result ≢ 1) × (result ≢ 2) × (result ≢ 6) }
 {
-    let mut kept = Vec::new(alloc);
-    let role = role_of(name);
-    match sql(alloc, name, role, site, input, output, &mut kept) {
-        Ok(()) => 0,
-        Err(fault) => report(alloc, output, kept.as_slice(), fault).status(),
+    match open(alloc, name, site) {
+        Ok(mut database) => {
+            let ran = read_and_run(alloc, &mut database, site, input, output);
+            drop(database);
+            ran
+        }
+        Err(fault) => Err(Fault::Database(fault)),
     }
 }
 
-/// Does all that the program does, and answers its exit status.
-///
-/// The words `sql NAME` run the script on `input`: each line is `INSERT INTO t VALUES (A, B);` or `COMMIT;`. All other words are refused.
-///
-/// The status is 0; or that of the fault that ended the run: 2 for other words, 3 for a damaged database, 4 for a script or a statement that is
-/// refused, 5 for the disk, 7 for the source or the sink, 8 for want of memory, 9 for a limit. No run has mail yet.
-pub fn run<S: Site, I: Source, O: Sink>(
-    alloc: Global,
-    words: &[Text],
-    site: &mut S,
-    input: &mut I,
-    output: &mut O,
-    now: i64,
-) -> u8
-    ensures ran { RunsWords (is_sql words.now) (name_of words.now) (outside (S.seen site.old) (I.seen input.old) (O.seen output.old)) (outside (S.seen site.new) (I.seen input.new) (O.seen output.new)) result }
-    ensures stays { DiskStays (S.seen site.old) (S.seen site.new) }
-    ensures words { (result ≡ 2) ↔ (is_sql words.now ≡ false) }
-    ensures disk { result ≡ 5 → Rose (S.seen site.old).disk_faults (S.seen site.new).disk_faults }
-    ensures streams { result ≡ 7 → Rose ((I.seen input.old).faults) ((I.seen input.new).faults) ⊎ Rose ((O.seen output.old).faults) ((O.seen output.new).faults) }
-    ensures never { (result ≢ 1) × (result ≢ 6) }
+/// The fault of a script's run.
+fn fault_of(fault: SessionFault) -> Fault
+    ensures { result ≡ fault_of fault }
 {
-    let _now = now;
-    if !is_sql(words) {
-        refuse_words(output);
-        return Fault::Words.status();
+    match fault {
+        SessionFault::Statement { number, fault } => Fault::Statement { number, fault },
+        SessionFault::Store(fault) => Fault::Database(fault),
+        SessionFault::Sink => Fault::Sink,
+        SessionFault::Memory => Fault::Database(DatabaseFault::Memory),
     }
-    run_sql(alloc, name_in(words), site, input, output)
 }

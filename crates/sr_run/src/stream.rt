@@ -1,14 +1,14 @@
-ghost use Rattle.std.specs.Prelude.{◌≡◌, ◌≤◌, ◌<◌, ◌++◌, [], length, IsTrue, IfOk, IfErr, OnOk, OnErr, IsErrOf};
-ghost use Rattle.sr_site.specs.Causes.{Rose};
-ghost use Rattle.sr_run.specs.Streams.{TookFront, InputCause};
+ghost use Rattle.std.specs.Prelude.{◌≡◌, ◌≤◌, ◌<◌, [], length, IsTrue, IfOk, IfErr, OnOk, IsErrOf};
+ghost use Rattle.sr_site.specs.Streams.{InputStays};
+ghost use Rattle.sr_run.specs.Streams.{InputCause};
 ghost use Rattle.sr_run.specs.declared.stream.InputFault.TheVariants.{Memory as memory, TooLong as too_long};
 ghost use Rattle.sr_run.specs.Limits.{most_script};
 
-use sr_site::{Failed, Sink, Source};
+use sr_site::{Failed, Source};
 use std::alloc::{AllocError, AllocFailed, Global};
 
 /// The longest script, in bytes: 64 MiB.
-pub const LONGEST_SCRIPT: usize = 67108864;
+const LONGEST_SCRIPT: usize = 67108864;
 
 /// Why no script was read.
 #[derive(Clone, Copy)]
@@ -35,24 +35,6 @@ impl<T: Drop> From<AllocFailed<T>> for InputFault {
     }
 }
 
-/// Writes all of `bytes`. After `Failed` the sink took a front of them.
-pub fn say<O: Sink>(sink: &mut O, bytes: &[u8]) -> Result<(), Failed>
-    ensures said { IsTrue ((O.seen sink.old).told) → OnOk result ((O.seen sink.new).taken ≡ (O.seen sink.old).taken ++ bytes.now) }
-    ensures front { IsTrue ((O.seen sink.old).told) → OnErr result (TookFront bytes.now ((O.seen sink.old).taken) ((O.seen sink.new).taken)) }
-    ensures told { (O.seen sink.new).told ≡ (O.seen sink.old).told }
-    ensures steady { OnOk result ((O.seen sink.new).faults ≡ (O.seen sink.old).faults) }
-    ensures later { (O.seen sink.old).faults ≤ (O.seen sink.new).faults }
-    ensures cause { OnErr result (Rose ((O.seen sink.old).faults) ((O.seen sink.new).faults)) }
-{
-    let mut rest = bytes;
-    'pieces: while !rest.is_empty() {
-        let taken = sink.write(rest)?;
-        let (_, following) = rest.split_at(taken);
-        rest = following;
-    }
-    Ok(())
-}
-
 /// Reads the source to its end, in pieces of 64 KiB.
 ///
 /// `TooLong` comes where it gave more than the longest script.
@@ -60,9 +42,8 @@ pub fn read_all<I: Source>(alloc: Global, source: &mut I) -> Result<Vec<u8>, Inp
     ensures all { IsTrue ((I.seen source.old).told) → IfOk result (λ text. ((I.seen source.old).left ≡ text.items) × ((I.seen source.new).left ≡ [])) }
     ensures short { IfOk result (λ text. length text.items ≤ most_script) }
     ensures long { IsTrue ((I.seen source.old).told) → IsErrOf result too_long → most_script < length ((I.seen source.old).left) }
-    ensures told { (I.seen source.new).told ≡ (I.seen source.old).told }
+    ensures stays { InputStays (I.seen source.old) (I.seen source.new) }
     ensures steady { OnOk result ((I.seen source.new).faults ≡ (I.seen source.old).faults) }
-    ensures later { (I.seen source.old).faults ≤ (I.seen source.new).faults }
     ensures cause { IfErr result (InputCause ((I.seen source.old).faults) ((I.seen source.new).faults)) }
 {
     let mut text = Vec::new(alloc);

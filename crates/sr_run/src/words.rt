@@ -1,31 +1,59 @@
-ghost use Rattle.std.specs.Prelude.{◌≡◌, ◌≤◌, length, true};
-ghost use Rattle.sr_run.specs.Words.{is_place, is_sql, name_of};
+ghost use Rattle.std.specs.Prelude.{◌≡◌, IfOk};
+ghost use Rattle.sr_run.specs.Words.{is_place, order_of, order_of_two, order_of_three};
 
-use sr_base::Text;
+use crate::order::Order;
+use sr_base::{BadName, Copied, NoMemory, Text, name_of};
+use std::alloc::{AllocError, Global};
 
-/// Whether a text can name a database: 1 to 255 bytes.
-fn is_name_of_files(name: &Text) -> bool
+/// Whether a text can name a database's files: 1 to 255 bytes.
+fn is_place(name: &Text) -> bool
     ensures { result ≡ is_place name.now }
 {
     let length = name.bytes().len();
     length >= 1 && length <= 255
 }
 
-/// Whether the words are `sql NAME`, written exactly so.
-pub fn is_sql(words: &[Text]) -> bool
-    ensures sql { result ≡ is_sql words.now }
-    ensures named { result ≡ true → 2 ≤ length words.now }
+/// What `sql NAME` asks for.
+fn order_of_two(alloc: Global, command: &Text, name: &Text) -> Result<Option<Order>, NoMemory>
+    ensures { IfOk result (λ order. order ≡ order_of_two command.now name.now) }
 {
-    match words {
-        [first, name] => first.bytes() == b"sql".as_slice() && is_name_of_files(name),
-        _ => false,
+    if command.bytes() != b"sql".as_slice() || !is_place(name) {
+        return Ok(None);
+    }
+    Ok(Some(Order::Sql {
+        name: name.copy(alloc)?,
+    }))
+}
+
+/// What `init NAME USER` asks for.
+fn order_of_three(
+    alloc: Global,
+    command: &Text,
+    name: &Text,
+    user: &Text,
+) -> Result<Option<Order>, NoMemory>
+    ensures { IfOk result (λ order. order ≡ order_of_three command.now name.now user.now) }
+{
+    if command.bytes() != b"init".as_slice() || !is_place(name) {
+        return Ok(None);
+    }
+    match name_of(alloc, user.bytes()) {
+        Ok(user) => Ok(Some(Order::Init {
+            name: name.copy(alloc)?,
+            user,
+        })),
+        Err(BadName::NotAName) => Ok(None),
+        Err(BadName::Memory) => Err(AllocError),
     }
 }
 
-/// The NAME in the words of a command.
-pub fn name_in(words: &[Text]) -> &Text
-    requires { 2 ≤ length words.now }
-    ensures { result.now ≡ name_of words.now }
+/// What the words ask for; `None` where they are refused.
+pub fn order_of(alloc: Global, words: &[Text]) -> Result<Option<Order>, NoMemory>
+    ensures order { IfOk result (λ order. order ≡ order_of words.now) }
 {
-    &words[1]
+    match words {
+        [command, name] => order_of_two(alloc, command, name),
+        [command, name, user] => order_of_three(alloc, command, name, user),
+        _ => Ok(None),
+    }
 }

@@ -1,0 +1,10 @@
+use sr_base::{Name, Text};
+
+/// What the words of a run ask for. `name` is the database's files, without their endings.
+#[derive(Drop)]
+pub enum Order {
+    /// Makes a fresh database whose publisher is `user`.
+    Init { name: Text, user: Name },
+    /// Runs the script on the source.
+    Sql { name: Text },
+}
