@@ -1,0 +1,115 @@
+//! Columns, keys, and what a column holds.
+
+ghost use Rattle.std.specs.Prelude.{◌≡◌, slice_get, unwrap_or, IfOk};
+ghost use Rattle.std.specs.Option.{option_copied};
+ghost use Rattle.sr_base.specs.declared.value.Value.TheVariants.{Null};
+ghost use Rattle.sr_dates.specs.Fitting.{fitted};
+ghost use Rattle.sr_eval.specs.Comparisons.{is_null};
+ghost use Rattle.sr_exec.specs.Statements.{key_of};
+ghost use Rattle.sr_firing.specs.Holding.{held_by, held_in, is_named};
+ghost use Rattle.sr_schema.specs.Firsts.{has};
+ghost use Rattle.sr_schema.specs.Members.{key_names};
+ghost use Rattle.sr_schema.specs.Names.{place_of};
+
+use sr_base::{Copied, Key, Kind, Name, NoMemory, Seq, Value};
+use sr_catalog::{Column, HasName, Table};
+use sr_dates::fit;
+use std::alloc::Global;
+
+/// What a column or variable of a type holds for a value, if it fits.
+#[tactic(auto, using(sr_exec::proofs::Fitted::given_rules))]
+pub fn held_as(value: Value, kind: Kind) -> Option<Value>
+    ensures { result ≡ fitted value kind }
+{
+    match fit(value, kind) {
+        Ok(held) => Some(held),
+        Err(_) => None,
+    }
+}
+
+/// Whether a value is NULL.
+pub fn is_null(value: &Value) -> bool
+    ensures { result ≡ is_null value.now }
+{
+    match value {
+        Value::Null => true,
+        Value::Int(_) => false,
+        Value::Big(_) => false,
+        Value::Str(_) => false,
+        Value::Date(_) => false,
+    }
+}
+
+/// What a column holds for a value, if there is one, it fits, and NULL stands only where it may.
+pub(crate) fn held_by(column: &Column, value: Option<Value>) -> Option<Value>
+    ensures { result ≡ held_by column.now value }
+{
+    let held = held_as(value?, column.kind)?;
+    if column.not_null && is_null(&held) {
+        return None;
+    }
+    Some(held)
+}
+
+/// What a variable holds for a value, if there is one and it fits.
+pub(crate) fn held_in(variable: &(Name, Kind), value: Option<Value>) -> Option<Value>
+    ensures { result ≡ held_in variable.now value }
+{
+    held_as(value?, variable.1)
+}
+
+/// The place of the first thing of a name.
+pub(crate) fn place_of<T: HasName>(items: &[T], name: &Name) -> Option<usize>
+    ensures { result ≡ place_of T.name_of name.now items.now }
+{
+    items
+        .iter()
+        .position(|item| name.bytes() == item.name().bytes())
+}
+
+/// Whether a name is that of a column of the table's key. It looks at each.
+pub fn is_of_key(table: &Table, name: &Name) -> bool
+    ensures { result ≡ has (key_names table.now) name.now }
+{
+    let mut left = table.key.as_slice();
+    'places: while let Some((place, rest)) = left.split_first() {
+        if is_named(table.columns.as_slice().get(*place), name) {
+            return true;
+        }
+        left = rest;
+    }
+    false
+}
+
+/// Whether a column is there and has the name.
+fn is_named(column: Option<&Column>, name: &Name) -> bool
+    ensures { result ≡ is_named (option_copied column.entry) name.now }
+{
+    match column {
+        None => false,
+        Some(column) => name.bytes() == column.name.bytes(),
+    }
+}
+
+/// The key of a row: its values at the places of the key, each found at once.
+pub fn key_of(alloc: Global, places: &[usize], row: &[Value]) -> Result<Key, NoMemory>
+    ensures key { IfOk result (λ key. key ≡ key_of places.now row.now) }
+{
+    let mut values = Vec::new(alloc);
+    let mut left = places;
+    'places: while let Some((place, rest)) = left.split_first() {
+        values.push(value_at(alloc, row, *place)?)?;
+        left = rest;
+    }
+    Ok(Key::new(Seq::from_vec(values)))
+}
+
+/// A copy of the value at a place, or NULL where there is none.
+fn value_at(alloc: Global, row: &[Value], place: usize) -> Result<Value, NoMemory>
+    ensures value { IfOk result (λ value. value ≡ unwrap_or (slice_get row.now place) Null) }
+{
+    match row.get(place) {
+        Some(value) => value.copy(alloc),
+        None => Ok(Value::Null),
+    }
+}

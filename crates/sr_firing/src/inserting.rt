@@ -1,0 +1,147 @@
+//! INSERT.
+
+ghost use Rattle.std.specs.Prelude.{◌≡◌, map, IfOk, OnOk};
+ghost use Rattle.std.specs.Option.{option_copied, option_map};
+ghost use Rattle.sr_ast.specs.Exprs.{term_of};
+ghost use Rattle.sr_exec.specs.Statements.{names_of};
+ghost use Rattle.sr_firing.specs.Actions.{after_insert, given, row_made, term_for, value_in, with_inserted};
+ghost use Rattle.sr_firing.specs.Running.{ground_of, IsReady, Went};
+ghost use Rattle.sr_firing.specs.Scenes.{GroundFits, SceneFits};
+
+use crate::columns::{held_by, key_of};
+use crate::conflict::Conflict;
+use crate::running::{Running, value};
+use crate::scene::Scene;
+use sr_ast::Expr;
+use sr_base::{Name, NoMemory, Row, Seq, Value};
+use sr_catalog::{HasName, Table};
+use std::alloc::Global;
+
+/// INSERT into a table. It fails where a value passes its type's end, does not fit, or is a NULL that may not stand, and where the key is
+/// held: by a row from before the update, that of the update too, or by one that a trigger has inserted.
+#[tactic(auto, unfolding(crate::specs::Actions::after_insert))]
+pub(crate) fn insert(
+    alloc: Global,
+    running: &Running,
+    scene: &mut Scene,
+    table: &Name,
+    columns: &[Name],
+    exprs: &[Expr],
+) -> Result<bool, NoMemory>
+    requires ready { IsReady running.now }
+    requires base { GroundFits (ground_of running.now.conflict) }
+    requires scene { SceneFits (ground_of running.now.conflict) running.now.trigger.now.variables scene.old }
+    ensures inserted { IfOk result (λ went. Went went scene.new (after_insert (ground_of running.now.conflict) running.now.trigger.now table.now columns.now
+        (map term_of exprs.now) scene.old)) }
+    ensures scene { OnOk result (SceneFits (ground_of running.now.conflict) running.now.trigger.now.variables scene.new) }
+{
+    let Some(into) = running.conflict.catalog.table(table) else {
+        return Ok(false);
+    };
+    match row_made(alloc, running, scene, into, columns, exprs)? {
+        Some(row) => put(alloc, &running.conflict, scene, into, row),
+        None => Ok(false),
+    }
+}
+
+/// Puts a row under its key, unless that is held. It takes logarithmic time.
+fn put(
+    alloc: Global,
+    conflict: &Conflict,
+    scene: &mut Scene,
+    table: &Table,
+    row: Row,
+) -> Result<bool, NoMemory>
+    ensures put { IfOk result (λ went. Went went scene.new (with_inserted (ground_of conflict.now) table.now row scene.old)) }
+    ensures new { OnOk result (scene.new.new ≡ scene.old.new) }
+    ensures variables { OnOk result (scene.new.variables ≡ scene.old.variables) }
+{
+    let key = key_of(alloc, table.key.as_slice(), row.values())?;
+    if conflict.rows.get(&table.name, &key).is_some() || scene.holds(&table.name, &key) {
+        return Ok(false);
+    }
+    scene.insert(alloc, table, key, row)?;
+    Ok(true)
+}
+
+/// The row that an INSERT makes. Each column of the table looks through the columns that are named.
+fn row_made(
+    alloc: Global,
+    running: &Running,
+    scene: &Scene,
+    table: &Table,
+    columns: &[Name],
+    exprs: &[Expr],
+) -> Result<Option<Row>, NoMemory>
+    requires ready { IsReady running.now }
+    requires base { GroundFits (ground_of running.now.conflict) }
+    requires scene { SceneFits (ground_of running.now.conflict) running.now.trigger.now.variables scene.now }
+    ensures row { IfOk result (λ row. row ≡ row_made (value_in (ground_of running.now.conflict) running.now.trigger.now scene.now)
+        (names_of table.now.columns columns.now) (map term_of exprs.now) table.now.columns) }
+{
+    let mut values = Vec::new(alloc);
+    let mut left = table.columns.as_slice();
+    'columns: while let Some((column, rest)) = left.split_first() {
+        let expr = expr_of(table, columns, exprs, &column.name);
+        let value = given(alloc, running, scene, expr)?;
+        let Some(held) = held_by(column, value) else {
+            return Ok(None);
+        };
+        values.push(held)?;
+        left = rest;
+    }
+    Ok(Some(Row::new(Seq::from_vec(values))))
+}
+
+/// The value of the expression that stands for a column; NULL where none does.
+fn given(
+    alloc: Global,
+    running: &Running,
+    scene: &Scene,
+    expr: Option<&Expr>,
+) -> Result<Option<Value>, NoMemory>
+    requires ready { IsReady running.now }
+    requires base { GroundFits (ground_of running.now.conflict) }
+    requires scene { SceneFits (ground_of running.now.conflict) running.now.trigger.now.variables scene.now }
+    ensures given { IfOk result (λ v. v ≡ given (value_in (ground_of running.now.conflict) running.now.trigger.now scene.now)
+        (option_map term_of (option_copied expr.entry))) }
+{
+    match expr {
+        None => Ok(Some(Value::Null)),
+        Some(expr) => value(alloc, running, scene, expr),
+    }
+}
+
+/// The expression that stands for a column, of the columns that are named, or of all where none is.
+fn expr_of<'a>(
+    table: &Table,
+    columns: &[Name],
+    exprs: &'a [Expr],
+    column: &Name,
+) -> Option<&'a Expr>
+    ensures { option_map term_of (option_copied result) ≡ term_for (names_of table.now.columns columns.now) (map term_of exprs.now) column.now }
+{
+    match columns {
+        [] => expr_for(table.columns.as_slice(), exprs, column),
+        [_, ..] => expr_for(columns, exprs, column),
+    }
+}
+
+/// The expression that stands for a column. It looks at each name up to the column's.
+fn expr_for<'a, T: HasName>(named: &[T], exprs: &'a [Expr], column: &Name) -> Option<&'a Expr>
+    ensures { option_map term_of (option_copied result) ≡ term_for (map T.name_of named.now) (map term_of exprs.now) column.now }
+{
+    let mut names_left = named;
+    let mut left = exprs;
+    'names: while let Some((item, names_rest)) = names_left.split_first() {
+        let Some((expr, rest)) = left.split_first() else {
+            return None;
+        };
+        if item.name().bytes() == column.bytes() {
+            return Some(expr);
+        }
+        names_left = names_rest;
+        left = rest;
+    }
+    None
+}
