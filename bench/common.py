@@ -29,7 +29,7 @@ def arguments(about):
 @contextlib.contextmanager
 def room(folder):
     """A new folder, which goes again."""
-    made = tempfile.mkdtemp(prefix="dbremote-bench-", dir=folder)
+    made = tempfile.mkdtemp(prefix="dbremote-bench-", dir=os.path.abspath(folder))
     try:
         yield made
     finally:
