@@ -11,11 +11,14 @@ use crate::field::Field;
 use crate::seq::Seq;
 use std::alloc::Global;
 
+/// So many items are made room for before they are read: a count that lies takes no more.
+const FIRST_ROOM: usize = 16;
+
 /// So many items.
 fn items_of<T: Field>(alloc: Global, count: u32, bytes: &[u8]) -> Result<(Vec<T>, &[u8]), Broken>
     ensures { Gives (λ x. (x.0.items, x.1.now)) result (items_at T.reading count bytes.now) }
 {
-    let mut items = Vec::new(alloc);
+    let mut items = Vec::with_capacity(alloc, FIRST_ROOM.min(count as usize))?;
     let mut rest = bytes;
     for _ in 0..count {
         let (item, after) = T::read(alloc, rest)?;

@@ -80,6 +80,16 @@ fn width(value: &Value) -> u8
     }
 }
 
+/// The order of any two values, by class, then by worth, then the INTEGER first.
+fn any_order(a: &Value, b: &Value) -> Ordering
+    ensures order { result ≡ value_cmp a.now b.now }
+{
+    let widths = width(a).cmp(&width(b));
+    class(a)
+        .cmp(&class(b))
+        .then(worth_order(a, b).then(widths))
+}
+
 fn worth_order(a: &Value, b: &Value) -> Ordering
     ensures worth { result ≡ worth_cmp a.now b.now }
 {
@@ -120,10 +130,11 @@ impl Ord for Value {
     ghost matches_eq = { Prim.search (comparing, rules) };
 
     fn cmp(&self, other: &Value) -> Ordering {
-        let widths = width(self).cmp(&width(other));
-        class(self)
-            .cmp(&class(other))
-            .then(worth_order(self, other).then(widths))
+        match (self, other) {
+            (Value::Int(a), Value::Int(b)) => a.cmp(b),
+            (Value::Str(a), Value::Str(b)) => a.bytes().cmp(b.bytes()),
+            _ => any_order(self, other),
+        }
     }
 }
 

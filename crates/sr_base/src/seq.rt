@@ -58,7 +58,7 @@ impl<T> Seq<T> {
 
 impl<T: Copied> Copied for Seq<T> {
     fn copy(&self, alloc: Global) -> Result<Seq<T>, NoMemory> {
-        let mut items = Vec::new(alloc);
+        let mut items = Vec::with_capacity(alloc, self.items.len())?;
         for item in self.items.as_slice() {
             items.push(item.copy(alloc)?)?;
         }

@@ -119,6 +119,7 @@ impl Rows {
             table: name,
             key: at,
             place,
+            emptied: false,
         };
         note_change(&mut self.tables, &mut self.changes, change)?;
         Ok(())
@@ -139,6 +140,7 @@ impl Rows {
             table: name,
             key,
             place: Some(place),
+            emptied: true,
         };
         note_change(&mut self.tables, &mut self.changes, change)?;
         Ok(())
@@ -186,7 +188,9 @@ impl Rows {
         ensures trail { self.new.trail ≡ [] }
     {
         while let Some(change) = self.changes.pop() {
-            sweep(&mut self.tables, change);
+            if change.emptied {
+                sweep(&mut self.tables, change);
+            }
         }
     }
 

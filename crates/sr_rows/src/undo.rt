@@ -7,12 +7,13 @@ use crate::tables::{Tables, remove_at, set_at};
 use sr_base::{Key, Name, NoMemory, Row};
 use std::alloc::{AllocError, AllocFailed};
 
-/// What stood at a place before a change: a row, nothing, or no place at all.
+/// What stood at a place before a change: a row, nothing, or no place at all; and whether the change left it empty.
 #[derive(Drop)]
 pub(crate) struct Undo {
     pub(crate) table: Name,
     pub(crate) key: Key,
     pub(crate) place: Option<Option<Row>>,
+    pub(crate) emptied: bool,
 }
 
 /// Puts back what stood at a place that is there.
@@ -20,7 +21,9 @@ pub(crate) fn take_back(tables: &mut Tables, change: Undo)
     requires there { IsSome (map.get (gathered tables.old.entries) (change.table, change.key)) }
     ensures back { gathered tables.new.entries ≡ put_back (gathered tables.old.entries) change }
 {
-    let Undo { table, key, place } = change;
+    let Undo {
+        table, key, place, ..
+    } = change;
     match place {
         Some(row) => {
             set_at(tables, &table, &key, row);
