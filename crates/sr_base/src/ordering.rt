@@ -85,9 +85,7 @@ fn any_order(a: &Value, b: &Value) -> Ordering
     ensures order { result ≡ value_cmp a.now b.now }
 {
     let widths = width(a).cmp(&width(b));
-    class(a)
-        .cmp(&class(b))
-        .then(worth_order(a, b).then(widths))
+    class(a).cmp(&class(b)).then(worth_order(a, b).then(widths))
 }
 
 fn worth_order(a: &Value, b: &Value) -> Ordering

@@ -22,7 +22,10 @@ pub(crate) fn take_back(tables: &mut Tables, change: Undo)
     ensures back { gathered tables.new.entries ≡ put_back (gathered tables.old.entries) change }
 {
     let Undo {
-        table, key, place, ..
+        table,
+        key,
+        place,
+        ..
     } = change;
     match place {
         Some(row) => {
