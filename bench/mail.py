@@ -4,7 +4,8 @@
 
 `growth` is the time beside that of half the size: about 2 is wanted. `windows` adds windows, one behind the other, takes them all, and takes and drops
 them once more; `nested` drops windows each of which lies in the one before it; `fragments` adds the fragments of one window, the last first. `long`
-cuts one transaction into messages, puts it together and reads it; its memory is also told as a multiple of the body. `small` cuts transactions as they come.
+cuts one transaction into messages, puts it together and reads it; `x body` is by how many bytes its memory grew, from the size before, for each byte
+by which the body did. `small` cuts transactions as they come.
 """
 
 import re
@@ -33,10 +34,11 @@ def main():
                 runs = [common.run([words.program, name, str(size)], f"{folder}/nothing", folder) for _ in range(words.times)]
                 seconds, memory, wrote = min(runs, key=lambda run: run[0])
                 told = wrote.decode().strip()
-                body = re.search(r"(\d+) bytes,", told)
-                multiple = memory * 1024 * 1024 / int(body[1]) if body else ""
-                rows.append((name, size, seconds, seconds / before if before else "", memory, multiple, told))
-                before = seconds
+                length = re.search(r"(\d+) bytes,", told)
+                body = int(length[1]) / 1024 / 1024 if length else 0
+                multiple = (memory - before[1]) / (body - before[2]) if before and body else ""
+                rows.append((name, size, seconds, seconds / before[0] if before else "", memory, multiple, told))
+                before = seconds, memory, body
     common.table(("run", "size", "seconds", "growth", "MiB", "x body", "told"), rows)
 
 
