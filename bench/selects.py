@@ -1,17 +1,14 @@
-"""SELECTs on tables of up to 1,000,000 rows in memory, beside SQLite, and the entries of a log read and applied.
+"""SELECTs on tables of up to 1,000,000 rows in memory, beside SQLite.
 
     python3 bench/selects.py crates/scriptbench/out/scriptbench [--folder F] [--times N] [--small]
 
 A line for each kind of SELECT, with `sqlite3` on the path: how many times as long SQLite takes in memory, on the same script in the same run, so that
 more is better. The time of each is that of a script beyond that of the same script without the SELECTs, so that reading the SELECTs is part of it and
 loading the tables is not. SQLite writes its rows to /dev/null, ours counts them.
-
-The last line is of a log: so many records, each a transaction that inserts one row, read as entries and applied to rows, beyond going over
-the records alone.
 """
 
 import shutil
-import struct
+import sys
 
 import common
 
@@ -87,39 +84,12 @@ def against_sqlite(words, folder, rows):
         print(f"{name}: sqlite3 / ours {theirs / ours:.2f} ({theirs:.3f} s / {ours:.3f} s)", flush=True)
 
 
-def body(entry):
-    """An entry behind its length."""
-    return struct.pack(">I", len(entry)) + entry
-
-
-def transaction(key):
-    """The entry of a transaction that inserts the row (key, 7) into p."""
-    row = struct.pack(">IBiBi", 2, 1, key, 1, 7)
-    return body(b"\x01" + struct.pack(">I", 1) + b"\x01p" + b"\x00\x01" + row)
-
-
-def folded(words, folder, records):
-    """Prints the time that a record takes to be read as an entry and applied, beyond going over it."""
-    statement = b"CREATE TABLE p (id INTEGER NOT NULL, n INTEGER, PRIMARY KEY (id))"
-    first = body(b"\x03" + struct.pack(">I", len(statement)) + statement)
-    written(f"{folder}/bodies", first + b"".join(transaction(mixed(key, records)) for key in range(records)))
-    times = {"bodies": [], "fold": []}
-    for _ in range(words.times):
-        for word, least in times.items():
-            least.append(common.run([words.program, word], f"{folder}/bodies", folder)[0])
-    over, all_of_it = min(times["bodies"]), min(times["fold"])
-    each = (all_of_it - over) / records * 1_000_000
-    each = f"{records:,} entries of one row read and applied: {each:.2f} microseconds each beyond going over them"
-    print(f"{each} ({all_of_it:.3f} s - {over:.3f} s)", flush=True)
-
-
 def main():
-    words = common.arguments("Measures SELECTs on tables of many rows, and entries of a log.")
-    rows = 100_000 if words.small else 1_000_000
+    words = common.arguments("Measures SELECTs on tables of many rows.")
+    if not shutil.which("sqlite3"):
+        sys.exit("there is no sqlite3 to compare with")
     with common.room(words.folder) as folder:
-        if shutil.which("sqlite3"):
-            against_sqlite(words, folder, rows)
-        folded(words, folder, rows)
+        against_sqlite(words, folder, 100_000 if words.small else 1_000_000)
 
 
 if __name__ == "__main__":

@@ -193,8 +193,6 @@ def damages():
             for at in span(rest[0]):
                 for byte in sorted({old[at] ^ 1, old[at] ^ 128, 0, 255} - {old[at]}):
                     told = single.get((name, at, byte), verdict)
-                    if told == "left out":
-                        continue
                     yield f"byte {name} {at} becomes {byte}", {**files, name: old[:at] + bytes([byte]) + old[at + 1 :]}, told
     yield "whole", files, "stands"
 

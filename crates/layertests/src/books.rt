@@ -1,47 +1,64 @@
-//! A partner's book.
+//! A partner's book, noted in.
 
-use sr_base::{Copied, Offset};
-use sr_book::{Book, Note};
-use std::test::*;
+use sr_answers::{number_of, say, say_number};
+use sr_base::{Bad, NoMemory, Offset};
+use sr_book::Book;
+use sr_logform::{Entry, read_entry};
+use std::alloc::{AllocError, Global};
 
-/// log_sent, confirm_sent, send_count, resend_count; log_received, confirm_received, receive_count, rereceive_count
-fn columns(book: &Book) -> [u64; 8] {
-    [
-        book.log_sent,
-        book.confirm_sent,
-        book.send_count,
-        book.resend_count,
-        book.log_received,
-        book.confirm_received,
-        book.receive_count,
-        book.rereceive_count,
-    ]
+/// Notes what the bytes of an entry say: the book behind it.
+pub fn say_noted(
+    alloc: Global,
+    book: Book,
+    bytes: &[u8],
+    out: &mut Vec<u8>,
+) -> Result<Book, NoMemory> {
+    match read_entry(alloc, bytes) {
+        Ok(entry) => {
+            let after = after(book, &entry);
+            drop(entry);
+            say_columns(&after, out)?;
+            Ok(after)
+        }
+        Err(Bad::Field { .. }) => Ok(book),
+        Err(Bad::Memory) => Err(AllocError),
+    }
 }
 
-/// A file is lost and asked for again: an ask that was noted already changes nothing, and none goes back past what was confirmed.
-#[test]
-fn a_book_lives(rt: HostRuntime) -> Result<(), Fail> {
-    let sent = Note::Sent {
-        end: Offset(252),
-        messages: 3,
-        confirm: Offset(0),
-    };
-    let mut book = Book::new();
-    assert!(rt; !book.need(false) && book.need(true));
-    for (note, want) in [
-        (sent, [252, 0, 3, 0, 0, 0, 0, 0]),
-        (Note::Confirmed(Offset(100)), [252, 100, 3, 0, 0, 0, 0, 0]),
-        (Note::Asked(1, Offset(180)), [180, 100, 3, 1, 0, 0, 0, 0]),
-        (Note::Asked(1, Offset(120)), [180, 100, 3, 1, 0, 0, 0, 0]),
-        (Note::Asked(2, Offset(90)), [100, 100, 3, 2, 0, 0, 0, 0]),
-        (Note::Raised, [100, 100, 3, 2, 0, 0, 0, 1]),
-        (Note::Confirmed(Offset(260)), [260, 260, 3, 2, 0, 0, 0, 1]),
-    ] {
-        book = book.after(&note.copy(rt.alloc())?);
-        assert_eq!(rt; columns(&book), want);
+fn after(book: Book, entry: &Entry) -> Book {
+    match entry {
+        Entry::Note { note, .. } => book.after(note),
+        _ => book,
     }
-    let book = book.took(Offset(93)).copy(rt.alloc())?;
-    assert_eq!(rt; columns(&book), [260, 260, 3, 2, 93, 0, 1, 1]);
-    assert!(rt; book.need(false));
-    Ok(())
+}
+
+/// Takes a transaction at an offset: the book behind it.
+pub fn say_took(book: Book, at: &str, out: &mut Vec<u8>) -> Result<Book, NoMemory> {
+    let after = book.took(Offset(number_of(at)));
+    say_columns(&after, out)?;
+    Ok(after)
+}
+
+/// log_sent, confirm_sent, send_count, resend_count; log_received, confirm_received, receive_count, rereceive_count
+fn say_columns(book: &Book, out: &mut Vec<u8>) -> Result<(), NoMemory> {
+    say_number(out, "", book.log_sent)?;
+    say_number(out, " ", book.confirm_sent)?;
+    say_number(out, " ", book.send_count)?;
+    say_number(out, " ", book.resend_count)?;
+    say_number(out, " ", book.log_received)?;
+    say_number(out, " ", book.confirm_received)?;
+    say_number(out, " ", book.receive_count)?;
+    say_number(out, " ", book.rereceive_count)
+}
+
+/// Says whether a message is due, where an ask is to be made or none.
+pub fn say_need(book: &Book, ask: &str, out: &mut Vec<u8>) -> Result<(), NoMemory> {
+    say(
+        out,
+        if book.need(ask == "ask") {
+            "due"
+        } else {
+            "not due"
+        },
+    )
 }

@@ -1,99 +1,79 @@
 //! Message files, whole.
 
-use crate::hex::{bytes_of, row_of};
-use sr_base::Copied;
+ghost use Rattle.sr_msgform.specs.Messages.{IsMessage};
+
+use sr_answers::{say, say_bytes, say_number};
+use sr_base::NoMemory;
 use sr_msgform::{Message, read_message, write_message};
 use std::alloc::Global;
-use std::test::*;
 
-/// Behind `=>` the names, the window from `prev` to `upto`, the body's length, the fragment's start and its length; digests by Python's
-/// hashlib. The first is a worked message from cons to r1 with one transaction, which inserts (1, 5) into t(id, n); then that with bytes
-/// less or more; then each rule of a message, kept and broken.
-const FILES: &str = "\
-file 53524d460104636f6e730272310000000000000000000000000000000000000000000000fc00000022000000000000002200000000000000fc00000001010174000000020269640100000001016e010000000500000000000000000000000000000000000000000000000056744db56f82100604076f012ba87f200cf7c07547629f122dbecbb8ca0a704b => cons r1 0 252 34 0 34
-file - => no message
-file 53 => no message
-file 53524d460104636f6e730272310000000000000000000000000000000000000000000000fc00000022000000000000002200000000000000fc00000001010174000000020269640100000001016e010000000500000000000000000000000000000000000000000000000056744db56f82100604076f012ba87f200cf7c07547629f122dbecbb8ca0a70 => no message
-file 53524d460104636f6e730272310000000000000000000000000000000000000000000000fc00000022000000000000002200000000000000fc00000001010174000000020269640100000001016e010000000500000000000000000000000000000000000000000000000056744db56f82100604076f012ba87f200cf7c07547629f122dbecbb8ca0a704b00 => no message
-file 53524d46010161016100000000000000030000000000000005000000000000000500000000000000000000000000000000000000090000000000000000000000000000000011c4b44af5e8d4689d93b42d436c8c266776120106fd680777164847331c162b => a a 5 5 0 0 0
-file 53524d460101610161000000000000000300000000000000050000000000000009000000020000000000000002787900000000000000090000000000000000000000000000000036ecf075bc17763b38d93496e325e11d43714b0ac5e7142ce54a71bfd02de5eb => a a 5 9 2 0 2
-file 53524d4601016101610000000000000003000000000000000500000000000000090400000003fffffe000000027879000000000000000900000000000000010000000000000007a09622852be0f64b45ac5a233f2947631fa59a7e2876c3f7a7b97269d06fb053 => a a 5 9 67108864 67108862 2
-file 53524d4602016101610000000000000003000000000000000500000000000000090000000200000000000000027879000000000000000900000000000000000000000000000000501c7db11711e3f60b716599991fc5b4e082eb71f0d486e342ef2f91339864fc => no message
-file 53524d460101610161000000000000000300000000000000090000000000000005000000020000000000000002787900000000000000090000000000000000000000000000000022a53db37c3c3eb97106ee3305e45bc24b35bc52409983b54079b441b8eae515 => no message
-file 53524d4601016101610000000000000003000000000000000500000000000000050000000200000000000000027879000000000000000900000000000000000000000000000000e8c2912d1e6c4502a4474be1d41e3bb7f0e1a0c46adf24ce2eefcac1fea22072 => no message
-file 53524d460101610161000000000000000300000000000000050000000000000009000000000000000000000000000000000000000900000000000000000000000000000000eee8e8fd2bf47a4661345ff7cfa128c294a0472fc5165e88f45a8a3dd75c66f2 => no message
-file 53524d4601016101610000000000000003000000000000000500000000000000090400000100000000000000027879000000000000000900000000000000000000000000000000cdde9cd49392d52828299e0a63567e830b4415541a05ec7ed1e390bb3b838fc1 => no message
-file 53524d46010161016100000000000000030000000000000005000000000000000900000002000000010000000278790000000000000009000000000000000000000000000000001157a1dd074eab6027001f68fb00770f5927ca03d7cf20964d246ab7e175a356 => no message
-file 53524d460101610161000000000000000300000000000000050000000000000009000000020000000100000000000000000000000900000000000000000000000000000000351d3d03c05bad81a1bc319288f9e557a9a5f559edff2d630784c0df6c2fa678 => no message
-file 53524d46010161016100000000000000030000000000000005000000000000000500000000000000010000000000000000000000090000000000000000000000000000000029d54a6fd0614e70264faedd17b2234de28fc95f27388db3595a76973c7eea4e => no message
-file 53524d4601016101610000000000000003000000000000000500000000000000090000000200000000000000027879000000000000000900000000000000000000000000000007e3f749344c20f70b4ae9daac2d5115d5a2d6f39dece0306ad84b742fe271e31c => no message";
-
-fn told(alloc: Global, message: &Message) -> Result<String, Fail> {
-    let mut names = Vec::new(alloc);
-    names.extend_from_slice(message.from.bytes())?;
-    names.push(b' ')?;
-    names.extend_from_slice(message.to.bytes())?;
-    let Ok(names) = String::from_utf8(names) else {
-        return Err(Fail::new("no names"));
-    };
-    let (prev, upto) = (message.prev.0, message.upto.0);
-    let (total, start) = (message.total, message.start);
-    let length = message.fragment.as_slice().len();
-    Ok(format!(in alloc; "{names} {prev} {upto} {total} {start} {length}")?)
-}
-
-/// What a file is read as, if a copy of it is written as the file.
-fn read_as(alloc: Global, bytes: &[u8]) -> Result<String, Fail> {
+/// Says the names, the window from `prev` to `upto`, the body's length, the fragment's start and its length.
+pub fn say_file(alloc: Global, bytes: &[u8], out: &mut Vec<u8>) -> Result<(), NoMemory> {
     match read_message(alloc, bytes)? {
         Some(message) => {
-            let message = message.copy(alloc)?;
-            let again = write_message(alloc, &message)?;
-            if again.as_slice() != bytes {
-                return Err(Fail::new("written otherwise"));
-            }
-            told(alloc, &message)
+            let said = say_whole(alloc, &message, bytes, out);
+            drop(message);
+            said
         }
-        None => Ok(String::from_str(alloc, "no message")?),
+        None => say(out, "no message"),
     }
 }
 
-#[test]
-fn files_are_read_as_messages_and_written_as_they_stood(rt: HostRuntime) -> Result<(), Fail> {
-    let alloc = rt.alloc();
-    for line in FILES.lines() {
-        let (_, hex, want) = row_of(line)?;
-        let bytes = bytes_of(alloc, hex)?;
-        let found = read_as(alloc, bytes.as_slice())?;
-        assert_eq!(rt; found.as_str(), want, "of {line}");
+/// Says the fields of a message, if it is written as these bytes.
+fn say_whole(
+    alloc: Global,
+    message: &Message,
+    bytes: &[u8],
+    out: &mut Vec<u8>,
+) -> Result<(), NoMemory>
+    requires message { IsMessage message.now }
+{
+    let written = write_message(alloc, message)?;
+    let is_same = written.as_slice() == bytes;
+    drop(written);
+    if is_same {
+        say_fields(message, out)
+    } else {
+        say(out, "written otherwise")
     }
-    Ok(())
 }
 
-/// The worked message is none with any one of its bits turned.
-#[test]
-fn a_turned_bit_is_no_message(rt: HostRuntime) -> Result<(), Fail> {
-    let alloc = rt.alloc();
-    let Some(line) = FILES.lines().next() else {
-        return Err(Fail::new("no row"));
-    };
-    let (_, hex, _) = row_of(line)?;
-    let mut bytes = bytes_of(alloc, hex)?;
-    assert_eq!(rt; bytes.len(), 139);
+fn say_fields(message: &Message, out: &mut Vec<u8>) -> Result<(), NoMemory> {
+    say_bytes(out, "", message.from.bytes())?;
+    say_bytes(out, " ", message.to.bytes())?;
+    say_number(out, " ", message.prev.0)?;
+    say_number(out, " ", message.upto.0)?;
+    say_number(out, " ", message.total as u64)?;
+    say_number(out, " ", message.start as u64)?;
+    say_number(out, " ", message.fragment.as_slice().len() as u64)
+}
+
+/// Says whether the file is a message with any one of its bits turned.
+pub fn say_bits(alloc: Global, bytes: &mut Vec<u8>, out: &mut Vec<u8>) -> Result<(), NoMemory> {
     for place in 0..bytes.len() {
         for mask in [1u8, 2, 4, 8, 16, 32, 64, 128] {
-            turn(&mut bytes, place, mask);
-            assert!(rt;
-                read_message(alloc, bytes.as_slice())?.is_none(),
-                "{place} {mask}"
-            );
-            turn(&mut bytes, place, mask);
+            turn(bytes, place, mask);
+            if is_message(alloc, bytes.as_slice())? {
+                say_number(out, "a message at ", place as u64)?;
+            }
+            turn(bytes, place, mask);
         }
     }
-    Ok(())
+    say(out, "no message")
 }
 
 fn turn(bytes: &mut Vec<u8>, place: usize, mask: u8) {
     if let Some(byte) = bytes.get_mut(place) {
         *byte ^= mask;
+    }
+}
+
+fn is_message(alloc: Global, bytes: &[u8]) -> Result<bool, NoMemory> {
+    match read_message(alloc, bytes)? {
+        Some(message) => {
+            drop(message);
+            Ok(true)
+        }
+        None => Ok(false),
     }
 }

@@ -1,64 +1,122 @@
-//! The tokens of scripts.
+//! Scripts: their tokens, and the kinds of statements.
 
-use sr_base::Text;
+use sr_answers::{say, say_bytes, say_number};
+use sr_ast::{Stmt, is_carried, is_ddl, print};
+use sr_base::{NoMemory, NotUtf8, Text, text_of};
 use sr_lex::{LexFault, Token, TokenKind, lex};
-use std::alloc::Global;
-use std::test::*;
+use sr_parse::{ParseFault, parse};
+use std::alloc::{AllocError, Global};
 
-/// The tokens in words: `w` a word, `n` a number, `t` a text, `s` a sign, each with its span, numbers and texts with their value; or the
-/// place where no token begins.
-fn told(alloc: Global, text: &str) -> Result<String, Fail> {
+/// Of the bytes of a script.
+pub fn say_lexed(alloc: Global, bytes: &[u8], out: &mut Vec<u8>) -> Result<(), NoMemory> {
+    match text_of(alloc, bytes) {
+        Ok(script) => {
+            let said = say_of(alloc, &script, out);
+            drop(script);
+            said
+        }
+        Err(NotUtf8::Byte { .. }) => say(out, "no text"),
+        Err(NotUtf8::Memory) => Err(AllocError),
+    }
+}
+
+/// The tokens in words: `w` a word, `n` a number, `top` the number past all, `t` a text, `s` a sign, each with its span, numbers and texts with
+/// their value; or the place where no token begins.
+pub fn say_tokens(alloc: Global, text: &str, out: &mut Vec<u8>) -> Result<(), NoMemory> {
     let script = Text::from_str(alloc, text)?;
-    match lex(alloc, &script) {
-        Ok(tokens) => told_tokens(alloc, tokens.as_slice()),
-        Err(LexFault::NoToken { at }) => Ok(format!(in alloc; "none at {at}")?),
-        Err(LexFault::Memory) => Err(Fail::new("no memory")),
+    let said = say_of(alloc, &script, out);
+    drop(script);
+    said
+}
+
+fn say_of(alloc: Global, script: &Text, out: &mut Vec<u8>) -> Result<(), NoMemory> {
+    match lex(alloc, script) {
+        Ok(tokens) => {
+            let said = say_each(tokens.as_slice(), out);
+            drop(tokens);
+            said
+        }
+        Err(LexFault::NoToken { at }) => say_number(out, "none at ", at as u64),
+        Err(LexFault::Memory) => Err(AllocError),
     }
 }
 
-fn told_tokens(alloc: Global, tokens: &[Token]) -> Result<String, Fail> {
-    let mut out = String::new(alloc);
+fn say_each(tokens: &[Token], out: &mut Vec<u8>) -> Result<(), NoMemory> {
     for token in tokens {
-        let (start, end) = (token.start, token.end);
-        let word = match &token.kind {
-            TokenKind::Word => format!(in alloc; "w{start}-{end} ")?,
-            TokenKind::Number(number) => format!(in alloc; "n{start}-{end}:{number} ")?,
-            TokenKind::TopNumber => format!(in alloc; "top{start}-{end} ")?,
-            TokenKind::Str(text) => format!(in alloc; "t{start}-{end}:{} ", text.as_str())?,
-            TokenKind::Sign => format!(in alloc; "s{start}-{end} ")?,
-        };
-        out.push_str(word.as_str())?;
-    }
-    Ok(out)
-}
-
-#[test]
-fn tokens_are_the_longest_at_their_place(rt: HostRuntime) -> Result<(), Fail> {
-    for (text, want) in [
-        ("", ""),
-        (" \t\r\n", ""),
-        ("-- all a comment", ""),
-        ("a--b\nc", "w0-1 w5-6 "),
-        ("DROP TABLE t_1;", "w0-4 w5-10 w11-14 s14-15 "),
-        ("1e5", "n0-1:1 w1-3 "),
-        ("1.5", "n0-1:1 s1-2 n2-3:5 "),
-        ("0007", "n0-4:7 "),
-        ("9223372036854775807", "n0-19:9223372036854775807 "),
-        ("09223372036854775808", "top0-20 "),
-        ("<><=>=<>=", "s0-2 s2-4 s4-6 s6-8 s8-9 "),
-        ("< > = -(", "s0-1 s2-3 s4-5 s6-7 s7-8 "),
-        ("a- -b", "w0-1 s1-2 s3-4 w4-5 "),
-        ("''", "t0-2: "),
-        ("'it''s'", "t0-7:it's "),
-        ("''''''", "t0-6:'' "),
-        ("'é--' 'b'", "t0-6:é-- t7-10:b "),
-        ("x'a'y", "w0-1 t1-4:a w4-5 "),
-        ("COMMIT /* no */", "none at 7"),
-        ("'a''", "none at 0"),
-        ("a 99999999999999999999999", "none at 2"),
-    ] {
-        let found = told(rt.alloc(), text)?;
-        assert_eq!(rt; found.as_str(), want, "of {text}");
+        if !out.is_empty() {
+            say(out, " ")?;
+        }
+        say_number(out, word_of(&token.kind), token.start as u64)?;
+        say_number(out, "-", token.end as u64)?;
+        match &token.kind {
+            TokenKind::Number(number) => say_number(out, ":", number.unsigned_abs())?,
+            TokenKind::Str(text) => say_bytes(out, ":", text.bytes())?,
+            _ => (),
+        }
     }
     Ok(())
+}
+
+fn word_of(kind: &TokenKind) -> &'static str {
+    match kind {
+        TokenKind::Word => "w",
+        TokenKind::Number(_) => "n",
+        TokenKind::TopNumber => "top",
+        TokenKind::Str(_) => "t",
+        TokenKind::Sign => "s",
+    }
+}
+
+/// Says the kinds of the one statement of a script.
+pub fn say_kinds(alloc: Global, text: &str, out: &mut Vec<u8>) -> Result<(), NoMemory> {
+    let script = Text::from_str(alloc, text)?;
+    let said = say_kinds_of(alloc, &script, out);
+    drop(script);
+    said
+}
+
+fn say_kinds_of(alloc: Global, script: &Text, out: &mut Vec<u8>) -> Result<(), NoMemory> {
+    match parse(alloc, script) {
+        Ok(statements) => {
+            let said = match statements.as_slice() {
+                [statement] => say_printed(alloc, statement, script, out),
+                _ => say(out, "not one"),
+            };
+            drop(statements);
+            said
+        }
+        Err(ParseFault::Refused { at }) => say_number(out, "refused at ", at as u64),
+        Err(ParseFault::Memory) => Err(AllocError),
+    }
+}
+
+/// Says the kinds of a statement, if it prints as its script.
+fn say_printed(
+    alloc: Global,
+    statement: &Stmt,
+    script: &Text,
+    out: &mut Vec<u8>,
+) -> Result<(), NoMemory> {
+    let printed = print(alloc, statement)?;
+    let is_same = printed.as_str() == script.as_str();
+    drop(printed);
+    if !is_same {
+        return say(out, "printed otherwise");
+    }
+    say(
+        out,
+        if is_ddl(statement) {
+            "changes the catalog"
+        } else {
+            "leaves it"
+        },
+    )?;
+    say(
+        out,
+        if is_carried(statement) {
+            ", carried"
+        } else {
+            ", not carried"
+        },
+    )
 }

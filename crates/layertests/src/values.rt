@@ -1,135 +1,126 @@
 //! Values in order, compared, in columns and as literals.
 
+use sr_answers::say;
 use sr_base::{Key, Kind, NoMemory, Seq, Text, Value, compare, order};
 use sr_dates::{day_of, fit, write_literal};
 use std::alloc::Global;
 use std::cmp::Ordering;
 
-/// A value by the text that it is printed as: `'..` a text, `@..` a date, `..L` a BIGINT.
+/// A value by the text that it is written as.
 fn value(alloc: Global, text: &str) -> Result<Value, NoMemory> {
-    if text == "NULL" {
-        return Ok(Value::Null);
-    }
     if let Some(bytes) = text.strip_prefix("'") {
         return Ok(Value::Str(Text::from_str(alloc, bytes)?));
     }
-    if let Some(date) = text.strip_prefix("@") {
-        return Ok(day_of(date.as_bytes()).map_or(Value::Null, |day| Value::Date(day)));
-    }
-    if let Some(number) = text.strip_suffix("L") {
-        return Ok(
-            number
-                .parse::<i64>()
-                .map_or(Value::Null, |big| Value::Big(big)),
-        );
-    }
-    Ok(
-        text.parse::<i32>()
-            .map_or(Value::Null, |small| Value::Int(small)),
-    )
+    Ok(short_value(text))
 }
 
-fn key(alloc: Global, words: &[&str]) -> Result<Key, NoMemory> {
+/// A value that takes no memory; NULL for any other text.
+fn short_value(text: &str) -> Value {
+    if let Some(date) = text.strip_prefix("@") {
+        return day_of(date.as_bytes()).map_or(Value::Null, |day| Value::Date(day));
+    }
+    match text.strip_suffix("L") {
+        Some(number) => number
+            .parse::<i64>()
+            .map_or(Value::Null, |big| Value::Big(big)),
+        None => text
+            .parse::<i32>()
+            .map_or(Value::Null, |small| Value::Int(small)),
+    }
+}
+
+fn key(alloc: Global, words: &str) -> Result<Key, NoMemory> {
     let mut values = Vec::new(alloc);
-    for word in words {
+    for word in words.split_whitespace() {
         values.push(value(alloc, word)?)?;
     }
     Ok(Key::new(Seq::from_vec(values)))
 }
 
-#[test]
-fn keys_stand_in_order(rt: HostRuntime) -> Result<(), NoMemory> {
-    let alloc = rt.alloc();
-    let ascending: [&[&str]; 12] = [
-        &[],
-        &["NULL"],
-        &["NULL", "1"],
-        &["-5L"],
-        &["1"],
-        &["1", "'a"],
-        &["1L"],
-        &["2"],
-        &["'"],
-        &["'B"],
-        &["'Ba"],
-        &["@2024-02-29"],
-    ];
-    for (i, low) in ascending.iter().enumerate() {
-        for (k, high) in ascending.iter().enumerate() {
-            let found = order(&key(alloc, low)?, &key(alloc, high)?);
-            assert!(rt; found == i.cmp(&k), "{i} {k}");
+fn word_of(order: Ordering) -> &'static str {
+    match order {
+        Ordering::Less => "less",
+        Ordering::Equal => "equal",
+        Ordering::Greater => "greater",
+    }
+}
+
+/// How two keys, with ` | ` between them, stand to one another.
+pub fn say_order(alloc: Global, given: &str, out: &mut Vec<u8>) -> Result<(), NoMemory> {
+    let (low, high) = given.split_once(" | ").unwrap_or((given, ""));
+    let low = key(alloc, low)?;
+    let found = order_beside(alloc, &low, high);
+    drop(low);
+    say(out, word_of(found?))
+}
+
+fn order_beside(alloc: Global, low: &Key, high: &str) -> Result<Ordering, NoMemory> {
+    let high = key(alloc, high)?;
+    let found = order(low, &high);
+    drop(high);
+    Ok(found)
+}
+
+/// How two values compare.
+pub fn say_compared(alloc: Global, given: &str, out: &mut Vec<u8>) -> Result<(), NoMemory> {
+    let (left, right) = given.split_once(" ").unwrap_or((given, ""));
+    let left = value(alloc, left)?;
+    let found = compared_to(alloc, &left, right);
+    drop(left);
+    match found? {
+        Some(order) => say(out, word_of(order)),
+        None => say(out, "none"),
+    }
+}
+
+fn compared_to(alloc: Global, left: &Value, right: &str) -> Result<Option<Ordering>, NoMemory> {
+    let right = value(alloc, right)?;
+    let found = compare(left, &right);
+    drop(right);
+    Ok(found)
+}
+
+/// A value as a column holds it: its literal, with the word for its type where it is a number; or `no`.
+pub fn say_fitted(alloc: Global, given: &str, out: &mut Vec<u8>) -> Result<(), NoMemory> {
+    let (text, kind) = given.split_once(" ").unwrap_or((given, ""));
+    match fit(value(alloc, text)?, kind_of(kind)) {
+        Ok(held) => {
+            let said = say_held(alloc, &held, out);
+            drop(held);
+            said
+        }
+        Err(back) => {
+            drop(back);
+            say(out, "no")
         }
     }
-    Ok(())
 }
 
-#[test]
-fn values_of_one_class_compare(rt: HostRuntime) -> Result<(), NoMemory> {
-    let alloc = rt.alloc();
-    for (a, b, want) in [
-        ("1", "1L", Some(Ordering::Equal)),
-        ("-2", "1", Some(Ordering::Less)),
-        ("'b", "'a", Some(Ordering::Greater)),
-        ("@1969-12-31", "@1970-01-01", Some(Ordering::Less)),
-        ("NULL", "NULL", None),
-        ("NULL", "1", None),
-        ("1", "'1", None),
-        ("'2024-02-29", "@2024-02-29", None),
-    ] {
-        assert!(rt;
-            compare(&value(alloc, a)?, &value(alloc, b)?) == want,
-            "{a} {b}"
-        );
-    }
-    Ok(())
+fn say_held(alloc: Global, held: &Value, out: &mut Vec<u8>) -> Result<(), NoMemory> {
+    let word = match held {
+        Value::Int(_) => "integer ",
+        Value::Big(_) => "bigint ",
+        Value::Str(_) => "varchar ",
+        Value::Date(_) => "date ",
+        Value::Null => "",
+    };
+    say(out, word)?;
+    write_literal(alloc, held, out)
 }
 
-#[test]
-fn values_fit_their_columns(rt: HostRuntime) -> Result<(), NoMemory> {
-    let alloc = rt.alloc();
-    for (given, kind, held) in [
-        ("NULL", Kind::Date, Some("NULL")),
-        ("7", Kind::Int, Some("7")),
-        ("7", Kind::Big, Some("7L")),
-        ("2147483647L", Kind::Int, Some("2147483647")),
-        ("2147483648L", Kind::Int, None),
-        ("-2147483648L", Kind::Int, Some("-2147483648")),
-        ("7", Kind::Varchar(8), None),
-        ("'abc", Kind::Varchar(3), Some("'abc")),
-        ("'abcd", Kind::Varchar(3), None),
-        ("'ü", Kind::Varchar(1), None),
-        ("'2024-02-29", Kind::Date, Some("@2024-02-29")),
-        ("'2023-02-29", Kind::Date, None),
-        ("@2024-02-29", Kind::Date, Some("@2024-02-29")),
-        ("@2024-02-29", Kind::Varchar(10), None),
-        ("'7", Kind::Int, None),
-    ] {
-        let good = match fit(value(alloc, given)?, kind) {
-            Ok(found) => held.is_some() && found == value(alloc, held.unwrap_or(""))?,
-            Err(back) => held.is_none() && back == value(alloc, given)?,
-        };
-        assert!(rt; good, "{given}");
+fn kind_of(word: &str) -> Kind {
+    match word {
+        "integer" => Kind::Int,
+        "bigint" => Kind::Big,
+        "date" => Kind::Date,
+        _ => Kind::Varchar(word.parse::<u16>().unwrap_or(1)),
     }
-    Ok(())
 }
 
-#[test]
-fn values_print_as_literals(rt: HostRuntime) -> Result<(), NoMemory> {
-    let alloc = rt.alloc();
-    let mut line = Vec::new(alloc);
-    for word in [
-        "NULL",
-        "-2147483648",
-        "9223372036854775807L",
-        "'",
-        "'it's",
-        "@0001-01-01",
-        "@2024-02-29",
-    ] {
-        write_literal(alloc, &value(alloc, word)?, &mut line)?;
-        line.push(b' ')?;
-    }
-    let want = "NULL -2147483648 9223372036854775807 '' 'it''s' 0001-01-01 2024-02-29 ";
-    assert!(rt; line.as_slice() == want.as_bytes());
-    Ok(())
+/// How a value prints.
+pub fn say_literal(alloc: Global, given: &str, out: &mut Vec<u8>) -> Result<(), NoMemory> {
+    let value = value(alloc, given)?;
+    let said = write_literal(alloc, &value, out);
+    drop(value);
+    said
 }

@@ -7,10 +7,12 @@ use sr_logfile::{LogFault, LogFile, frame, fresh, open};
 use sr_memsite::{MemorySite, SharedMail};
 use sr_site::{Disk, File};
 use std::alloc::Global;
-use std::test::*;
 
 /// The place in the file that a record may not pass.
 const BOUND: u64 = 1_006_632_960;
+
+/// More calls than a run makes.
+const CALLS: u64 = 24;
 
 /// How far the log of a run came: nothing, a log without records, one record of 75 bytes, and a second one of 28.
 #[derive(Clone, Copy)]
@@ -63,28 +65,71 @@ fn run<S: Disk>(alloc: Global, site: &mut S) -> Result<Committed, NoMemory> {
     Ok(done)
 }
 
-#[test]
-fn after_a_crash_a_log_ends_at_a_record_that_was_not_lost(rt: HostRuntime) -> Result<(), Fail> {
-    let alloc = rt.alloc();
-    for calls in 0..24u64 {
+/// What a log is opened as.
+#[derive(Clone, Copy)]
+enum Opened {
+    /// A log with this end.
+    Log(u64),
+    Damaged(u64),
+    Otherwise,
+}
+
+fn opened_log<S: Disk>(site: &mut S) -> Opened {
+    match open(site, File::Log0) {
+        Ok(log) => Opened::Log(log.end().0),
+        Err(LogFault::Damaged { at }) => Opened::Damaged(at),
+        Err(_) => Opened::Otherwise,
+    }
+}
+
+/// How far a run came that was stopped after so many calls, and what stands behind a crash.
+fn crashed(alloc: Global, calls: u64, pick: u64) -> Result<(Committed, Opened), NoMemory> {
+    let mut site = MemorySite::new(alloc, SharedMail::new(alloc));
+    let found = crashed_on(alloc, calls, pick, &mut site);
+    drop(site);
+    found
+}
+
+fn crashed_on(
+    alloc: Global,
+    calls: u64,
+    pick: u64,
+    site: &mut MemorySite,
+) -> Result<(Committed, Opened), NoMemory> {
+    site.stop_after(calls);
+    let done = run(alloc, site)?;
+    site.crash(alloc, pick)?;
+    site.stop_after(u64::MAX);
+    Ok((done, opened_log(site)))
+}
+
+/// A log ends at a record, never below one that was committed; one that was not made may be damaged at its header.
+fn is_right(done: Committed, opened: Opened) -> bool {
+    match opened {
+        Opened::Log(end) => (end == 0 || end == 75 || end == 103) && end >= done.end,
+        Opened::Damaged(at) => at == 0 && !done.made,
+        Opened::Otherwise => false,
+    }
+}
+
+/// The first number of calls and the first pick with which something else is left, or all calls do not commit both records.
+fn first_wrong(alloc: Global) -> Result<Option<(u64, u64)>, NoMemory> {
+    for calls in 0..CALLS {
         for pick in 0..66u64 {
-            let mut site = MemorySite::new(alloc, SharedMail::new(alloc));
-            site.stop_after(calls);
-            let done = run(alloc, &mut site)?;
-            site.crash(alloc, pick)?;
-            let (disk, mail) = site.apart();
-            let mut again = MemorySite::with(disk, mail);
-            match open(&mut again, File::Log0) {
-                Ok(log) => {
-                    let end = log.end().0;
-                    assert!(rt; end == 0 || end == 75 || end == 103);
-                    assert!(rt; end >= done.end);
-                }
-                Err(LogFault::Damaged { at }) => assert!(rt; at == 0 && !done.made),
-                Err(_) => assert!(rt; false),
+            let (done, opened) = crashed(alloc, calls, pick)?;
+            if !is_right(done, opened) || calls == CALLS - 1 && done.end != 103 {
+                return Ok(Some((calls, pick)));
             }
-            assert!(rt; calls < 23 || done.end == 103);
         }
     }
-    Ok(())
+    Ok(None)
+}
+
+#[test]
+fn after_a_crash_a_log_ends_at_a_record_that_was_not_lost(rt: HostRuntime) {
+    match first_wrong(rt.alloc()) {
+        Ok(None) => (),
+        Ok(Some((calls, pick))) => panic!(rt; "{calls} calls, pick {pick}"),
+        Err(_) => panic!(rt; "no memory"),
+    }
 }

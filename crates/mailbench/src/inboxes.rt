@@ -1,103 +1,73 @@
-//! Inboxes with many messages.
+//! What an inbox finds of windows.
+//!
+//! Messages `PREV-UPTO`, each a whole window of 10 bytes, `PREV-UPTO/` one that lacks its last byte, `PREV-UPTO!` one that was dropped, `PREV-PREV`
+//! one without a body; behind `from` what was received.
 
-use crate::samples::{message, name};
+use crate::samples::{Sample, add};
+use crate::saying::say_some;
+use crate::windows::next_of;
+use sr_answers::{number_of, say, say_number};
 use sr_base::{NoMemory, Offset};
-use sr_cut::file_name;
 use sr_mail::Inbox;
 use std::alloc::Global;
 
-/// One window behind the other.
-pub(crate) fn windows(alloc: Global, count: u32) -> Result<String, NoMemory> {
+pub fn say_inbox(alloc: Global, given: &str, out: &mut Vec<u8>) -> Result<(), NoMemory> {
+    let (messages, received) = given.split_once(" from ").unwrap_or((given, ""));
+    let received = Offset(number_of(received));
     let mut inbox = Inbox::new(alloc);
-    for number in 0..count {
-        let prev = number as u64 * 10;
-        let letter = message(alloc, prev, prev + 10, 1, 0)?;
-        inbox.add(
-            alloc,
-            file_name(alloc, &name(alloc, b"cons")?, number as u64)?,
-            &letter,
-        )?;
-    }
-    let far = inbox.far(alloc, Offset(0))?.0;
-    let taken = taken(alloc, &inbox, count as u64)?;
-    let dropped = dropped(alloc, &mut inbox, count as u64)?;
-    let left = inbox.far(alloc, Offset(0))?.0;
-    Ok(format!(in alloc; "far {far}, {taken} taken, {dropped} dropped, then far {left}")?)
-}
-
-/// Takes windows as long as there are.
-fn taken(alloc: Global, inbox: &Inbox, most: u64) -> Result<u64, NoMemory> {
-    let mut received = Offset(0);
-    for number in 0..most {
-        match inbox.next(alloc, received)? {
-            Some(pieces) => match pieces.as_slice().first() {
-                Some(piece) => received = piece.upto,
-                None => return Ok(number),
-            },
-            None => return Ok(number),
-        }
-    }
-    Ok(most)
-}
-
-/// Drops windows that lead on from where the one before ended.
-fn dropped(alloc: Global, inbox: &mut Inbox, most: u64) -> Result<u64, NoMemory> {
-    let mut received = Offset(0);
-    for number in 0..most {
-        match inbox.next(alloc, received)? {
-            Some(pieces) => match pieces.as_slice().first() {
-                Some(piece) => {
-                    received = piece.upto;
-                    inbox.drop_window(piece.prev, piece.upto, piece.total);
-                }
-                None => return Ok(number),
-            },
-            None => return Ok(number),
-        }
-    }
-    Ok(most)
-}
-
-/// Fragments of one window, the last first.
-pub(crate) fn fragments(alloc: Global, count: u32) -> Result<String, NoMemory> {
-    let mut inbox = Inbox::new(alloc);
-    for number in 0..count {
-        let letter = message(alloc, 0, 10, count, count - 1 - number)?;
-        inbox.add(
-            alloc,
-            file_name(alloc, &name(alloc, b"cons")?, number as u64)?,
-            &letter,
-        )?;
-    }
-    let far = inbox.far(alloc, Offset(0))?.0;
-    let pieces = match inbox.next(alloc, Offset(0))? {
-        Some(pieces) => pieces.len(),
-        None => 0,
+    let said = match add_all(alloc, &mut inbox, messages) {
+        Ok(()) => say_found(alloc, &inbox, received, out),
+        Err(refused) => Err(refused),
     };
-    Ok(format!(in alloc; "far {far}, {pieces} pieces")?)
+    drop(inbox);
+    said
 }
 
-/// Windows each of which lies in the one before it, dropped one after the other.
-pub(crate) fn nested(alloc: Global, count: u32) -> Result<String, NoMemory> {
-    let mut inbox = Inbox::new(alloc);
-    for number in 0..count {
-        let prev = number as u64;
-        let letter = message(alloc, prev, 2 * count as u64 + 1 - prev, 1, 0)?;
-        inbox.add(
-            alloc,
-            file_name(alloc, &name(alloc, b"cons")?, prev)?,
-            &letter,
-        )?;
+fn add_all(alloc: Global, inbox: &mut Inbox, messages: &str) -> Result<(), NoMemory> {
+    let mut number = 0u64;
+    for word in messages.split_whitespace() {
+        add_word(alloc, inbox, number, word)?;
+        number = number.wrapping_add(1);
     }
-    let mut dropped = 0u32;
-    for _ in 0..count {
-        let Some(pieces) = inbox.next(alloc, Offset(count as u64))? else {
-            break;
-        };
-        if let Some(piece) = pieces.as_slice().first() {
-            inbox.drop_window(piece.prev, piece.upto, piece.total);
-            dropped = u32::wrapping_add(dropped, 1);
+    Ok(())
+}
+
+/// Adds a message, and drops its window where it says so.
+fn add_word(alloc: Global, inbox: &mut Inbox, number: u64, word: &str) -> Result<(), NoMemory> {
+    let is_torn = word.ends_with('/');
+    let is_dropped = word.ends_with('!');
+    let window = word.trim_end_matches('/').trim_end_matches('!');
+    let (prev, upto) = window.split_once('-').unwrap_or((window, ""));
+    let prev = number_of(prev);
+    let upto = number_of(upto);
+    let total = if prev == upto { 0 } else { 10 };
+    let sample = Sample {
+        prev,
+        upto,
+        total,
+        start: 0,
+        length: if is_torn { 9 } else { total as usize },
+    };
+    add(alloc, inbox, number, sample)?;
+    if is_dropped {
+        inbox.drop_window(Offset(prev), Offset(upto), total);
+    }
+    Ok(())
+}
+
+fn say_found(
+    alloc: Global,
+    inbox: &Inbox,
+    received: Offset,
+    out: &mut Vec<u8>,
+) -> Result<(), NoMemory> {
+    match next_of(alloc, inbox, received)? {
+        Some(next) => {
+            say_number(out, "", next.prev.0)?;
+            say_number(out, "-", next.upto.0)?;
         }
+        None => say(out, "none")?,
     }
-    Ok(format!(in alloc; "{dropped} dropped")?)
+    say_number(out, " ", inbox.far(alloc, received)?.0)?;
+    say_some(out, " ", inbox.past(received).map(|upto| upto.0))
 }

@@ -1,14 +1,16 @@
-//! A long transaction.
+//! A long transaction, cut, put together and read.
 
 ghost use Rattle.std.specs.Prelude.{◌≡◌, map, IfOk};
 ghost use Rattle.std.specs.List.{AllByRecursion};
 ghost use Rattle.sr_logform.specs.Ops.{IsShortTransaction};
+ghost use Rattle.sr_mail.specs.Inboxes.{IsNext};
 ghost use Rattle.sr_mail.specs.declared.piece.Piece.{Piece as APiece};
 ghost use Rattle.sr_msgform.specs.declared.message.Message.{Message as Letter};
 
-use crate::samples::{head, read_transactions, spell};
+use crate::samples::{add_message, cut_at, read_transactions, spell};
+use sr_answers::{say, say_number};
 use sr_base::{Copied, NoMemory, Offset};
-use sr_cut::{cut, file_name, read_body};
+use sr_cut::read_body;
 use sr_logform::Transaction;
 use sr_mail::{Inbox, Piece, assemble};
 use sr_msgform::Message;
@@ -17,61 +19,114 @@ use std::alloc::{AllocError, Global};
 /// How many letters a row has.
 const LETTERS: u32 = 32_000;
 
-/// Cut, seen, put together and read.
-pub(crate) fn long(alloc: Global, letters: u32) -> Result<String, NoMemory> {
-    let Some(messages) = messages_of(alloc, letters)? else {
-        return Ok(String::from_str(alloc, "too long")?);
-    };
-    let count = messages.len();
-    let Some(bytes) = put_together(alloc, messages)? else {
-        return Ok(String::from_str(alloc, "torn")?);
-    };
-    let size = bytes.len();
-    let ops = ops_in(alloc, bytes.as_slice())?;
-    Ok(format!(in alloc; "{count} messages, {size} bytes, {ops} ops")?)
+/// Says what becomes of a transaction with so many letters, in rows of 32,000.
+pub fn say_long(alloc: Global, letters: u32, out: &mut Vec<u8>) -> Result<(), NoMemory> {
+    match messages_of(alloc, letters)? {
+        Some(messages) => {
+            say_number(out, "", messages.len() as u64)?;
+            say_put_together(alloc, messages, out)
+        }
+        None => say(out, "too long"),
+    }
 }
 
-/// The transaction.
+/// The transaction's bytes, read.
 fn transactions_of(alloc: Global, letters: u32) -> Result<Vec<Transaction>, NoMemory>
     ensures { IfOk result (λ transactions. AllByRecursion IsShortTransaction transactions.items) }
 {
     let mut bytes = Vec::new(alloc);
-    spell(&mut bytes, 100, letters / LETTERS + 1, LETTERS)?;
-    read_transactions(alloc, bytes.as_slice())
+    let transactions = match spell(&mut bytes, 100, letters / LETTERS + 1, LETTERS) {
+        Ok(()) => read_transactions(alloc, bytes.as_slice()),
+        Err(refused) => Err(refused),
+    };
+    drop(bytes);
+    transactions
 }
 
-/// The messages of a transaction with so many letters, in rows of 32,000.
 fn messages_of(alloc: Global, letters: u32) -> Result<Option<Vec<Message>>, NoMemory> {
     let transactions = transactions_of(alloc, letters)?;
-    match cut(
-        alloc,
-        &head(alloc)?,
-        Offset(0),
-        transactions.as_slice(),
-        50_000,
-    ) {
-        Ok(messages) => Ok(Some(messages)),
-        Err(_) => Ok(None),
+    let messages = cut_at(alloc, transactions.as_slice(), 50_000);
+    drop(transactions);
+    messages
+}
+
+fn say_put_together(
+    alloc: Global,
+    messages: Vec<Message>,
+    out: &mut Vec<u8>,
+) -> Result<(), NoMemory> {
+    match put_together(alloc, messages)? {
+        Some(bytes) => {
+            let ops = ops_in(alloc, bytes.as_slice());
+            let size = bytes.len() as u64;
+            drop(bytes);
+            say_number(out, " messages, ", size)?;
+            say_number(out, " bytes, ", ops? as u64)?;
+            say(out, " ops")
+        }
+        None => say(out, " messages, torn"),
     }
 }
 
 /// The body that the messages have together.
 fn put_together(alloc: Global, messages: Vec<Message>) -> Result<Option<Vec<u8>>, NoMemory> {
     let mut inbox = Inbox::new(alloc);
-    let mut number = 0u32;
-    for message in messages.as_slice() {
-        inbox.add(
-            alloc,
-            file_name(alloc, &message.from, number as u64)?,
-            message,
-        )?;
+    let body = match add_all(alloc, &mut inbox, messages.as_slice()) {
+        Ok(()) => body_in(alloc, &inbox, messages),
+        Err(refused) => {
+            drop(messages);
+            Err(refused)
+        }
+    };
+    drop(inbox);
+    body
+}
+
+fn add_all(alloc: Global, inbox: &mut Inbox, messages: &[Message]) -> Result<(), NoMemory> {
+    let mut number = 0u64;
+    for message in messages {
+        add_message(alloc, inbox, number, message)?;
         number = number.wrapping_add(1);
     }
-    let Some(pieces) = inbox.next(alloc, Offset(0))? else {
-        return Ok(None);
-    };
-    let pairs = paired(alloc, pieces.as_slice(), messages)?;
-    assemble(alloc, pairs.as_slice())
+    Ok(())
+}
+
+/// The body of the next window of an inbox, whose pieces are these messages in their order.
+fn body_in(
+    alloc: Global,
+    inbox: &Inbox,
+    messages: Vec<Message>,
+) -> Result<Option<Vec<u8>>, NoMemory> {
+    match inbox.next(alloc, Offset(0)) {
+        Ok(Some(pieces)) => {
+            let body = joined(alloc, inbox, pieces.as_slice(), messages);
+            drop(pieces);
+            body
+        }
+        Ok(None) => {
+            drop(messages);
+            Ok(None)
+        }
+        Err(refused) => {
+            drop(messages);
+            Err(refused)
+        }
+    }
+}
+
+/// The body of the pieces that are next, whose messages are these in their order.
+pub fn joined(
+    alloc: Global,
+    _inbox: &Inbox,
+    pieces: &[Piece],
+    messages: Vec<Message>,
+) -> Result<Option<Vec<u8>>, NoMemory>
+    requires next { IsNext _inbox.now 0 pieces.now }
+{
+    let pairs = paired(alloc, pieces, messages)?;
+    let body = assemble(alloc, pairs.as_slice());
+    drop(pairs);
+    body
 }
 
 /// Each piece with the message at its place.
@@ -96,10 +151,18 @@ fn paired(
 /// How many ops the first transaction of a body has.
 fn ops_in(alloc: Global, bytes: &[u8]) -> Result<usize, NoMemory> {
     match read_body(alloc, bytes)? {
-        Some(read) => match read.as_slice().first() {
-            Some(transaction) => Ok(transaction.ops.as_slice().len()),
-            None => Ok(0),
-        },
+        Some(read) => {
+            let ops = first_ops(read.as_slice());
+            drop(read);
+            Ok(ops)
+        }
         None => Ok(0),
+    }
+}
+
+fn first_ops(transactions: &[Transaction]) -> usize {
+    match transactions.first() {
+        Some(transaction) => transaction.ops.as_slice().len(),
+        None => 0,
     }
 }

@@ -1,25 +1,30 @@
+//! Transactions and messages to try with, from cons to r1.
+
 ghost use Rattle.std.specs.Prelude.{IfOk};
 ghost use Rattle.std.specs.List.{AllByRecursion};
 ghost use Rattle.sr_logform.specs.Ops.{IsShortTransaction};
+ghost use Rattle.sr_cut.specs.Bodies.{AreRising};
 
-use sr_base::{BadName, Name, NoMemory, Offset, Seq, name_of};
-use sr_cut::{Head, read_body};
+use sr_base::{Name, NoMemory, Offset, Seq, name_of};
+use sr_cut::{Head, TooLong, cut, file_name, read_body};
 use sr_logform::Transaction;
+use sr_mail::Inbox;
 use sr_msgform::Message;
 use std::alloc::{AllocError, Global};
 
-pub(crate) fn name(alloc: Global, bytes: &[u8]) -> Result<Name, NoMemory> {
+fn name(alloc: Global, bytes: &[u8]) -> Result<Name, NoMemory> {
     match name_of(alloc, bytes) {
         Ok(name) => Ok(name),
-        Err(BadName::NotAName) => Err(AllocError),
-        Err(BadName::Memory) => Err(AllocError),
+        Err(_) => Err(AllocError),
     }
 }
 
-pub(crate) fn head(alloc: Global) -> Result<Head, NoMemory> {
+pub fn head(alloc: Global) -> Result<Head, NoMemory> {
+    let from = name(alloc, b"cons")?;
+    let to = name(alloc, b"r1")?;
     Ok(Head {
-        from: name(alloc, b"cons")?,
-        to: name(alloc, b"r1")?,
+        from,
+        to,
         resend_count: 0,
         confirm: Offset(0),
         ask_count: 0,
@@ -27,8 +32,8 @@ pub(crate) fn head(alloc: Global) -> Result<Head, NoMemory> {
     })
 }
 
-/// The bytes of a transaction at an offset that inserts so many rows into doc, each with a text of so many letters.
-pub(crate) fn spell(bytes: &mut Vec<u8>, at: u64, rows: u32, letters: u32) -> Result<(), NoMemory> {
+/// Appends the bytes of a transaction at an offset that inserts so many rows into doc, each with a text of so many letters x.
+pub fn spell(bytes: &mut Vec<u8>, at: u64, rows: u32, letters: u32) -> Result<(), NoMemory> {
     bytes.extend_from_slice(&at.to_be_bytes())?;
     bytes.extend_from_slice(&rows.to_be_bytes())?;
     for id in 0..rows {
@@ -44,8 +49,9 @@ pub(crate) fn spell(bytes: &mut Vec<u8>, at: u64, rows: u32, letters: u32) -> Re
 }
 
 /// The transactions of a body; none of bytes that are no body.
-pub(crate) fn read_transactions(alloc: Global, bytes: &[u8]) -> Result<Vec<Transaction>, NoMemory>
-    ensures { IfOk result (λ transactions. AllByRecursion IsShortTransaction transactions.items) }
+pub fn read_transactions(alloc: Global, bytes: &[u8]) -> Result<Vec<Transaction>, NoMemory>
+    ensures short { IfOk result (λ transactions. AllByRecursion IsShortTransaction transactions.items) }
+    ensures rising { IfOk result (λ transactions. AreRising transactions.items) }
 {
     match read_body(alloc, bytes)? {
         Some(transactions) => Ok(transactions),
@@ -53,27 +59,72 @@ pub(crate) fn read_transactions(alloc: Global, bytes: &[u8]) -> Result<Vec<Trans
     }
 }
 
-/// A message with a fragment of one byte.
-pub(crate) fn message(
+/// The messages of transactions past offset 0; nothing where one is too long.
+pub fn cut_at(
     alloc: Global,
-    prev: u64,
-    upto: u64,
-    total: u32,
-    start: u32,
-) -> Result<Message, NoMemory> {
+    transactions: &[Transaction],
+    length: u32,
+) -> Result<Option<Vec<Message>>, NoMemory>
+    requires each { AllByRecursion IsShortTransaction transactions.now }
+{
+    if length < 10_000 || length > 1_048_576 {
+        return Ok(None);
+    }
+    let sender = head(alloc)?;
+    let messages = cut(alloc, &sender, Offset(0), transactions, length);
+    drop(sender);
+    match messages {
+        Ok(messages) => Ok(Some(messages)),
+        Err(TooLong::Transaction { .. }) => Ok(None),
+        Err(TooLong::Memory) => Err(AllocError),
+    }
+}
+
+/// The window of a message, and its fragment.
+#[derive(Clone, Copy)]
+pub struct Sample {
+    pub prev: u64,
+    pub upto: u64,
+    pub total: u32,
+    pub start: u32,
+    pub length: usize,
+}
+
+fn message(alloc: Global, sample: Sample) -> Result<Message, NoMemory> {
+    let from = name(alloc, b"cons")?;
+    let to = name(alloc, b"r1")?;
     let mut fragment = Vec::new(alloc);
-    fragment.push(b'x')?;
+    fragment.resize(sample.length, b'x')?;
     Ok(Message {
-        from: name(alloc, b"cons")?,
-        to: name(alloc, b"r1")?,
+        from,
+        to,
         resend_count: 0,
-        prev: Offset(prev),
-        upto: Offset(upto),
-        total,
-        start,
+        prev: Offset(sample.prev),
+        upto: Offset(sample.upto),
+        total: sample.total,
+        start: sample.start,
         fragment: Seq::from_vec(fragment),
         confirm: Offset(0),
         ask_count: 0,
         ask_offset: Offset(0),
     })
+}
+
+/// Adds the message of a sample to an inbox, under the name of this number.
+pub fn add(alloc: Global, inbox: &mut Inbox, number: u64, sample: Sample) -> Result<(), NoMemory> {
+    let message = message(alloc, sample)?;
+    let added = add_message(alloc, inbox, number, &message);
+    drop(message);
+    added
+}
+
+/// Adds a message to an inbox, under the name of this number.
+pub fn add_message(
+    alloc: Global,
+    inbox: &mut Inbox,
+    number: u64,
+    message: &Message,
+) -> Result<(), NoMemory> {
+    let name = file_name(alloc, &message.from, number)?;
+    inbox.add(alloc, name, message)
 }

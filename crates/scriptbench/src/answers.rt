@@ -1,198 +1,256 @@
 //! What each statement of some scripts is answered. The scripts stand in sections, with a line `----` between them, and each begins
 //! with a new database. A statement that is refused changes nothing, and the section goes on.
 
-ghost use Rattle.std.specs.Prelude.{OnOk};
+ghost use Rattle.std.specs.Prelude.{◌≡◌, Ok, OnOk};
 ghost use Rattle.sr_exec.specs.Conditions.{RowsFit};
+ghost use Rattle.sr_exec.specs.Statements.{done};
 
-use crate::execution::{Answer, Stopped, new_catalog, no_rows, on_rows, step};
-use crate::reloading::reloaded;
+use crate::database::{accept, change, go_back, keep, new_catalog, no_rows};
 use crate::rows::say_rows;
-use crate::saying::{say, say_changes, say_ddl_fault, say_dml_fault, say_found};
+use crate::saying::{say_changes, say_ddl_fault, say_dml_fault, say_found};
+use sr_answers::{say, say_number};
 use sr_ast::{Dml, Select, Stmt, print};
-use sr_base::{Name, Text};
-use sr_catalog::{Catalog, DdlFault};
+use sr_base::{NoMemory, Text};
+use sr_catalog::Catalog;
+use sr_exec::{Changes, exec};
 use sr_parse::{ParseFault, parse};
 use sr_query::select;
 use sr_rows::Rows;
-use std::alloc::Global;
+use std::alloc::{AllocError, Global};
 
 /// What stands between two sections.
 const BETWEEN: &str = "\n----\n";
 
-/// The answers to all sections of a text, with the same lines between them.
-pub fn answers(alloc: Global, text: &str) -> Result<Vec<u8>, Stopped> {
-    let mut out = Vec::new(alloc);
+/// Appends the answers to all sections of a text, with the same lines between them.
+pub fn answers(alloc: Global, out: &mut Vec<u8>, text: &str) -> Result<(), NoMemory> {
     let text = text.strip_suffix("\n").unwrap_or(text);
     let mut is_first = true;
     for section in text.split(BETWEEN) {
         if !is_first {
-            say(&mut out, "----\n")?;
+            say(out, "----\n")?;
         }
-        say_section(alloc, &mut out, section)?;
+        say_section(alloc, out, section)?;
         is_first = false;
     }
-    Ok(out)
+    Ok(())
 }
 
-/// Appends the answers to a section: a line for each statement, as it prints; or the section and the byte at which it is refused.
-fn say_section(alloc: Global, out: &mut Vec<u8>, section: &str) -> Result<(), Stopped> {
+/// Appends the answers to a section.
+fn say_section(alloc: Global, out: &mut Vec<u8>, section: &str) -> Result<(), NoMemory> {
     let script = Text::from_str(alloc, section)?;
-    match parse(alloc, &script) {
-        Ok(statements) => say_answers(alloc, out, statements.as_slice()),
-        Err(ParseFault::Refused { at }) => {
-            let answer = format!(in alloc; "{section} => script refused at byte {at}\n")?;
-            say(out, answer.as_str())
+    let said = say_script(alloc, out, &script);
+    drop(script);
+    said
+}
+
+/// Appends the answers to a script: a line for each statement, as it prints; or the script and the byte at which it is refused.
+fn say_script(alloc: Global, out: &mut Vec<u8>, script: &Text) -> Result<(), NoMemory> {
+    match parse(alloc, script) {
+        Ok(statements) => {
+            let said = say_answers(alloc, out, statements.as_slice());
+            drop(statements);
+            said
         }
-        Err(ParseFault::Memory) => Err(Stopped::Memory),
+        Err(ParseFault::Refused { at }) => say_refused(out, script, at as u64),
+        Err(ParseFault::Memory) => Err(AllocError),
     }
 }
 
-/// Appends the answers to a script, and what it leaves.
-fn say_answers(alloc: Global, out: &mut Vec<u8>, script: &[Stmt]) -> Result<(), Stopped> {
+fn say_refused(out: &mut Vec<u8>, script: &Text, at: u64) -> Result<(), NoMemory> {
+    say(out, script.as_str())?;
+    say_number(out, " => script refused at byte ", at)?;
+    say(out, "\n")
+}
+
+/// Appends the answers to statements on a new database, and what they leave.
+fn say_answers(alloc: Global, out: &mut Vec<u8>, script: &[Stmt]) -> Result<(), NoMemory> {
     let mut catalog = new_catalog(alloc)?;
-    let mut rows = no_rows(alloc, &catalog);
+    let said = say_on(alloc, out, &mut catalog, script);
+    drop(catalog);
+    said
+}
+
+/// The same, where there are no rows at first.
+fn say_on(
+    alloc: Global,
+    out: &mut Vec<u8>,
+    catalog: &mut Catalog,
+    script: &[Stmt],
+) -> Result<(), NoMemory> {
+    let mut rows = no_rows(alloc, catalog);
+    let said = say_all(alloc, out, catalog, &mut rows, script);
+    drop(rows);
+    said
+}
+
+fn say_all(
+    alloc: Global,
+    out: &mut Vec<u8>,
+    catalog: &mut Catalog,
+    rows: &mut Rows,
+    script: &[Stmt],
+) -> Result<(), NoMemory>
+    requires rows { RowsFit catalog.old rows.old.rows }
+    requires marked { RowsFit catalog.old rows.old.marked }
+{
+    say_each(alloc, out, catalog, rows, script)?;
+    say_texts(alloc, out, catalog)?;
+    for table in catalog.tables() {
+        say_rows(alloc, out, rows, &table.name)?;
+    }
+    Ok(())
+}
+
+fn say_each(
+    alloc: Global,
+    out: &mut Vec<u8>,
+    catalog: &mut Catalog,
+    rows: &mut Rows,
+    script: &[Stmt],
+) -> Result<(), NoMemory>
+    requires rows { RowsFit catalog.old rows.old.rows }
+    requires marked { RowsFit catalog.old rows.old.marked }
+{
     let mut left = script;
     'statements: while let Some((statement, rest)) = left.split_first() {
         say_statement(alloc, out, statement)?;
-        go_on(alloc, out, &mut catalog, &mut rows, statement)?;
+        say_answer(alloc, out, catalog, rows, statement)?;
         say(out, "\n")?;
         left = rest;
     }
-    say_left(alloc, out, &catalog, &rows)
+    Ok(())
 }
 
-fn say_statement(alloc: Global, out: &mut Vec<u8>, statement: &Stmt) -> Result<(), Stopped> {
+fn say_statement(alloc: Global, out: &mut Vec<u8>, statement: &Stmt) -> Result<(), NoMemory> {
     let text = print(alloc, statement)?;
-    say(out, text.as_str())?;
+    let said = say(out, text.as_str());
+    drop(text);
+    said?;
     say(out, " => ")
 }
 
-/// Goes on by a statement, whose answer is appended.
-fn go_on(
+/// Runs a statement, and appends its answer.
+fn say_answer(
     alloc: Global,
     out: &mut Vec<u8>,
     catalog: &mut Catalog,
     rows: &mut Rows,
     statement: &Stmt,
-) -> Result<(), Stopped>
+) -> Result<(), NoMemory>
     requires rows { RowsFit catalog.old rows.old.rows }
+    requires marked { RowsFit catalog.old rows.old.marked }
     ensures rows { OnOk result (RowsFit catalog.new rows.new.rows) }
-{
-    match after_change(alloc, out, catalog, statement)? {
-        Some(after) => {
-            let held = reloaded(alloc, &after, rows)?;
-            *catalog = after;
-            *rows = held;
-            Ok(())
-        }
-        None => on_statement(alloc, out, catalog, rows, statement),
-    }
-}
-
-/// Appends the answer to a statement that leaves the catalog as it is, and was not answered by the catalog.
-fn on_statement(
-    alloc: Global,
-    out: &mut Vec<u8>,
-    catalog: &Catalog,
-    rows: &mut Rows,
-    statement: &Stmt,
-) -> Result<(), Stopped>
-    requires rows { RowsFit catalog.now rows.old.rows }
-    ensures rows { OnOk result (RowsFit catalog.now rows.new.rows) }
+    ensures marked { OnOk result (RowsFit catalog.new rows.new.marked) }
 {
     match statement {
         Stmt::Dml(statement) => say_changed(alloc, out, catalog, rows, statement),
+        Stmt::Select(statement) => say_selected(alloc, out, catalog, rows, statement),
         Stmt::Commit => {
-            say(out, "ok")?;
-            step(alloc, catalog, rows, statement)?;
-            Ok(())
+            keep(catalog, rows);
+            say(out, "ok")
         }
         Stmt::Rollback => {
-            say(out, "rolled back")?;
-            rows.undo();
-            let held = reloaded(alloc, catalog, rows)?;
-            *rows = held;
-            Ok(())
+            go_back(catalog, rows);
+            say(out, "rolled back")
         }
-        Stmt::Select(statement) => say_selected(alloc, out, catalog, rows, statement),
-        _ => Ok(()),
+        _ => say_accepted(alloc, out, catalog, rows, statement),
     }
 }
 
-/// Appends the answer to a statement on rows, whose changes are applied.
+/// Runs an INSERT, UPDATE or DELETE.
 fn say_changed(
     alloc: Global,
     out: &mut Vec<u8>,
     catalog: &Catalog,
     rows: &mut Rows,
     statement: &Dml,
-) -> Result<(), Stopped>
+) -> Result<(), NoMemory>
     requires rows { RowsFit catalog.now rows.old.rows }
+    requires marked { RowsFit catalog.now rows.old.marked }
     ensures rows { OnOk result (RowsFit catalog.now rows.new.rows) }
+    ensures marked { OnOk result (RowsFit catalog.now rows.new.marked) }
 {
-    let answer = on_rows(alloc, catalog, rows, statement)?;
-    say_answer(alloc, out, &answer)
+    match exec(alloc, catalog, rows, statement) {
+        Ok(changes) => {
+            let said = say_done(alloc, out, catalog, rows, statement, &changes);
+            drop(changes);
+            said
+        }
+        Err(fault) => {
+            let said = say_dml_fault(alloc, out, &fault);
+            drop(fault);
+            said
+        }
+    }
 }
 
-/// Appends the answer to a SELECT: the number of its rows, and these.
+/// Does what a statement changes, and says it.
+fn say_done(
+    alloc: Global,
+    out: &mut Vec<u8>,
+    catalog: &Catalog,
+    rows: &mut Rows,
+    statement: &Dml,
+    changes: &Changes,
+) -> Result<(), NoMemory>
+    requires rows { RowsFit catalog.now rows.old.rows }
+    requires marked { RowsFit catalog.now rows.old.marked }
+    requires answer { done catalog.now rows.old.rows statement.now ≡ Ok changes.now }
+    ensures rows { OnOk result (RowsFit catalog.now rows.new.rows) }
+    ensures marked { OnOk result (RowsFit catalog.now rows.new.marked) }
+{
+    change(alloc, catalog, rows, statement, changes)?;
+    say_changes(alloc, out, changes)
+}
+
+/// Runs a SELECT.
 fn say_selected(
     alloc: Global,
     out: &mut Vec<u8>,
     catalog: &Catalog,
     rows: &Rows,
     statement: &Select,
-) -> Result<(), Stopped>
+) -> Result<(), NoMemory>
     requires rows { RowsFit catalog.now rows.now.rows }
 {
     match select(alloc, catalog, rows, statement) {
-        Ok(found) => say_found(alloc, out, found.as_slice()),
+        Ok(found) => {
+            let said = say_found(alloc, out, found.as_slice());
+            drop(found);
+            said
+        }
         Err(fault) => {
-            say(out, "refused: ")?;
-            say_dml_fault(alloc, out, &fault)
+            let said = say_dml_fault(alloc, out, &fault);
+            drop(fault);
+            said
         }
     }
 }
 
-fn say_answer(alloc: Global, out: &mut Vec<u8>, answer: &Answer) -> Result<(), Stopped> {
-    match answer {
-        Answer::Changed(changes) => say_changes(alloc, out, changes),
-        Answer::Refused(fault) => {
-            say(out, "refused: ")?;
-            say_dml_fault(alloc, out, fault)
-        }
-    }
-}
-
-/// The catalog after a statement that may change it, whose answer is appended; nothing after any other statement, or where it is refused.
-fn after_change(
+/// Runs a statement on the catalog.
+fn say_accepted(
     alloc: Global,
     out: &mut Vec<u8>,
-    catalog: &Catalog,
+    catalog: &mut Catalog,
+    rows: &mut Rows,
     statement: &Stmt,
-) -> Result<Option<Catalog>, Stopped> {
-    if is_on_rows(statement) {
-        return Ok(None);
-    }
-    match catalog.change(alloc, statement) {
-        Ok(after) => {
-            say(out, word_of(statement))?;
-            Ok(Some(after))
+) -> Result<(), NoMemory>
+    requires rows { RowsFit catalog.old rows.old.rows }
+    requires marked { RowsFit catalog.old rows.old.marked }
+    ensures rows { OnOk result (RowsFit catalog.new rows.new.rows) }
+    ensures marked { OnOk result (RowsFit catalog.new rows.new.marked) }
+{
+    match catalog.refusal(alloc, statement)? {
+        None => {
+            accept(alloc, catalog, rows, statement)?;
+            say(out, word_of(statement))
         }
-        Err(DdlFault::Memory) => Err(Stopped::Memory),
-        Err(fault) => {
-            say(out, "refused: ")?;
-            say_ddl_fault(alloc, out, &fault)?;
-            Ok(None)
+        Some(fault) => {
+            let said = say_ddl_fault(out, &fault);
+            drop(fault);
+            said
         }
     }
-}
-
-/// Whether a statement leaves the catalog alone.
-fn is_on_rows(statement: &Stmt) -> bool {
-    matches!(
-        statement,
-        Stmt::Dml(_) | Stmt::Select(_) | Stmt::Commit | Stmt::Rollback
-    )
 }
 
 /// The answer to a statement on the catalog that is not refused.
@@ -204,20 +262,19 @@ fn word_of(statement: &Stmt) -> &'static str {
     }
 }
 
-/// Appends the catalog's statements, and the rows of each table behind its name.
-fn say_left(
-    alloc: Global,
-    out: &mut Vec<u8>,
-    catalog: &Catalog,
-    rows: &Rows,
-) -> Result<(), Stopped> {
-    for text in catalog.script(alloc)?.iter() {
+/// Appends the catalog's statements.
+fn say_texts(alloc: Global, out: &mut Vec<u8>, catalog: &Catalog) -> Result<(), NoMemory> {
+    let texts = catalog.script(alloc)?;
+    let said = say_lines(out, texts.as_slice());
+    drop(texts);
+    said
+}
+
+fn say_lines(out: &mut Vec<u8>, texts: &[Text]) -> Result<(), NoMemory> {
+    for text in texts {
         say(out, "has ")?;
         say(out, text.as_str())?;
         say(out, "\n")?;
-    }
-    for table in catalog.tables() {
-        say_rows(alloc, out, rows, &table.name)?;
     }
     Ok(())
 }

@@ -1,23 +1,19 @@
 //! `scriptbench`: reads standard input as a script and says how many statements it has, or the byte at which it is refused. With the
-//! word `run` it then makes the tables of the script and executes its INSERTs, UPDATEs, DELETEs and SELECTs in memory, and says how many
-//! rows these inserted, updated, deleted and answered. With the word `answers` it says what each statement is answered, section by
-//! section (`answers`). With the word `bodies` it goes over the bodies of a log's records, each behind its length, and with the word
-//! `fold` it reads each as an entry and applies it.
+//! word `run` it then runs the statements in memory and says how many rows they inserted, updated, deleted and answered. With the word
+//! `answers` it says what each statement is answered, section by section (`answers`).
 //!
-//! It is there to measure and to try the SQL front, the catalog and the statements on rows before the program uses them: it keeps no
-//! database.
+//! It is there to measure and to try the SQL front, the catalog and the statements on rows: it keeps no database in files.
 #![tactic(auto)]
 
 mod answers;
-mod execution;
-mod folding;
-mod reloading;
+mod counting;
+mod database;
 mod rows;
 mod saying;
 
 use answers::answers;
-use execution::{Stopped, changed_rows};
-use folding::{bodies, folded};
+use counting::{Stopped, changed_rows};
+use sr_answers::print;
 use sr_ast::Stmt;
 use sr_base::Text;
 use sr_parse::{ParseFault, parse};
@@ -32,26 +28,23 @@ const STOPPED: u8 = 4;
 /// The status of a run that found no memory, or could not read or write.
 const FAILED: u8 = 8;
 
+/// What is asked for by the first word.
+#[derive(Clone, Copy)]
+enum Deed {
+    /// Nothing: the statements are counted.
+    Count,
+    Run,
+    Answers,
+}
+
 fn main(rt: HostRuntime) -> ExitCode {
-    if has_word(rt, "bodies") {
-        return ExitCode::from(counted(rt, false));
-    }
-    if has_word(rt, "fold") {
-        return ExitCode::from(counted(rt, true));
-    }
-    let Some(text) = input(rt) else {
-        return ExitCode::from(FAILED);
-    };
-    if has_word(rt, "answers") {
-        return ExitCode::from(answered(rt, text.as_str()));
-    }
-    match parse(rt.alloc(), &text) {
-        Ok(script) => ExitCode::from(told(rt, script.as_slice())),
-        Err(ParseFault::Refused { at }) => {
-            let _ = println!(rt; "script refused at byte {at}");
-            ExitCode::from(REFUSED)
+    match input(rt) {
+        Some(text) => {
+            let status = done(rt, &text);
+            drop(text);
+            ExitCode::from(status)
         }
-        Err(ParseFault::Memory) => ExitCode::from(FAILED),
+        None => ExitCode::from(FAILED),
     }
 }
 
@@ -64,33 +57,52 @@ fn input(rt: HostRuntime) -> Option<Text> {
     }
 }
 
-/// Says how many bodies standard input has; each is read and applied as an entry of a log where `is_folded`. Answers the status.
-fn counted(rt: HostRuntime, is_folded: bool) -> u8 {
-    let mut bytes = Vec::new(rt.alloc());
-    if rt.reader().read_to_end(&mut bytes).is_err() {
-        return FAILED;
-    }
-    let count = if is_folded {
-        folded(rt.alloc(), bytes.as_slice())
-    } else {
-        Ok(bodies(bytes.as_slice()))
+fn deed_of(rt: HostRuntime) -> Deed {
+    let Ok(mut words) = env::args(&rt) else {
+        return Deed::Count;
     };
-    match count {
-        Ok(count) => match println!(rt; "{count} bodies") {
-            Ok(_) => 0,
-            Err(_) => FAILED,
+    let _ = words.next();
+    match words.next() {
+        Some(word) => match word.as_str() {
+            "run" => Deed::Run,
+            "answers" => Deed::Answers,
+            _ => Deed::Count,
         },
-        Err(Stopped::Refused) => STOPPED,
-        Err(Stopped::Memory) => FAILED,
+        None => Deed::Count,
     }
 }
 
-/// Says what the script has, and what it does where it is to be run; answers the status.
-fn told(rt: HostRuntime, script: &[Stmt]) -> u8 {
+/// Does with a text what is asked for; answers the status.
+fn done(rt: HostRuntime, text: &Text) -> u8 {
+    match deed_of(rt) {
+        Deed::Count => read(rt, text, false),
+        Deed::Run => read(rt, text, true),
+        Deed::Answers => answered(rt, text.as_str()),
+    }
+}
+
+/// Reads a text as a script and says what it has, or where it is refused; answers the status.
+fn read(rt: HostRuntime, text: &Text, runs: bool) -> u8 {
+    match parse(rt.alloc(), text) {
+        Ok(script) => {
+            let status = told(rt, script.as_slice(), runs);
+            drop(script);
+            status
+        }
+        Err(ParseFault::Refused { at }) => {
+            let _ = println!(rt; "script refused at byte {at}");
+            REFUSED
+        }
+        Err(ParseFault::Memory) => FAILED,
+    }
+}
+
+/// Says how many statements a script has, and what it does where it is to be run; answers the status.
+fn told(rt: HostRuntime, script: &[Stmt], runs: bool) -> u8 {
     if println!(rt; "{} statements", script.len()).is_err() {
         return FAILED;
     }
-    if !has_word(rt, "run") {
+    if !runs {
         return 0;
     }
     match changed_rows(rt.alloc(), script) {
@@ -105,31 +117,11 @@ fn told(rt: HostRuntime, script: &[Stmt]) -> u8 {
 
 /// Says what each statement is answered; answers the status.
 fn answered(rt: HostRuntime, text: &str) -> u8 {
-    match answers(rt.alloc(), text) {
-        Ok(lines) => said(rt, lines),
+    let mut lines = Vec::new(rt.alloc());
+    let status = match answers(rt.alloc(), &mut lines, text) {
+        Ok(()) => print(rt, lines.as_slice()),
         Err(_) => FAILED,
-    }
-}
-
-/// Writes lines; answers the status.
-fn said(rt: HostRuntime, lines: Vec<u8>) -> u8 {
-    let Ok(lines) = String::from_utf8(lines) else {
-        return FAILED;
     };
-    match print!(rt; "{lines}") {
-        Ok(_) => 0,
-        Err(_) => FAILED,
-    }
-}
-
-/// Whether this word was given first.
-fn has_word(rt: HostRuntime, wanted: &str) -> bool {
-    let Ok(mut words) = env::args(&rt) else {
-        return false;
-    };
-    let _ = words.next();
-    match words.next() {
-        Some(word) => word.as_str() == wanted,
-        None => false,
-    }
+    drop(lines);
+    status
 }

@@ -1,26 +1,18 @@
 //! What statements are answered, in words: the faults with their values, the changes with their rows.
 
-use crate::execution::Stopped;
-use sr_base::{Name, Row, Value};
+use sr_answers::{say, say_bytes, say_number};
+use sr_base::{Name, NoMemory, Row, Value};
 use sr_catalog::{DdlFault, DmlFault};
 use sr_dates::write_literal;
 use sr_exec::Changes;
-use std::alloc::Global;
-
-/// Appends a text.
-pub fn say(out: &mut Vec<u8>, text: &str) -> Result<(), Stopped> {
-    out.extend_from_slice(text.as_bytes())?;
-    Ok(())
-}
+use std::alloc::{AllocError, Global};
 
 /// Appends a word and a name.
-pub fn say_name(out: &mut Vec<u8>, word: &str, name: &Name) -> Result<(), Stopped> {
-    say(out, word)?;
-    out.extend_from_slice(name.bytes())?;
-    Ok(())
+pub fn say_name(out: &mut Vec<u8>, word: &str, name: &Name) -> Result<(), NoMemory> {
+    say_bytes(out, word, name.bytes())
 }
 
-fn say_names(out: &mut Vec<u8>, word: &str, first: &Name, second: &Name) -> Result<(), Stopped> {
+fn say_names(out: &mut Vec<u8>, word: &str, first: &Name, second: &Name) -> Result<(), NoMemory> {
     say_name(out, word, first)?;
     say_name(out, " ", second)
 }
@@ -31,7 +23,7 @@ pub fn say_values(
     out: &mut Vec<u8>,
     values: &[Value],
     between: &str,
-) -> Result<(), Stopped> {
+) -> Result<(), NoMemory> {
     let mut before = "";
     for value in values {
         say(out, before)?;
@@ -42,14 +34,24 @@ pub fn say_values(
 }
 
 /// Appends values in parentheses.
-fn say_list(alloc: Global, out: &mut Vec<u8>, word: &str, values: &[Value]) -> Result<(), Stopped> {
+fn say_list(
+    alloc: Global,
+    out: &mut Vec<u8>,
+    word: &str,
+    values: &[Value],
+) -> Result<(), NoMemory> {
     say(out, word)?;
     say(out, "(")?;
     say_values(alloc, out, values, ", ")?;
     say(out, ")")
 }
 
-fn say_row(alloc: Global, out: &mut Vec<u8>, sign: &str, row: &Option<Row>) -> Result<(), Stopped> {
+fn say_row(
+    alloc: Global,
+    out: &mut Vec<u8>,
+    sign: &str,
+    row: &Option<Row>,
+) -> Result<(), NoMemory> {
     match row {
         Some(row) => say_list(alloc, out, sign, row.values()),
         None => Ok(()),
@@ -57,9 +59,9 @@ fn say_row(alloc: Global, out: &mut Vec<u8>, sign: &str, row: &Option<Row>) -> R
 }
 
 /// Appends the number of rows, and of each change the row before behind `-` and the row after behind `+`.
-pub fn say_changes(alloc: Global, out: &mut Vec<u8>, changes: &Changes) -> Result<(), Stopped> {
-    let count = format!(in alloc; "{} rows", changes.count)?;
-    say(out, count.as_str())?;
+pub fn say_changes(alloc: Global, out: &mut Vec<u8>, changes: &Changes) -> Result<(), NoMemory> {
+    say_number(out, "", changes.count)?;
+    say(out, " rows")?;
     for change in changes.list.as_slice() {
         say_row(alloc, out, " -", &change.before)?;
         say_row(alloc, out, " +", &change.after)?;
@@ -68,9 +70,9 @@ pub fn say_changes(alloc: Global, out: &mut Vec<u8>, changes: &Changes) -> Resul
 }
 
 /// Appends the number of rows that a SELECT answers, and each of them.
-pub fn say_found(alloc: Global, out: &mut Vec<u8>, rows: &[Row]) -> Result<(), Stopped> {
-    let count = format!(in alloc; "{} rows", rows.len())?;
-    say(out, count.as_str())?;
+pub fn say_found(alloc: Global, out: &mut Vec<u8>, rows: &[Row]) -> Result<(), NoMemory> {
+    say_number(out, "", rows.len() as u64)?;
+    say(out, " rows")?;
     for row in rows {
         say_list(alloc, out, " ", row.values())?;
     }
@@ -78,7 +80,8 @@ pub fn say_found(alloc: Global, out: &mut Vec<u8>, rows: &[Row]) -> Result<(), S
 }
 
 /// Appends why a statement that changes the catalog is refused.
-pub fn say_ddl_fault(alloc: Global, out: &mut Vec<u8>, fault: &DdlFault) -> Result<(), Stopped> {
+pub fn say_ddl_fault(out: &mut Vec<u8>, fault: &DdlFault) -> Result<(), NoMemory> {
+    say(out, "refused: ")?;
     match fault {
         DdlFault::Exists { name } => say_name(out, "Exists ", name),
         DdlFault::Missing { name } => say_name(out, "Missing ", name),
@@ -91,16 +94,14 @@ pub fn say_ddl_fault(alloc: Global, out: &mut Vec<u8>, fault: &DdlFault) -> Resu
             say_names(out, "TwiceSubscribed ", user, table)
         }
         DdlFault::InUse { name } => say_name(out, "InUse ", name),
-        DdlFault::TooMany { limit } => {
-            let line = format!(in alloc; "TooMany {limit}")?;
-            say(out, line.as_str())
-        }
-        DdlFault::Memory => Err(Stopped::Memory),
+        DdlFault::TooMany { limit } => say_number(out, "TooMany ", *limit),
+        DdlFault::Memory => Err(AllocError),
     }
 }
 
 /// Appends why a statement on rows is refused.
-pub fn say_dml_fault(alloc: Global, out: &mut Vec<u8>, fault: &DmlFault) -> Result<(), Stopped> {
+pub fn say_dml_fault(alloc: Global, out: &mut Vec<u8>, fault: &DmlFault) -> Result<(), NoMemory> {
+    say(out, "refused: ")?;
     match fault {
         DmlFault::NoTable { name } => say_name(out, "NoTable ", name),
         DmlFault::NoColumn { name } => say_name(out, "NoColumn ", name),
@@ -108,6 +109,6 @@ pub fn say_dml_fault(alloc: Global, out: &mut Vec<u8>, fault: &DmlFault) -> Resu
         DmlFault::Null { name } => say_name(out, "Null ", name),
         DmlFault::Duplicate { key } => say_list(alloc, out, "Duplicate ", key.values()),
         DmlFault::Overflow => say(out, "Overflow"),
-        DmlFault::Memory => Err(Stopped::Memory),
+        DmlFault::Memory => Err(AllocError),
     }
 }

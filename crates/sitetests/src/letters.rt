@@ -1,176 +1,166 @@
-use sr_base::{Name, NoMemory, Text, name_of};
+//! Steps on the folders alone: what becomes of message files on their way.
+
+use crate::mail::address_of;
+use crate::saying::{say_file, say_ok};
+use sr_answers::{number, say, say_number, word};
+use sr_base::{Name, NoMemory, Text};
 use sr_memsite::SharedMail;
 use std::alloc::Global;
-use std::test::*;
 
-/// What becomes of the files of one folder, by their names, and what it should answer.
-#[derive(Clone, Copy)]
-enum Act {
-    Put(&'static str, &'static [u8]),
-    Lay(&'static str, &'static [u8]),
-    Remove(&'static str),
-    Lose(&'static str, bool),
-    Repeat(&'static str, &'static str, bool),
-    Hold(&'static str, bool),
-    Release,
-    List(usize),
-    Fetch(&'static str, usize, Option<&'static [u8]>),
-    File(&'static str, Option<&'static [u8]>),
+pub fn say_letters(alloc: Global, steps: &str, out: &mut Vec<u8>) -> Result<(), NoMemory> {
+    let mut mail = SharedMail::new(alloc);
+    let said = say_steps(alloc, &mut mail, steps, out);
+    drop(mail);
+    said
 }
 
-/// A copy of a file's front; whether these bytes came.
-fn fetched(
+fn say_steps(
+    alloc: Global,
+    mail: &mut SharedMail,
+    steps: &str,
+    out: &mut Vec<u8>,
+) -> Result<(), NoMemory> {
+    for step in steps.split("; ") {
+        if !out.is_empty() {
+            say(out, "; ")?;
+        }
+        say_step(alloc, mail, step, out)?;
+    }
+    Ok(())
+}
+
+fn say_step(
+    alloc: Global,
+    mail: &mut SharedMail,
+    step: &str,
+    out: &mut Vec<u8>,
+) -> Result<(), NoMemory> {
+    match word(step, 0) {
+        "release" => {
+            mail.release();
+            say(out, "ok")
+        }
+        "puts" => say_puts(mail.puts(), out),
+        _ => say_named(alloc, mail, step, out),
+    }
+}
+
+/// Says the address and the name of every put.
+fn say_puts(puts: &[(Name, Text)], out: &mut Vec<u8>) -> Result<(), NoMemory> {
+    for put in puts {
+        say(out, "/")?;
+        out.extend_from_slice(put.0.bytes())?;
+        say(out, ":")?;
+        out.extend_from_slice(put.1.bytes())?;
+    }
+    Ok(())
+}
+
+fn say_named(
+    alloc: Global,
+    mail: &mut SharedMail,
+    step: &str,
+    out: &mut Vec<u8>,
+) -> Result<(), NoMemory> {
+    let address = address_of(alloc, step)?;
+    let said = say_addressed(alloc, mail, &address, step, out);
+    drop(address);
+    said
+}
+
+fn say_addressed(
+    alloc: Global,
+    mail: &mut SharedMail,
+    address: &Name,
+    step: &str,
+    out: &mut Vec<u8>,
+) -> Result<(), NoMemory> {
+    let name = Text::from_str(alloc, word(step, 2))?;
+    let said = say_letter(alloc, mail, address, &name, step, out);
+    drop(name);
+    said
+}
+
+/// Does what a step says with a file.
+fn say_letter(
+    alloc: Global,
+    mail: &mut SharedMail,
+    address: &Name,
+    name: &Text,
+    step: &str,
+    out: &mut Vec<u8>,
+) -> Result<(), NoMemory> {
+    match word(step, 0) {
+        "put" => {
+            mail.put(alloc, address, name, word(step, 3).as_bytes())?;
+            say(out, "ok")
+        }
+        "lay" => {
+            let bytes = Vec::from_slice(alloc, word(step, 3).as_bytes())?;
+            mail.lay(alloc, address, name, bytes)?;
+            say(out, "ok")
+        }
+        "remove" => {
+            mail.remove(address, name);
+            say(out, "ok")
+        }
+        "lose" => say_ok(out, mail.lose(address, name), "none"),
+        "hold" => say_ok(out, mail.hold(address, name), "none"),
+        "repeat" => say_repeated(alloc, mail, address, name, word(step, 3), out),
+        "list" => say_list(alloc, mail, address, out),
+        "file" => say_some(mail.file(address, name), out),
+        _ => say_fetched(alloc, mail, address, name, number(step, 3), out),
+    }
+}
+
+fn say_repeated(
+    alloc: Global,
+    mail: &mut SharedMail,
+    address: &Name,
+    name: &Text,
+    as_name: &str,
+    out: &mut Vec<u8>,
+) -> Result<(), NoMemory> {
+    let as_name = Text::from_str(alloc, as_name)?;
+    let is_there = mail.repeat(alloc, address, name, &as_name);
+    drop(as_name);
+    say_ok(out, is_there?, "none")
+}
+
+/// Says how many names are listed.
+fn say_list(
+    alloc: Global,
+    mail: &SharedMail,
+    address: &Name,
+    out: &mut Vec<u8>,
+) -> Result<(), NoMemory> {
+    let listing = mail.list(alloc, address)?;
+    let count = listing.names.as_slice().len() as u64;
+    drop(listing);
+    say_number(out, "", count)
+}
+
+fn say_some(file: Option<&[u8]>, out: &mut Vec<u8>) -> Result<(), NoMemory> {
+    match file {
+        Some(bytes) => say_file(out, bytes),
+        None => say(out, "none"),
+    }
+}
+
+fn say_fetched(
     alloc: Global,
     mail: &SharedMail,
     address: &Name,
     name: &Text,
-    limit: usize,
-    expected: Option<&[u8]>,
-) -> Result<bool, NoMemory> {
-    Ok(match mail.fetch(alloc, address, name, limit)? {
-        Some(bytes) => expected == Some(bytes.as_slice()),
-        None => expected.is_none(),
-    })
-}
-
-/// The names are those of a folder, as many as they should be.
-fn listed(
-    alloc: Global,
-    mail: &SharedMail,
-    address: &Name,
-    expected: usize,
-) -> Result<bool, NoMemory> {
-    let listing = mail.list(alloc, address)?;
-    Ok(listing.names.as_slice().len() == expected && !listing.more)
-}
-
-/// Does it; whether it answered as it should.
-fn done(alloc: Global, mail: &mut SharedMail, address: &Name, act: Act) -> Result<bool, NoMemory> {
-    Ok(match act {
-        Act::Put(name, bytes) => {
-            mail.put(alloc, address, &Text::from_str(alloc, name)?, bytes)?;
-            true
+    limit: u64,
+    out: &mut Vec<u8>,
+) -> Result<(), NoMemory> {
+    match mail.fetch(alloc, address, name, limit as usize)? {
+        Some(bytes) => {
+            let said = say_file(out, bytes.as_slice());
+            drop(bytes);
+            said
         }
-        Act::Lay(name, bytes) => {
-            let bytes = Vec::from_slice(alloc, bytes)?;
-            mail.lay(alloc, address, &Text::from_str(alloc, name)?, bytes)?;
-            true
-        }
-        Act::Remove(name) => {
-            mail.remove(address, &Text::from_str(alloc, name)?);
-            true
-        }
-        Act::Lose(name, expected) => {
-            mail.lose(address, &Text::from_str(alloc, name)?) == expected
-        }
-        Act::Repeat(name, as_name, expected) => {
-            let (name, as_name) = (
-                Text::from_str(alloc, name)?,
-                Text::from_str(alloc, as_name)?,
-            );
-            mail.repeat(alloc, address, &name, &as_name)? == expected
-        }
-        Act::Hold(name, expected) => {
-            mail.hold(address, &Text::from_str(alloc, name)?) == expected
-        }
-        Act::Release => {
-            mail.release();
-            true
-        }
-        Act::List(expected) => listed(alloc, mail, address, expected)?,
-        Act::Fetch(name, limit, expected) => {
-            let name = Text::from_str(alloc, name)?;
-            fetched(alloc, mail, address, &name, limit, expected)?
-        }
-        Act::File(name, expected) => {
-            mail.file(address, &Text::from_str(alloc, name)?) == expected
-        }
-    })
-}
-
-/// The two folders of the tables.
-#[derive(Clone, Copy)]
-enum Folder {
-    R1,
-    Cons,
-}
-
-/// The address of a folder.
-fn address_of<'a>(folder: Folder, r1: &'a Name, cons: &'a Name) -> &'a Name {
-    match folder {
-        Folder::R1 => r1,
-        Folder::Cons => cons,
+        None => say(out, "none"),
     }
-}
-
-const ACTS: &[(Folder, Act)] = &[
-    (Folder::R1, Act::Put("2", b"two")),
-    (Folder::R1, Act::Put("1", b"old one")),
-    (Folder::R1, Act::Put("1", b"one")),
-    (Folder::Cons, Act::Put("1", b"elsewhere")),
-    (Folder::R1, Act::List(2)),
-    (Folder::Cons, Act::List(1)),
-    (Folder::R1, Act::Fetch("1", 2, Some(b"on"))),
-    (Folder::R1, Act::Fetch("1", 3, Some(b"one"))),
-    (Folder::R1, Act::Fetch("1", 9, Some(b"one"))),
-    (Folder::R1, Act::Fetch("3", 9, None)),
-    (Folder::R1, Act::Hold("2", true)),
-    (Folder::R1, Act::Hold("2", true)),
-    (Folder::R1, Act::Hold("3", false)),
-    (Folder::Cons, Act::Hold("2", false)),
-    (Folder::R1, Act::List(1)),
-    (Folder::R1, Act::File("2", None)),
-    (Folder::R1, Act::Fetch("2", 9, None)),
-    (Folder::R1, Act::Remove("2")),
-    (Folder::R1, Act::Repeat("2", "4", true)),
-    (Folder::R1, Act::Repeat("3", "1", false)),
-    (Folder::R1, Act::Fetch("4", 9, Some(b"two"))),
-    (Folder::R1, Act::Release),
-    (Folder::R1, Act::List(3)),
-    (Folder::R1, Act::File("2", Some(b"two"))),
-    (Folder::R1, Act::Hold("2", true)),
-    (Folder::R1, Act::Put("2", b"new")),
-    (Folder::R1, Act::Fetch("2", 9, Some(b"new"))),
-    (Folder::R1, Act::Release),
-    (Folder::R1, Act::Fetch("2", 9, Some(b"new"))),
-    (Folder::R1, Act::Hold("2", true)),
-    (Folder::R1, Act::Lose("2", true)),
-    (Folder::R1, Act::Lose("2", false)),
-    (Folder::R1, Act::Release),
-    (Folder::R1, Act::File("2", None)),
-    (Folder::R1, Act::Remove("4")),
-    (Folder::R1, Act::Remove("4")),
-    (Folder::R1, Act::Lay("1", b"forged")),
-    (Folder::R1, Act::Fetch("1", 9, Some(b"forged"))),
-    (Folder::R1, Act::List(1)),
-    (Folder::Cons, Act::Fetch("1", 9, Some(b"elsewhere"))),
-];
-
-/// What was put, in order, by folder and name.
-const PUTS: &[(Folder, &[u8])] = &[
-    (Folder::R1, b"2"),
-    (Folder::R1, b"1"),
-    (Folder::R1, b"1"),
-    (Folder::Cons, b"1"),
-    (Folder::R1, b"2"),
-];
-
-#[test]
-fn a_file_is_put_held_repeated_and_lost(rt: HostRuntime) -> Result<(), Fail> {
-    let alloc = rt.alloc();
-    let (Ok(r1), Ok(cons)) = (name_of(alloc, b"r1"), name_of(alloc, b"cons")) else {
-        panic!(rt; "names, and memory for them");
-    };
-    let mut mail = SharedMail::new(alloc);
-    for (folder, act) in ACTS {
-        let address = address_of(*folder, &r1, &cons);
-        assert!(rt; done(alloc, &mut mail, address, *act)?);
-    }
-    let puts = mail.puts();
-    for (put, (folder, name)) in puts.iter().zip(PUTS) {
-        let address = address_of(*folder, &r1, &cons);
-        assert!(rt; put.0.bytes() == address.bytes() && put.1.bytes() == *name);
-    }
-    assert_eq!(rt; puts.len(), 5);
-    Ok(())
 }

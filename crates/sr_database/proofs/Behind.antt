@@ -1,11 +1,11 @@
 -- The entry behind an offset.
-use Rattle.std.proofs.Common.{◌≡◌, ◌≢◌, ℕ, ◌+◌, ◌≤◌, List, [], ◌∷◌, ◌++◌, length, map, take, Option, Some, None, Result, Ok, Err, refl, sym, ◌∙◌, ap, subst, arith}
+use Rattle.std.proofs.Common.{◌≡◌, ◌≢◌, ℕ, List, [], ◌∷◌, ◌++◌, length, take, Option, Some, None, Result, Ok, Err, refl, sym, ◌∙◌, ap, subst, arith}
 use Rattle.std.specs.Prelude.{IsTrue, IfErr, MatchOption}
 use Rattle.std.proofs.lemmas.List.{map-append}
 use Rattle.sr_base.specs.declared.offset.Offset.{Offset}
 use Rattle.sr_book.specs.Entries.{Name}
-use Rattle.sr_history.specs.Fitting.{Fits, stored_from, Stored}
-use Rattle.sr_history.specs.Folds.{State, fresh, state_from, end_from, end_of, size}
+use Rattle.sr_history.specs.Fitting.{Stored}
+use Rattle.sr_history.specs.Folds.{fresh, end_of, size}
 use Rattle.sr_history.specs.Recorded.{Recorded, entry_of}
 use Rattle.sr_history.proofs.Joined.{end_from-more, stored_from-append}
 use Rattle.sr_logfile.specs.Faults.{NextCause, RecordAfterCause}
@@ -21,14 +21,14 @@ use Rattle.sr_logform.specs.EntryLaws.{entry_format}
 use Rattle.sr_logform.specs.declared.entry.Entry.{Entry}
 use Rattle.sr_logform.proofs.Once.{spells_once}
 use Rattle.sr_site.specs.Files.{Files}
-use Rattle.sr_site.specs.Images.{MayLeave, IsSettled}
+use Rattle.sr_site.specs.Images.{MayLeave}
 use Rattle.sr_site.specs.Seen.{Seen}
 use Rattle.sr_site.specs.declared.file.File.{File}
 use Rattle.sr_standing.specs.Standing.{body, bodies}
 use Rattle.sr_standing.proofs.Standing.{ends_are, size_is}
 use Rattle.sr_database.specs.Causes.{EntryCause, IsRecordFault}
 use Rattle.sr_database.specs.Databases.{IsHeld, IsDatabase}
-use Rattle.sr_database.specs.Entries.{IsNext, IsEntryAfter, Parts, BehindCause}
+use Rattle.sr_database.specs.Entries.{IsNext, Parts, BehindCause}
 use Rattle.sr_database.specs.Openings.{IsLogFault}
 use Rattle.sr_database.specs.Replays.{SpellingCause}
 use Rattle.sr_database.specs.Views.{View}

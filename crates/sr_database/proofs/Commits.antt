@@ -36,6 +36,7 @@ use Rattle.sr_database.specs.Databases.{ArePending, IsOf, IsHeld, IsDatabase, Ha
 use Rattle.sr_database.specs.Taking.{at_last_commit, BooksFollow}
 use Rattle.sr_database.specs.Touching.{HappenedOn}
 use Rattle.sr_database.specs.Views.{View, committed}
+use Rattle.sr_database.proofs.Attaches.{on_attaches}
 use Rattle.sr_database.proofs.Beside.{IsBeside, beside, rests_each, rests_both, rests_end}
 use Rattle.sr_database.proofs.Images.{stays}
 use Rattle.sr_database.proofs.Values.{none_pending, stored_more, books_more}
@@ -209,7 +210,7 @@ module _ (old new : View) (publisher : Name) (es : List Recorded) (r : Recorded)
   pub went : RestsThroughout (HasOrLacks old.log (bodies es) framed) before now → HappenedOn old.log.file before.happened now.happened → DiskStays before now → ¬ (now.happened ≡ before.happened) → Went before now publisher es (commit r ∷ [])
   went rests on stay some =
       one_commit before now publisher es r stay.told stay.first (λ image there. stands_before image (database.settled image there))
-      (sym (puts_of_mail now.happened) ∙ ap puts_in stay.mail ∙ puts_of_mail before.happened) some
+      (sym (puts_of_mail now.happened) ∙ ap puts_in stay.mail ∙ puts_of_mail before.happened) (on_attaches old.log.file before.happened now.happened on) some
       (rests_each (λ image. IsHeld new publisher es image ⊎ IsHeld new publisher (es ++ r ∷ []) image) (λ image. StandsAs publisher es image ⊎ StandsAs publisher (es ++ r ∷ []) image) before now
       (λ image either. either_stands image either) (held_moments rests on))
     where

@@ -1,18 +1,16 @@
 -- A record of a log that is read again: its body, its entry, and whether this may stand there.
-use Rattle.std.proofs.Common.{◌≡◌, ◌≢◌, ◌⊎◌, inl, inr, ℕ, ◌+◌, ◌-◌, ◌≤◌, ◌<◌, ◌^◌, Bool, true, false, List, [], ◌∷◌, ◌++◌, length, take, drop, refl, sym, ◌∙◌, ap, subst, arith, append_assoc, length-append}
-use Rattle.std.specs.Prelude.{IsTrue}
-use Rattle.std.proofs.lemmas.List.{drop-drop, drop_at, take_at, length-drop}
+use Rattle.std.proofs.Common.{◌≡◌, ◌≢◌, ℕ, ◌+◌, ◌≤◌, ◌<◌, ◌^◌, List, [], ◌∷◌, ◌++◌, length, take, drop, sym, ◌∙◌, ap, subst, arith, length-append}
+use Rattle.std.proofs.lemmas.List.{drop-drop, take_at, length-drop}
 use Rattle.sr_book.specs.Entries.{Name}
 use Rattle.sr_exec.specs.Conditions.{RowsFit}
 use Rattle.sr_fold.specs.Readings.{state_in, FitsAs}
 use Rattle.sr_history.specs.Fitting.{FitsState, Fits, Stored}
-use Rattle.sr_history.specs.Folds.{State, fresh, next, state_of, size, end_of, books_of}
+use Rattle.sr_history.specs.Folds.{State, fresh, next, state_of, size, end_of}
 use Rattle.sr_history.specs.Recorded.{Recorded, entry_of}
 use Rattle.sr_history.proofs.Joined.{state_from-more, end_from-more}
 use Rattle.sr_history.proofs.Kept.{stored_holds}
-use Rattle.sr_logfile.specs.Heads.{HasWhole, IsBroken}
+use Rattle.sr_logfile.specs.Heads.{HasWhole}
 use Rattle.sr_logfile.specs.Records.{record_of}
-use Rattle.sr_logfile.proofs.Records.{length-record}
 use Rattle.sr_logform.specs.Entries.{entry_spelling, IsEntry}
 use Rattle.sr_logform.specs.EntryLaws.{entry_format}
 use Rattle.sr_logform.specs.Limits.{longest_body}

@@ -1,4 +1,5 @@
 pub mod Added
+pub mod Attaches
 pub mod Behind
 pub mod Beside
 pub mod Booked

@@ -1,18 +1,14 @@
 -- How a database is opened.
-use Rattle.std.proofs.Common.{◌≡◌, ◌≢◌, ◌⊎◌, inl, inr, ℕ, ◌+◌, ◌-◌, ◌≤◌, ◌<◌, ◌^◌, Bool, true, false, List, [], ◌∷◌, ◌++◌, length, take, drop, Option, Some, None, Result, Ok, Err, refl, sym, ◌∙◌, ap, subst, arith, append_assoc, length-append}
-use Rattle.std.specs.Prelude.{IsTrue}
-use Rattle.std.specs.List.{AllByRecursion}
-use Rattle.std.proofs.lemmas.List.{append-nil, drop_at, take_at, length-drop}
-use Rattle.sr_base.specs.Fields.{IsName}
+use Rattle.std.proofs.Common.{◌≡◌, inl, inr, ℕ, ◌+◌, Bool, true, false, List, [], ◌∷◌, ◌++◌, length, drop, refl, sym, ◌∙◌, ap, subst, arith, append_assoc}
+use Rattle.std.proofs.lemmas.List.{append-nil, drop_at}
 use Rattle.sr_book.specs.Entries.{Name}
 use Rattle.sr_history.specs.Fitting.{Fits, Stored}
-use Rattle.sr_history.specs.Folds.{State, fresh, state_of, end_of, size, books_of}
-use Rattle.sr_history.specs.Recorded.{Recorded, entry_of}
-use Rattle.sr_logfile.specs.Damage.{LacksHeader, BeginsRecord}
+use Rattle.sr_history.specs.Folds.{fresh, state_of, end_of}
+use Rattle.sr_history.specs.Recorded.{Recorded}
 use Rattle.sr_logfile.specs.Heads.{IsClosed, HasWhole, IsBroken}
 use Rattle.sr_logfile.specs.Moments.{IsAsRead}
-use Rattle.sr_logfile.specs.Records.{header, record_of, open_records, HasHeader, Spells}
-use Rattle.sr_logfile.proofs.Records.{front-push, length-push, length-record}
+use Rattle.sr_logfile.specs.Records.{header, open_records, HasHeader, Spells}
+use Rattle.sr_logfile.proofs.Records.{front-push}
 use Rattle.sr_logfile.proofs.Commits.{length-front}
 use Rattle.sr_logfile.proofs.Uniqueness.{same_record}
 use Rattle.sr_site.specs.Files.{Files, bytes_of, with_bytes}
@@ -20,18 +16,16 @@ use Rattle.sr_site.specs.Happenings.{Happening, Throughout, attached, wrote, cut
 use Rattle.sr_site.specs.Images.{MayLeave, IsImage, IsSettled, RestsThroughout}
 use Rattle.sr_site.specs.Seen.{Seen}
 use Rattle.sr_site.specs.declared.file.File.{File}
-use Rattle.sr_site.specs.declared.file.File.TheVariants.{Root, Log0, Log1, Snap0, Snap1}
+use Rattle.sr_site.specs.declared.file.File.TheVariants.{Root}
 use Rattle.sr_standing.specs.Damage.{BeginsEntry}
 use Rattle.sr_standing.specs.Generations.{Generation, generation_in, snapshot_of, log_of}
-use Rattle.sr_standing.specs.Snapshots.{fresh_snapshot}
-use Rattle.sr_standing.specs.Standing.{body, bodies, StandsFor}
-use Rattle.sr_standing.proofs.Standing.{Stands, stands, ends_are, are_bodies, within, is_body, body_once, size_is}
-use Rattle.sr_database.specs.Databases.{IsOf, IsHeld, IsDatabase, HasDatabase}
+use Rattle.sr_standing.specs.Standing.{body, bodies}
+use Rattle.sr_standing.proofs.Standing.{Stands, stands, ends_are, are_bodies, within, is_body, size_is}
+use Rattle.sr_database.specs.Databases.{IsOf, IsDatabase}
 use Rattle.sr_database.specs.Openings.{AreSyncs, OnlySynced}
 use Rattle.sr_database.specs.Replays.{BeginsWith, HasRead, LacksNext}
 use Rattle.sr_database.specs.Views.{View}
-use Rattle.sr_database.proofs.Beside.{rests_end}
-use Rattle.sr_database.proofs.Commits.{Held, is_held, bodies_more}
+use Rattle.sr_database.proofs.Commits.{is_held, bodies_more}
 use Rattle.sr_database.proofs.Images.{same_or_not, its_bytes, other_bytes, mixed}
 
 -- ---- syncs

@@ -1,5 +1,5 @@
 -- Steps that read: nothing happens in them, or nothing but syncs.
-use Rattle.std.proofs.Common.{◌≡◌, ℕ, ◌≤◌, Bool, true, List, [], ◌∷◌, Result, Ok, Err, refl, sym, ◌∙◌, ap, subst}
+use Rattle.std.proofs.Common.{◌≡◌, Bool, true, List, ◌∷◌, Result, Ok, Err, refl, sym, ◌∙◌, ap, subst}
 use Rattle.std.specs.Prelude.{IsTrue, OnOk}
 use Rattle.sr_logfile.specs.Calls.{HasSynced}
 use Rattle.sr_logfile.specs.Moments.{IsAsRead}
@@ -11,7 +11,7 @@ use Rattle.sr_site.specs.Happenings.{Happening, synced}
 use Rattle.sr_site.specs.Images.{MayLeave, IsSettled}
 use Rattle.sr_site.specs.Seen.{Seen}
 use Rattle.sr_site.specs.declared.file.File.{File}
-use Rattle.sr_database.specs.Openings.{OnlySynced, SyncedAlone, ReadAlone}
+use Rattle.sr_database.specs.Openings.{SyncedAlone, ReadAlone}
 use Rattle.sr_database.proofs.Images.{its_bytes}
 use Rattle.sr_database.proofs.Unchanged.{same_stays}
 use Rattle.sr_database.proofs.Opened.{synced_on, one_sync, no_sync, still_read}

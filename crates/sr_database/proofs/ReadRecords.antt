@@ -1,5 +1,5 @@
 -- A record that is read: its bytes, its entry, and why it is refused.
-use Rattle.std.proofs.Common.{◌≡◌, ◌≢◌, ℕ, ◌+◌, ◌-◌, ◌≤◌, ◌<◌, ◌^◌, min, Bool, true, false, List, [], ◌∷◌, ◌++◌, length, take, drop, Option, Some, None, Result, Ok, Err, refl, sym, ◌∙◌, ap, subst, arith}
+use Rattle.std.proofs.Common.{◌≡◌, ℕ, ◌+◌, ◌-◌, ◌≤◌, ◌<◌, ◌^◌, Bool, true, false, List, [], ◌∷◌, ◌++◌, length, take, drop, Result, Ok, Err, refl, sym, ◌∙◌, ap, subst, arith}
 use Rattle.std.specs.Prelude.{IsTrue, IfOk, IfErr}
 use Rattle.std.proofs.lemmas.List.{take_all}
 use Rattle.sr_book.specs.Entries.{Name}
@@ -23,7 +23,7 @@ use Rattle.sr_site.specs.Seen.{Seen}
 use Rattle.sr_site.specs.declared.file.File.{File}
 use Rattle.sr_database.specs.Books.{BookMap}
 use Rattle.sr_database.specs.Openings.{ReadAlone, IsLogFault}
-use Rattle.sr_database.specs.Replays.{IsReplayed, IsReplayedSome, BeginsWith, HasRead, LacksNext, IsNone, Followed, FollowsAny, HasReadOn, IsReadOn, EndsThere, piece, SpellingCause, BodyCause, RecordCause}
+use Rattle.sr_database.specs.Replays.{IsReplayed, BeginsWith, HasRead, LacksNext, IsNone, Followed, FollowsAny, IsReadOn, EndsThere, piece, SpellingCause, BodyCause, RecordCause}
 use Rattle.sr_database.specs.Taking.{BooksFollow}
 use Rattle.sr_database.specs.declared.fault.DatabaseFault.{DatabaseFault}
 use Rattle.sr_database.specs.declared.fault.DatabaseFault.TheVariants.{Missing, Exists, Damaged, Disk, Full, Long, Memory}

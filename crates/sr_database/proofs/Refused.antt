@@ -1,21 +1,16 @@
 -- Why an opening is refused, from the refusals of its steps; and what stands where it is not.
-use Rattle.std.proofs.Common.{◌≡◌, ◌⊎◌, inl, inr, ℕ, ◌+◌, ◌≤◌, List, [], ◌∷◌, Some, Result, Ok, Err, refl, sym, ◌∙◌, ap, subst, arith}
+use Rattle.std.proofs.Common.{◌≡◌, ◌⊎◌, inl, inr, ℕ, ◌≤◌, List, [], Some, Result, Ok, Err, refl, sym, ◌∙◌, ap, subst, arith}
 use Rattle.std.specs.Prelude.{IsTrue, IfOk, IfErr}
-use Rattle.sr_base.specs.Fields.{IsName}
 use Rattle.sr_book.specs.Entries.{Name}
-use Rattle.sr_history.specs.Fitting.{Stored}
-use Rattle.sr_history.specs.Folds.{end_of}
 use Rattle.sr_history.specs.Recorded.{Recorded}
-use Rattle.sr_logfile.specs.Records.{Spells}
-use Rattle.sr_site.specs.Causes.{Rose}
 use Rattle.sr_site.specs.Files.{Files, bytes_of}
 use Rattle.sr_site.specs.Seen.{Seen}
 use Rattle.sr_site.specs.declared.file.File.{File}
-use Rattle.sr_site.specs.declared.file.File.TheVariants.{Root, Log0, Log1, Snap0, Snap1}
-use Rattle.sr_standing.specs.Damage.{IsMissing, LacksEntry, IsDamagedRoot, IsDamagedLog, HasDamagedSnapshot, HasDamagedLog, IsDamagedAt}
+use Rattle.sr_site.specs.declared.file.File.TheVariants.{Snap1}
+use Rattle.sr_standing.specs.Damage.{LacksEntry, IsDamagedRoot, IsDamagedLog, HasDamagedSnapshot, HasDamagedLog, IsDamagedAt}
 use Rattle.sr_standing.specs.Generations.{Generation, even, odd, snapshot_of, log_of, generation_in}
-use Rattle.sr_standing.specs.Snapshots.{fresh_snapshot, snapshot_at}
-use Rattle.sr_standing.specs.Standing.{bodies, StandsFor}
+use Rattle.sr_standing.specs.Snapshots.{snapshot_at}
+use Rattle.sr_standing.specs.Standing.{StandsFor}
 use Rattle.sr_standing.proofs.Standing.{one_history, missing_is_none, damaged_is_none}
 use Rattle.sr_database.specs.Causes.{OpenCause, IsDiskOrMemory}
 use Rattle.sr_database.specs.Databases.{IsDatabase, HasDatabase}

@@ -1,25 +1,23 @@
 -- What stands once the root, the snapshot and the log were read.
-use Rattle.std.proofs.Common.{◌≡◌, ℕ, ◌+◌, ◌≤◌, ◌^◌, true, List, [], ◌∷◌, Some, Result, Ok, Err, refl, sym, ◌∙◌, ap, subst, arith}
+use Rattle.std.proofs.Common.{◌≡◌, ℕ, List, [], Result, Ok, Err, refl, sym, ◌∙◌, ap, subst}
 use Rattle.std.specs.Prelude.{IsTrue, IfOk}
 use Rattle.std.specs.FinMap as map
 use Rattle.sr_base.specs.Fields.{IsName}
 use Rattle.sr_base.specs.Order.{name_cmp}
 use Rattle.sr_book.specs.Entries.{Name}
-use Rattle.sr_history.specs.Folds.{state_of, end_of, books_of}
+use Rattle.sr_history.specs.Folds.{state_of}
 use Rattle.sr_history.specs.Recorded.{Recorded}
 use Rattle.sr_logfile.specs.Log.{Log}
 use Rattle.sr_logfile.specs.Moments.{IsAsRead}
 use Rattle.sr_logfile.specs.Records.{Spells}
-use Rattle.sr_rows.specs.Marks.{Marked, RowMap}
-use Rattle.sr_rows.specs.Steps.{at_mark}
+use Rattle.sr_rows.specs.Marks.{Marked}
 use Rattle.sr_schema.specs.Catalogs.{Lists, nothing_but}
 use Rattle.sr_site.specs.Files.{Files, bytes_of}
 use Rattle.sr_site.specs.Images.{IsSettled}
 use Rattle.sr_site.specs.Seen.{Seen}
 use Rattle.sr_site.specs.declared.file.File.{File}
 use Rattle.sr_site.specs.declared.file.File.TheVariants.{Root}
-use Rattle.sr_standing.specs.Generations.{Generation, generation_in, snapshot_of, log_of}
-use Rattle.sr_standing.specs.Snapshots.{fresh_snapshot}
+use Rattle.sr_standing.specs.Generations.{generation_in}
 use Rattle.sr_standing.specs.Standing.{bodies}
 use Rattle.sr_standing.proofs.Standing.{Stands}
 use Rattle.sr_database.specs.Books.{BookMap, book_in, or_new}

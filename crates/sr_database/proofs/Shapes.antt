@@ -1,8 +1,8 @@
 -- Which files a root puts in force, and the shape of a log: its header and its records.
-use Rattle.std.proofs.Common.{◌≡◌, ◌⊎◌, inl, inr, ℕ, ◌+◌, ◌-◌, ◌≤◌, ◌<◌, ◌^◌, Bool, true, List, [], ◌∷◌, ◌++◌, length, take, drop, get_or, Some, Result, Ok, Err, refl, sym, ◌∙◌, ap, subst, arith}
-use Rattle.std.specs.Prelude.{IsTrue, IfErr}
+use Rattle.std.proofs.Common.{◌≡◌, ◌⊎◌, inl, inr, ℕ, ◌≤◌, ◌<◌, ◌^◌, List, [], ◌∷◌, length, take, get_or, refl, sym, ◌∙◌, ap, subst, arith}
+use Rattle.std.specs.Prelude.{IsTrue}
 use Rattle.std.proofs.lemmas.List.{nil_from_length}
-use Rattle.sr_logfile.specs.Damage.{LacksHeader, IsDamaged}
+use Rattle.sr_logfile.specs.Damage.{IsDamaged}
 use Rattle.sr_logfile.specs.Faults.{HeaderCause, OpenCause}
 use Rattle.sr_logfile.specs.declared.fault.LogFault.{LogFault}
 use Rattle.sr_logfile.specs.declared.fault.LogFault.TheVariants as logs
@@ -16,8 +16,8 @@ use Rattle.sr_site.specs.Reads.{HasRead}
 use Rattle.sr_site.specs.Seen.{Seen}
 use Rattle.sr_site.specs.declared.file.File.{File}
 use Rattle.sr_site.specs.declared.file.File.TheVariants.{Root}
-use Rattle.sr_standing.specs.Damage.{HasOtherBase, LacksRecordAt}
-use Rattle.sr_standing.specs.Generations.{Generation, generation_in, snapshot_of, log_of}
+use Rattle.sr_standing.specs.Damage.{HasOtherBase}
+use Rattle.sr_standing.specs.Generations.{generation_in, snapshot_of, log_of}
 use Rattle.sr_database.specs.Openings.{BeginsWithByte, named_by, AreInForce, IsDamagedHeader, BaseCause, IsWhole, IsDamagedShape, ShapeCause, IsLogFault, HasRefused, ShapeRefusal}
 use Rattle.sr_database.specs.declared.fault.DatabaseFault.{DatabaseFault}
 use Rattle.sr_database.specs.declared.fault.DatabaseFault.TheVariants.{Missing, Exists, Damaged, Disk, Full, Long, Memory}

@@ -1,8 +1,8 @@
 -- Where the bytes of a snapshot break, and what the first of them tell.
-use Rattle.std.proofs.Common.{◌≡◌, ◌≢◌, ◌⊎◌, inl, inr, ℕ, ◌+◌, ◌-◌, ◌≤◌, ◌<◌, ◌*◌, min, Bool, true, false, cond, eqb, leb, List, [], ◌∷◌, ◌++◌, length, take, drop, Option, Some, None, Result, Ok, Err, refl, sym, ◌∙◌, ap, subst, arith, length-append}
+use Rattle.std.proofs.Common.{◌≡◌, ◌⊎◌, inl, inr, ℕ, ◌+◌, ◌≤◌, ◌<◌, Bool, true, false, leb, List, [], ◌∷◌, ◌++◌, length, take, drop, Option, Some, None, Result, Ok, Err, refl, sym, ◌∙◌, ap, subst, arith, length-append}
 use Rattle.std.specs.Prelude.{option_map, ◌==◌, if◌then◌else◌, IsTrue, IfOk, IfErr}
-use Rattle.std.proofs.lemmas.Bool.{eqb-true, eq-eqb, ne_eqb, leb-true, and_parts}
-use Rattle.std.proofs.lemmas.List.{take-append-drop, take_all, length-take, nil_from_length}
+use Rattle.std.proofs.lemmas.Bool.{eqb-true, leb-true, and_parts}
+use Rattle.std.proofs.lemmas.List.{take-append-drop, take_all, length-take}
 use Rattle.sr_base.specs.Fields.{name_at, name_spelling, IsName}
 use Rattle.sr_base.specs.Names.{is_lower_name}
 use Rattle.sr_base.specs.Reading.{BeginsWith, IsBad}
@@ -14,7 +14,6 @@ use Rattle.sr_site.specs.Files.{bytes_of}
 use Rattle.sr_site.specs.Reads.{HasRead}
 use Rattle.sr_site.specs.Seen.{Seen}
 use Rattle.sr_site.specs.declared.file.File.{File}
-use Rattle.sr_site.specs.declared.file.File.TheVariants.{Root, Snap1}
 use Rattle.sr_standing.specs.Snapshots.{snapshot_front, no_lists, fresh_snapshot, difference, named_before, named_in, named_behind, snapshot_at}
 use Rattle.sr_standing.proofs.Snapshots.{front_tells}
 use Rattle.sr_database.specs.Openings.{BlamesRoot, BlamesSnapshot, IsFreshOf, FrontCause, SnapshotCause}

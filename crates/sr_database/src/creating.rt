@@ -3,6 +3,7 @@ ghost use Rattle.sr_base.specs.Fields.{IsName};
 ghost use Rattle.sr_logfile.specs.Records.{fresh_bytes};
 ghost use Rattle.sr_site.specs.Causes.{DiskStays, Rose};
 ghost use Rattle.sr_site.specs.Images.{IsImage, IsSettled, RestsThroughout};
+ghost use Rattle.sr_standing.specs.Items.{attaches_in};
 ghost use Rattle.sr_standing.specs.Snapshots.{fresh_snapshot as snapshot_of_new};
 ghost use Rattle.sr_standing.specs.Standing.{StandsFor};
 ghost use Rattle.sr_database.specs.Causes.{CreateCause};
@@ -34,6 +35,7 @@ impl Database {
         ensures missing { IsTrue (S.seen site.old).told → OnOk result ((S.seen site.old).files.root ≡ []) }
         ensures moments { IsTrue (S.seen site.old).told → IsSettled (IsNoneOrNew publisher.now) (S.seen site.old) → RestsThroughout (IsNoneOrNew publisher.now) (S.seen site.old) (S.seen site.new) }
         ensures there { IsTrue (S.seen site.old).told → IsSettled IsThere (S.seen site.old) → RestsThroughout (IsImage (S.seen site.old)) (S.seen site.old) (S.seen site.new) }
+        ensures attached { IsTrue (S.seen site.old).told → attaches_in (S.seen site.new).happened ≡ attaches_in (S.seen site.old).happened }
         ensures stays { DiskStays (S.seen site.old) (S.seen site.new) }
         ensures steady { OnOk result ((S.seen site.new).disk_faults ≡ (S.seen site.old).disk_faults) }
         ensures cause { IfErr result (CreateCause (S.seen site.old) (S.seen site.new)) }
@@ -53,6 +55,7 @@ fn make_new<S: Site>(site: &mut S, snapshot: &[u8]) -> Result<(), Failed>
     ensures files { IsTrue (S.seen site.old).told → OnOk result (AreNamed snapshot.now (S.seen site.new).files) }
     ensures settled { IsTrue (S.seen site.old).told → OnOk result (IsSettled (AreNamed snapshot.now) (S.seen site.new)) }
     ensures moments { IsTrue (S.seen site.old).told → IsSettled HasNoRoot (S.seen site.old) → RestsThroughout (IsNoneOrNewOf snapshot.now) (S.seen site.old) (S.seen site.new) }
+    ensures attached { IsTrue (S.seen site.old).told → attaches_in (S.seen site.new).happened ≡ attaches_in (S.seen site.old).happened }
     ensures stays { DiskStays (S.seen site.old) (S.seen site.new) }
     ensures steady { OnOk result ((S.seen site.new).disk_faults ≡ (S.seen site.old).disk_faults) }
     ensures cause { OnErr result (Rose (S.seen site.old).disk_faults (S.seen site.new).disk_faults) }

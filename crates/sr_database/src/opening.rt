@@ -9,6 +9,7 @@ ghost use Rattle.sr_site.specs.Causes.{DiskStays};
 ghost use Rattle.sr_site.specs.Files.{bytes_of};
 ghost use Rattle.sr_site.specs.Images.{IsImage, IsSettled, RestsThroughout};
 ghost use Rattle.sr_standing.specs.Generations.{snapshot_of, log_of};
+ghost use Rattle.sr_standing.specs.Items.{attaches_in};
 ghost use Rattle.sr_standing.specs.Standing.{StandsFor};
 ghost use Rattle.sr_database.specs.Causes.{OpenCause, IsDiskOrMemory};
 ghost use Rattle.sr_database.specs.Openings.{SyncedAlone, ReadAlone, BeginsWithByte, named_by, AreInForce, RootCause, IsWhole, HasRefused, ShapeRefusal, ShapeCause, BaseCause, LogCause};
@@ -42,6 +43,7 @@ impl Database {
             → IfOk result (λ db. IsDatabase db publisher es (S.seen site.new)) × IfErr result IsDiskOrMemory }
         ensures files { IsTrue (S.seen site.old).told → (S.seen site.new).files ≡ (S.seen site.old).files }
         ensures moments { IsTrue (S.seen site.old).told → RestsThroughout (IsImage (S.seen site.old)) (S.seen site.old) (S.seen site.new) }
+        ensures attached { IsTrue (S.seen site.old).told → attaches_in (S.seen site.new).happened ≡ attaches_in (S.seen site.old).happened }
         ensures stays { DiskStays (S.seen site.old) (S.seen site.new) }
         ensures steady { OnOk result ((S.seen site.new).disk_faults ≡ (S.seen site.old).disk_faults) }
         ensures cause { IfErr result (OpenCause (S.seen site.old) (S.seen site.new)) }

@@ -1,5 +1,5 @@
 -- A change fits exactly where its rows may come, go, or become one another in its table.
-use Rattle.std.proofs.Common.{◌≡◌, ◌↔◌, Bool, true, false, cond, List, [], ◌∷◌, ◌++◌, length, Option, Some, None, Result, Ok, Err, IfOk, IsTrue, bytes_eq, refl, sym, ap, subst, ◌∙◌}
+use Rattle.std.proofs.Common.{◌≡◌, ◌↔◌, Bool, true, false, cond, List, [], ◌∷◌, ◌++◌, length, Option, Some, None, Result, Ok, Err, IfOk, bytes_eq, refl, sym, ap, subst, ◌∙◌}
 use Rattle.std.specs.FinMap as map_of
 use Rattle.std.specs.List.{find as find_in}
 use Rattle.sr_base.specs.declared.value.Value.{Value as Cell}
@@ -186,16 +186,6 @@ pub no_row_told : (catalog : Lists) (rows new : RowMap) (c : Change) → Differs
 unfolding ChangeTold
 no_row_told catalog rows new c differs old now = absurd (differs (old ∙ sym now))
 
--- one that is tried
-pub change_made : (catalog : Lists) (rows new : RowMap) (c : Change) (changes : List Change) → IsFitChange catalog rows c → changes ≡ c ∷ []
-    → new ≡ applied catalog changes rows → ChangeTold catalog rows c new true
-unfolding ChangeTold
-change_made catalog rows new c changes fit one is = (fit, is ∙ ap (λ (l : List Change). applied catalog l rows) one)
-
-pub change_unfit : (catalog : Lists) (rows new : RowMap) (c : Change) → ¬ (IsFitChange catalog rows c) → ChangeTold catalog rows c new false
-unfolding ChangeTold
-change_unfit catalog rows new c never = never
-
 -- changes one after the other
 pub changes_append : (catalog : Lists) (rows : RowMap) (xs ys : List Change)
     → ChangesFit catalog rows (xs ++ ys) ↔ (ChangesFit catalog rows xs × ChangesFit catalog (applied catalog xs rows) ys)
@@ -224,17 +214,6 @@ changes_keep catalog rows mid changes told fits so t =
     let h : Tells (ChangesFit catalog rows changes) (mid ≡ applied catalog changes rows) true =
     subst (λ (b : Bool). Tells (ChangesFit catalog rows changes) (mid ≡ applied catalog changes rows) b) so t in
     subst (λ (m : RowMap). RowsFit catalog m) (sym h.1) (fitting_changes_keep catalog rows changes fits h.0)
-
--- whether they fit is told
-fits_as : (catalog : Lists) (rows mid : RowMap) (changes : List Change) (told : Bool) → ChangesTold catalog rows changes mid told
-    → IsTrue told ↔ ChangesFit catalog rows changes
-unfolding ChangesTold
-fits_as catalog rows mid changes true t = (λ e. t.0, λ f. refl)
-fits_as catalog rows mid changes false t = (λ e. cc, λ f. absurd (t f))
-
-pub told_fits : {E : Type 0} (catalog : Lists) (rows mid : RowMap) (changes : List Change) (r : Result Bool E)
-    → IfOk r (λ told. ChangesTold catalog rows changes mid told) → IfOk r (λ told. IsTrue told ↔ ChangesFit catalog rows changes)
-told_fits catalog rows mid changes r h = ok_as r (λ told. fits_as catalog rows mid changes told) h
 
 -- ---- changes one after the other
 

@@ -1,5 +1,5 @@
 -- Entries by their kinds: the recorded ones that they are taken to mean.
-use Rattle.std.proofs.Common.{◌≡◌, ◌↔◌, ℕ, Bool, true, false, List, map, IsTrue, refl, ap, subst}
+use Rattle.std.proofs.Common.{◌≡◌, ◌↔◌, ℕ, Bool, true, false, List, map, IsTrue, refl, sym, ap, subst}
 use Rattle.std.specs.List.{AllByRecursion}
 use Rattle.sr_base.specs.declared.offset.Offset.{Offset}
 use Rattle.sr_base.specs.declared.value.Value.{Value as Cell}
@@ -20,7 +20,7 @@ use Rattle.sr_logform.specs.declared.outcome.Outcome.{Outcome}
 use Rattle.sr_fold.specs.Answers.{Tells, TellsOne}
 use Rattle.sr_fold.specs.Readings.{FitsAs}
 use Rattle.sr_fold.specs.Deeds.{DoFit}
-use Rattle.sr_fold.specs.Parts.{IsTextOf, RunsHere, IsPassedOn, after_run}
+use Rattle.sr_fold.specs.Parts.{IsTextOf, RunsToo, IsPassedOn, after_run}
 
 -- ---- Own
 
@@ -116,36 +116,38 @@ pass_of s users only text changes (pass us o statement cs) f =
 pass_of s users only text changes (note u what) f = let e = f.is in cc
 
 pub pass_told : (s after : State) (users : List Name) (text : List ℕ) (changes : List Change) (told : Bool) → AllByRecursion (Knows s) users
-    → TellsOne (RunsHere s text changes) (after_run s changes) after told → TellsOne (FitsAs s (entries.Pass users false text changes)) (next s) after told
+    → TellsOne (RunsToo s text changes) (after_run s changes) after told → TellsOne (FitsAs s (entries.Pass users false text changes)) (next s) after told
 unfolding FitsState next
 pass_told s after users text changes true known h = (
   pass users false h.0 changes,
   record {
-    is = ap (λ (t : List ℕ). entries.Pass users false t changes) h.1.stands.prints.prints;
-    meant = (h.1.stands.prints.normal, h.1.stands.is_kind);
-    fits = (known, h.1.fit, h.1.accepted);
+    is = ap (λ (t : List ℕ). entries.Pass users false t changes) h.1.runs.stands.prints.prints;
+    meant = (h.1.runs.stands.prints.normal, h.1.runs.stands.is_kind);
+    fits = (known, h.1.runs.fit, h.1.runs.accepted, h.1.may);
   },
   h.2,
 )
 pass_told s after users text changes false known h = λ r f.
     let p = pass_of s users false text changes r f in
-    h p.1.0 (record { stands = p.1.2; accepted = p.1.3.2; fit = p.1.3.1 })
+    h p.1.0 (record { runs = record { stands = p.1.2; accepted = p.1.3.2; fit = p.1.3.1 }; may = p.1.3.3 })
 
-pub only_told : (s after : State) (users : List Name) (text : List ℕ) (changes : List Change) (told : Bool) → AllByRecursion (Knows s) users
-    → TellsOne (IsPassedOn s text changes) (λ _. s) after told → TellsOne (FitsAs s (entries.Pass users true text changes)) (next s) after told
+pub only_told : (s : State) (users : List Name) (text : List ℕ) (changes : List Change) (told : Bool) → AllByRecursion (Knows s) users
+    → IsTrue told ↔ ((statement : Stmt) × IsPassedOn text changes statement) → TellsOne (FitsAs s (entries.Pass users true text changes)) (next s) s told
 unfolding FitsState next
-only_told s after users text changes true known h = (
-  pass users true h.0 changes,
-  record {
-    is = ap (λ (t : List ℕ). entries.Pass users true t changes) h.1.stands.prints.prints;
-    meant = (h.1.stands.prints.normal, h.1.stands.is_kind);
-    fits = (known, h.1.fit, tt);
-  },
-  h.2,
-)
-only_told s after users text changes false known h = λ r f.
+only_told s users text changes true known h =
+    let passed = h.0 refl in (
+      pass users true passed.0 changes,
+      record {
+        is = ap (λ (t : List ℕ). entries.Pass users true t changes) passed.1.stands.prints.prints;
+        meant = (passed.1.stands.prints.normal, passed.1.stands.is_kind);
+        fits = (known, subst (λ (l : List Change). ChangesFit s.catalog s.rows l) (sym passed.1.none) tt, tt, passed.1.none);
+      },
+      refl,
+    )
+only_told s users text changes false known h = λ r f.
     let p = pass_of s users true text changes r f in
-    h p.1.0 (record { stands = p.1.2; fit = p.1.3.1 })
+    let no = h.1 (p.1.0, record { stands = p.1.2; none = p.1.3.3 }) in
+    cc
 
 pub pass_unknown : (s after : State) (users : List Name) (only : Bool) (text : List ℕ) (changes : List Change) → ¬ (AllByRecursion (Knows s) users)
     → TellsOne (FitsAs s (entries.Pass users only text changes)) (next s) after false

@@ -1,17 +1,16 @@
 -- What calls answer, as their callers answer it.
-use Rattle.std.proofs.Common.{◌≡◌, ◌↔◌, ℕ, Bool, true, false, List, [], ◌∷◌, Option, Some, None, IfSome, Result, IfOk, IsTrue, refl, sym, ap, subst, ◌∙◌}
+use Rattle.std.proofs.Common.{◌≡◌, ◌↔◌, ℕ, Bool, true, false, not, List, [], ◌∷◌, length, Option, Some, None, IfSome, Result, IfOk, IsTrue, refl, sym, ap, subst, ◌∙◌}
+use Rattle.std.specs.Prelude.{◌==◌}
+use Rattle.std.proofs.lemmas.Bool.{eqb-true}
+use Rattle.std.proofs.lemmas.List.{nil_from_length}
 use Rattle.std.specs.List.{AllByRecursion}
-use Rattle.std.specs.Option.{is_some}
 use Rattle.sr_base.specs.declared.offset.Offset.{Offset}
 use Rattle.sr_base.specs.declared.value.Value.{Value as Cell}
 use Rattle.sr_ast.specs.Statements.{is_ddl, is_carried}
 use Rattle.sr_ast.specs.declared.stmt.Stmt.{Stmt}
 use Rattle.sr_book.specs.Entries.{Name}
 use Rattle.sr_book.specs.declared.note.Note.{Note}
-use Rattle.sr_exec.specs.Conditions.{RowsFit}
-use Rattle.sr_exec.specs.FittingChanges.{IsFitChange, ChangesFit}
-use Rattle.sr_exec.specs.Statements.{key_of, table_named}
-use Rattle.sr_history.specs.Fitting.{Knows, IsAccepted}
+use Rattle.sr_history.specs.Fitting.{Knows, IsAccepted, MayHaveChanges}
 use Rattle.sr_history.specs.Folds.{State, with_statement}
 use Rattle.sr_history.specs.Recorded.{IsNoExec, IsSet}
 use Rattle.sr_logform.specs.declared.change.Change.{Change}
@@ -28,35 +27,13 @@ use Rattle.sr_parse.specs.Prints.{Prints}
 use Rattle.sr_parse.proofs.Prints.{prints_once}
 use Rattle.sr_rows.specs.Marks.{Marked, RowMap}
 use Rattle.sr_schema.specs.Catalogs.{Lists}
-use Rattle.sr_schema.specs.declared.table.Table.{Table}
-use Rattle.sr_fold.specs.Movements.{Differs, OutcomeDiffers, MayCome, IsThere, MayBecome, KeyWhere}
+use Rattle.sr_fold.specs.Movements.{Differs, OutcomeDiffers}
 use Rattle.sr_fold.specs.Parts.{IsTextOf, IsOneOrNone}
 use Rattle.sr_fold.specs.Readings.{state_in}
-use Rattle.sr_fold.specs.Told.{ChangesTold, ConflictTold, StatementTold, RunTold, PassedTold, OpTold, OpsTold, EntryTold}
-use Rattle.sr_fold.proofs.Changing.{ok_as, comes, goes, becomes}
+use Rattle.sr_fold.specs.Told.{ChangesTold, ConflictTold, StatementTold, RunTold, PassRunTold, PassedTold, OpTold, OpsTold, EntryTold}
+use Rattle.sr_fold.proofs.Changing.{ok_as}
 use Rattle.sr_fold.proofs.Meant.{own_told, taken_told, taken_unknown, ddl_of, ddl_told, pass_told, pass_unknown, only_told, sync_told, note_told}
 use Rattle.sr_fold.proofs.Taking.{plain_told, run_told, met_told, no_set, clash_told}
-
--- ---- changes
-
-found_as : (P Q : Type 0) (key : List Cell) (found : Option (List Cell)) → P ↔ Q → KeyWhere Q key found → IsTrue (is_some found) ↔ P
-found_as P Q key None same h = (λ e. cc, λ p. absurd (h (same.0 p)))
-found_as P Q key (Some k) same h = (λ e. same.1 h.0, λ p. refl)
-
-pub insert_fits : (catalog : Lists) (rows : RowMap) (c : Change) (table : Table) (after : List Cell) (found : Option (List Cell))
-    → RowsFit catalog rows → table_named catalog c.table ≡ Some table → c.before ≡ None → c.after ≡ Some after
-    → KeyWhere (MayCome table after rows) (key_of table.key after) found → IsTrue (is_some found) ↔ IsFitChange catalog rows c
-insert_fits catalog rows c table after found fit named none some h = found_as _ _ _ found (comes catalog rows c table fit named after none some) h
-
-pub remove_fits : (catalog : Lists) (rows : RowMap) (c : Change) (table : Table) (before : List Cell) (found : Option (List Cell))
-    → RowsFit catalog rows → table_named catalog c.table ≡ Some table → c.before ≡ Some before → c.after ≡ None
-    → KeyWhere (IsThere table before rows) (key_of table.key before) found → IsTrue (is_some found) ↔ IsFitChange catalog rows c
-remove_fits catalog rows c table before found fit named some none h = found_as _ _ _ found (goes catalog rows c table fit named before some none) h
-
-pub replace_fits : (catalog : Lists) (rows : RowMap) (c : Change) (table : Table) (before after : List Cell) (found : Option (List Cell))
-    → RowsFit catalog rows → table_named catalog c.table ≡ Some table → c.before ≡ Some before → c.after ≡ Some after
-    → KeyWhere (MayBecome table before after rows) (key_of table.key after) found → IsTrue (is_some found) ↔ IsFitChange catalog rows c
-replace_fits catalog rows c table before after found fit named old now h = found_as _ _ _ found (becomes catalog rows c table fit named before after old now) h
 
 -- ---- texts
 
@@ -159,23 +136,63 @@ module _ (catalog : Lists) (rows : Marked) (after : Lists) (new : Marked) where
       let u : ChangesTold catalog rows.rows changes mid false = subst (λ (b : Bool). ChangesTold catalog rows.rows changes mid b) unfit t in
       λ s r. u r.fit
 
+-- ---- what is passed on
+
+not_none : (changes : List Change) → false ≡ (length changes == 0) → ¬ (changes ≡ [])
+not_none changes some none = let no : false ≡ true = some ∙ ap (λ (l : List Change). length l == 0) none in cc
+
+is_none : (changes : List Change) → true ≡ (length changes == 0) → changes ≡ []
+is_none changes none = nil_from_length changes (eqb-true (length changes) 0 (sym none))
+
+pub none_beside : (statement : Stmt) (changes : List Change) → true ≡ (length changes == 0) → IsTrue true ↔ MayHaveChanges false statement changes
+none_beside statement changes none = (λ e ddl. is_none changes none, λ may. refl)
+
+pub some_beside : (statement : Stmt) (changes : List Change) (ddl : Bool) → ddl ≡ is_ddl statement → false ≡ (length changes == 0)
+    → IsTrue (not ddl) ↔ MayHaveChanges false statement changes
+some_beside statement changes true is some = (λ e. absurd (let no : false ≡ true = e in cc), λ may. absurd (not_none changes some (may (sym is))))
+some_beside statement changes false is some = (λ e ddl. absurd (let no : false ≡ true = is ∙ ddl in cc), λ may. refl)
+
+pub passed_wrong : (s after : State) (text : List ℕ) (changes : List Change) → ((statement : Stmt) → ¬ (IsTextOf is_carried text statement))
+    → PassRunTold s text changes after false
+unfolding PassRunTold
+passed_wrong s after text changes never = λ statement r. never statement r.runs.stands
+
+-- changes that may not stand beside it
+pub beside_not : (s after : State) (text : List ℕ) (changes : List Change) (statement : Stmt) → IsTextOf is_carried text statement
+    → ¬ (MayHaveChanges false statement changes) → PassRunTold s text changes after false
+unfolding PassRunTold
+beside_not s after text changes statement is never = λ x r.
+    never (subst (λ (y : Stmt). MayHaveChanges false y changes) (text_once is_carried text x statement r.runs.stands is) r.may)
+
+beside_as : (s after : State) (text : List ℕ) (changes : List Change) (statement : Stmt) (told : Bool) → IsTextOf is_carried text statement
+    → MayHaveChanges false statement changes → RunTold s text changes after told → PassRunTold s text changes after told
+unfolding RunTold PassRunTold
+beside_as s after text changes statement true is may t = (
+  t.0,
+  record { runs = t.1; may = subst (λ (y : Stmt). MayHaveChanges false y changes) (text_once is_carried text statement t.0 is t.1.stands) may },
+  t.2,
+)
+beside_as s after text changes statement false is may t = λ x r. t x r.runs
+
+pub beside_ok : {E : Type 0} (s after : State) (text : List ℕ) (changes : List Change) (statement : Stmt) (r : Result Bool E) → IsTextOf is_carried text statement
+    → MayHaveChanges false statement changes → IfOk r (λ told. RunTold s text changes after told) → IfOk r (λ told. PassRunTold s text changes after told)
+beside_ok s after text changes statement r is may h = ok_as r (λ told. beside_as s after text changes statement told is may) h
+
 -- ---- what is passed on alone
 
-module _ (catalog : Lists) (rows : Marked) where
-  passed_as : (text : List ℕ) (changes : List Change) (statement : Stmt) (told : Bool) → IsTextOf is_carried text statement
-      → IsTrue told ↔ ChangesFit catalog rows.rows changes → PassedTold (state_in catalog rows) text changes told
-  unfolding PassedTold
-  passed_as text changes statement true is same = (statement, record { stands = is; fit = same.0 refl }, refl)
-  passed_as text changes statement false is same = λ s p. let so = same.1 p.fit in cc
+-- it has changes
+pub changes_beside : (text : List ℕ) (changes : List Change) → false ≡ (length changes == 0) → PassedTold text changes false
+unfolding PassedTold
+changes_beside text changes some = (λ e. absurd (let no : false ≡ true = e in cc), λ p. absurd (not_none changes some p.1.none))
 
-  pub passed_ok : {E : Type 0} (text : List ℕ) (changes : List Change) (statement : Stmt) (r : Result Bool E) → IsTextOf is_carried text statement
-      → IfOk r (λ told. IsTrue told ↔ ChangesFit catalog rows.rows changes) → IfOk r (λ told. PassedTold (state_in catalog rows) text changes told)
-  passed_ok text changes statement r is h = ok_as r (λ told. passed_as text changes statement told is) h
+pub text_of_none : (text : List ℕ) (changes : List Change) → ((statement : Stmt) → ¬ (IsTextOf is_carried text statement)) → PassedTold text changes false
+unfolding PassedTold
+text_of_none text changes never = (λ e. absurd (let no : false ≡ true = e in cc), λ p. absurd (never p.0 p.1.stands))
 
-  pub passed_wrong : (text : List ℕ) (changes : List Change) → ((statement : Stmt) → ¬ (IsTextOf is_carried text statement))
-      → PassedTold (state_in catalog rows) text changes false
-  unfolding PassedTold
-  passed_wrong text changes never = λ statement p. never statement p.stands
+pub passed_alone : (text : List ℕ) (changes : List Change) (statement : Stmt) → true ≡ (length changes == 0) → IsTextOf is_carried text statement
+    → PassedTold text changes true
+unfolding PassedTold
+passed_alone text changes statement none is = (λ e. (statement, record { stands = is; none = is_none changes none }), λ p. refl)
 
 -- ---- ops
 
@@ -229,21 +246,19 @@ unfolding EntryTold
 taken_by_unknown s after user at ops never = taken_unknown s after user at ops never
 
 pub run_passed_ok : {E : Type 0} (s after : State) (users : List Name) (only : Bool) (text : List ℕ) (changes : List Change) (r : Result Bool E) → only ≡ false
-    → AllByRecursion (Knows s) users → IfOk r (λ told. RunTold s text changes after told) → IfOk r (λ told. EntryTold s (entries.Pass users only text changes) after told)
-unfolding RunTold EntryTold
+    → AllByRecursion (Knows s) users → IfOk r (λ told. PassRunTold s text changes after told) → IfOk r (λ told. EntryTold s (entries.Pass users only text changes) after told)
+unfolding PassRunTold EntryTold
 run_passed_ok s after users only text changes r here known h =
     subst (λ (b : Bool). IfOk r (λ told. EntryTold s (entries.Pass users b text changes) after told)) (sym here)
     (ok_as r (λ told. pass_told s after users text changes told known) h)
 
-pub only_passed_ok : {E : Type 0} (catalog : Lists) (rows new : Marked) (users : List Name) (only : Bool) (text : List ℕ) (changes : List Change) (r : Result Bool E)
-    → only ≡ true → AllByRecursion (Knows (state_in catalog rows)) users → new ≡ rows
-    → IfOk r (λ told. PassedTold (state_in catalog rows) text changes told)
-    → IfOk r (λ told. EntryTold (state_in catalog rows) (entries.Pass users only text changes) (state_in catalog new) told)
+pub only_passed_ok : {E : Type 0} (s : State) (users : List Name) (only : Bool) (text : List ℕ) (changes : List Change) (r : Result Bool E)
+    → only ≡ true → AllByRecursion (Knows s) users → IfOk r (λ told. PassedTold text changes told)
+    → IfOk r (λ told. EntryTold s (entries.Pass users only text changes) s told)
 unfolding PassedTold EntryTold
-only_passed_ok catalog rows new users only text changes r there known same h =
-    subst (λ (b : Bool). IfOk r (λ told. EntryTold (state_in catalog rows) (entries.Pass users b text changes) (state_in catalog new) told)) (sym there)
-    (subst (λ (m : Marked). IfOk r (λ told. EntryTold (state_in catalog rows) (entries.Pass users true text changes) (state_in catalog m) told)) (sym same)
-    (ok_as r (λ told. only_told (state_in catalog rows) (state_in catalog rows) users text changes told known) h))
+only_passed_ok s users only text changes r there known h =
+    subst (λ (b : Bool). IfOk r (λ told. EntryTold s (entries.Pass users b text changes) s told)) (sym there)
+    (ok_as r (λ told. only_told s users text changes told known) h)
 
 pub passed_to_unknown : (s after : State) (users : List Name) (only : Bool) (text : List ℕ) (changes : List Change) → ¬ (AllByRecursion (Knows s) users)
     → EntryTold s (entries.Pass users only text changes) after false

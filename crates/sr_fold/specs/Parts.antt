@@ -1,5 +1,5 @@
 -- Parts of an entry: the statement of a text, what runs here, a conflict, and the values of named columns.
-use Rattle.std.specs.Prelude.{ℕ, Bool, cond, IsTrue, List, [], ◌∷◌, ◌++◌, Option, Some, None, bytes_eq}
+use Rattle.std.specs.Prelude.{◌≡◌, ℕ, Bool, false, cond, IsTrue, List, [], ◌∷◌, ◌++◌, Option, Some, None, bytes_eq}
 use Rattle.std.specs.List.{AllByRecursion}
 use Rattle.sr_base.specs.declared.value.Kind.{Kind}
 use Rattle.sr_base.specs.declared.value.Value.{Value as Cell}
@@ -8,7 +8,7 @@ use Rattle.sr_ast.specs.declared.stmt.Stmt.{Stmt}
 use Rattle.sr_book.specs.Entries.{Name}
 use Rattle.sr_dates.specs.Fitting.{fitted}
 use Rattle.sr_exec.specs.FittingChanges.{ChangesFit}
-use Rattle.sr_history.specs.Fitting.{IsAccepted, IsInsertion, AreNamedRows}
+use Rattle.sr_history.specs.Fitting.{IsAccepted, IsInsertion, MayHaveChanges, AreNamedRows}
 use Rattle.sr_history.specs.Folds.{State, with_changes, with_statement}
 use Rattle.sr_logform.specs.declared.change.Change.{Change}
 use Rattle.sr_parse.specs.Prints.{Prints}
@@ -37,10 +37,15 @@ pub record RunsHere (s : State) (text : List ℕ) (changes : List Change) (state
 abbrev pub after_run : State → List Change → Stmt → State
 after_run s changes statement = with_statement statement (with_changes changes s)
 
--- such a statement that does not run here
-pub record IsPassedOn (s : State) (text : List ℕ) (changes : List Change) (statement : Stmt) : Type 0 where
+-- such a statement that is passed on too: its changes may stand beside it
+pub record RunsToo (s : State) (text : List ℕ) (changes : List Change) (statement : Stmt) : Type 0 where
+  pub runs : RunsHere s text changes statement
+  pub may : MayHaveChanges false statement changes
+
+-- such a statement that does not run here: it has no changes
+pub record IsPassedOn (text : List ℕ) (changes : List Change) (statement : Stmt) : Type 0 where
   pub stands : IsTextOf is_carried text statement
-  pub fit : ChangesFit s.catalog s.rows changes
+  pub none : changes ≡ []
 
 -- a conflict of a Set of a table's row: the triggers insert, both rows are those of the key that it names, and all of this fits
 pub record ConflictFits (catalog : Lists) (rows : RowMap) (table : Name) (key : List (Name × Cell)) (inserts : List Change) (before after : List Cell) : Type 0 where

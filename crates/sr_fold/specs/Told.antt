@@ -1,5 +1,5 @@
 -- What is told of changes, statements, ops and entries, each in one word: it fits, and this is what it leaves; or it does not fit.
-use Rattle.std.specs.Prelude.{◌≡◌, ℕ, Bool, List, [], ◌∷◌, ◌++◌}
+use Rattle.std.specs.Prelude.{◌≡◌, ◌↔◌, ℕ, Bool, IsTrue, List, [], ◌∷◌, ◌++◌}
 use Rattle.sr_base.specs.declared.value.Value.{Value as Cell}
 use Rattle.sr_ast.specs.declared.stmt.Stmt.{Stmt}
 use Rattle.sr_book.specs.Entries.{Name}
@@ -17,7 +17,7 @@ use Rattle.sr_schema.specs.Catalogs.{Lists}
 use Rattle.sr_fold.specs.Answers.{Tells, TellsOne}
 use Rattle.sr_fold.specs.Deeds.{DoesFit, DoFit}
 use Rattle.sr_fold.specs.Movements.{change_of}
-use Rattle.sr_fold.specs.Parts.{RunsHere, after_run, IsPassedOn, ConflictFits}
+use Rattle.sr_fold.specs.Parts.{RunsHere, RunsToo, after_run, IsPassedOn, ConflictFits}
 use Rattle.sr_fold.specs.Readings.{FitsAs}
 
 -- one change: it fits, and these are the rows with it
@@ -41,9 +41,13 @@ StatementTold s statement after told = Tells (IsAccepted s statement) (after ≡
 unfoldable pub RunTold : State → List ℕ → List Change → State → Bool → Type 0
 RunTold s text changes after told = TellsOne (RunsHere s text changes) (after_run s changes) after told
 
+-- a text that is passed on and runs here, with its changes
+unfoldable pub PassRunTold : State → List ℕ → List Change → State → Bool → Type 0
+PassRunTold s text changes after told = TellsOne (RunsToo s text changes) (after_run s changes) after told
+
 -- a text that is passed on alone, with its changes: nothing comes of it here
-unfoldable pub PassedTold : State → List ℕ → List Change → Bool → Type 0
-PassedTold s text changes told = TellsOne (IsPassedOn s text changes) (λ _. s) s told
+unfoldable pub PassedTold : List ℕ → List Change → Bool → Type 0
+PassedTold text changes told = IsTrue told ↔ ((statement : Stmt) × IsPassedOn text changes statement)
 
 -- an op that was taken, with its outcome
 unfoldable pub OpTold : State → Op → Outcome → State → Bool → Type 0

@@ -7,9 +7,8 @@ ghost use Rattle.std.specs.Option.{option_copied};
 ghost use Rattle.std.specs.List.{AllByRecursion};
 ghost use Rattle.sr_exec.specs.Applying.{with_row, without_row};
 ghost use Rattle.sr_exec.specs.Conditions.{RowsFit};
-ghost use Rattle.sr_exec.specs.FittingChanges.{IsFitChange, ChangesFit};
 ghost use Rattle.sr_exec.specs.Statements.{key_of as key_at};
-ghost use Rattle.sr_rows.specs.Steps.{at_mark, GoesOn};
+ghost use Rattle.sr_rows.specs.Steps.{at_mark};
 ghost use Rattle.sr_fold.specs.Answers.{Tells};
 ghost use Rattle.sr_fold.specs.Movements.{Differs, change_of, MayCome, IsThere, MayBecome, KeyWhere};
 ghost use Rattle.sr_fold.specs.Told.{ChangeTold, ChangesTold};
@@ -18,11 +17,9 @@ use crate::fitting::row_fits;
 use crate::keys::{is_key, is_row, key_of};
 use sr_base::{Copied, Key, Name, NoMemory, Row};
 use sr_catalog::{Catalog, Table};
-use sr_exec::apply;
 use sr_logform::Change;
 use sr_rows::Rows;
 use std::alloc::Global;
-use std::slice;
 
 /// Whether the changes fit, one after the other, and if so the rows with them.
 #[tactic(auto, using(crate::proofs::Changing::changes_begin, crate::proofs::Changing::changes_on, crate::proofs::Changing::changes_end, crate::proofs::Changing::change_keeps))]
@@ -91,90 +88,6 @@ pub(crate) fn go_on_row(
     match catalog.table(name) {
         None => Ok(false),
         Some(table) => replace(alloc, table, rows, before, after),
-    }
-}
-
-/// Whether the changes fit, one after the other. The rows are as they were.
-///
-/// Each is made for a look at those behind it, and all are taken back.
-#[tactic(auto, using(crate::proofs::Marking::undone, crate::proofs::Changing::told_fits))]
-pub(crate) fn are_fit(
-    alloc: Global,
-    catalog: &Catalog,
-    rows: &mut Rows,
-    changes: &[Change],
-) -> Result<bool, NoMemory>
-    requires rows { RowsFit catalog.now rows.old.rows }
-    requires fresh { rows.old ≡ at_mark rows.old.rows }
-    requires differ { AllByRecursion Differs changes.now }
-    ensures told { IfOk result (λ told. IsTrue told ↔ ChangesFit catalog.now rows.old.rows changes.now) }
-    ensures same { rows.new ≡ rows.old }
-{
-    let told = try_changes(alloc, catalog, rows, changes);
-    rows.undo();
-    told
-}
-
-/// Whether the changes fit, with those made that do.
-#[tactic(auto, using(crate::proofs::Changing::changes_begin, crate::proofs::Changing::changes_on, crate::proofs::Changing::changes_end, crate::proofs::Changing::change_keeps))]
-fn try_changes(
-    alloc: Global,
-    catalog: &Catalog,
-    rows: &mut Rows,
-    changes: &[Change],
-) -> Result<bool, NoMemory>
-    requires rows { RowsFit catalog.now rows.old.rows }
-    requires differ { AllByRecursion Differs changes.now }
-    ensures told { IfOk result (λ told. ChangesTold catalog.now rows.old.rows changes.now rows.new.rows told) }
-    ensures on { GoesOn rows.old rows.new }
-{
-    let mut left = changes;
-    'changes: while let Some((change, rest)) = left.split_first() {
-        if !try_change(alloc, catalog, rows, change)? {
-            return Ok(false);
-        }
-        left = rest;
-    }
-    Ok(true)
-}
-
-/// Whether one change fits, and if so it is made.
-#[tactic(auto, using(crate::proofs::Changing::change_made, crate::proofs::Changing::change_unfit))]
-fn try_change(
-    alloc: Global,
-    catalog: &Catalog,
-    rows: &mut Rows,
-    change: &Change,
-) -> Result<bool, NoMemory>
-    requires rows { RowsFit catalog.now rows.old.rows }
-    requires differ { Differs change.now }
-    ensures told { IfOk result (λ told. ChangeTold catalog.now rows.old.rows change.now rows.new.rows told) }
-    ensures on { GoesOn rows.old rows.new }
-{
-    if !is_fit(alloc, catalog, rows, change)? {
-        return Ok(false);
-    }
-    apply(alloc, catalog, rows, slice::from_ref(change))?;
-    Ok(true)
-}
-
-/// Whether one change fits.
-#[tactic(auto, using(crate::proofs::Changing::no_table))]
-fn is_fit(alloc: Global, catalog: &Catalog, rows: &Rows, change: &Change) -> Result<bool, NoMemory>
-    requires rows { RowsFit catalog.now rows.now.rows }
-    requires differ { Differs change.now }
-    ensures fits { IfOk result (λ fits. IsTrue fits ↔ IsFitChange catalog.now rows.now.rows change.now) }
-{
-    let Some(table) = catalog.table(&change.table) else {
-        return Ok(false);
-    };
-    match (&change.before, &change.after) {
-        (None, None) => Ok(false),
-        (None, Some(after)) => Ok(free_key(alloc, table, rows, after)?.is_some()),
-        (Some(before), None) => Ok(held_key(alloc, table, rows, before)?.is_some()),
-        (Some(before), Some(after)) => {
-            Ok(kept_key(alloc, table, rows, before, after)?.is_some())
-        }
     }
 }
 

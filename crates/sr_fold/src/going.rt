@@ -14,7 +14,7 @@ ghost use Rattle.sr_fold.specs.Readings.{state_in, FitsAs};
 ghost use Rattle.sr_fold.specs.Told.{StatementTold, EntryTold};
 
 use crate::changes::go_on_changes;
-use crate::ops::{go_on_ops, go_on_run, is_passed_on};
+use crate::ops::{go_on_ops, go_on_passed, is_passed_on};
 use crate::statements::{accepts, ddl_statement, do_statement};
 use crate::users::{knows, knows_all};
 use sr_ast::Stmt;
@@ -29,8 +29,8 @@ use std::alloc::Global;
 /// It fits where both rows of each change have one key, each row before is the one that is held, each row after fits its table, the text of
 /// a Ddl is that of one statement on the catalog and the text of a Pass and of an Exec that ran that of one statement which passthrough carries, just as
 /// it prints, such a statement is accepted where it runs here (by the catalog, and an INSERT, UPDATE or DELETE by the rows that it meets too), each user is
-/// granted, and a conflict stands beside a Set alone, with rows under the key that the Set names. Otherwise it does not, and then catalog and rows are good
-/// for nothing; nor are they where there was no memory.
+/// granted, a Pass has changes only where its statement is one on rows that ran here, and a conflict stands beside a Set alone, with rows under the key that
+/// the Set names. Otherwise it does not, and then catalog and rows are good for nothing; nor are they where there was no memory.
 ///
 /// A change takes one look-up of its table, one key, one look-up of its row and one change of the rows, in logarithmic time; a text the time of reading it,
 /// and an INSERT, UPDATE or DELETE that runs here that of executing it.
@@ -195,7 +195,7 @@ fn go_on_pass(
         return Ok(false);
     }
     if only {
-        return is_passed_on(alloc, catalog, rows, text, changes);
+        return is_passed_on(alloc, text, changes);
     }
-    go_on_run(alloc, catalog, rows, text, changes)
+    go_on_passed(alloc, catalog, rows, text, changes)
 }

@@ -1,20 +1,21 @@
 //! Whether ops that were taken fit with their outcomes, one after the other, and the state that they leave.
 
-ghost use Rattle.std.specs.Prelude.{◌≡◌, ℕ, IfOk, List};
+ghost use Rattle.std.specs.Prelude.{◌≡◌, ◌↔◌, ℕ, false, IfOk, IsTrue, List};
 ghost use Rattle.std.specs.List.{AllByRecursion};
 ghost use Rattle.sr_ast.specs.Statements.{is_carried};
 ghost use Rattle.sr_exec.specs.Conditions.{RowsFit};
+ghost use Rattle.sr_history.specs.Fitting.{MayHaveChanges};
 ghost use Rattle.sr_logform.specs.declared.outcome.Outcome.{Outcome as AnOutcome};
 ghost use Rattle.sr_rows.specs.Steps.{at_mark};
 ghost use Rattle.sr_fold.specs.Movements.{Differs, OutcomeDiffers};
 ghost use Rattle.sr_fold.specs.Parts.{IsTextOf};
 ghost use Rattle.sr_fold.specs.Readings.{state_in};
-ghost use Rattle.sr_fold.specs.Told.{RunTold, PassedTold, OpTold, OpsTold};
+ghost use Rattle.sr_fold.specs.Told.{RunTold, PassRunTold, PassedTold, OpTold, OpsTold};
 
-use crate::changes::{are_fit, go_on_changes};
+use crate::changes::go_on_changes;
 use crate::conflicts::go_on_conflict;
 use crate::statements::{accepts, carried_statement, do_statement};
-use sr_ast::Stmt;
+use sr_ast::{Stmt, is_ddl};
 use sr_base::{NoMemory, Row, Text};
 use sr_catalog::Catalog;
 use sr_logform::{Change, Op, Outcome};
@@ -180,24 +181,73 @@ fn go_on_both(
     Ok(true)
 }
 
-/// Whether a statement that is carried, but does not run here, stands with changes that fit. Nothing changes.
+/// Whether a statement that is passed on and runs here is accepted, and its changes fit and may stand beside it, and if so the state behind both.
 #[tactic(auto, using(crate::proofs::Told::passed_wrong))]
-pub(crate) fn is_passed_on(
+pub(crate) fn go_on_passed(
     alloc: Global,
-    catalog: &Catalog,
+    catalog: &mut Catalog,
     rows: &mut Rows,
     text: &Text,
     changes: &[Change],
 ) -> Result<bool, NoMemory>
-    requires rows { RowsFit catalog.now rows.old.rows }
+    requires rows { RowsFit catalog.old rows.old.rows }
     requires fresh { rows.old ≡ at_mark rows.old.rows }
     requires differ { AllByRecursion Differs changes.now }
-    ensures told { IfOk result (λ told. PassedTold (state_in catalog.now rows.old) text.now changes.now told) }
-    ensures same { rows.new ≡ rows.old }
+    ensures told { IfOk result (λ told. PassRunTold (state_in catalog.old rows.old) text.now changes.now (state_in catalog.new rows.new) told) }
+    ensures fresh { rows.new ≡ at_mark rows.new.rows }
 {
     let Some(stmt) = carried_statement(alloc, text)? else {
         return Ok(false);
     };
+    let told = go_on_beside(alloc, catalog, rows, &stmt, changes);
     drop(stmt);
-    are_fit(alloc, catalog, rows, changes)
+    told
+}
+
+/// Whether changes may stand beside a statement that is passed on, and both fit, and if so the state behind both.
+#[tactic(auto, using(crate::proofs::Told::beside_ok))]
+fn go_on_beside(
+    alloc: Global,
+    catalog: &mut Catalog,
+    rows: &mut Rows,
+    stmt: &Stmt,
+    changes: &[Change],
+) -> Result<bool, NoMemory>
+    requires rows { RowsFit catalog.old rows.old.rows }
+    requires fresh { rows.old ≡ at_mark rows.old.rows }
+    requires differ { AllByRecursion Differs changes.now }
+    ensures told { (text : List ℕ) → IsTextOf is_carried text stmt.now
+        → IfOk result (λ told. PassRunTold (state_in catalog.old rows.old) text changes.now (state_in catalog.new rows.new) told) }
+    ensures fresh { rows.new ≡ at_mark rows.new.rows }
+{
+    if !may_have_changes(stmt, changes) {
+        return Ok(false);
+    }
+    go_on_both(alloc, catalog, rows, stmt, changes)
+}
+
+/// Whether changes may stand beside a statement that is passed on and runs here: none do beside one on the catalog.
+#[tactic(auto, using(crate::proofs::Told::none_beside, crate::proofs::Told::some_beside))]
+fn may_have_changes(stmt: &Stmt, changes: &[Change]) -> bool
+    ensures may { IsTrue result ↔ MayHaveChanges false stmt.now changes.now }
+{
+    if changes.is_empty() {
+        return true;
+    }
+    !is_ddl(stmt)
+}
+
+/// Whether a text is that of a statement which passthrough carries, and has no changes: what is for others only makes none here.
+#[tactic(auto, using(crate::proofs::Told::changes_beside, crate::proofs::Told::text_of_none))]
+pub(crate) fn is_passed_on(alloc: Global, text: &Text, changes: &[Change]) -> Result<bool, NoMemory>
+    ensures told { IfOk result (λ told. PassedTold text.now changes.now told) }
+{
+    if !changes.is_empty() {
+        return Ok(false);
+    }
+    let Some(stmt) = carried_statement(alloc, text)? else {
+        return Ok(false);
+    };
+    drop(stmt);
+    Ok(true)
 }

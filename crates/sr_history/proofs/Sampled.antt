@@ -448,11 +448,11 @@ fits5 = (
 
 fits6 : FitsState s5 e6
 unfolding FitsState refusal first_fault drop_table_causes
-fits6 = ((refl, tt), tt, record { catalog = refl; rows = tt })
+fits6 = ((refl, tt), tt, record { catalog = refl; rows = tt }, λ ddl. refl)
 
 fits7 : FitsState s6 e7
 unfolding FitsState
-fits7 = ((refl, tt), tt, tt)
+fits7 = ((refl, tt), tt, tt, refl)
 
 fits8 : FitsState s6 e8
 unfolding FitsState

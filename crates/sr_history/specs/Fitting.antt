@@ -1,7 +1,8 @@
 -- Which entry fits which state, and which histories may stand in a log.
-use Rattle.std.specs.Prelude.{◌≡◌, ⊤, ℕ, ◌+◌, ◌≤◌, ◌^◌, Bool, true, false, cond, List, [], ◌∷◌, length, map, Option, Some, None, IsSome, Result, Ok, Err, slice_get, bytes_eq}
+use Rattle.std.specs.Prelude.{◌≡◌, ⊤, ℕ, ◌+◌, ◌≤◌, ◌^◌, Bool, true, false, cond, List, [], ◌∷◌, length, map, Option, Some, None, IsSome, IsTrue, Result, Ok, Err, slice_get, bytes_eq}
 use Rattle.std.specs.List.{AllByRecursion}
 use Rattle.sr_base.specs.declared.value.Value.{Value as Cell}
+use Rattle.sr_ast.specs.Statements.{is_ddl}
 use Rattle.sr_ast.specs.declared.stmt.Stmt.{Stmt}
 use Rattle.sr_ast.specs.declared.stmt.Stmt.TheVariants as stmt
 use Rattle.sr_book.specs.Entries.{Name}
@@ -115,13 +116,21 @@ abbrev pub IsAcceptedPass : State → Bool → Stmt → Type 0
 IsAcceptedPass s true statement = ⊤
 IsAcceptedPass s false statement = IsAccepted s statement
 
--- what an entry asks of the state: its changes fit, its statement is accepted, its users are granted
+-- the changes of a Pass are those of a statement on rows that ran here: there are none where it is for the users only, and none of a statement
+-- on the catalog
+abbrev pub MayHaveChanges : Bool → Stmt → List Change → Type 0
+MayHaveChanges true statement changes = changes ≡ []
+MayHaveChanges false statement changes = IsTrue (is_ddl statement) → changes ≡ []
+
+-- what an entry asks of the state: its changes fit, its statement is accepted, its users are granted; and a Pass has no changes where nothing can
+-- have made them
 unfoldable pub FitsState : State → Recorded → Type 0
 FitsState s (own changes) = ChangesFit s.catalog s.rows changes
 FitsState s (taken user at dones) = Knows s user × DonesFit s dones
 FitsState s (ddl statement) = IsAccepted s statement
 FitsState s (sync user tables) = Knows s user
 FitsState s (pass users only statement changes) = AllByRecursion (Knows s) users × ChangesFit s.catalog s.rows changes × IsAcceptedPass s only statement
+    × MayHaveChanges only statement changes
 FitsState s (note user what) = Knows s user
 
 -- an entry may stand in the log in this state and behind this offset: it is meant, has a spelling that is no longer than its kind may

@@ -1,18 +1,25 @@
 -- What an attached site and an opened database are, from what their calls leave.
-use Rattle.std.proofs.Common.{◌≡◌, Bool, true, false, List, [], ◌∷◌, ◌++◌, ℕ, refl, sym, ap, ◌∙◌, subst, inl, inr, append-nil}
-use Rattle.std.specs.Prelude.{IsTrue}
+use Rattle.std.proofs.Common.{◌≡◌, Bool, true, false, List, [], ◌∷◌, ◌++◌, ℕ, refl, sym, ap, ◌∙◌, subst, inl, inr}
+use Rattle.std.specs.Prelude.{IsTrue, Result, map}
+use Rattle.sr_ast.specs.declared.stmt.Stmt.{Stmt}
 use Rattle.sr_book.specs.Entries.{Name}
-use Rattle.sr_database.specs.Databases.{IsOf, IsOfSome, IsHeld, IsDatabase, HasDatabase}
+use Rattle.sr_database.specs.Databases.{IsOf, IsOfSome, IsDatabase, HasDatabase}
 use Rattle.sr_database.specs.Fresh.{IsNoneOrNew, IsThere}
 use Rattle.sr_database.specs.Views.{View}
 use Rattle.sr_history.specs.Recorded.{Recorded}
-use Rattle.sr_site.specs.Causes.{DiskStays, Rose}
+use Rattle.sr_site.specs.Causes.{DiskStays}
 use Rattle.sr_site.specs.Files.{Files}
-use Rattle.sr_site.specs.Growing.{all_of_it, throughout_each}
-use Rattle.sr_site.specs.Happenings.{Happening, Grows, IsMoment, Throughout, attached}
+use Rattle.sr_site.specs.Growing.{throughout_each}
+use Rattle.sr_site.specs.Happenings.{Happening, IsMoment, Throughout, attached}
 use Rattle.sr_site.specs.Images.{MayLeave, IsImage, IsSettled, RestsThroughout}
 use Rattle.sr_site.specs.Seen.{Seen}
-use Rattle.sr_standing.specs.Standing.{StandsFor, StandsAs}
+use Rattle.sr_script.specs.Acts.{entries_of}
+use Rattle.sr_session.specs.Runs.{RanScript}
+use Rattle.sr_session.specs.declared.fault.SessionFault.{SessionFault}
+use Rattle.sr_site.specs.Streams.{Output}
+use Rattle.sr_standing.specs.Items.{commit, attaches_in}
+use Rattle.sr_standing.specs.Standing.{StandsFor}
+use Rattle.sr_standing.proofs.Going.{told_attaches}
 use Rattle.sr_run.specs.Attaching.{Attaches}
 use Rattle.sr_run.specs.Making.{IsGuarded, IsMade}
 use Rattle.sr_run.specs.Outside.{IsAttached, IsAttachTried}
@@ -29,15 +36,23 @@ tried_refused name before now attaches = inr attaches.happened
 attached_at : (name : List ℕ) (before now : List Happening) → now ≡ attached name [] true ∷ before → IsMoment (attached name [] true ∷ before) now
 attached_at name before now is = subst (λ (l : List Happening). IsMoment (attached name [] true ∷ before) l) (sym is) (inl refl)
 
-pub attached_on : (name : List ℕ) (before middle now : Seen) → Attaches name true before middle → DiskStays middle now → IsAttached name before now
-attached_on name before middle now attaches stays told = stays.grows (attached name [] true ∷ before.happened) (attached_at name before.happened middle.happened (attaches.happened told))
+-- nothing was attached from the one moment to the other
+abbrev pub AttachesStay : Seen → Seen → Type 0
+AttachesStay before now = IsTrue before.told → attaches_in now.happened ≡ attaches_in before.happened
 
-pub tried_on : (name : List ℕ) (before middle now : Seen) → Attaches name true before middle → DiskStays middle now → IsAttachTried name before now
-tried_on name before middle now attaches stays = inl (attached_on name before middle now attaches stays)
+pub attached_on : (name : List ℕ) (before middle now : Seen) → Attaches name true before middle → DiskStays middle now → AttachesStay middle now → IsAttached name before now
+attached_on name before middle now attaches stays same told = record {
+  first = stays.grows (attached name [] true ∷ before.happened) (attached_at name before.happened middle.happened (attaches.happened told));
+  once = same (told_on before middle attaches.stays told) ∙ ap attaches_in (attaches.happened told);
+}
+
+pub tried_on : (name : List ℕ) (before middle now : Seen) → Attaches name true before middle → DiskStays middle now → AttachesStay middle now → IsAttachTried name before now
+tried_on name before middle now attaches stays same = inl (attached_on name before middle now attaches stays same)
 
 -- it was attached, and nothing happened since
 pub tried_still : (name : List ℕ) (before now : Seen) → Attaches name true before now → IsAttachTried name before now
-tried_still name before now attaches = inl (λ told. attached_at name before.happened now.happened (attaches.happened told))
+tried_still name before now attaches =
+    inl (λ told. record { first = attached_at name before.happened now.happened (attaches.happened told); once = ap attaches_in (attaches.happened told) })
 
 -- an attached site has the images that it had
 image_same : (first : Files) (name : List ℕ) (done : Bool) (before now : List Happening) (image : Files) → now ≡ attached name [] done ∷ before → MayLeave first now image → MayLeave first before image
@@ -102,10 +117,10 @@ guarded_on name user before middle now attaches new there = record {
   there = λ told settled. images_on name before middle now told attaches (there (told_on before middle attaches.stays told) (settled_on IsThere name true before middle told attaches settled));
 }
 
-pub made : (name : List ℕ) (user : Name) (before middle now : Seen) → Attaches name true before middle → middle.disk_faults ≡ before.disk_faults → DiskStays middle now → now.disk_faults ≡ middle.disk_faults
+pub made : (name : List ℕ) (user : Name) (before middle now : Seen) → Attaches name true before middle → middle.disk_faults ≡ before.disk_faults → DiskStays middle now → AttachesStay middle now → now.disk_faults ≡ middle.disk_faults
     → (IsTrue middle.told → StandsFor user [] 0 now.files) → (IsTrue middle.told → IsSettled (StandsFor user [] 0) now) → (IsTrue middle.told → middle.files.root ≡ []) → IsMade name user before now
-made name user before middle now attaches steady stays still stands settled missing = record {
-  attached = attached_on name before middle now attaches stays;
+made name user before middle now attaches steady stays same still stands settled missing = record {
+  attached = attached_on name before middle now attaches stays same;
   missing = λ told. ap (λ (f : Files). f.root) (sym (attaches.files told)) ∙ missing (told_on before middle attaches.stays told);
   stands = λ told. stands (told_on before middle attaches.stays told);
   settled = λ told. settled (told_on before middle attaches.stays told);
@@ -138,14 +153,14 @@ history_of : (told : Bool) (view : View) (seen : Seen) → IsOfSome view → (Is
 history_of true view seen some has = let there = has refl in record { publisher = there.publisher; es = there.es; is = there.is.is; database = λ told. there.is }
 history_of false view seen some has = record { publisher = some.publisher; es = some.es; is = some.is; database = λ told. cc }
 
-pub opened : (name : List ℕ) (before middle now : Seen) (view : View) → Attaches name true before middle → middle.disk_faults ≡ before.disk_faults → DiskStays middle now → now.disk_faults ≡ middle.disk_faults
+pub opened : (name : List ℕ) (before middle now : Seen) (view : View) → Attaches name true before middle → middle.disk_faults ≡ before.disk_faults → DiskStays middle now → AttachesStay middle now → now.disk_faults ≡ middle.disk_faults
     → (IsTrue middle.told → now.files ≡ middle.files) → (IsTrue middle.told → RestsThroughout (IsImage middle) middle now) → IsOfSome view → (IsTrue middle.told → HasDatabase view now)
     → IsOpened name view before now
-opened name before middle now view attaches steady stays still same rests some has =
+opened name before middle now view attaches steady stays alone still same rests some has =
     let told_there : IsTrue before.told → IsTrue middle.told = told_on before middle attaches.stays in
     let history = history_of middle.told view now some has in
     record {
-      attached = attached_on name before middle now attaches stays;
+      attached = attached_on name before middle now attaches stays alone;
       steady = still ∙ steady;
       publisher = history.publisher;
       es = history.es;
@@ -166,7 +181,15 @@ guarded_still name user before now attaches = record {
 }
 
 -- what was attached once stays so
-pub tried_more : (name : List ℕ) (before middle now : Seen) → IsAttached name before middle → DiskStays middle now → IsAttachTried name before now
-tried_more name before middle now attached_there stays = inl (λ told. stays.grows (attached name [] true ∷ before.happened) (attached_there told))
+pub tried_more : (name : List ℕ) (before middle now : Seen) → DiskStays before middle → IsAttached name before middle → DiskStays middle now → AttachesStay middle now → IsAttachTried name before now
+tried_more name before middle now first attached_there stays same =
+    inl (λ told. record { first = stays.grows (attached name [] true ∷ before.happened) (attached_there told).first; once = same (told_on before middle first told) ∙ (attached_there told).once })
+
+-- a script that runs on a database attaches nothing
+pub ran_attaches : (old new : View) (before now : Seen) (written written' : Output) (statements : List Stmt) (result : Result ℕ SessionFault)
+    → RanScript old new before now written written' statements result → (IsTrue before.told → HasDatabase old before) → AttachesStay before now
+ran_attaches old new before now written written' statements result ran has told =
+    let there = has told in
+    told_attaches before now there.publisher there.es (map commit (entries_of ran.acts ++ ran.broken)) (ran.reached.went told there.publisher there.es there.is)
 
 pub ruleset attaching = (tried_refused, tried_still)

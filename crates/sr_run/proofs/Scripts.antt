@@ -1,10 +1,13 @@
 -- How `sql` ends, from how its steps do.
 use Rattle.std.proofs.Common.{◌≡◌, ℕ, List, refl, sym, subst, inl, inr}
 use Rattle.std.specs.Prelude.{Result, Ok, Err, OnOk, IfErr}
+use Rattle.std.specs.List.{AllByRecursion}
 use Rattle.sr_ast.specs.declared.stmt.Stmt.{Stmt}
 use Rattle.sr_database.specs.Views.{View}
 use Rattle.sr_database.specs.declared.fault.DatabaseFault.{DatabaseFault}
 use Rattle.sr_database.specs.declared.fault.DatabaseFault.TheVariants as store
+use Rattle.sr_grammar.specs.NormalForms.{IsNormal}
+use Rattle.sr_grammar.proofs.Closed.{written-normal}
 use Rattle.sr_site.specs.Seen.{Seen}
 use Rattle.sr_site.specs.Streams.{Input, Output}
 use Rattle.sr_run.specs.Outside.{outside}
@@ -67,3 +70,7 @@ stopped_after name before middle now input left output said view after statement
   fault_is = ran.fault_is;
   ran = record { opened = middle; view = view; view' = after; statements = statements; is = opened; script = script; ran = ran.ran };
 })
+
+-- each statement of a script that was read is in normal form
+pub script_normal : (old new : Input) (statements : List Stmt) → IsScript old new statements → AllByRecursion IsNormal statements
+script_normal old new statements script = written-normal script.text statements script.written

@@ -16,7 +16,7 @@ use Rattle.sr_session.specs.declared.fault.SessionFault.TheVariants as session
 use Rattle.sr_site.specs.Causes.{Rose}
 use Rattle.sr_site.specs.Seen.{Seen}
 use Rattle.sr_site.specs.Streams.{Output}
-use Rattle.sr_run.specs.Faults.{database_status, ddl_status, refusal_status, status_of}
+use Rattle.sr_run.specs.Faults.{status_of}
 use Rattle.sr_run.specs.Outside.{Outside}
 use Rattle.sr_run.specs.Making.{MakeCause}
 use Rattle.sr_run.specs.Running.{RanOn, Stopped, fault_of}

@@ -8,5 +8,4 @@ pub mod Running
 pub mod Runs
 pub mod Steps
 pub mod Streams
-pub mod Unknown
 pub mod Words

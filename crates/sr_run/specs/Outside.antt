@@ -1,8 +1,9 @@
 -- All that a run touches.
-use Rattle.std.specs.Prelude.{◌≡◌, ◌⊎◌, ℕ, Bool, true, false, List, [], ◌∷◌, IsTrue}
+use Rattle.std.specs.Prelude.{◌≡◌, ◌⊎◌, ℕ, true, false, List, [], ◌∷◌, IsTrue}
 use Rattle.sr_site.specs.Happenings.{IsMoment, attached}
 use Rattle.sr_site.specs.Seen.{Seen}
 use Rattle.sr_site.specs.Streams.{Input, Output}
+use Rattle.sr_standing.specs.Items.{attaches_in}
 
 pub record Outside : Type 0 where
   pub site : Seen
@@ -13,9 +14,13 @@ pub record Outside : Type 0 where
 abbrev pub outside : Seen → Input → Output → Outside
 outside site input output = record { site = site; input = input; output = output }
 
--- the first that happened is that the site was attached to the files of this name, without a mail folder
+-- the first that happened is that the site was attached to the files of this name, without a mail folder; and it was not attached again
+pub record AttachedOnce (name : List ℕ) (before now : Seen) : Type 0 where
+  pub first : IsMoment (attached name [] true ∷ before.happened) now.happened
+  pub once : attaches_in now.happened ≡ attached name [] true ∷ attaches_in before.happened
+
 abbrev pub IsAttached : List ℕ → Seen → Seen → Type 0
-IsAttached name before now = IsTrue before.told → IsMoment (attached name [] true ∷ before.happened) now.happened
+IsAttached name before now = IsTrue before.told → AttachedOnce name before now
 
 -- all that happened is that this was refused
 abbrev pub IsAttachRefused : List ℕ → Seen → Seen → Type 0

@@ -1,5 +1,5 @@
 -- What `sql` does.
-use Rattle.std.specs.Prelude.{◌≡◌, ◌⊎◌, ⊤, ℕ, ◌<◌, ◌≤◌, false, true, List, length, IsTrue, Result, Ok, Err}
+use Rattle.std.specs.Prelude.{◌≡◌, ◌⊎◌, ⊤, ℕ, ◌<◌, ◌≤◌, List, length, IsTrue, Result, Ok, Err}
 use Rattle.std.specs.Str.{IsUtf8}
 use Rattle.sr_ast.specs.declared.stmt.Stmt.{Stmt}
 use Rattle.sr_base.specs.Refusals.{IsNotUtf8}
@@ -23,7 +23,6 @@ use Rattle.sr_standing.specs.Damage.{IsMissing, IsDamagedAt}
 use Rattle.sr_standing.specs.Standing.{StandsAs}
 use Rattle.sr_run.specs.Limits.{most_script}
 use Rattle.sr_run.specs.Outside.{Outside, IsAttached, HasRead}
-use Rattle.sr_run.specs.Unknown.{has_synchronize, IsUnknownAt}
 use Rattle.sr_run.specs.declared.fault.Fault.{Fault}
 use Rattle.sr_run.specs.declared.fault.Fault.TheVariants.{Words, Database, Source, TooLong, Script, Statement, Sink}
 
@@ -43,22 +42,16 @@ pub record IsOpened (name : List ℕ) (view : View) (before now : Seen) : Type 0
   pub database : IsTrue before.told → IsDatabase view publisher es now
   pub untouched : IsUntouched before now
 
--- bytes are a script that can be run
-pub record IsRunnable (text : List ℕ) (statements : List Stmt) : Type 0 where
-  pub written : IsWritten text statements
-  pub known : has_synchronize statements ≡ false
-
--- the source held a script that can be run, and this is it
+-- the source held a script, and this is it
 pub record IsScript (old new : Input) (statements : List Stmt) : Type 0 where
   pub text : List ℕ
   pub read : HasRead old new text
   pub short : length text ≤ most_script
-  pub runnable : IsRunnable text statements
+  pub written : IsWritten text statements
 
--- bytes are no script: they are no UTF-8 from this byte on, or no script goes on with what begins there; or they are one with SYNCHRONIZE,
--- which is not there yet, and begins there
+-- bytes are no script: they are no UTF-8 from this byte on, or no script goes on with what begins there
 abbrev pub BreaksAt : List ℕ → ℕ → Type 0
-BreaksAt text at = IsNotUtf8 text (utf8.Byte at) ⊎ ((IsUtf8 text × IsRefusedAt text at) ⊎ IsUnknownAt text at)
+BreaksAt text at = IsNotUtf8 text (utf8.Byte at) ⊎ (IsUtf8 text × IsRefusedAt text at)
 
 -- what the source had left is no script
 pub record IsNoScript (old new : Input) (at : ℕ) : Type 0 where

@@ -1,5 +1,5 @@
 -- What one step of a run promises to the next.
-use Rattle.std.specs.Prelude.{◌≡◌, ℕ, List, Result, Ok, Err}
+use Rattle.std.specs.Prelude.{◌≡◌, ℕ, List, Ok, Err}
 use Rattle.sr_ast.specs.declared.stmt.Stmt.{Stmt}
 use Rattle.sr_database.specs.Views.{View}
 use Rattle.sr_session.specs.Runs.{RanScript}

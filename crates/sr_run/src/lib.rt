@@ -14,7 +14,6 @@ mod reading;
 mod reporting;
 mod running;
 mod stream;
-mod unknown;
 mod whole;
 mod words;
 

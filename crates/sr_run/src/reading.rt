@@ -1,12 +1,10 @@
-ghost use Rattle.std.specs.Prelude.{◌≡◌, true, IfOk, IfErr};
+ghost use Rattle.std.specs.Prelude.{IfOk, IfErr};
 ghost use Rattle.sr_grammar.specs.Meanings.{IsWritten};
-ghost use Rattle.sr_run.specs.Running.{IsRunnable, IsScript, BytesCause, ReadCause};
-ghost use Rattle.sr_run.specs.Unknown.{has_synchronize};
+ghost use Rattle.sr_run.specs.Running.{IsScript, BytesCause, ReadCause};
 
 use crate::fault::Fault;
 use crate::stream::{InputFault, read_all};
-use crate::unknown::{first_synchronize, has_synchronize};
-use sr_ast::{Script, Stmt};
+use sr_ast::Script;
 use sr_base::{NotUtf8, text_of};
 use sr_database::DatabaseFault;
 use sr_grammar::ParseFault;
@@ -28,45 +26,8 @@ pub fn read_script<I: Source>(alloc: Global, input: &mut I) -> Result<Script, Fa
     script_of(alloc, bytes.as_slice())
 }
 
-/// The script that bytes spell, where each of its statements is there already.
-fn script_of(alloc: Global, bytes: &[u8]) -> Result<Script, Fault>
-    ensures script { IfOk result (λ script. IsRunnable bytes.now script) }
-    ensures cause { IfErr result (BytesCause bytes.now) }
-{
-    match parsed(alloc, bytes) {
-        Ok(script) => runnable(alloc, bytes, script),
-        Err(fault) => Err(fault),
-    }
-}
-
-/// The script that was parsed, where each of its statements is there already.
-fn runnable(alloc: Global, bytes: &[u8], script: Script) -> Result<Script, Fault>
-    requires written { IsWritten bytes.now script }
-    ensures script { IfOk result (λ script. IsRunnable bytes.now script) }
-    ensures cause { IfErr result (BytesCause bytes.now) }
-{
-    if !has_synchronize(script.as_slice()) {
-        return Ok(script);
-    }
-    let fault = unknown_in(alloc, bytes, script.as_slice());
-    drop(script);
-    Err(fault)
-}
-
-/// The fault of a script that has SYNCHRONIZE.
-fn unknown_in(alloc: Global, bytes: &[u8], script: &[Stmt]) -> Fault
-    requires written { IsWritten bytes.now script.now }
-    requires has { has_synchronize script.now ≡ true }
-    ensures cause { BytesCause bytes.now result }
-{
-    match first_synchronize(alloc, bytes) {
-        Ok(at) => Fault::Script { at },
-        Err(_) => Fault::Database(DatabaseFault::Memory),
-    }
-}
-
 /// The script that bytes spell.
-fn parsed(alloc: Global, bytes: &[u8]) -> Result<Script, Fault>
+fn script_of(alloc: Global, bytes: &[u8]) -> Result<Script, Fault>
     ensures script { IfOk result (λ script. IsWritten bytes.now script) }
     ensures cause { IfErr result (BytesCause bytes.now) }
 {

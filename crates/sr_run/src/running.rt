@@ -1,9 +1,10 @@
 ghost use Rattle.std.specs.Prelude.{◌≡◌, [], true, ℕ, List, IsTrue, IfOk, IfErr, OnOk};
 ghost use Rattle.std.specs.List.{AllByRecursion};
 ghost use Rattle.sr_database.specs.Databases.{HasDatabase};
-ghost use Rattle.sr_session.specs.Ready.{IsKnown};
+ghost use Rattle.sr_grammar.specs.NormalForms.{IsNormal};
 ghost use Rattle.sr_site.specs.Causes.{DiskStays};
 ghost use Rattle.sr_site.specs.Seen.{Seen};
+ghost use Rattle.sr_standing.specs.Items.{attaches_in};
 ghost use Rattle.sr_run.specs.Outside.{outside, IsAttachTried};
 ghost use Rattle.sr_run.specs.Running.{IsOpened, IsUntouched, OpenedCause, RanWhole, Stopped, fault_of};
 ghost use Rattle.sr_run.specs.Steps.{RanToEnd, RanToFault};
@@ -46,10 +47,11 @@ fn run_on<S: Site, O: Sink>(
 ) -> Result<(), Fault>
     requires usable { database.old.log.usable ≡ true }
     requires pending { database.old.pending ≡ [] }
-    requires known { AllByRecursion IsKnown script.now }
+    requires normal { AllByRecursion IsNormal script.now }
     requires stands { IsTrue (S.seen site.old).told → HasDatabase database.old (S.seen site.old) }
     ensures done { OnOk result (RanToEnd database.old database.new (S.seen site.old) (S.seen site.new) (O.seen output.old) (O.seen output.new) script.now) }
     ensures stopped { IfErr result (RanToFault database.old database.new (S.seen site.old) (S.seen site.new) (O.seen output.old) (O.seen output.new) script.now) }
+    ensures attached { IsTrue (S.seen site.old).told → attaches_in (S.seen site.new).happened ≡ attaches_in (S.seen site.old).happened }
     ensures stays { DiskStays (S.seen site.old) (S.seen site.new) }
 {
     match run_script(alloc, database, site, script, output) {
@@ -59,7 +61,7 @@ fn run_on<S: Site, O: Sink>(
 }
 
 /// Reads the whole script and runs it on the database that was opened.
-#[tactic(auto, using(crate::proofs::Known::script_known))]
+#[tactic(auto, using(crate::proofs::Scripts::script_normal))]
 fn read_and_run<S: Site, I: Source, O: Sink>(
     alloc: Global,
     database: &mut Database,
@@ -72,6 +74,7 @@ fn read_and_run<S: Site, I: Source, O: Sink>(
     requires stands { IsTrue (S.seen site.old).told → HasDatabase database.old (S.seen site.old) }
     ensures done { (name : List ℕ) (before : Seen) → IsOpened name database.old before (S.seen site.old) → OnOk result (RanWhole name (outside before (I.seen input.old) (O.seen output.old)) (outside (S.seen site.new) (I.seen input.new) (O.seen output.new))) }
     ensures stopped { (name : List ℕ) (before : Seen) → IsOpened name database.old before (S.seen site.old) → IfErr result (Stopped name (outside before (I.seen input.old) (O.seen output.old)) (outside (S.seen site.new) (I.seen input.new) (O.seen output.new))) }
+    ensures attached { IsTrue (S.seen site.old).told → attaches_in (S.seen site.new).happened ≡ attaches_in (S.seen site.old).happened }
     ensures stays { DiskStays (S.seen site.old) (S.seen site.new) }
 {
     match read_script(alloc, input) {

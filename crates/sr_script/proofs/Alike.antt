@@ -1,5 +1,5 @@
 -- A row is one with itself.
-use Rattle.std.proofs.Common.{◌≡◌, true, List, ap, subst, ◌∙◌}
+use Rattle.std.proofs.Common.{◌≡◌, true, List, ap, subst}
 use Rattle.std.specs.Cmp.{tied_itself}
 use Rattle.std.specs.Ordering.{is_eq}
 use Rattle.sr_base.specs.Order.{key_cmp, key_cmp_total}

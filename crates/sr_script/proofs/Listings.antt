@@ -1,9 +1,9 @@
 -- The lines of rows.
-use Rattle.std.proofs.Common.{◌≡◌, ℕ, List, [], ◌∷◌, ◌++◌, map, length, codes, refl, sym, ap, ◌∙◌, append_assoc}
+use Rattle.std.proofs.Common.{◌≡◌, ℕ, List, [], ◌∷◌, ◌++◌, map, length, codes, sym, ap, ◌∙◌, append_assoc}
 use Rattle.std.proofs.lemmas.List.{append-nil}
 use Rattle.std.specs.Fmt.{decimal}
 use Rattle.sr_base.specs.declared.value.Value.{Value as Cell}
-use Rattle.sr_script.specs.Acts.{line, row, rows, row_text, line_of, end_after, text_from}
+use Rattle.sr_script.specs.Acts.{line, row, rows, row_text, text_from}
 use Rattle.sr_script.specs.Meaning.{listing}
 
 -- the lines of rows alone

@@ -4,4 +4,5 @@ pub mod Meaning
 pub mod Orders
 pub mod Refusals
 pub mod Scripts
+pub mod Synced
 pub mod Works

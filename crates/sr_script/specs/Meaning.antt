@@ -1,5 +1,5 @@
 -- What each statement of a script does.
-use Rattle.std.specs.Prelude.{ℕ, Bool, true, false, cond, List, [], ◌∷◌, ◌++◌, length, map, Option, Some, None, Result, Ok, Err}
+use Rattle.std.specs.Prelude.{Bool, true, false, List, [], ◌∷◌, ◌++◌, length, map, Option, Some, None, Result, Ok, Err}
 use Rattle.std.specs.Ordering.{is_lt}
 use Rattle.std.specs.declared.cmp.Ordering.{Ordering}
 use Rattle.sr_base.specs.declared.value.Value.{Value as Cell}
@@ -15,7 +15,7 @@ use Rattle.sr_ddl.specs.Subscriptions.{is_started}
 use Rattle.sr_exec.specs.Statements.{done}
 use Rattle.sr_exec.specs.declared.changes.Changes.{Changes}
 use Rattle.sr_history.specs.Folds.{State}
-use Rattle.sr_history.specs.Recorded.{Recorded, own, ddl, pass}
+use Rattle.sr_history.specs.Recorded.{Recorded, own, ddl, sync, pass}
 use Rattle.sr_logform.specs.declared.change.Change.{Change}
 use Rattle.sr_query.specs.Orders.{listed_cmp}
 use Rattle.sr_query.specs.Selecting.{selected}
@@ -25,6 +25,7 @@ use Rattle.sr_schema.specs.declared.fault.DdlFault.TheVariants.{Exists, Missing,
 use Rattle.sr_schema.specs.declared.fault.DmlFault.{DmlFault}
 use Rattle.sr_script.specs.Acts.{Act, commits, nothing, rolled_back, row, rows, region_begins, region_ends}
 use Rattle.sr_script.specs.Orders.{sorted_by}
+use Rattle.sr_script.specs.Synced.{views_of}
 use Rattle.sr_script.specs.Works.{Work, visible, closed, undone, behind, region_of}
 use Rattle.sr_script.specs.declared.refusal.Refusal.{Refusal}
 use Rattle.sr_script.specs.declared.refusal.Refusal.TheVariants.{Ddl, Dml}
@@ -211,9 +212,13 @@ abbrev pub on_users : Option Passthrough → Name → Stmt → Work → Stepped
 on_users None name s w = changed s w
 on_users (Some p) name s w = refused_in p name s w
 
--- SYNCHRONIZE is not among the statements of a script yet
+-- SYNCHRONIZE is one entry: what the subscription's user sees of the tables of its publication
+abbrev pub synchronized : SubscriptionRule → Work → Stepped
+synchronized r w = then_step (accepted w.state.catalog (stmt.Synchronize r)) (λ _. enters (sync r.user (views_of w.state r)) w)
+
+-- passthrough does not carry it
 abbrev pub on_views : Option Passthrough → SubscriptionRule → Work → Stepped
-on_views None r w = goes [] w
+on_views None r w = synchronized r w
 on_views (Some p) r w = refused_in p r.publication (stmt.Synchronize r) w
 
 -- a statement on rows

@@ -1,11 +1,12 @@
-//! Whether changes can be spelled in an entry.
+//! Whether changes and views can be spelled in an entry.
 
 ghost use Rattle.std.specs.Prelude.{◌≡◌, ◌<◌, ◌^◌, length, IsTrue, IfSome};
 ghost use Rattle.sr_base.specs.Fields.{IsListOf};
 ghost use Rattle.sr_base.specs.Values.{IsShort};
 ghost use Rattle.sr_logform.specs.Outcomes.{IsShortChange};
+ghost use Rattle.sr_script.specs.Synced.{IsShortView};
 
-use sr_base::{Row, Value};
+use sr_base::{Name, Row, Seq, Value};
 use sr_logform::Change;
 
 /// Whether changes can be spelled in an entry: fewer than 2^32 of them, each with two rows that differ, of fewer than 2^32 values of
@@ -21,6 +22,34 @@ pub fn are_short(changes: &[Change]) -> bool
         left = rest;
     }
     are_few(changes)
+}
+
+/// Whether views can be spelled in an entry: fewer than 2^32 tables, each with fewer than 2^32 rows of fewer than 2^32 values of fewer than
+/// 2^32 bytes. Those of SYNCHRONIZE always can; the test spares carrying that through every layer.
+pub fn are_short_views(views: &[(Name, Seq<Row>)]) -> bool
+    ensures short { IsTrue result → IsListOf IsShortView views.now }
+{
+    let mut left = views;
+    'views: while let Some(((_, rows), rest)) = left.split_first() {
+        if !are_short_rows(rows.as_slice()) {
+            return false;
+        }
+        left = rest;
+    }
+    are_few(views)
+}
+
+fn are_short_rows(rows: &[Row]) -> bool
+    ensures short { IsTrue result → IsListOf (IsListOf IsShort) rows.now }
+{
+    let mut left = rows;
+    'rows: while let Some((row, rest)) = left.split_first() {
+        if !is_short_row(row.values()) {
+            return false;
+        }
+        left = rest;
+    }
+    are_few(rows)
 }
 
 /// Whether there are fewer than 2^32.

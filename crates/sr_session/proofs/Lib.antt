@@ -11,5 +11,6 @@ pub mod Results
 pub mod Statements
 pub mod States
 pub mod Stretches
+pub mod Synced
 pub mod Taking
 pub mod Transactions

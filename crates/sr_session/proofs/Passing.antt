@@ -10,7 +10,7 @@ use Rattle.sr_exec.specs.FittingChanges.{ChangesFit}
 use Rattle.sr_exec.specs.Statements.{done}
 use Rattle.sr_exec.specs.declared.changes.Changes.{Changes}
 use Rattle.sr_exec.proofs.Applied.{statements_changes_fit}
-use Rattle.sr_history.specs.Fitting.{HasChanges, IsAcceptedPass}
+use Rattle.sr_history.specs.Fitting.{HasChanges, IsAcceptedPass, MayHaveChanges}
 use Rattle.sr_history.specs.Folds.{State}
 use Rattle.sr_history.specs.Recorded.{pass, IsDdl}
 use Rattle.sr_logform.specs.declared.change.Change.{Change}
@@ -33,10 +33,11 @@ use Rattle.sr_session.proofs.Quiet.{took_ok, took_stop}
 
 -- ---- what the entry of a statement that is passed on asks for
 
--- the changes fit, and the statement is accepted where it ran here
+-- the changes fit and may stand there, and the statement is accepted where it ran here
 pub record MayPass (s : State) (only : Bool) (statement : Stmt) (changes : List Change) : Type 0 where
   pub fit : ChangesFit s.catalog s.rows changes
   pub accepted : IsAcceptedPass s only statement
+  pub may : MayHaveChanges only statement changes
 
 without_ok : (meant : Result (Unit {0}) Refusal) (changes : List Change) → without_changes meant ≡ Ok changes → (meant ≡ Ok tt) × (changes ≡ [])
 without_ok (Ok done) changes is = (refl, let none : changes ≡ [] = cc in none)
@@ -46,9 +47,9 @@ no_changes_fit : (s : State) (changes : List Change) → changes ≡ [] → Chan
 no_changes_fit s changes none = subst (λ (l : List Change). ChangesFit s.catalog s.rows l) (sym none) tt
 
 pub catalog_passes : (s : State) (only : Bool) (statement : Stmt) (changes : List Change) → IsDdl statement → catalog_changes only s statement ≡ Ok changes → MayPass s only statement changes
-catalog_passes s true statement changes meant is = record { fit = no_changes_fit s changes (let none : changes ≡ [] = cc in none); accepted = tt }
+catalog_passes s true statement changes meant is = let none : changes ≡ [] = cc in record { fit = no_changes_fit s changes none; accepted = tt; may = none }
 catalog_passes s false statement changes meant is =
-    let parts = without_ok (accepted s.catalog statement) changes is in record { fit = no_changes_fit s changes parts.1; accepted = accepts s statement meant parts.0 }
+    let parts = without_ok (accepted s.catalog statement) changes is in record { fit = no_changes_fit s changes parts.1; accepted = accepts s statement meant parts.0; may = λ ddl. parts.1 }
 
 listed_ok : (meant : Result Changes DmlFault) (changes : List Change) → list_of (unless_dml meant) ≡ Ok changes → (found : Changes) × (meant ≡ Ok found) × (found.list ≡ changes)
 listed_ok (Ok found) changes is = (found, refl, let same : found.list ≡ changes = cc in same)
@@ -63,12 +64,13 @@ has_changes : (meant : Result Changes DmlFault) (found : Changes) → meant ≡ 
 has_changes meant found is = subst (λ (m : Result Changes DmlFault). HasChanges m) (sym is) tt
 
 pub rows_pass : (s : State) (only : Bool) (d : Dml) (changes : List Change) → RowsFit s.catalog s.rows → row_changes only s d ≡ Ok changes → MayPass s only (stmt.Dml d) changes
-rows_pass s true d changes fit is = record { fit = no_changes_fit s changes (let none : changes ≡ [] = cc in none); accepted = tt }
+rows_pass s true d changes fit is = let none : changes ≡ [] = cc in record { fit = no_changes_fit s changes none; accepted = tt; may = none }
 rows_pass s false d changes fit is =
     let parts = listed_ok (done s.catalog s.rows d) changes is in
     record {
       fit = subst (λ (l : List Change). ChangesFit s.catalog s.rows l) parts.2 (statements_changes_fit s.catalog s.rows d parts.0 fit parts.1);
       accepted = record { catalog = rows_not_refused s.catalog d; rows = has_changes (done s.catalog s.rows d) parts.0 parts.1 };
+      may = λ ddl. absurd (let no : false ≡ true = ddl in cc);
     }
 
 -- ---- what is done of it

@@ -10,7 +10,7 @@ use Rattle.sr_book.specs.Entries.{Name}
 use Rattle.sr_change.specs.Changes.{refusal}
 use Rattle.sr_ddl.specs.Users.{is_remote, passthrough_causes}
 use Rattle.sr_exec.specs.FittingChanges.{ChangesFit}
-use Rattle.sr_history.specs.Fitting.{Knows, FitsState, IsAcceptedPass}
+use Rattle.sr_history.specs.Fitting.{Knows, FitsState, IsAcceptedPass, MayHaveChanges}
 use Rattle.sr_history.specs.Folds.{State, next, state_from}
 use Rattle.sr_history.specs.Recorded.{Recorded, pass, IsCarried}
 use Rattle.sr_history.proofs.Granted.{stays_known}
@@ -47,11 +47,11 @@ use Rattle.sr_session.proofs.Catalogs.{none_refuses}
 
 -- ---- the users of a region are granted
 
-remote_known : (o : Option User) → is_remote o ≡ true → IsSome o
+pub remote_known : (o : Option User) → is_remote o ≡ true → IsSome o
 remote_known None is = absurd (let no : false ≡ true = is in cc)
 remote_known (Some u) is = refl
 
-not_not : (b : Bool) → not b ≡ false → b ≡ true
+pub not_not : (b : Bool) → not b ≡ false → b ≡ true
 not_not true is = refl
 not_not false is = absurd (let no : true ≡ false = is in cc)
 
@@ -91,21 +91,21 @@ all_names [] = tt
 all_names (n ∷ names) = (tt, all_names names)
 
 pub can_pass : (view : View) (region : Passthrough) (s : Stmt) (users : List Name) (text : List ℕ) (changes : List Change) → view.pending ≡ [] → AreUsers (committed view) (Some region) → IsCarried s
-    → ChangesFit view.catalog view.rows.marked changes → IsAcceptedPass (committed view) region.only s → users ≡ region.users → length region.users < 2 ^ 32
+    → ChangesFit view.catalog view.rows.marked changes → IsAcceptedPass (committed view) region.only s → MayHaveChanges region.only s changes → users ≡ region.users → length region.users < 2 ^ 32
     → text ≡ printed s → length text < 2 ^ 32 → IsListOf IsShortChange changes → CanCommit view (Pass users region.only text changes) (pass region.users region.only s changes)
 unfolding FitsState
-can_pass view region s users text changes none known carried fit fine users_is few text_is short short_changes = record {
+can_pass view region s users text changes none known carried fit fine may users_is few text_is short short_changes = record {
   is = ap (λ (t : List ℕ). Pass region.users region.only t changes) (sym text_is) ∙ ap (λ (ns : List Name). Pass ns region.only text changes) (sym users_is);
   meant = carried;
   short = (subst (λ (ns : List Name). AreLogUsers (λ name. ⊤) ns) (sym users_is) (record { items = (few, all_names region.users); distinct = known.1 }), short, short_changes);
-  follows = (none, (known.0, fit, fine));
+  follows = (none, (known.0, fit, fine, may));
 }
 
 pub can_pass_some : (view : View) (region : Passthrough) (s : Stmt) (users : List Name) (text : List ℕ) (changes : List Change) → view.pending ≡ [] → AreUsers (committed view) (Some region) → IsCarried s
-    → ChangesFit view.catalog view.rows.marked changes → IsAcceptedPass (committed view) region.only s → users ≡ region.users → length region.users < 2 ^ 32
+    → ChangesFit view.catalog view.rows.marked changes → IsAcceptedPass (committed view) region.only s → MayHaveChanges region.only s changes → users ≡ region.users → length region.users < 2 ^ 32
     → text ≡ printed s → length text < 2 ^ 32 → IsListOf IsShortChange changes → CanCommitSome view (Pass users region.only text changes)
-can_pass_some view region s users text changes none known carried fit fine users_is few text_is short short_changes =
-    record { r = pass region.users region.only s changes; can = can_pass view region s users text changes none known carried fit fine users_is few text_is short short_changes }
+can_pass_some view region s users text changes none known carried fit fine may users_is few text_is short short_changes =
+    record { r = pass region.users region.only s changes; can = can_pass view region s users text changes none known carried fit fine may users_is few text_is short short_changes }
 
 -- ---- a region begins, and ends
 

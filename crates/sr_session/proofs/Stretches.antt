@@ -5,6 +5,7 @@ use Rattle.std.specs.List.{AllByRecursion}
 use Rattle.std.proofs.lemmas.List.{append-nil}
 use Rattle.sr_ast.specs.declared.stmt.Passthrough.{Passthrough}
 use Rattle.sr_ast.specs.declared.stmt.Stmt.{Stmt}
+use Rattle.sr_grammar.specs.NormalForms.{IsNormal}
 use Rattle.sr_history.specs.Folds.{State}
 use Rattle.sr_history.specs.Recorded.{Recorded}
 use Rattle.sr_logform.specs.declared.change.Change.{Change}
@@ -21,7 +22,7 @@ use Rattle.sr_script.proofs.Joins.{text_from-append}
 use Rattle.sr_session.specs.Ends.{StoreEnd}
 use Rattle.sr_session.specs.Faults.{session_fault}
 use Rattle.sr_session.specs.Reached.{Reached}
-use Rattle.sr_session.specs.Ready.{AreUsers, IsKnown, IsReady, work_of}
+use Rattle.sr_session.specs.Ready.{AreUsers, IsReady, work_of}
 use Rattle.sr_session.specs.Running.{Under, Ran, RanStatements}
 use Rattle.sr_session.specs.Said.{IsFront, WroteFront, Said}
 use Rattle.sr_session.specs.Steps.{acts_in, Came, Took}
@@ -114,7 +115,7 @@ under_step old view new first seen now written taken lines lines' region region'
   said = λ told. came_said old view new first seen now written.taken taken.taken lines lines' under.acts took.acts [] under.reached took.came (under.said told);
   sink = under.sink;
   stays = under.stays;
-  known = under.known.1;
+  normal = under.normal.1;
 }
 
 -- its lines are written
@@ -132,7 +133,7 @@ under_flush old view first seen written taken taken' lines region all left under
   said = λ told. said_flush (text_from old.log.end under.acts) lines written.taken taken.taken taken'.taken (under.said told) (said (subst (λ b. IsTrue b) (sym under.stays.told) told));
   sink = same ∙ under.sink;
   stays = outputs_on written taken taken' under.stays stays;
-  known = under.known;
+  normal = under.normal;
 }
 
 -- ---- a statement that ends the script
@@ -280,8 +281,8 @@ ran_short old view first seen written taken lines region all left under = record
 -- ---- the script's beginning
 
 pub under_start : (view : View) (seen : Seen) (written : Output) (lines : List ℕ) (region : Option Passthrough) (all : List Stmt) → IsReady view seen → view.pending ≡ [] → region ≡ None → lines ≡ []
-    → AllByRecursion IsKnown all → Under view view seen seen written written lines region all all
-under_start view seen written lines region all ready none outside empty known = record {
+    → AllByRecursion IsNormal all → Under view view seen seen written written lines region all all
+under_start view seen written lines region all ready none outside empty normal = record {
   done = 0;
   count = omega arith;
   acts = [];
@@ -295,5 +296,5 @@ under_start view seen written lines region all ready none outside empty known = 
   said = λ told. record { written = []; new_is = sym (append-nil written.taken); all = sym empty };
   sink = refl;
   stays = record { told = refl; later = le_refl written.faults };
-  known = known;
+  normal = normal;
 }

@@ -1,10 +1,7 @@
 -- What a statement finds.
-use Rattle.std.specs.Prelude.{◌≡◌, ⊤, Bool, true, false, not, Option, Some, None, IsTrue}
+use Rattle.std.specs.Prelude.{◌≡◌, ⊤, true, Option, Some, None, IsTrue}
 use Rattle.std.specs.List.{AllByRecursion}
 use Rattle.sr_ast.specs.declared.stmt.Passthrough.{Passthrough}
-use Rattle.sr_ast.specs.declared.stmt.Stmt.{Stmt}
-use Rattle.sr_ast.specs.declared.stmt.Stmt.TheVariants as stmt
-use Rattle.sr_grammar.specs.NormalForms.{IsNormal}
 use Rattle.sr_history.specs.Fitting.{Knows}
 use Rattle.sr_history.specs.Folds.{State}
 use Rattle.sr_logform.specs.Rules.{AreDistinct}
@@ -27,29 +24,3 @@ pub record IsReady (view : View) (seen : Seen) : Type 0 where
   pub usable : view.log.usable ≡ true
   pub some : IsOfSome view
   pub stands : IsTrue seen.told → HasDatabase view seen
-
--- SYNCHRONIZE
-abbrev pub is_synchronize : Stmt → Bool
-is_synchronize (stmt.CreateTable t) = false
-is_synchronize (stmt.DropTable n) = false
-is_synchronize (stmt.CreatePublication p) = false
-is_synchronize (stmt.DropPublication n) = false
-is_synchronize (stmt.GrantRemote g) = false
-is_synchronize (stmt.GrantConsolidate g) = false
-is_synchronize (stmt.CreateSubscription r) = false
-is_synchronize (stmt.StartSubscription r) = false
-is_synchronize (stmt.StopSubscription r) = false
-is_synchronize (stmt.Synchronize r) = true
-is_synchronize (stmt.DropSubscription r) = false
-is_synchronize (stmt.CreateTrigger t) = false
-is_synchronize (stmt.DropTrigger n) = false
-is_synchronize (stmt.Dml d) = false
-is_synchronize (stmt.Select q) = false
-is_synchronize stmt.Commit = false
-is_synchronize stmt.Rollback = false
-is_synchronize (stmt.Passthrough p) = false
-is_synchronize stmt.PassthroughStop = false
-
--- a statement that a script may hold: in its normal form, and none that is not there yet
-abbrev pub IsKnown : Stmt → Type 0
-IsKnown s = IsNormal s × IsTrue (not (is_synchronize s))

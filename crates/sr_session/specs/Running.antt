@@ -3,6 +3,7 @@ use Rattle.std.specs.Prelude.{◌≡◌, ◌+◌, ⊤, ℕ, List, [], length, Op
 use Rattle.std.specs.List.{AllByRecursion}
 use Rattle.sr_ast.specs.declared.stmt.Passthrough.{Passthrough}
 use Rattle.sr_ast.specs.declared.stmt.Stmt.{Stmt}
+use Rattle.sr_grammar.specs.NormalForms.{IsNormal}
 use Rattle.sr_history.specs.Recorded.{Recorded}
 use Rattle.sr_database.specs.Views.{View, committed}
 use Rattle.sr_script.specs.Acts.{Act, text_from}
@@ -11,7 +12,7 @@ use Rattle.sr_site.specs.Seen.{Seen}
 use Rattle.sr_site.specs.Streams.{Output, OutputStays}
 use Rattle.sr_session.specs.Ends.{EndsAs, SinkEnd}
 use Rattle.sr_session.specs.Reached.{Reached}
-use Rattle.sr_session.specs.Ready.{AreUsers, IsKnown, IsReady, work_of}
+use Rattle.sr_session.specs.Ready.{AreUsers, IsReady, work_of}
 use Rattle.sr_session.specs.Said.{WroteFront, Said}
 use Rattle.sr_session.specs.declared.fault.SessionFault.{SessionFault}
 use Rattle.sr_session.specs.declared.fault.SessionFault.TheVariants.{Statement, Store, Sink, Memory}
@@ -29,7 +30,7 @@ pub record Under (old view : View) (first seen : Seen) (written taken : Output) 
   pub said : IsTrue written.told → Said (text_from old.log.end acts) lines written.taken taken.taken
   pub sink : taken.faults ≡ written.faults
   pub stays : OutputStays written taken
-  pub known : AllByRecursion IsKnown left
+  pub normal : AllByRecursion IsNormal left
 
 -- the number of statements, where it ended with the last
 abbrev pub counted : ℕ → Result (Unit {0}) SessionFault → Result ℕ SessionFault

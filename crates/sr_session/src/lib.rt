@@ -14,6 +14,7 @@ mod running;
 mod saying;
 mod session;
 mod step;
+mod synchronizing;
 mod transaction;
 
 pub use fault::SessionFault;

@@ -4,7 +4,7 @@ ghost use Rattle.std.specs.Prelude.{◌≡◌, [], true, ℕ, Option, Some, List
 ghost use Rattle.sr_ast.specs.declared.stmt.Stmt.TheVariants.{Dml as DmlStmt, Passthrough as PassthroughStmt};
 ghost use Rattle.sr_ast.specs.declared.stmt.Passthrough.{Passthrough as Region};
 ghost use Rattle.sr_exec.specs.FittingChanges.{ChangesFit};
-ghost use Rattle.sr_history.specs.Fitting.{IsAcceptedPass};
+ghost use Rattle.sr_history.specs.Fitting.{IsAcceptedPass, MayHaveChanges};
 ghost use Rattle.sr_history.specs.Recorded.{IsCarried, IsDdl, pass};
 ghost use Rattle.sr_database.specs.Databases.{IsOfSome};
 ghost use Rattle.sr_database.specs.Views.{committed};
@@ -117,6 +117,7 @@ fn pass<S: Site>(
     requires carried { IsCarried stmt.now }
     requires fit { ChangesFit db.old.catalog db.old.rows.marked changes }
     requires accepted { IsAcceptedPass (committed db.old) region.now.only stmt.now }
+    requires may { MayHaveChanges region.now.only stmt.now changes }
     ensures took { Took (enters (pass region.now.users region.now.only stmt.now changes) (work_of db.old (Some region.now))) db.old db.new (S.seen site.old) (S.seen site.new) lines.old.items lines.new.items (Some region.now) result }
 {
     if !are_few(region.users.as_slice()) || !are_short(changes.as_slice()) {

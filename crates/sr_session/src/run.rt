@@ -3,7 +3,7 @@
 ghost use Rattle.std.specs.Prelude.{◌≡◌, [], true, not, Err, IsTrue};
 ghost use Rattle.std.specs.List.{AllByRecursion};
 ghost use Rattle.sr_database.specs.Databases.{HasDatabase};
-ghost use Rattle.sr_session.specs.Ready.{IsKnown};
+ghost use Rattle.sr_grammar.specs.NormalForms.{IsNormal};
 ghost use Rattle.sr_session.specs.Running.{counted, IsNoSink};
 ghost use Rattle.sr_session.specs.Runs.{RanScript};
 ghost use Rattle.sr_session.specs.declared.fault.SessionFault.TheVariants.{Sink as sink_fault};
@@ -19,7 +19,7 @@ use std::alloc::Global;
 
 /// Runs a script, and answers the number of its statements.
 ///
-/// Each transaction and each statement on the catalog is one entry of the log; a statement in a passthrough region is one too. A refused
+/// Each transaction, each statement on the catalog and each SYNCHRONIZE is one entry of the log; a statement in a passthrough region is one too. A refused
 /// statement rolls the open transaction back and ends the script, and what was committed before it stands. A transaction that is open at the
 /// end is rolled back. Lines are kept in memory and written behind each COMMIT, and whenever 64 KiB of them are kept: a line that tells of an
 /// entry is written once that entry stands.
@@ -36,7 +36,7 @@ pub fn run_script<S: Site, O: Sink>(
 ) -> Result<u32, SessionFault>
     requires usable { db.old.log.usable ≡ true }
     requires pending { db.old.pending ≡ [] }
-    requires known { AllByRecursion IsKnown script.now }
+    requires normal { AllByRecursion IsNormal script.now }
     requires stands { IsTrue (S.seen site.old).told → HasDatabase db.old (S.seen site.old) }
     ensures ran { RanScript db.old db.new (S.seen site.old) (S.seen site.new) (O.seen sink.old) (O.seen sink.new) script.now result }
 {

@@ -2,9 +2,10 @@
 
 ghost use Rattle.std.specs.Prelude.{◌≡◌, ◌<◌, ◌^◌, [], length, None, IsTrue, IfErr, OnOk, OnErr};
 ghost use Rattle.std.specs.List.{AllByRecursion};
+ghost use Rattle.sr_grammar.specs.NormalForms.{IsNormal};
 ghost use Rattle.sr_site.specs.Causes.{Rose};
 ghost use Rattle.sr_site.specs.Streams.{OutputStays};
-ghost use Rattle.sr_session.specs.Ready.{IsReady, IsKnown};
+ghost use Rattle.sr_session.specs.Ready.{IsReady};
 ghost use Rattle.sr_session.specs.Running.{Ran, RanStatements};
 ghost use Rattle.sr_session.specs.Said.{WroteFront};
 ghost use Rattle.sr_session.specs.declared.fault.SessionFault.TheVariants.{Sink as sink_fault};
@@ -35,7 +36,7 @@ pub(crate) fn run_to_end<S: Site, O: Sink>(
     requires pending { db.old.pending ≡ [] }
     requires outside { session.old.region ≡ None }
     requires empty { session.old.lines.items ≡ [] }
-    requires known { AllByRecursion IsKnown statements.now }
+    requires normal { AllByRecursion IsNormal statements.now }
     requires few { length statements.now < 2 ^ 32 }
     ensures ran { Ran db.old db.new (S.seen site.old) (S.seen site.new) (O.seen sink.old) (O.seen sink.new) session.new.lines.items statements.now result }
 {
@@ -62,7 +63,7 @@ fn run_statements<S: Site, O: Sink>(
     requires pending { db.old.pending ≡ [] }
     requires outside { session.old.region ≡ None }
     requires empty { session.old.lines.items ≡ [] }
-    requires known { AllByRecursion IsKnown statements.now }
+    requires normal { AllByRecursion IsNormal statements.now }
     requires few { length statements.now < 2 ^ 32 }
     ensures ran { RanStatements db.old db.new (S.seen site.old) (S.seen site.new) (O.seen sink.old) (O.seen sink.new) session.new.lines.items session.new.region statements.now result }
 {

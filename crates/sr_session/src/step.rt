@@ -1,13 +1,13 @@
 //! One statement, by its kind.
 
-ghost use Rattle.std.specs.Prelude.{◌≡◌, true, not, ◌&&◌, IsTrue, OnOk};
+ghost use Rattle.std.specs.Prelude.{◌≡◌, true, ◌&&◌, OnOk};
 ghost use Rattle.sr_ast.specs.Statements.{is_carried, is_ddl};
-ghost use Rattle.sr_ast.specs.declared.stmt.Stmt.TheVariants.{Dml as DmlStmt, Passthrough as PassthroughStmt};
+ghost use Rattle.sr_ast.specs.declared.stmt.Stmt.TheVariants.{Dml as DmlStmt, Passthrough as PassthroughStmt, Synchronize as SynchronizeStmt};
 ghost use Rattle.sr_grammar.specs.NormalForms.{IsNormal};
 ghost use Rattle.sr_history.specs.Recorded.{IsCarried, IsDdl};
 ghost use Rattle.sr_database.specs.Views.{committed};
-ghost use Rattle.sr_script.specs.Meaning.{done_by, once_closed, on_catalog, on_rows, on_users, began, ended};
-ghost use Rattle.sr_session.specs.Ready.{IsReady, AreUsers, work_of, is_synchronize};
+ghost use Rattle.sr_script.specs.Meaning.{done_by, once_closed, on_catalog, on_rows, on_users, on_views, began, ended};
+ghost use Rattle.sr_session.specs.Ready.{IsReady, AreUsers, work_of};
 ghost use Rattle.sr_session.specs.Steps.{Took};
 
 use crate::catalog::change;
@@ -15,8 +15,9 @@ use crate::fault::StepFault;
 use crate::region::{begin, end, pass_change, pass_rows, refuse};
 use crate::rows::{execute, select};
 use crate::session::Session;
+use crate::synchronizing::synchronize;
 use crate::transaction::{close, commit, roll_back};
-use sr_ast::{Dml, Passthrough, Stmt};
+use sr_ast::{Dml, Passthrough, Stmt, SubscriptionRule};
 use sr_base::Name;
 use sr_database::Database;
 use sr_site::Site;
@@ -34,7 +35,6 @@ pub(crate) fn step<S: Site>(
     requires ready { IsReady db.old (S.seen site.old) }
     requires users { AreUsers (committed db.old) session.old.region }
     requires normal { IsNormal stmt.now }
-    requires known { IsTrue (not (is_synchronize stmt.now)) }
     ensures took { Took (done_by (work_of db.old session.old.region) stmt.now) db.old db.new (S.seen site.old) (S.seen site.new) session.old.lines.items session.new.lines.items session.new.region result }
     ensures users { OnOk result (AreUsers (committed db.new) session.new.region) }
 {
@@ -57,7 +57,7 @@ pub(crate) fn step<S: Site>(
         | Stmt::DropSubscription(_)
         | Stmt::CreateTrigger(_)
         | Stmt::DropTrigger(_) => on_catalog(alloc, db, site, session, stmt),
-        Stmt::Synchronize(_) => Err(StepFault::Memory),
+        Stmt::Synchronize(rule) => on_views(alloc, db, site, session, stmt, rule),
     }
 }
 
@@ -127,6 +127,28 @@ fn on_users<S: Site>(
     match &session.region {
         None => change(alloc, db, site, &mut session.lines, stmt),
         Some(region) => refuse(alloc, db, region, name, stmt),
+    }
+}
+
+/// SYNCHRONIZE: it commits the open transaction first, and in a region it is refused.
+fn on_views<S: Site>(
+    alloc: Global,
+    db: &mut Database,
+    site: &mut S,
+    session: &mut Session,
+    stmt: &Stmt,
+    rule: &SubscriptionRule,
+) -> Result<(), StepFault>
+    requires ready { IsReady db.old (S.seen site.old) }
+    requires users { AreUsers (committed db.old) session.old.region }
+    requires stmt { stmt.now ≡ SynchronizeStmt rule.now }
+    ensures took { let w = work_of db.old session.old.region in Took (once_closed w (on_views w.region rule.now)) db.old db.new (S.seen site.old) (S.seen site.new) session.old.lines.items session.new.lines.items session.new.region result }
+    ensures users { OnOk result (AreUsers (committed db.new) session.new.region) }
+{
+    close(alloc, db, site, &mut session.lines)?;
+    match &session.region {
+        None => synchronize(alloc, db, site, &mut session.lines, stmt, rule),
+        Some(region) => refuse(alloc, db, region, &rule.publication, stmt),
     }
 }
 

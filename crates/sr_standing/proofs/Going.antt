@@ -1,5 +1,5 @@
 -- A site goes through nothing, through one commit, through one put; and what a trail tells.
-use Rattle.std.proofs.Common.{◌≡◌, ◌⊎◌, ℕ, ◌+◌, ◌≤◌, Bool, List, [], ◌∷◌, ◌++◌, length, refl, sym, ◌∙◌, ap, subst, inl, inr, arith, append_assoc, length-append}
+use Rattle.std.proofs.Common.{◌≡◌, ◌⊎◌, ℕ, Bool, List, [], ◌∷◌, ◌++◌, length, refl, sym, ◌∙◌, ap, subst, inl, inr, arith, append_assoc, length-append}
 use Rattle.std.proofs.lemmas.List.{append-nil, append_cancel_left, append_cancel_right}
 use Rattle.sr_book.specs.Entries.{Name}
 use Rattle.sr_history.specs.Recorded.{Recorded}
@@ -7,15 +7,15 @@ use Rattle.sr_site.specs.Files.{Files}
 use Rattle.sr_site.specs.Happenings.{Happening, Throughout, attached, wrote, cut_to, synced, listed, fetched, sent, removed, mail_in}
 use Rattle.sr_site.specs.Images.{MayLeave, IsImage, IsSettled, RestsThroughout}
 use Rattle.sr_site.specs.Seen.{Seen}
-use Rattle.sr_standing.specs.Items.{Item, Letter, commit, put, commits, puts, puts_in, IsBetween, AreQuiet}
+use Rattle.sr_standing.specs.Items.{Item, Letter, commit, put, commits, puts, puts_in, attaches_in, IsBetween, AreQuiet}
 use Rattle.sr_standing.specs.Standing.{StandsAs}
-use Rattle.sr_standing.specs.Trails.{LacksLast, MayStandFor, HasBegun, IsOnTrail, AtEach, GoesThrough, Went}
+use Rattle.sr_standing.specs.Trails.{MayStandFor, HasBegun, IsOnTrail, AtEach, Went}
 
 -- ---- quiet happenings
 
 quiet_images : (first image : Files) (before more : List Happening) → AreQuiet more → MayLeave first (more ++ before) image → MayLeave first before image
 quiet_images first image before [] quiet there = there
-quiet_images first image before (attached name folder done ∷ more) quiet there = quiet_images first image before more quiet there
+quiet_images first image before (attached name folder done ∷ more) quiet there = absurd quiet
 quiet_images first image before (wrote file place bytes done after ∷ more) quiet there = absurd quiet
 quiet_images first image before (cut_to file to done after ∷ more) quiet there = absurd quiet
 quiet_images first image before (synced file done after ∷ more) quiet there = absurd quiet
@@ -26,7 +26,7 @@ quiet_images first image before (removed address name done ∷ more) quiet there
 
 quiet_puts : (more : List Happening) → AreQuiet more → puts_in more ≡ []
 quiet_puts [] quiet = refl
-quiet_puts (attached name folder done ∷ more) quiet = quiet_puts more quiet
+quiet_puts (attached name folder done ∷ more) quiet = absurd quiet
 quiet_puts (wrote file place bytes done after ∷ more) quiet = absurd quiet
 quiet_puts (cut_to file to done after ∷ more) quiet = absurd quiet
 quiet_puts (synced file done after ∷ more) quiet = absurd quiet
@@ -36,7 +36,7 @@ quiet_puts (sent address name bytes done ∷ more) quiet = absurd quiet
 quiet_puts (removed address name done ∷ more) quiet = quiet_puts more quiet
 
 quiet_tail : (step : Happening) (more : List Happening) → AreQuiet (step ∷ more) → AreQuiet more
-quiet_tail (attached name folder done) more quiet = quiet
+quiet_tail (attached name folder done) more quiet = absurd quiet
 quiet_tail (wrote file place bytes done after) more quiet = absurd quiet
 quiet_tail (cut_to file to done after) more quiet = absurd quiet
 quiet_tail (synced file done after) more quiet = absurd quiet
@@ -44,6 +44,17 @@ quiet_tail (listed address folder listing) more quiet = quiet
 quiet_tail (fetched address name limit found) more quiet = quiet
 quiet_tail (sent address name bytes done) more quiet = absurd quiet
 quiet_tail (removed address name done) more quiet = quiet
+
+quiet_attaches : (before more : List Happening) → AreQuiet more → attaches_in (more ++ before) ≡ attaches_in before
+quiet_attaches before [] quiet = refl
+quiet_attaches before (attached name folder done ∷ more) quiet = absurd quiet
+quiet_attaches before (wrote file place bytes done after ∷ more) quiet = absurd quiet
+quiet_attaches before (cut_to file to done after ∷ more) quiet = absurd quiet
+quiet_attaches before (synced file done after ∷ more) quiet = absurd quiet
+quiet_attaches before (listed address folder listing ∷ more) quiet = quiet_attaches before more quiet
+quiet_attaches before (fetched address name limit found ∷ more) quiet = quiet_attaches before more quiet
+quiet_attaches before (sent address name bytes done ∷ more) quiet = absurd quiet
+quiet_attaches before (removed address name done ∷ more) quiet = quiet_attaches before more quiet
 
 -- ---- nothing has begun
 
@@ -72,6 +83,7 @@ quiet before now publisher es more settled told same is still =
     record {
       told = told;
       first = same;
+      attached = ap attaches_in is ∙ quiet_attaches before.happened more still;
       more = more;
       is = is;
       moments = quiet_moments before.first publisher es before.happened settled more still;
@@ -98,6 +110,7 @@ one_put before now publisher es address name bytes done settled told same is =
     record {
       told = told;
       first = same;
+      attached = ap attaches_in is;
       more = sent address name bytes done ∷ [];
       is = is;
       moments = (record { begun = put address name bytes ∷ []; left = []; front = refl; has = begun_put }, on_none before.first publisher es before.happened settled (put address name bytes ∷ []));
@@ -181,15 +194,16 @@ module _ (first : Files) (publisher : Name) (es : List Recorded) (r : Recorded) 
   commit_end (step ∷ more) some none rests = begun_commit (step ∷ more) none (step_before step more none).1 rests.0
 
 pub one_commit : (before now : Seen) (publisher : Name) (es : List Recorded) (r : Recorded) → now.told ≡ before.told → now.first ≡ before.first → IsSettled (StandsAs publisher es) before
-    → puts_in now.happened ≡ puts_in before.happened → ¬ (now.happened ≡ before.happened)
+    → puts_in now.happened ≡ puts_in before.happened → attaches_in now.happened ≡ attaches_in before.happened → ¬ (now.happened ≡ before.happened)
     → RestsThroughout (λ image. StandsAs publisher es image ⊎ StandsAs publisher (es ++ r ∷ []) image) before now → Went before now publisher es (commit r ∷ [])
 unfolding Went
-one_commit before now publisher es r told same settled silent some rests =
+one_commit before now publisher es r told same settled silent alone some rests =
     let all : puts_in before.happened ++ puts_in rests.more ≡ puts_in before.happened ++ [] = sym (puts_more before.happened rests.more) ∙ ap puts_in (sym rests.is) ∙ silent ∙ sym (append-nil (puts_in before.happened)) in
     let none : puts_in rests.more ≡ [] = append_cancel_left (puts_in before.happened) (puts_in rests.more) [] all in
     record {
       told = told;
       first = same;
+      attached = alone;
       more = rests.more;
       is = rests.is;
       moments = commit_moments before.first publisher es r before.happened settled rests.more none rests.moments;
@@ -224,4 +238,8 @@ pub told_same : (before now : Seen) (publisher : Name) (es : List Recorded) (tra
 unfolding Went
 told_same before now publisher es trail went = (went.told, went.first)
 
-pub ruleset telling = (told_puts, told_images, told_moments, told_same)
+pub told_attaches : (before now : Seen) (publisher : Name) (es : List Recorded) (trail : List Item) → Went before now publisher es trail → attaches_in now.happened ≡ attaches_in before.happened
+unfolding Went
+told_attaches before now publisher es trail went = went.attached
+
+pub ruleset telling = (told_puts, told_images, told_moments, told_same, told_attaches)

@@ -1,5 +1,5 @@
 -- Two trails, one behind the other.
-use Rattle.std.proofs.Common.{◌≡◌, ◌⊎◌, List, [], ◌∷◌, ◌++◌, refl, sym, ◌∙◌, ap, subst, inl, inr, append_assoc}
+use Rattle.std.proofs.Common.{◌≡◌, List, [], ◌∷◌, ◌++◌, refl, sym, ◌∙◌, ap, subst, inl, inr, append_assoc}
 use Rattle.sr_book.specs.Entries.{Name}
 use Rattle.sr_history.specs.Recorded.{Recorded}
 use Rattle.sr_site.specs.Files.{Files}
@@ -8,7 +8,7 @@ use Rattle.sr_site.specs.Images.{MayLeave}
 use Rattle.sr_site.specs.Seen.{Seen}
 use Rattle.sr_standing.specs.Items.{Item, Letter, commit, put, commits, puts, puts_in, IsBetween}
 use Rattle.sr_standing.specs.Standing.{StandsAs}
-use Rattle.sr_standing.specs.Trails.{LacksLast, MayStandFor, HasBegun, IsOnTrail, AtEach, GoesThrough, Went}
+use Rattle.sr_standing.specs.Trails.{MayStandFor, HasBegun, IsOnTrail, AtEach, Went}
 use Rattle.sr_standing.proofs.Going.{puts_more}
 
 commits_more : (trail more : List Item) → commits (trail ++ more) ≡ commits trail ++ commits more
@@ -109,6 +109,7 @@ joined before middle now publisher es trail more one other =
     record {
       told = other.told ∙ one.told;
       first = other.first ∙ one.first;
+      attached = other.attached ∙ one.attached;
       more = other.more ++ one.more;
       is = other.is ∙ ap (λ (h : List Happening). other.more ++ h) one.is ∙ sym (append_assoc other.more one.more before.happened);
       moments = both_moments publisher es trail before.first before.happened middle.happened one.more one.is one.end.put more other.more one.moments moments;

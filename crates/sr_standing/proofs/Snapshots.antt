@@ -1,11 +1,10 @@
 -- The snapshot of a new database is read as its publisher's, and 94 bytes tell where one breaks.
-use Rattle.std.proofs.Common.{◌≡◌, ◌⊎◌, inl, inr, ℕ, ◌+◌, ◌-◌, ◌≤◌, ◌<◌, zero, suc, min, Bool, true, false, cond, leb, ◌&&◌, List, [], ◌∷◌, ◌++◌, length, take, drop, Option, Some, None, Result, Ok, Err, refl, sym, ◌∙◌, ap, subst, arith}
+use Rattle.std.proofs.Common.{◌≡◌, inl, inr, ℕ, ◌+◌, ◌-◌, ◌≤◌, ◌<◌, zero, suc, Bool, true, false, cond, leb, ◌&&◌, List, [], ◌∷◌, length, take, drop, Option, Some, None, Result, Ok, Err, refl, sym, ◌∙◌, ap, arith}
 use Rattle.std.specs.Prelude.{◌==◌, option_map, if◌then◌else◌}
-use Rattle.std.proofs.lemmas.Bool.{cases_lt, leb-true, le-leb, lt-leb}
+use Rattle.std.proofs.lemmas.Bool.{cases_lt, le-leb, lt-leb}
 use Rattle.std.proofs.lemmas.List.{take-take, drop-take, length-take}
-use Rattle.sr_base.specs.Fields.{name_at, name_spelling, is_name_size, IsName}
+use Rattle.sr_base.specs.Fields.{name_at, is_name_size, IsName}
 use Rattle.sr_base.specs.Names.{is_lower_name}
-use Rattle.sr_base.specs.Reading.{◌>>=◌, IsBytes}
 use Rattle.sr_base.specs.TextLaws.{name_again}
 use Rattle.sr_book.specs.Entries.{Name}
 use Rattle.sr_standing.specs.Snapshots.{snapshot_front, no_lists, fresh_snapshot, difference, named_before, named_in, named_behind, snapshot_at}

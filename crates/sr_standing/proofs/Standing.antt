@@ -1,7 +1,6 @@
 -- Files stand for one history or are damaged at one place.
-use Rattle.std.proofs.Common.{◌≡◌, ◌≢◌, ◌⊎◌, inl, inr, ℕ, ◌+◌, ◌^◌, ◌≤◌, List, [], ◌∷◌, ◌++◌, length, map, Option, Some, None, Result, Ok, Err, refl, sym, ◌∙◌, ap, subst, arith, append_assoc, length-append}
+use Rattle.std.proofs.Common.{◌≡◌, inl, inr, ℕ, ◌+◌, ◌^◌, ◌≤◌, List, [], ◌∷◌, ◌++◌, length, Some, Ok, Err, refl, sym, ◌∙◌, ap, subst, arith, length-append}
 use Rattle.std.specs.List.{AllByRecursion}
-use Rattle.std.proofs.lemmas.List.{map-append}
 use Rattle.sr_base.specs.Fields.{IsName}
 use Rattle.sr_book.specs.Entries.{Name}
 use Rattle.sr_history.specs.Fitting.{Fits, stored_from, Stored}
@@ -9,8 +8,7 @@ use Rattle.sr_history.specs.Folds.{State, fresh, next, state_from, state_of, siz
 use Rattle.sr_history.specs.Recorded.{Recorded, entry_of, IsRecorded}
 use Rattle.sr_history.proofs.Bounds.{ends_within}
 use Rattle.sr_history.proofs.Once.{bytes_once}
-use Rattle.sr_logfile.specs.Damage.{LacksHeader}
-use Rattle.sr_logfile.specs.Records.{header, record_of, open_records, IsBody, HasHeader, Spells}
+use Rattle.sr_logfile.specs.Records.{record_of, open_records, IsBody, HasHeader, Spells}
 use Rattle.sr_logfile.proofs.Records.{length-record}
 use Rattle.sr_logfile.proofs.Commits.{length-front}
 use Rattle.sr_logfile.proofs.Uniqueness.{one_spelling, has_header, same_header, compared, Extends, never_both, one_damage as one_record_damage}
@@ -21,10 +19,10 @@ use Rattle.sr_logform.specs.declared.entry.Entry.TheVariants as entries
 use Rattle.sr_site.specs.Files.{Files, bytes_of}
 use Rattle.sr_site.specs.declared.file.File.{File}
 use Rattle.sr_site.specs.declared.file.File.TheVariants.{Root, Log0, Log1, Snap0, Snap1}
-use Rattle.sr_standing.specs.Damage.{IsMissing, BeginsEntry, HasOtherBase, LacksRecordAt, LacksEntry, IsDamagedLog, IsDamagedRoot, HasDamagedSnapshot, HasDamagedLog, IsDamagedAt}
+use Rattle.sr_standing.specs.Damage.{IsMissing, BeginsEntry, LacksRecordAt, LacksEntry, IsDamagedLog, IsDamagedRoot, HasDamagedSnapshot, HasDamagedLog, IsDamagedAt}
 use Rattle.sr_standing.specs.Generations.{Generation, even, odd, snapshot_of, log_of, generation_in}
 use Rattle.sr_standing.specs.Snapshots.{fresh_snapshot, snapshot_at}
-use Rattle.sr_standing.specs.Standing.{body, bodies, StandsFor, StandsAs}
+use Rattle.sr_standing.specs.Standing.{body, bodies, StandsFor}
 use Rattle.sr_standing.proofs.Snapshots.{fresh_at, fresh_once, empty_breaks}
 
 -- ---- bodies of entries

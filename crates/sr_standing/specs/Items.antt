@@ -38,6 +38,18 @@ puts_in (fetched address name limit found ∷ before) = puts_in before
 puts_in (sent address name bytes done ∷ before) = puts_in before ++ (address, name, bytes) ∷ []
 puts_in (removed address name done ∷ before) = puts_in before
 
+-- the attaches that were begun at a site, the newest first
+abbrev pub attaches_in : List Happening → List Happening
+attaches_in [] = []
+attaches_in (attached name folder done ∷ before) = attached name folder done ∷ attaches_in before
+attaches_in (wrote file place bytes done after ∷ before) = attaches_in before
+attaches_in (cut_to file to done after ∷ before) = attaches_in before
+attaches_in (synced file done after ∷ before) = attaches_in before
+attaches_in (listed address folder listing ∷ before) = attaches_in before
+attaches_in (fetched address name limit found ∷ before) = attaches_in before
+attaches_in (sent address name bytes done ∷ before) = attaches_in before
+attaches_in (removed address name done ∷ before) = attaches_in before
+
 -- no commit is under way: nothing has happened yet, or the last that did is a put
 abbrev pub IsBetween : List Happening → Type 0
 IsBetween [] = Unit {0}
@@ -50,10 +62,10 @@ IsBetween (fetched address name limit found ∷ before) = ⊥
 IsBetween (sent address name bytes done ∷ before) = Unit {0}
 IsBetween (removed address name done ∷ before) = ⊥
 
--- these changed no file, and put nothing
+-- these changed no file, put nothing, and attached nothing
 abbrev pub AreQuiet : List Happening → Type 0
 AreQuiet [] = Unit {0}
-AreQuiet (attached name folder done ∷ before) = AreQuiet before
+AreQuiet (attached name folder done ∷ before) = ⊥
 AreQuiet (wrote file place bytes done after ∷ before) = ⊥
 AreQuiet (cut_to file to done after ∷ before) = ⊥
 AreQuiet (synced file done after ∷ before) = ⊥

@@ -6,7 +6,7 @@ use Rattle.sr_site.specs.Files.{Files}
 use Rattle.sr_site.specs.Happenings.{Happening}
 use Rattle.sr_site.specs.Images.{MayLeave}
 use Rattle.sr_site.specs.Seen.{Seen}
-use Rattle.sr_standing.specs.Items.{Item, commit, commits, puts, puts_in, IsBetween}
+use Rattle.sr_standing.specs.Items.{Item, commit, commits, puts, puts_in, attaches_in, IsBetween}
 use Rattle.sr_standing.specs.Standing.{StandsAs}
 
 -- files stand for a history that goes on with the commits that have begun, but for the last of them, where this is the last that has begun
@@ -39,10 +39,11 @@ abbrev pub AtEach : (List Happening → Type 0) → List Happening → Type 0
 AtEach holds [] = holds []
 AtEach holds (step ∷ more) = holds (step ∷ more) × AtEach holds more
 
--- at each moment from the one to the other a front of the trail has begun, and at the end all of it
+-- at each moment from the one to the other a front of the trail has begun, and at the end all of it; and no other files were attached
 pub record GoesThrough (before now : Seen) (publisher : Name) (es : List Recorded) (trail : List Item) : Type 0 where
   pub told : now.told ≡ before.told
   pub first : now.first ≡ before.first
+  pub attached : attaches_in now.happened ≡ attaches_in before.happened
   pub more : List Happening
   pub is : now.happened ≡ more ++ before.happened
   pub moments : AtEach (IsOnTrail before.first publisher es before.happened trail) more

@@ -7,12 +7,12 @@ ghost use Rattle.sr_site.specs.Files.{Files};
 ghost use Rattle.sr_site.specs.Happenings.{Happening, sent};
 ghost use Rattle.sr_site.specs.Images.{IsImage, IsSettled, RestsThroughout};
 ghost use Rattle.sr_site.specs.Seen.{Seen};
-ghost use Rattle.sr_standing.specs.Items.{Item, commit, put, commits, puts, puts_in, AreQuiet};
+ghost use Rattle.sr_standing.specs.Items.{Item, commit, put, commits, puts, puts_in, attaches_in, AreQuiet};
 ghost use Rattle.sr_standing.specs.Standing.{StandsAs};
 ghost use Rattle.sr_standing.specs.Trails.{MayStandFor, IsOnTrail, Went};
 
-/// Where nothing happens, and where nothing happens but an attach, listings, fetches and removals, a settled site goes through the empty
-/// trail, and a crash leaves what it might have left before.
+/// Where nothing happens, and where nothing happens but listings, fetches and removals, a settled site goes through the empty trail, and a
+/// crash leaves what it might have left before.
 #[tactic(auto, using(crate::proofs::Going::nothing, crate::proofs::Going::quiet, crate::proofs::Going::quiet_before))]
 pub fn nothing_is_no_item()
     ensures went_none { (seen : Seen) (publisher : Name) (es : List Recorded) → IsSettled (StandsAs publisher es) seen → Went seen seen publisher es [] }
@@ -22,12 +22,13 @@ pub fn nothing_is_no_item()
         → IsImage now image → IsImage before image }
 {}
 
-/// Where each image at each moment stands for the history before or for it and one entry more, and something happens but no put, the site
-/// goes through that one commit.
+/// Where each image at each moment stands for the history before or for it and one entry more, and something happens but no put and no attach,
+/// the site goes through that one commit.
 #[tactic(auto, using(crate::proofs::Going::one_commit))]
 pub fn a_commit_is_an_item()
     ensures went_one_commit { (before now : Seen) (publisher : Name) (es : List Recorded) (r : Recorded) → now.told ≡ before.told → now.first ≡ before.first
-        → IsSettled (StandsAs publisher es) before → puts_in now.happened ≡ puts_in before.happened → ¬ (now.happened ≡ before.happened)
+        → IsSettled (StandsAs publisher es) before → puts_in now.happened ≡ puts_in before.happened → attaches_in now.happened ≡ attaches_in before.happened
+        → ¬ (now.happened ≡ before.happened)
         → RestsThroughout (λ image. StandsAs publisher es image ⊎ StandsAs publisher (es ++ r ∷ []) image) before now
         → Went before now publisher es (commit r ∷ []) }
 {}
@@ -50,8 +51,8 @@ pub fn trails_join()
         → Went middle now publisher (es ++ commits trail) more → Went before now publisher es (trail ++ more) }
 {}
 
-/// What one may read off: the messages that were put, in order; what a crash may leave in the end; and at each moment on the way a front
-/// of the trail that has begun.
+/// What one may read off: the messages that were put, in order; what a crash may leave in the end; at each moment on the way a front of the
+/// trail that has begun; and that nothing was attached.
 #[tactic(auto, using(crate::proofs::Going::telling))]
 pub fn trails_tell()
     ensures put { (before now : Seen) (publisher : Name) (es : List Recorded) (trail : List Item) → Went before now publisher es trail
@@ -62,4 +63,6 @@ pub fn trails_tell()
         → now.happened ≡ later ++ (earlier ++ before.happened) → IsOnTrail before.first publisher es before.happened trail earlier }
     ensures grows { (before now : Seen) (publisher : Name) (es : List Recorded) (trail : List Item) → Went before now publisher es trail
         → (now.told ≡ before.told) × (now.first ≡ before.first) }
+    ensures attached { (before now : Seen) (publisher : Name) (es : List Recorded) (trail : List Item) → Went before now publisher es trail
+        → attaches_in now.happened ≡ attaches_in before.happened }
 {}

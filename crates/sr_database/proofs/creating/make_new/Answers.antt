@@ -1,5 +1,7 @@
 use Rattle.std.proofs.Common.{◌∙◌}
 use Rattle.sr_site.specs.Growing.{disk_stays_on}
+use Rattle.sr_site.specs.declared.file.File.TheVariants.{Root}
+use Rattle.sr_database.proofs.Attaches.{on_attaches, off_attaches}
 use Rattle.sr_database.proofs.Making.{unnamed, naming, named_settled}
 use Rattle.sr_database.proofs.creating.make_new.Goals as goal
 
@@ -30,3 +32,16 @@ returns-in_err-name_generation-clause-stays g c = disk_stays_on _ (g.S.Held.seen
 
 pub returns-clause-stays : goal.returns-clause-stays
 returns-clause-stays g c = disk_stays_on _ (g.S.Held.seen c.make_generations.new.site) _ c.in_ok-make_generations.ensures.stays c.in_ok-name_generation.ensures.stays
+
+pub returns-in_err-make_generations-clause-attached : goal.returns-in_err-make_generations-clause-attached
+returns-in_err-make_generations-clause-attached g c told = off_attaches Root _ _ (c.in_err-make_generations.ensures.happened told)
+
+pub returns-in_err-name_generation-clause-attached : goal.returns-in_err-name_generation-clause-attached
+returns-in_err-name_generation-clause-attached g c told =
+    on_attaches Root _ _ (c.in_err-name_generation.ensures.happened (c.in_ok-make_generations.ensures.stays.told ∙ told))
+    ∙ off_attaches Root _ _ (c.in_ok-make_generations.ensures.happened told)
+
+pub returns-clause-attached : goal.returns-clause-attached
+returns-clause-attached g c told =
+    on_attaches Root _ _ (c.in_ok-name_generation.ensures.happened (c.in_ok-make_generations.ensures.stays.told ∙ told))
+    ∙ off_attaches Root _ _ (c.in_ok-make_generations.ensures.happened told)

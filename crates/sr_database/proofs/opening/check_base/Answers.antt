@@ -1,4 +1,4 @@
-use Rattle.std.proofs.Common.{inl, inr, refl}
+use Rattle.std.proofs.Common.{inr, refl}
 use Rattle.sr_database.proofs.Shapes.{other_base, zero_base, header_cause}
 use Rattle.sr_database.proofs.opening.check_base.Goals as goal
 

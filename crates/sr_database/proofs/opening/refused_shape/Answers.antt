@@ -1,4 +1,4 @@
-use Rattle.sr_database.proofs.Shapes.{shape_damaged, base_refused, never_full}
+use Rattle.sr_database.proofs.Shapes.{shape_damaged}
 use Rattle.sr_database.proofs.opening.refused_shape.Goals as goal
 
 pub returns-in-Ok-clause-cause : goal.returns-in-Ok-clause-cause

@@ -1,4 +1,4 @@
-use Rattle.std.proofs.Common.{◌≡◌, ◌<◌, ◌≤◌, subst, arith}
+use Rattle.std.proofs.Common.{◌<◌, ◌≤◌, arith}
 use Rattle.sr_logform.specs.Limits.{longest_body}
 use Rattle.sr_database.proofs.Followed.{replay_fit, replay_fresh}
 use Rattle.sr_database.proofs.ReadRecords.{follows_none_long, follows_none, follows_one}

@@ -41,6 +41,13 @@ pass-requires-clause-accepted g c =
     (catalog_passes (committed view) c.args.region.now.only c.args.stmt.now c.in_ok-changes.changes c.requires.ddl
     (subst (λ (s : State). catalog_changes c.args.region.now.only s c.args.stmt.now ≡ Ok c.in_ok-changes.changes) is c.in_ok-changes.ensures.meant)).accepted
 
+pub pass-requires-clause-may : goal.pass-requires-clause-may
+pass-requires-clause-may g c =
+    let view = c.args.db.now in
+    let is : shown c.catalog.result.now c.rows.result.now ≡ committed view = shown_committed view c.catalog.result.now c.rows.result.now c.requires.ready.some c.requires.pending c.catalog.ensures.catalog c.rows.ensures.rows in
+    (catalog_passes (committed view) c.args.region.now.only c.args.stmt.now c.in_ok-changes.changes c.requires.ddl
+    (subst (λ (s : State). catalog_changes c.args.region.now.only s c.args.stmt.now ≡ Ok c.in_ok-changes.changes) is c.in_ok-changes.ensures.meant)).may
+
 pub returns : goal.returns
 returns g c =
     let view = c.args.db.now in

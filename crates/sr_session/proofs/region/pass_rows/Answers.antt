@@ -2,7 +2,7 @@ use Rattle.std.proofs.Common.{◌≡◌, Some, Ok, sym, subst}
 use Rattle.sr_ast.specs.declared.stmt.Stmt.{Stmt}
 use Rattle.sr_ast.specs.declared.stmt.Stmt.TheVariants as stmt
 use Rattle.sr_exec.specs.Conditions.{RowsFit}
-use Rattle.sr_history.specs.Fitting.{IsAcceptedPass}
+use Rattle.sr_history.specs.Fitting.{IsAcceptedPass, MayHaveChanges}
 use Rattle.sr_history.specs.Folds.{State}
 use Rattle.sr_script.specs.Answers.{IsStop}
 use Rattle.sr_script.specs.Meaning.{row_changes, passed}
@@ -48,6 +48,16 @@ pass-requires-clause-accepted g c =
     (subst (λ (s : State). RowsFit s.catalog s.rows) (committed_present view c.requires.ready.some c.requires.pending) c.catalog.ensures.holds.rows)
     (subst (λ (s : State). row_changes c.args.region.now.only s c.args.dml.now ≡ Ok c.in_ok-changes.changes) is c.in_ok-changes.ensures.meant) in
     subst (λ (s : Stmt). IsAcceptedPass (committed view) c.args.region.now.only s) (sym c.requires.stmt) may.accepted
+
+pub pass-requires-clause-may : goal.pass-requires-clause-may
+pass-requires-clause-may g c =
+    let view = c.args.db.now in
+    let is : shown c.catalog.result.now c.rows.result.now ≡ committed view = shown_committed view c.catalog.result.now c.rows.result.now c.requires.ready.some c.requires.pending c.catalog.ensures.catalog c.rows.ensures.rows in
+    let may : MayPass (committed view) c.args.region.now.only (stmt.Dml c.args.dml.now) c.in_ok-changes.changes =
+    rows_pass (committed view) c.args.region.now.only c.args.dml.now c.in_ok-changes.changes
+    (subst (λ (s : State). RowsFit s.catalog s.rows) (committed_present view c.requires.ready.some c.requires.pending) c.catalog.ensures.holds.rows)
+    (subst (λ (s : State). row_changes c.args.region.now.only s c.args.dml.now ≡ Ok c.in_ok-changes.changes) is c.in_ok-changes.ensures.meant) in
+    subst (λ (s : Stmt). MayHaveChanges c.args.region.now.only s c.in_ok-changes.changes) (sym c.requires.stmt) may.may
 
 pub returns : goal.returns
 returns g c =

@@ -9,7 +9,7 @@ use Rattle.sr_session.proofs.running.run_statements.Goals as goal
 pub statements-init : goal.statements-init
 statements-init g c =
     under_start c.args.db.now (g.S.Held.seen c.args.site.now) (g.O.Sink.seen c.args.sink.now) c.args.session.now.lines.items c.args.session.now.region c.args.statements.now c.requires.ready c.requires.pending
-    c.requires.outside c.requires.empty c.requires.known
+    c.requires.outside c.requires.empty c.requires.normal
 
 pub returns-in-Err : goal.returns-in-Err
 returns-in-Err g c =

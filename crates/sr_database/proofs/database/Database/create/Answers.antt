@@ -4,6 +4,7 @@ use Rattle.sr_standing.specs.Snapshots.{fresh_snapshot}
 use Rattle.sr_site.specs.Growing.{disk_stays_on}
 use Rattle.sr_database.specs.Fresh.{AreNamed, IsNoneOrNewOf}
 use Rattle.sr_database.specs.Making.{HasNoRoot}
+use Rattle.sr_database.proofs.Attaches.{root_attaches}
 use Rattle.sr_database.proofs.Making.{looked_at, root_images, made_moments, named_stands}
 use Rattle.sr_database.proofs.database.Database.create.Goals as goal
 
@@ -61,3 +62,19 @@ returns-in_err-make_new-clause-stays g c = disk_stays_on _ (g.S.Held.seen c.has_
 
 pub returns-clause-stays : goal.returns-clause-stays
 returns-clause-stays g c = disk_stays_on _ (g.S.Held.seen c.has_root.new.site) _ c.in_ok-has_root.ensures.stays c.in_ok-make_new.ensures.stays
+
+pub returns-in_err-has_root-clause-attached : goal.returns-in_err-has_root-clause-attached
+returns-in_err-has_root-clause-attached g c told = root_attaches _ (g.S.Held.seen c.args.site.now) (g.S.Held.seen c.has_root.new.site) (c.in_err-has_root.ensures.happened told)
+
+pub returns-then-branch-clause-attached : goal.returns-then-branch-clause-attached
+returns-then-branch-clause-attached g c told = root_attaches _ (g.S.Held.seen c.args.site.now) (g.S.Held.seen c.has_root.new.site) (c.in_ok-has_root.ensures.happened told)
+
+pub returns-in_err-make_new-clause-attached : goal.returns-in_err-make_new-clause-attached
+returns-in_err-make_new-clause-attached g c told =
+    c.in_err-make_new.ensures.attached (c.in_ok-has_root.ensures.stays.told ∙ told)
+    ∙ root_attaches _ (g.S.Held.seen c.args.site.now) (g.S.Held.seen c.has_root.new.site) (c.in_ok-has_root.ensures.happened told)
+
+pub returns-clause-attached : goal.returns-clause-attached
+returns-clause-attached g c told =
+    c.in_ok-make_new.ensures.attached (c.in_ok-has_root.ensures.stays.told ∙ told)
+    ∙ root_attaches _ (g.S.Held.seen c.args.site.now) (g.S.Held.seen c.has_root.new.site) (c.in_ok-has_root.ensures.happened told)

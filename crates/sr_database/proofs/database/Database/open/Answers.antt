@@ -1,3 +1,4 @@
+use Rattle.sr_database.proofs.Attaches.{synced_attaches}
 use Rattle.sr_database.proofs.Opened.{synced_moments}
 use Rattle.sr_database.proofs.Refused.{stood}
 use Rattle.sr_database.proofs.database.Database.open.Goals as goal
@@ -14,3 +15,6 @@ returns-clause-moments g c told = synced_moments _ _ (c.open_files.ensures.synce
 
 pub returns-clause-stays : goal.returns-clause-stays
 returns-clause-stays g c = c.open_files.ensures.synced.stays
+
+pub returns-clause-attached : goal.returns-clause-attached
+returns-clause-attached g c told = synced_attaches _ _ (c.open_files.ensures.synced.only told)

@@ -1,0 +1,11 @@
+//! Rows of questions with their answers, on standard input: what the programs share that go through such rows. For tests.
+//!
+//! A row is a line `QUESTION => ANSWER`; any other line is a heading. `run` asks an `Answerer` each question, says each row to which another answer is
+//! given, and then how many are answered as they stand.
+#![tactic(auto)]
+
+mod saying;
+mod telling;
+
+pub use saying::{number, number_of, push_hex, say, say_bytes, say_number, word};
+pub use telling::{Answerer, print, run};

@@ -1,0 +1,9 @@
+pub mod Once
+pub mod Cases
+pub mod Differing
+pub mod Fold
+pub mod Keys
+pub mod Local
+pub mod Measured
+pub mod Rows
+pub mod Sound

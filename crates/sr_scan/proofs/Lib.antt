@@ -1,0 +1,16 @@
+pub mod Applying
+pub mod Moves
+pub mod Behind
+pub mod Covering
+pub mod Dropped
+pub mod Agreeing
+pub mod Growing
+pub mod Meant
+pub mod Parts
+pub mod Prefixes
+pub mod Sames
+pub mod Spelled
+pub mod Spelling
+pub mod Strict
+pub mod Taking
+pub mod Telling

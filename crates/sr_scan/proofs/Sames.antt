@@ -1,0 +1,24 @@
+-- Small facts on tests, options and lists.
+use Rattle.std.proofs.Common.{◌≡◌, ℕ, Bool, true, false, ◌&&◌, cond, List, [], ◌∷◌, ◌++◌, Some, nat_eq, refl, sym, ap, ◌∙◌, append_assoc, rules}
+use Rattle.sr_logform.specs.declared.change.Change.{Change}
+use Rattle.sr_scan.specs.Images.{Shares, change_told, changes_told}
+
+pub some_is : {A : Type 0} {x y : A} → Some x ≡ Some y → x ≡ y
+some_is e = cc
+
+pub and_true : (a b : Bool) → a ≡ true → b ≡ true → (a && b) ≡ true
+and_true true b e f = f
+and_true false b e f = cc
+
+pub cond_true : {A : Type 0} (b : Bool) (x y : A) → b ≡ true → cond b x y ≡ x
+cond_true true x y e = refl
+cond_true false x y e = cc
+
+pub same_length : (n : ℕ) → nat_eq n n ≡ true
+same_length n = search rules
+
+-- what changes give that stand behind others
+pub changes_told-append : (shares : Shares) (xs ys : List Change) → changes_told shares (xs ++ ys) ≡ changes_told shares xs ++ changes_told shares ys
+changes_told-append shares [] ys = refl
+changes_told-append shares (x ∷ xs) ys = ap (λ l. change_told (shares x.table) x ++ l) (changes_told-append shares xs ys)
+    ∙ sym (append_assoc (change_told (shares x.table) x) (changes_told shares xs) (changes_told shares ys))

@@ -1,0 +1,50 @@
+//! What an op that met another value gives to its origin.
+
+ghost use Rattle.std.specs.Prelude.{◌≡◌, ◌++◌, Some, OnOk};
+ghost use Rattle.std.specs.Option.{option_copied};
+ghost use Rattle.sr_exec.specs.Statements.{key_of};
+ghost use Rattle.sr_publish.specs.Views.{shown_row};
+ghost use Rattle.sr_scan.specs.Ops.{told_back};
+
+use crate::changes::{push, removal_of, tell_columns};
+use crate::columns::outside_key_at;
+use sr_base::{NoMemory, Row};
+use sr_logform::Op;
+use sr_publish::TableView;
+use sr_schema::{Table, key_names};
+use std::alloc::Global;
+
+/// Adds what tells the origin of an op how its key is now: a Remove where he does not see the row, and else a Set of all columns that he
+/// sees outside the key, equal ones too; nothing where he sees the row and has key columns alone.
+pub(crate) fn tell_back(
+    alloc: Global,
+    table: &Table,
+    view: Option<&TableView>,
+    before: &Row,
+    after: &Row,
+    ops: &mut Vec<Op>,
+) -> Result<(), NoMemory>
+    ensures told { OnOk result (ops.new.items ≡ ops.old.items ++ told_back table.now (option_copied view.entry) (key_of table.now.key before.now)
+        before.now (shown_row (option_copied view.entry) (Some after.now))) }
+{
+    let Some(view) = view else {
+        let op = removal_of(alloc, table, before)?;
+        push(ops, op)?;
+        return Ok(());
+    };
+    if !view.has(after.values()) {
+        let op = removal_of(alloc, table, before)?;
+        push(ops, op)?;
+        return Ok(());
+    }
+    let key = key_names(alloc, table)?;
+    let columns = outside_key_at(
+        alloc,
+        key.as_slice(),
+        view.columns(),
+        view.places(),
+        before.values(),
+        after.values(),
+    )?;
+    tell_columns(alloc, table, before, columns, ops)
+}

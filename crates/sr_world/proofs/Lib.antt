@@ -1,0 +1,10 @@
+pub mod Judging
+pub mod Bodies
+pub mod Keeping
+pub mod Lines
+pub mod Named
+pub mod Grounds
+pub mod Above
+pub mod Below
+pub mod Allowed
+pub mod Walked
