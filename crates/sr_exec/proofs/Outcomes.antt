@@ -1,5 +1,5 @@
 -- What the edits of a statement come to is what the rows before and after it come to.
-use Rattle.std.proofs.Common.{◌≡◌, ◌++◌, Bool, true, false, cond, map, ℕ, List, [], ◌∷◌, Option, Some, None, Result, Ok, Err, refl, sym, ap, subst, ◌∙◌}
+use Rattle.std.proofs.Common.{◌≡◌, ◌++◌, Bool, true, false, cond, map, length, ℕ, suc, List, [], ◌∷◌, Option, Some, None, Result, Ok, Err, refl, sym, ap, subst, ◌∙◌}
 use Rattle.std.specs.List.{AllByRecursion}
 use Rattle.std.specs.List.{find as find_in}
 use Rattle.std.specs.declared.cmp.Ordering.TheVariants.{Less}
@@ -17,6 +17,7 @@ use Rattle.sr_logform.specs.declared.change.Change.{Change}
 use Rattle.sr_schema.specs.declared.fault.DmlFault.{DmlFault}
 use Rattle.sr_schema.specs.declared.fault.DmlFault.TheVariants.{Duplicate}
 use Rattle.sr_exec.specs.declared.edit.Edit.{Edit}
+use Rattle.sr_exec.specs.declared.edit.Edit.TheVariants.{New}
 use Rattle.sr_exec.specs.Edits.{Edited, edit_at, is_taken, AreEdits, before_changes, with_edit, settled}
 use Rattle.sr_exec.specs.Holding.{under, are_two, one_of, keys_of, with_change, changes_at, undoubled, held}
 use Rattle.sr_exec.proofs.Folding.{Key, has, Rise, same_key, itself, folded, folded-alike}
@@ -207,3 +208,23 @@ pub settled-put : (rows : RowMap) (t : List ℕ) (put : List Entry) (ts : List E
 settled-put rows t put ts sorted edits =
     settled_alike t (table_rows rows t) (table_rows rows t ++ put) (rows_of_table rows t) (λ q. lookup (is_at (key_cmp q)) ts) [] put (row_under rows t) (one_under rows t)
     (λ q. under-append q (table_rows rows t) put) edits ts sorted (λ q. refl)
+
+-- one row that is put
+one_edit : (k row : Key) → AreEdits (λ q. lookup (is_at (key_cmp q)) ((k, New row) ∷ [])) [] ((k, row) ∷ [])
+one_edit k row q = go (is_eq (key_cmp q k)) where
+  go : (b : Bool) → cond b (Some (New row)) None ≡ edit_at false (cond b (row ∷ []) [])
+  go true = refl
+  go false = refl
+
+one_sorted : (k : Key) → IsStrictlySortedBy key_cmp (k ∷ [])
+unfolding IsStrictlySortedBy
+one_sorted k = (tt, tt)
+
+pub settled-one : (rows : RowMap) (t : List ℕ) (k row : Key) → settled t (rows_of_table rows t) ((k, New row) ∷ []) ≡ held t (table_rows rows t) (table_rows rows t ++ (k, row) ∷ [])
+settled-one rows t k row = settled-put rows t ((k, row) ∷ []) ((k, New row) ∷ []) (one_sorted k) (one_edit k row)
+
+-- the last of one item is the only one
+pub only_last : {X : Type 0} (xs : List X) (x : X) (all : List X) → all ≡ xs ++ x ∷ [] → length all ≡ 1 → all ≡ x ∷ []
+only_last [] x all e one = e
+only_last (y ∷ []) x all e one = let two : length all ≡ 2 = ap length e in cc
+only_last (y ∷ z ∷ xs) x all e one = let more : length all ≡ suc (suc (length (xs ++ x ∷ []))) = ap length e in cc

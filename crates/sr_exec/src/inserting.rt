@@ -1,12 +1,13 @@
-ghost use Rattle.std.specs.Prelude.{◌≡◌, ◌≢◌, [], IsTrue, IfSome, MatchResult};
+ghost use Rattle.std.specs.Prelude.{◌≡◌, ◌≢◌, ◌++◌, ◌∷◌, [], map, IsTrue, IfSome, MatchResult};
 ghost use Rattle.std.specs.Option.{option_copied};
 ghost use Rattle.sr_ast.specs.Exprs.{term_of};
 ghost use Rattle.sr_ast.specs.Classes.{class_in};
 ghost use Rattle.sr_eval.specs.Uses.{gives_value};
 ghost use Rattle.sr_exec.specs.Checks.{bad_row};
 ghost use Rattle.sr_exec.specs.Conditions.{Answers};
+ghost use Rattle.sr_exec.specs.Holding.{held};
 ghost use Rattle.sr_exec.specs.Sequences.{first_in, each};
-ghost use Rattle.sr_exec.specs.Statements.{inserted};
+ghost use Rattle.sr_exec.specs.Statements.{inserted, entry_of};
 ghost use Rattle.sr_exec.specs.Storing.{constant, stored, value_for, inserted_row};
 ghost use Rattle.sr_rows.specs.Walks.{table_rows};
 
@@ -15,12 +16,13 @@ use crate::checks::{bad_in_insert, unknown_in_insert};
 use crate::edits::edits_of_rows;
 use crate::lists::push;
 use crate::names::{is_same, names_of};
-use crate::settling::settle;
+use crate::settling::{put_row, settle};
 use crate::storing::{fitting, stored};
 use sr_ast::{Expr, Insert, Scope};
 use sr_base::{Name, Row, Seq, Value};
 use sr_catalog::{Column, DmlFault, Table};
 use sr_eval::Bound;
+use sr_logform::Change;
 use sr_rows::Rows;
 use std::alloc::Global;
 
@@ -49,9 +51,40 @@ pub(crate) fn insert(
         &constants,
     )?;
     let count = added.len() as u64;
-    let edits = edits_of_rows(alloc, table, added)?;
-    let list = settle(alloc, &table.name, rows, edits)?;
+    let list = put_rows(alloc, table, rows, added)?;
     Ok(Changes { list, count })
+}
+
+/// The changes where rows are put. One row, as most inserts have, is put with nothing built for it.
+fn put_rows(
+    alloc: Global,
+    table: &Table,
+    rows: &Rows,
+    added: Vec<Row>,
+) -> Result<Seq<Change>, DmlFault>
+    ensures answer { Answers result (held table.now.name (table_rows rows.now.rows table.now.name) (table_rows rows.now.rows table.now.name ++ map (entry_of table.now) added.items)) }
+{
+    match only(added) {
+        Ok(row) => put_row(alloc, table, rows, row),
+        Err(added) => {
+            let edits = edits_of_rows(alloc, table, added)?;
+            settle(alloc, &table.name, rows, edits)
+        }
+    }
+}
+
+/// The only row of some, or all of them.
+fn only(rows: Vec<Row>) -> Result<Row, Vec<Row>>
+    ensures rows { MatchResult result (λ row. rows.items ≡ row ∷ []) (λ all. all.items ≡ rows.items) }
+{
+    let mut left = rows;
+    if left.len() != 1 {
+        return Err(left);
+    }
+    match left.pop() {
+        Some(row) => Ok(row),
+        None => Err(left),
+    }
 }
 
 /// The rows as written. Each is made once.
@@ -66,7 +99,7 @@ fn inserted_rows(
     requires good { first_in (bad_row table.now.name names.now) rows.now ≡ None }
     ensures answer { MatchResult result (λ added. each (λ es. inserted_row names.now es table.now.columns) rows.now ≡ Ok added.items) (λ fault. fault ≢ DmlFault.Memory → each (λ es. inserted_row names.now es table.now.columns) rows.now ≡ Err fault) }
 {
-    let mut added = Vec::new(alloc);
+    let mut added = Vec::with_capacity(alloc, rows.len())?;
     let mut left = rows;
     'rows: while let Some((row, rest)) = left.split_first() {
         let row = inserted_row(alloc, table, names, row.as_slice(), constants)?;
@@ -88,8 +121,9 @@ fn inserted_row(
     requires good { bad_row table.now.name names.now exprs.now ≡ None }
     ensures answer { Answers result (inserted_row names.now exprs.now table.now.columns) }
 {
-    let mut values = Vec::new(alloc);
-    let mut left = table.columns.as_slice();
+    let columns = table.columns.as_slice();
+    let mut values = Vec::with_capacity(alloc, columns.len())?;
+    let mut left = columns;
     'columns: while let Some((column, rest)) = left.split_first() {
         let expr = value_for(names, exprs, &column.name);
         push(&mut values, inserted_value(alloc, constants, column, expr)?)?;

@@ -10,7 +10,7 @@ use std::alloc::Global;
 pub(crate) fn key_of(alloc: Global, places: &[usize], row: &[Value]) -> Result<Key, NoMemory>
     ensures key { IfOk result (λ key. key ≡ key_of places.now row.now) }
 {
-    let mut values = Vec::new(alloc);
+    let mut values = Vec::with_capacity(alloc, places.len())?;
     let mut left = places;
     'places: while let Some((place, rest)) = left.split_first() {
         push(&mut values, value_at(alloc, row, *place)?)?;

@@ -109,8 +109,7 @@ fn picks_at(
     Ok(picks)
 }
 
-/// What is picked of all rows, in the order of their keys. Each row of the table takes logarithmic time to come to, and the time of
-/// its condition.
+/// What is picked of all rows, in the order of their keys. Each row of the table takes the time of its condition.
 fn picks_along(
     alloc: Global,
     table: &Table,
@@ -127,11 +126,10 @@ fn picks_along(
         (λ fault. fault ≢ DmlFault.Memory → picks_of table.now (option_copied sets.entry) condition.now (table_rows rows.now.rows table.now.name) ≡ Err fault) }
 {
     let mut picks = Vec::new(alloc);
-    let mut after = None;
-    'rows: while let Some((key, row)) = rows.next(&table.name, after) {
+    let mut walk = rows.walk(&table.name);
+    'rows: while let Some((key, row)) = walk.next() {
         let fate = fate_of(alloc, table, scope, sets, condition, row.values())?;
         note_fate(alloc, &mut picks, key, fate)?;
-        after = Some(key);
     }
     Ok(picks)
 }

@@ -108,7 +108,7 @@ pub(crate) fn names_of(
 fn all_names(alloc: Global, columns: &[Column]) -> Result<Seq<Name>, NoMemory>
     ensures names { IfOk result (λ found. found ≡ map (λ c. c.name) columns.now) }
 {
-    let mut names = Vec::new(alloc);
+    let mut names = Vec::with_capacity(alloc, columns.len())?;
     let mut left = columns;
     'columns: while let Some((column, rest)) = left.split_first() {
         push(&mut names, column.name.copy(alloc)?)?;

@@ -1,15 +1,18 @@
-ghost use Rattle.std.specs.Prelude.{◌≡◌, ◌++◌, IfOk, OnOk, List};
+ghost use Rattle.std.specs.Prelude.{◌≡◌, ◌++◌, ◌∷◌, [], IfOk, OnOk, List};
 ghost use Rattle.std.specs.Option.{option_copied};
 ghost use Rattle.sr_logform.specs.declared.change.Change.{Change as AChange};
 ghost use Rattle.sr_exec.specs.Conditions.{Answers};
 ghost use Rattle.sr_exec.specs.Edits.{settled};
 ghost use Rattle.sr_exec.specs.Holding.{is_same_row, with_change};
+ghost use Rattle.sr_exec.specs.Statements.{key_of};
+ghost use Rattle.sr_exec.specs.declared.edit.Edit.TheVariants.{New};
 ghost use Rattle.sr_rows.specs.Marks.{rows_of_table};
 
 use crate::edit::{Edit, Edits};
+use crate::keys::key_of;
 use crate::lists::push;
 use sr_base::{Copied, Name, NoMemory, Row, Seq};
-use sr_catalog::DmlFault;
+use sr_catalog::{DmlFault, Table};
 use sr_logform::Change;
 use sr_rows::Rows;
 use std::alloc::Global;
@@ -24,7 +27,7 @@ pub(crate) fn settle(
     ensures answer { Answers result (settled table.now (rows_of_table rows.now.rows table.now) edits.entries) }
 {
     let mut left = edits;
-    let mut changes = Vec::new(alloc);
+    let mut changes = Vec::with_capacity(alloc, left.len())?;
     'edits: while let Some((key, edit)) = left.pop_first() {
         let held = rows.get(table, &key);
         match edit {
@@ -39,6 +42,29 @@ pub(crate) fn settle(
             Edit::Twice => return Err(DmlFault::Duplicate { key }),
         }
     }
+    Ok(Seq::from_vec(changes))
+}
+
+/// The change where one row is put, which takes logarithmic time; a key that is held is named.
+pub(crate) fn put_row(
+    alloc: Global,
+    table: &Table,
+    rows: &Rows,
+    row: Row,
+) -> Result<Seq<Change>, DmlFault>
+    ensures answer { Answers result (settled table.now.name (rows_of_table rows.now.rows table.now.name) ((key_of table.now.key row, New row) ∷ [])) }
+{
+    let key = key_of(alloc, table.key.as_slice(), row.values())?;
+    if rows.get(&table.name, &key).is_some() {
+        return Err(DmlFault::Duplicate { key });
+    }
+    let change = Change {
+        table: table.name.copy(alloc)?,
+        before: None,
+        after: Some(row),
+    };
+    let mut changes = Vec::with_capacity(alloc, 1)?;
+    push(&mut changes, change)?;
     Ok(Seq::from_vec(changes))
 }
 

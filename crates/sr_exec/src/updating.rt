@@ -94,7 +94,7 @@ pub(crate) fn updated_row(
     requires fits { IsRowOf scope.now row.now }
     ensures answer { Answers result (updated_row scope.now row.now sets.now columns.now row.now) }
 {
-    let mut values = Vec::new(alloc);
+    let mut values = Vec::with_capacity(alloc, columns.len())?;
     let mut left = columns;
     let mut olds = row;
     'columns: while let Some((column, rest)) = left.split_first() {

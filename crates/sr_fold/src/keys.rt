@@ -18,7 +18,7 @@ pub fn key_of(alloc: Global, table: &Table, row: &Row) -> Result<Key, NoMemory>
 fn key_at(alloc: Global, places: &[usize], row: &[Value]) -> Result<Key, NoMemory>
     ensures key { IfOk result (λ key. key ≡ key_of places.now row.now) }
 {
-    let mut values = Vec::new(alloc);
+    let mut values = Vec::with_capacity(alloc, places.len())?;
     let mut left = places;
     'places: while let Some((place, rest)) = left.split_first() {
         values.push(value_at(alloc, row, *place)?)?;

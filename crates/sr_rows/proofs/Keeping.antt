@@ -87,23 +87,23 @@ pub length-trail : (us : List Undo) (m : PlaceMap) → length (trail_of us m) �
 length-trail [] m = refl
 length-trail (x ∷ us) m = ap suc (length-trail us m)
 
-pub Undoable-snoc : (us : List Undo) (u : Undo) (m : PlaceMap) → Undoable us (put_back m u) → IsSome (get m (u.table, u.key)) → Undoable (us ++ u ∷ []) m
+pub Undoable-snoc : (us : List Undo) (u : Undo) (m : PlaceMap) → Undoable us (put_back m u) → IsSome (get m (u.table.value, u.key)) → Undoable (us ++ u ∷ []) m
 Undoable-snoc [] u m h there = (tt, there)
-Undoable-snoc (x ∷ us) u m h there = (Undoable-snoc us u m h.0 there, subst (λ n. IsSome (get n (x.table, x.key))) (sym (undone-snoc us u m)) h.1)
+Undoable-snoc (x ∷ us) u m h there = (Undoable-snoc us u m h.0 there, subst (λ n. IsSome (get n (x.table.value, x.key))) (sym (undone-snoc us u m)) h.1)
 
 -- and leaves the others
-pub Undoable-before : (us : List Undo) (u : Undo) (m : PlaceMap) → Undoable (us ++ u ∷ []) m → Undoable us (put_back m u) × IsSome (get m (u.table, u.key))
+pub Undoable-before : (us : List Undo) (u : Undo) (m : PlaceMap) → Undoable (us ++ u ∷ []) m → Undoable us (put_back m u) × IsSome (get m (u.table.value, u.key))
 Undoable-before [] u m h = (tt, h.1)
 Undoable-before (x ∷ us) u m h =
     let rest = Undoable-before us u m h.0 in
-    ((rest.0, subst (λ n. IsSome (get n (x.table, x.key))) (undone-snoc us u m) h.1), rest.1)
+    ((rest.0, subst (λ n. IsSome (get n (x.table.value, x.key))) (undone-snoc us u m) h.1), rest.1)
 
 -- a change of one place, as it is noted: what stood there before it
-module _ (us : List Undo) (u : Undo) (m n : PlaceMap) (p : Place) (w : Option (List Value)) (table : u.table ≡ p.0) (key : u.key ≡ p.1) (was : u.place ≡ get m p) (changed : n ≡ insert m p w) where
-  at_place : ◌≡◌ {A = Place} (u.table, u.key) p
+module _ (us : List Undo) (u : Undo) (m n : PlaceMap) (p : Place) (w : Option (List Value)) (table : u.table.value ≡ p.0) (key : u.key ≡ p.1) (was : u.place ≡ get m p) (changed : n ≡ insert m p w) where
+  at_place : ◌≡◌ {A = Place} (u.table.value, u.key) p
   at_place = λ i. (table i, key i)
 
-  pub noted-there : IsSome (get n (u.table, u.key))
+  pub noted-there : IsSome (get n (u.table.value, u.key))
   noted-there =
       ap (λ q. is_some (get n q)) at_place ∙ ap (λ k. is_some (get k p)) changed
       ∙ ap is_some (get-insert place_cmp_total m p w p) ∙ ap (λ b. is_some (cond b (Some w) (get m p))) (ap is_eq (tied_itself place_cmp_total p))

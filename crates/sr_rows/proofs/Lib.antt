@@ -1,3 +1,4 @@
+pub mod Cursors
 pub mod Entries
 pub mod Gathering
 pub mod Going

@@ -32,7 +32,7 @@ second true b h = h
 second false b h = absurd h
 
 module _ {K X : Type 0} (R : K → K → Ordering) where
-  abbrev is_below : K → List (K × X) → Bool
+  abbrev pub is_below : K → List (K × X) → Bool
   is_below k [] = true
   is_below k (e ∷ es) = is_lt (R k e.0) && is_below k es
 
@@ -161,7 +161,7 @@ IsPast-is_past : (after : Option Key) (k : Key) → IsPast after k → is_past a
 IsPast-is_past None k h = refl
 IsPast-is_past (Some a) k h = ap is_lt h
 
-all_by : {P Q : Entry → Type 0} (es : List Entry) → ((x : Entry) → P x → Q x) → AllByRecursion P es → AllByRecursion Q es
+pub all_by : {P Q : Entry → Type 0} (es : List Entry) → ((x : Entry) → P x → Q x) → AllByRecursion P es → AllByRecursion Q es
 all_by [] f h = tt
 all_by (e ∷ es) f h = (f e h.0, all_by es f h.1)
 

@@ -42,3 +42,17 @@ first_of key (Some row) rest = Some (key, row)
 abbrev pub first_filled : List (List Value × Option (List Value)) → Option (List Value × List Value)
 first_filled [] = None
 first_filled (e ∷ es) = first_of e.0 e.1 (first_filled es)
+
+-- the entries that hold rows, with the rows
+abbrev pub and_filled : List Value → Option (List Value) → List (List Value × List Value) → List (List Value × List Value)
+and_filled key None rest = rest
+and_filled key (Some row) rest = (key, row) ∷ rest
+
+abbrev pub filled_rows : List (List Value × Option (List Value)) → List (List Value × List Value)
+filled_rows [] = []
+filled_rows (e ∷ es) = and_filled e.0 e.1 (filled_rows es)
+
+-- those of the places that are left, if there are any
+abbrev pub rows_left : Option (List (List Value × Option (List Value))) → List (List Value × List Value)
+rows_left None = []
+rows_left (Some places) = filled_rows places

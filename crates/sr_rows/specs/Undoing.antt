@@ -15,7 +15,7 @@ with_place places at None = map.remove places at
 with_place places at (Some place) = map.insert places at place
 
 abbrev pub put_back : PlaceMap → Undo → PlaceMap
-put_back places change = with_place places (change.table, change.key) change.place
+put_back places change = with_place places (change.table.value, change.key) change.place
 
 -- the places before the changes, of which the last is taken back first
 abbrev pub undone : List Undo → PlaceMap → PlaceMap
@@ -34,4 +34,4 @@ seen changes places = record { rows = filled places; marked = filled (undone cha
 -- each change finds its place when it is taken back
 abbrev pub Undoable : List Undo → PlaceMap → Type 0
 Undoable [] places = ⊤
-Undoable (change ∷ later) places = Undoable later places × IsSome (map.get (undone later places) (change.table, change.key))
+Undoable (change ∷ later) places = Undoable later places × IsSome (map.get (undone later places) (change.table.value, change.key))

@@ -9,6 +9,8 @@ mod rows;
 mod table;
 mod tables;
 mod undo;
+mod walk;
 
 pub use laws::a_table_is_walked_in_the_order_of_its_keys;
 pub use rows::Rows;
+pub use walk::Walk;

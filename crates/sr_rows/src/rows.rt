@@ -7,7 +7,8 @@ ghost use Rattle.sr_rows.specs.Steps.{at_mark, back, without_table, GoesOn};
 ghost use Rattle.sr_rows.specs.Walks.{table_rows, past};
 
 use crate::tables::{Tables, insert_at, place_at, remove_at, set_at};
-use crate::undo::{Undo, note_change, take_back};
+use crate::undo::{Undo, note_change, shared, take_back};
+use crate::walk::Walk;
 use sr_base::{Copied, Key, Name, NoMemory, Row};
 use std::alloc::Global;
 use std::collections::BTreeMap;
@@ -74,6 +75,16 @@ impl Rows {
         held.next(after)
     }
 
+    /// A walk along all rows of a table, in the order of their keys.
+    pub fn walk(&self, table: &Name) -> Walk<'_>
+        ensures rows { result ≡ table_rows self.now.rows table.now }
+    {
+        match self.tables.get(table) {
+            None => Walk::new(None),
+            Some(held) => Walk::new(Some(held.iter())),
+        }
+    }
+
     /// Puts a row under a key of a table, and answers the row before.
     pub fn put(
         &mut self,
@@ -113,7 +124,7 @@ impl Rows {
         ensures err { OnErr result (self.new ≡ self.old) }
     {
         let at = key.copy(alloc)?;
-        let name = table.copy(alloc)?;
+        let name = shared(alloc, self.changes.as_slice(), table)?;
         let place = insert_at(alloc, &mut self.tables, table, key, Some(row))?;
         let change = Undo {
             table: name,
@@ -134,7 +145,7 @@ impl Rows {
         if !is_place(&self.tables, table, &key) {
             return Ok(());
         }
-        let name = table.copy(alloc)?;
+        let name = shared(alloc, self.changes.as_slice(), table)?;
         let place = set_at(&mut self.tables, table, &key, None);
         let change = Undo {
             table: name,
@@ -244,7 +255,8 @@ fn is_place(tables: &Tables, table: &Name, key: &Key) -> bool
 fn sweep(tables: &mut Tables, change: Undo)
     ensures same { filled (gathered tables.new.entries) ≡ filled (gathered tables.old.entries) }
 {
-    if let Some(None) = place_at(tables, &change.table, &change.key) {
-        remove_at(tables, &change.table, &change.key);
+    let table = change.table.as_ref();
+    if let Some(None) = place_at(tables, table, &change.key) {
+        remove_at(tables, table, &change.key);
     }
 }

@@ -8,7 +8,7 @@ ghost use Rattle.sr_rows.specs.Marks.{IsNext, IsLast};
 use sr_base::{Key, NoMemory, Row};
 use std::alloc::Global;
 use std::collections::BTreeMap;
-use std::collections::btree_map::Range;
+use std::collections::btree_map::{Iter, Range};
 use std::marker::Model;
 use std::mem;
 use std::ops::Bound;
@@ -80,6 +80,13 @@ impl Table {
         ensures removed { self.new ≡ map.remove self.old key.now }
     {
         self.places.remove(key);
+    }
+
+    /// All places, in the order of their keys.
+    pub(crate) fn iter(&self) -> Iter<'_, Key, Option<Row>>
+        ensures all { result ≡ map.entries self.now }
+    {
+        self.places.iter()
     }
 
     /// The row with the least key past another one, or past none.

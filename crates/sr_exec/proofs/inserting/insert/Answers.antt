@@ -10,7 +10,6 @@ use Rattle.sr_exec.specs.Sequences.{each, followed}
 use Rattle.sr_exec.specs.Storing.{inserted_row}
 use Rattle.std.proofs.lemmas.Result.{err_from_is_err_and}
 use Rattle.sr_exec.specs.Statements.{names_of, unknown_in_insert, bad_in_insert, inserted_rows, inserted, in_order, counted, entry_of}
-use Rattle.sr_exec.proofs.Outcomes.{settled-put}
 use Rattle.sr_exec.proofs.inserting.insert.Goals as goal
 
 inserted_is : (table : Table) (i : Insert) (before : List Entry) (rows : List (List Value)) → unknown_in_insert table i ≡ None → bad_in_insert table i ≡ None → inserted_rows table i ≡ Ok rows
@@ -30,9 +29,8 @@ returns-in_err-list c =
     let names : names_of table.columns i.columns ≡ c.as_slice-3.result.now = sym (c.as_slice-3.ensures.items ∙ c.in_ok-names.ensures.names ∙ ap (λ columns. names_of columns i.columns) c.as_slice.ensures.items) in
     let is : inserted_rows table i ≡ Ok added = (λ j. each (λ es. inserted_row (names j) es table.columns) (sym c.as_slice-4.ensures.items j)) ∙ c.in_ok-added.ensures.answer in
     let whole = inserted_is table i before added known good is in
-    let out = settled-put c.args.rows.now.rows table.name (map (entry_of table) added) c.in_ok-edits.edits.entries c.in_ok-edits.ensures.ordered c.in_ok-edits.ensures.edits in
     let p = err_from_is_err_and c.from_residual-in_err-list.result c.from_residual-in_err-list.ensures.1 in
-    rw (p.1, p.2) (record { answer = λ ne. whole ∙ ap (λ h. followed h (counted (length added))) (sym out ∙ c.in_err-list.ensures.answer ne) })
+    rw (p.1, p.2) (record { answer = λ ne. whole ∙ ap (λ h. followed h (counted (length added))) (c.in_err-list.ensures.answer ne) })
 
 pub returns : goal.returns
 returns c =
@@ -45,6 +43,5 @@ returns c =
     let names : names_of table.columns i.columns ≡ c.as_slice-3.result.now = sym (c.as_slice-3.ensures.items ∙ c.in_ok-names.ensures.names ∙ ap (λ columns. names_of columns i.columns) c.as_slice.ensures.items) in
     let is : inserted_rows table i ≡ Ok added = (λ j. each (λ es. inserted_row (names j) es table.columns) (sym c.as_slice-4.ensures.items j)) ∙ c.in_ok-added.ensures.answer in
     let whole = inserted_is table i before added known good is in
-    let out = settled-put c.args.rows.now.rows table.name (map (entry_of table) added) c.in_ok-edits.edits.entries c.in_ok-edits.ensures.ordered c.in_ok-edits.ensures.edits in
     let count : length added ≡ c.len-count.result = search rules in
-    record { answer = whole ∙ ap (λ h. followed h (counted (length added))) (sym out ∙ c.in_ok-list.ensures.answer) ∙ ap (λ n. counted n c.in_ok-list.list) count }
+    record { answer = whole ∙ ap (λ h. followed h (counted (length added))) c.in_ok-list.ensures.answer ∙ ap (λ n. counted n c.in_ok-list.list) count }

@@ -1,0 +1,56 @@
+ghost use Rattle.std.specs.Prelude.{◌≡◌};
+ghost use Rattle.std.specs.Map.Iter.{TakesFirst, deref_pair};
+ghost use Rattle.sr_rows.specs.Gathered.{filled_rows, rows_left};
+
+use sr_base::{Key, Row};
+use std::collections::btree_map::Iter;
+use std::marker::Model;
+
+/// A walk along the rows of a table, in the order of their keys. Contracts see the rows that it has left.
+///
+/// A step takes constant time on average, and one more for each place on the way that was emptied since the mark.
+#[derive(Drop)]
+pub struct Walk<'a> {
+    places: Option<Iter<'a, Key, Option<Row>>>,
+}
+
+impl<'a> Model for Walk<'a> {
+    ghost use Rattle.std.specs.Prelude.{List};
+    ghost use Rattle.sr_rows.specs.Walks.{Entry};
+    ghost use Rattle.sr_rows.specs.Gathered.{rows_left};
+
+    ghost Value = { List Entry };
+
+    ghost view = { λ w. rows_left w.places };
+}
+
+impl<'a> Walk<'a> {
+    /// A walk along the rows of these places, or along none.
+    pub(crate) fn new(places: Option<Iter<'a, Key, Option<Row>>>) -> Walk<'a>
+        ensures left { result ≡ rows_left places.entry }
+    {
+        Walk { places }
+    }
+
+    /// The next row, with its key, if one is left.
+    pub fn next(&mut self) -> Option<(&'a Key, &'a Row)>
+        ensures next { TakesFirst deref_pair self.old result self.new }
+    {
+        match &mut self.places {
+            None => None,
+            Some(places) => next_filled(places),
+        }
+    }
+}
+
+/// The next entry that holds a row.
+fn next_filled<'a>(places: &mut Iter<'a, Key, Option<Row>>) -> Option<(&'a Key, &'a Row)>
+    ensures next { TakesFirst deref_pair (filled_rows places.old) result (filled_rows places.new) }
+{
+    'places: while let Some((key, place)) = places.next() {
+        if let Some(row) = place {
+            return Some((key, row));
+        }
+    }
+    None
+}
