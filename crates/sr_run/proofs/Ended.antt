@@ -9,8 +9,9 @@ use Rattle.sr_run.specs.Faults.{fault_line, status_of}
 use Rattle.sr_run.specs.Making.{created_line, IsGuarded, IsMade, MakeCause}
 use Rattle.sr_run.specs.Outside.{Outside, outside, IsAttachTried}
 use Rattle.sr_run.specs.Reports.{HasNumbers, Wrote}
-use Rattle.sr_run.specs.Running.{RanWhole, Stopped}
-use Rattle.sr_run.specs.Runs.{Told, RanInit, RanSql, IsRefused, RanOrder, Ran}
+use Rattle.sr_run.specs.Running.{IsUntouched, RanWhole, Stopped}
+use Rattle.sr_run.specs.Runs.{Told, RanInit, RanSql, RanShow, IsRefused, RanOrder, Ran}
+use Rattle.sr_run.specs.Showing.{HasShown, ShowCause}
 use Rattle.sr_run.specs.declared.fault.Fault.{Fault}
 use Rattle.sr_run.specs.declared.fault.Fault.TheVariants.{Words, Database}
 use Rattle.sr_run.specs.declared.order.Order.{Order}
@@ -36,6 +37,15 @@ module _ (name : List ℕ) (before after : Seen) (input left : Input) (old new :
   pub sql_ended : (fault : Fault) (between : Output) (status : ℕ) → Stopped name (outside before input old) (outside after left between) fault → Told fault between new status
       → RanSql name (outside before input old) (outside after left new) status
   sql_ended fault between status stopped told = record { tried = tried; ended = inr (record { fault = fault; between = between; stopped = stopped; line = told }) }
+
+module _ (name : List ℕ) (before after : Seen) (input : Input) (old new : Output) (tried : IsAttachTried name before after) (untouched : IsUntouched before after) where
+  pub show_done : HasShown name before after old new → RanShow name (outside before input old) (outside after input new) 0
+  show_done shown = record { tried = tried; untouched = untouched; input = refl; ended = inl (record { status_is = refl; shown = shown }) }
+
+  pub show_ended : (fault : Fault) (between : Output) (status : ℕ) → ShowCause name before after old between fault → Told fault between new status
+      → RanShow name (outside before input old) (outside after input new) status
+  show_ended fault between status cause told =
+      record { tried = tried; untouched = untouched; input = refl; ended = inr (record { fault = fault; between = between; stopped = cause; line = told }) }
 
 -- nothing was touched but the output
 is_refused : (fault : Fault) (site : Seen) (input : Input) (old new : Output) (status : ℕ) → Told fault old new status → IsRefused fault (outside site input old) (outside site input new) status

@@ -20,11 +20,12 @@ use Rattle.sr_run.specs.Faults.{status_of}
 use Rattle.sr_run.specs.Outside.{Outside}
 use Rattle.sr_run.specs.Making.{MakeCause}
 use Rattle.sr_run.specs.Running.{RanOn, Stopped, fault_of}
-use Rattle.sr_run.specs.Runs.{Told, RanInit, RanSql, IsRefused, RanOrder, Ran, before_line}
+use Rattle.sr_run.specs.Runs.{Told, RanInit, RanSql, RanShow, IsRefused, RanOrder, Ran, before_line}
+use Rattle.sr_run.specs.Showing.{ShowCause}
 use Rattle.sr_run.specs.declared.fault.Fault.{Fault}
 use Rattle.sr_run.specs.declared.fault.Fault.TheVariants.{Words, Database, Source, TooLong, Script, Statement, Sink}
 use Rattle.sr_run.specs.declared.order.Order.{Order}
-use Rattle.sr_run.specs.declared.order.Order.TheVariants.{Init, Sql}
+use Rattle.sr_run.specs.declared.order.Order.TheVariants.{Init, Sql, Show}
 
 -- ---- which faults have a status
 
@@ -263,23 +264,57 @@ module _ (name : List ℕ) (old new : Outside) (status : ℕ) (ran : RanSql name
     | inr by ↦ inr (by.line.told, by.line.status_is)
   ]
 
+-- ---- of `show`
+
+module _ (name : List ℕ) (old new : Outside) (status : ℕ) (ran : RanShow name old new status) where
+  show_no_words : status ≢ 2
+  show_no_words two = elim ran.ended [
+    | inl all ↦ omega (arith, all.status_is, two)
+    | inr by ↦ subst (λ (f : Fault). ShowCause name old.site new.site old.output by.between f) (told_words by.fault by.between new.output status by.line two) by.stopped
+  ]
+
+  show_disk : status ≡ 5 → Rose old.site.disk_faults new.site.disk_faults
+  show_disk five = elim ran.ended [
+    | inl all ↦ absurd (omega (arith, all.status_is, five))
+    | inr by ↦ (subst (λ (f : Fault). ShowCause name old.site new.site old.output by.between f) (told_disk by.fault by.between new.output status by.line five) by.stopped).0
+  ]
+
+  show_stream : status ≡ 7 → Rose old.output.faults new.output.faults
+  show_stream seven = elim ran.ended [
+    | inl all ↦ absurd (omega (arith, all.status_is, seven))
+    | inr by ↦ elim (told_stream by.fault by.between new.output status by.line seven) [
+      | inl is ↦ absurd (subst (λ (f : Fault). ShowCause name old.site new.site old.output by.between f) is by.stopped)
+      | inr is ↦ rose_on old.output.faults by.between.faults new.output.faults (subst (λ (f : Fault). ShowCause name old.site new.site old.output by.between f) is by.stopped).part.rose by.line.stays.later
+    ]
+  ]
+
+  show_status : (status ≡ 0) ⊎ ((f : Fault) × (status ≡ status_of f))
+  show_status = elim ran.ended [
+    | inl all ↦ inl all.status_is
+    | inr by ↦ inr (by.line.told, by.line.status_is)
+  ]
+
 -- ---- of runs
 
 order_words : (order : Order) (old new : Outside) (status : ℕ) → RanOrder order old new status → status ≢ 2
 order_words (Init name user) old new status ran = init_no_words name user old new status ran
 order_words (Sql name) old new status ran = sql_no_words name old new status ran
+order_words (Show name) old new status ran = show_no_words name old new status ran
 
 order_disk : (order : Order) (old new : Outside) (status : ℕ) → RanOrder order old new status → status ≡ 5 → Rose old.site.disk_faults new.site.disk_faults
 order_disk (Init name user) old new status ran = init_disk name user old new status ran
 order_disk (Sql name) old new status ran = sql_disk name old new status ran
+order_disk (Show name) old new status ran = show_disk name old new status ran
 
 order_stream : (order : Order) (old new : Outside) (status : ℕ) → RanOrder order old new status → status ≡ 7 → Rose old.input.faults new.input.faults ⊎ Rose old.output.faults new.output.faults
 order_stream (Init name user) old new status ran seven = inr (init_stream name user old new status ran seven)
 order_stream (Sql name) old new status ran seven = sql_stream name old new status ran seven
+order_stream (Show name) old new status ran seven = inr (show_stream name old new status ran seven)
 
 order_status : (order : Order) (old new : Outside) (status : ℕ) → RanOrder order old new status → (status ≡ 0) ⊎ ((f : Fault) × (status ≡ status_of f))
 order_status (Init name user) old new status ran = init_status name user old new status ran
 order_status (Sql name) old new status ran = sql_status name old new status ran
+order_status (Show name) old new status ran = show_status name old new status ran
 
 -- words that are refused, and want of memory
 refused_disk : (fault : Fault) (old new : Outside) (status : ℕ) → IsRefused fault old new status → status ≡ 5 → fault ≡ Database Disk

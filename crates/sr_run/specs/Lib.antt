@@ -6,6 +6,7 @@ pub mod Outside
 pub mod Reports
 pub mod Running
 pub mod Runs
+pub mod Showing
 pub mod Steps
 pub mod Streams
 pub mod Words

@@ -7,11 +7,12 @@ use Rattle.sr_run.specs.Faults.{fault_line, status_of}
 use Rattle.sr_run.specs.Making.{created_line, IsGuarded, IsMade, MakeCause}
 use Rattle.sr_run.specs.Outside.{Outside, IsAttachTried}
 use Rattle.sr_run.specs.Reports.{HasNumbers, Wrote}
-use Rattle.sr_run.specs.Running.{RanWhole, Stopped}
+use Rattle.sr_run.specs.Running.{IsUntouched, RanWhole, Stopped}
+use Rattle.sr_run.specs.Showing.{HasShown, ShowCause}
 use Rattle.sr_run.specs.declared.fault.Fault.{Fault}
 use Rattle.sr_run.specs.declared.fault.Fault.TheVariants.{Words, Database}
 use Rattle.sr_run.specs.declared.order.Order.{Order}
-use Rattle.sr_run.specs.declared.order.Order.TheVariants.{Init, Sql}
+use Rattle.sr_run.specs.declared.order.Order.TheVariants.{Init, Sql, Show}
 
 -- all of it, with another output
 abbrev pub before_line : Outside → Output → Outside
@@ -57,6 +58,18 @@ pub record RanSql (name : List ℕ) (old new : Outside) (status : ℕ) : Type 0 
   pub tried : IsAttachTried name old.site new.site
   pub ended : RanAll name old new status ⊎ EndedBy (Stopped name old) new status
 
+-- `show` printed all lines
+pub record ShownAll (name : List ℕ) (old new : Outside) (status : ℕ) : Type 0 where
+  pub status_is : status ≡ 0
+  pub shown : HasShown name old.site new.site old.output new.output
+
+-- `show NAME`: no file is changed, and nothing is read
+pub record RanShow (name : List ℕ) (old new : Outside) (status : ℕ) : Type 0 where
+  pub tried : IsAttachTried name old.site new.site
+  pub untouched : IsUntouched old.site new.site
+  pub input : new.input ≡ old.input
+  pub ended : ShownAll name old new status ⊎ EndedBy (λ now fault. ShowCause name old.site now.site old.output now.output fault) new status
+
 -- other words: nothing is touched, and they are refused; or there was no memory for the words of an order
 pub record IsRefused (fault : Fault) (old new : Outside) (status : ℕ) : Type 0 where
   pub site : new.site ≡ old.site
@@ -67,6 +80,7 @@ pub record IsRefused (fault : Fault) (old new : Outside) (status : ℕ) : Type 0
 abbrev pub RanOrder : Order → Outside → Outside → ℕ → Type 0
 RanOrder (Init name user) old new status = RanInit name user old new status
 RanOrder (Sql name) old new status = RanSql name old new status
+RanOrder (Show name) old new status = RanShow name old new status
 
 -- words that ask for nothing are refused; what they ask for is done, where there is memory for them
 abbrev pub Ran : Option Order → Outside → Outside → ℕ → Type 0

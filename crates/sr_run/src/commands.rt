@@ -1,13 +1,14 @@
 ghost use Rattle.sr_site.specs.Causes.{DiskStays};
 ghost use Rattle.sr_site.specs.Streams.{Input};
 ghost use Rattle.sr_run.specs.Outside.{outside};
-ghost use Rattle.sr_run.specs.Runs.{RanInit, RanOrder, RanSql, Told};
+ghost use Rattle.sr_run.specs.Runs.{RanInit, RanOrder, RanShow, RanSql, Told};
 
 use crate::fault::Fault;
 use crate::making::make;
 use crate::order::Order;
 use crate::reporting::report;
 use crate::running::run_sql;
+use crate::showing::show;
 use sr_base::{Name, Text};
 use sr_site::{Sink, Site, Source};
 use std::alloc::Global;
@@ -26,6 +27,7 @@ pub fn command<S: Site, I: Source, O: Sink>(
     match order {
         Order::Init { name, user } => command_init(alloc, name, user, site, output),
         Order::Sql { name } => command_sql(alloc, name, site, input, output),
+        Order::Show { name } => command_show(alloc, name, site, output),
     }
 }
 
@@ -65,6 +67,16 @@ fn command_sql<S: Site, I: Source, O: Sink>(
     ensures stays { DiskStays (S.seen site.old) (S.seen site.new) }
 {
     match run_sql(alloc, name, site, input, output) {
+        Ok(()) => 0,
+        Err(fault) => tell(alloc, output, fault),
+    }
+}
+
+fn command_show<S: Site, O: Sink>(alloc: Global, name: &Text, site: &mut S, output: &mut O) -> u8
+    ensures ran { (input : Input) → RanShow name.now (outside (S.seen site.old) input (O.seen output.old)) (outside (S.seen site.new) input (O.seen output.new)) result }
+    ensures stays { DiskStays (S.seen site.old) (S.seen site.new) }
+{
+    match show(alloc, name, site, output) {
         Ok(()) => 0,
         Err(fault) => tell(alloc, output, fault),
     }

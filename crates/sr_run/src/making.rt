@@ -2,15 +2,13 @@ ghost use Rattle.std.specs.Prelude.{◌≡◌, ◌++◌, IsTrue, IfOk, IfErr, On
 ghost use Rattle.sr_site.specs.Causes.{DiskStays};
 ghost use Rattle.sr_run.specs.Making.{created_line, IsGuarded, IsMade, MakeCause, StoreCause};
 ghost use Rattle.sr_run.specs.Outside.{IsAttachTried};
-ghost use Rattle.sr_run.specs.Streams.{SaidPart};
-ghost use Rattle.sr_run.specs.declared.fault.Fault.TheVariants.{Sink as sink_fault};
 
 use crate::attaching::attach;
 use crate::fault::Fault;
+use crate::saying::say_lines;
 use sr_base::{Name, NoMemory, Text};
 use sr_database::{Database, DatabaseFault};
-use sr_session::say;
-use sr_site::{Failed, Sink, Site};
+use sr_site::{Sink, Site};
 use std::alloc::Global;
 
 /// `created USER`, with its line feed.
@@ -44,18 +42,6 @@ fn make_files<S: Site>(
     Ok(line)
 }
 
-/// Says that a database was made.
-fn say_made<O: Sink>(output: &mut O, line: &[u8]) -> Result<(), Fault>
-    ensures said { IsTrue (O.seen output.old).told → OnOk result ((O.seen output.new).taken ≡ (O.seen output.old).taken ++ line.now) }
-    ensures steady { OnOk result ((O.seen output.new).faults ≡ (O.seen output.old).faults) }
-    ensures cause { IfErr result (λ fault. (fault ≡ sink_fault) × SaidPart line.now (O.seen output.old) (O.seen output.new)) }
-{
-    match say(output, line) {
-        Ok(()) => Ok(()),
-        Err(Failed) => Err(Fault::Sink),
-    }
-}
-
 /// `init NAME USER`: makes a fresh database, and says so.
 pub fn make<S: Site, O: Sink>(
     alloc: Global,
@@ -73,5 +59,5 @@ pub fn make<S: Site, O: Sink>(
     ensures cause { IfErr result (MakeCause name.now user.now (S.seen site.old) (S.seen site.new) (O.seen output.old) (O.seen output.new)) }
 {
     let line = make_files(alloc, name, user, site)?;
-    say_made(output, line.as_slice())
+    say_lines(output, line.as_slice())
 }

@@ -7,4 +7,6 @@ pub enum Order {
     Init { name: Text, user: Name },
     /// Runs the script on the source.
     Sql { name: Text },
+    /// Prints its offsets and books.
+    Show { name: Text },
 }

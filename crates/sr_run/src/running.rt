@@ -21,7 +21,7 @@ use std::alloc::Global;
 
 /// Attaches the files of a name and opens the database.
 #[tactic(auto, using(sr_site::specs::Growing::disk_stays_on, crate::proofs::Opened::attaching))]
-fn open<S: Site>(alloc: Global, name: &Text, site: &mut S) -> Result<Database, DatabaseFault>
+pub fn open<S: Site>(alloc: Global, name: &Text, site: &mut S) -> Result<Database, DatabaseFault>
     ensures opened { IfOk result (λ db. IsOpened name.now db (S.seen site.old) (S.seen site.new)) }
     ensures ready { IfOk result (λ db. (db.log.usable ≡ true) × (db.pending ≡ [])) }
     ensures stands { IsTrue (S.seen site.new).told → IfOk result (λ db. HasDatabase db (S.seen site.new)) }

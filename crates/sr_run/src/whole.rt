@@ -14,7 +14,8 @@ use std::alloc::Global;
 
 /// Does all that the program does, and answers its exit status.
 ///
-/// The words `init NAME USER` make a database, and `sql NAME` runs the script on `input` on one. All other words are refused.
+/// The words `init NAME USER` make a database, `sql NAME` runs the script on `input` on one, and `show NAME` prints what one is. All other words
+/// are refused.
 ///
 /// The status is 0; or that of the fault that ended the run: 2 for other words, 3 for a database that is missing, there or damaged, 4 for a
 /// script or a statement that is refused, 5 for the disk, 7 for the source or the sink, 8 for want of memory, 9 for a limit. No run has mail

@@ -1,5 +1,5 @@
 ghost use Rattle.std.specs.Prelude.{◌≡◌, IfOk};
-ghost use Rattle.sr_run.specs.Words.{is_place, order_of, order_of_two, order_of_three};
+ghost use Rattle.sr_run.specs.Words.{is_place, on_database, order_of, order_of_two, order_of_three};
 
 use crate::order::Order;
 use sr_base::{BadName, Copied, NoMemory, Text, name_of};
@@ -13,16 +13,28 @@ fn is_place(name: &Text) -> bool
     length >= 1 && length <= 255
 }
 
-/// What `sql NAME` asks for.
+/// What a command and the name of a database's files ask for.
+fn on_database(alloc: Global, command: &Text, name: &Text) -> Result<Option<Order>, NoMemory>
+    ensures { IfOk result (λ order. order ≡ on_database command.now name.now) }
+{
+    let name = name.copy(alloc)?;
+    if command.bytes() == b"sql".as_slice() {
+        return Ok(Some(Order::Sql { name }));
+    }
+    if command.bytes() == b"show".as_slice() {
+        return Ok(Some(Order::Show { name }));
+    }
+    Ok(None)
+}
+
+/// What `sql NAME` and `show NAME` ask for.
 fn order_of_two(alloc: Global, command: &Text, name: &Text) -> Result<Option<Order>, NoMemory>
     ensures { IfOk result (λ order. order ≡ order_of_two command.now name.now) }
 {
-    if command.bytes() != b"sql".as_slice() || !is_place(name) {
+    if !is_place(name) {
         return Ok(None);
     }
-    Ok(Some(Order::Sql {
-        name: name.copy(alloc)?,
-    }))
+    on_database(alloc, command, name)
 }
 
 /// What `init NAME USER` asks for.
