@@ -5,8 +5,7 @@ use Rattle.sr_base.specs.declared.value.Value.{Value as Cell}
 use Rattle.sr_eval.specs.Bounds.{IsRowOf, AreRows, columns_of, values_of}
 use Rattle.sr_eval.specs.declared.bound.Bound.{Bound}
 use Rattle.sr_rows.specs.Marks.{RowMap, rows_of_table}
-use Rattle.sr_rows.specs.Walks.{Entry, table_rows, past}
-use Rattle.sr_rows.proofs.Listing.{past-None}
+use Rattle.sr_rows.specs.Walks.{Entry, table_rows}
 use Rattle.sr_ast.specs.declared.expr.Expr.{Expr}
 use Rattle.sr_schema.specs.declared.fault.DmlFault.{DmlFault}
 use Rattle.sr_exec.specs.Edits.{prefixed}
@@ -65,28 +64,26 @@ pub ruleset joined_lists = (append_assoc, append-nil)
 
 -- the rows of a source are all still to come
 pub begins_walk : (rows : RowMap) (scope : Scope) (conditions : List Expr) (before : List (List Cell)) (values : List Cell) (joined : Joined)
-    (after : List Joined) (rest : List (List Cell))
+    (after : List Joined) (left : List Entry) → left ≡ table_rows rows joined.table.now.name → (rest : List (List Cell))
     → prefixed before (kept scope conditions (over_each (λ row. combinations (values ++ row) (map (seen rows) after)) (rows_by_key rows joined.table.now)
     ++ rest))
     ≡ prefixed before (kept scope conditions (over_each (λ row. combinations (values ++ row) (map (seen rows) after))
-    (map (λ (e : Entry). e.1) (past None (table_rows rows joined.table.now.name))) ++ rest))
-begins_walk rows scope conditions before values joined after rest =
+    (map (λ (e : Entry). e.1) left) ++ rest))
+begins_walk rows scope conditions before values joined after left all rest =
     sym (ap (λ es. prefixed before
     (kept scope conditions (over_each (λ row. combinations (values ++ row) (map (seen rows) after)) (map (λ (e : Entry). e.1) es) ++ rest)))
-    (past-None (table_rows rows joined.table.now.name)))
+    all)
 
 -- the next one is gone over before those behind it
 pub goes_on : (rows : RowMap) (scope : Scope) (conditions : List Expr) (before : List (List Cell)) (bounds held : List Bound) (joined : Joined)
-    (after : List Joined) (last : Option (List Cell)) (key row : List Cell) (rest : List (List Cell)) → held ≡ bounds
-    → past last (table_rows rows joined.table.now.name) ≡ (key, row) ∷ past (Some key) (table_rows rows joined.table.now.name)
+    (after : List Joined) (left later : List Entry) (key row : List Cell) (rest : List (List Cell)) → held ≡ bounds → left ≡ (key, row) ∷ later
     → prefixed before (kept scope conditions (over_each (λ r. combinations (values_of bounds ++ r) (map (seen rows) after))
-    (map (λ (e : Entry). e.1) (past last (table_rows rows joined.table.now.name))) ++ rest))
+    (map (λ (e : Entry). e.1) left) ++ rest))
     ≡ prefixed before (kept scope conditions (combinations (values_of held ++ row) (map (seen rows) after)
-    ++ (over_each (λ r. combinations (values_of bounds ++ r) (map (seen rows) after))
-    (map (λ (e : Entry). e.1) (past (Some key) (table_rows rows joined.table.now.name))) ++ rest)))
-goes_on rows scope conditions before bounds held joined after last key row rest same begins =
+    ++ (over_each (λ r. combinations (values_of bounds ++ r) (map (seen rows) after)) (map (λ (e : Entry). e.1) later) ++ rest)))
+goes_on rows scope conditions before bounds held joined after left later key row rest same begins =
     let behind = over_each (λ r. combinations (values_of bounds ++ r) (map (seen rows) after)) in
-    let entries = map (λ (e : Entry). e.1) (past (Some key) (table_rows rows joined.table.now.name)) in
+    let entries = map (λ (e : Entry). e.1) later in
     ap (λ es. prefixed before (kept scope conditions (behind (map (λ (e : Entry). e.1) es) ++ rest))) begins
     ∙ ap (λ cs. prefixed before (kept scope conditions cs)) (append_assoc (combinations (values_of bounds ++ row) (map (seen rows) after)) (behind entries) rest)
     ∙ ap (λ bs. prefixed before (kept scope conditions (combinations (values_of bs ++ row) (map (seen rows) after) ++ (behind entries ++ rest)))) (sym same)

@@ -106,8 +106,7 @@ fn walk_at<'a>(
     )
 }
 
-/// Keeps those of the combinations that begin with this one and a row of the next source: it goes over each of its rows, and comes to one
-/// in logarithmic time.
+/// Keeps those of the combinations that begin with this one and a row of the next source: it goes over each of its rows.
 #[cycle(walking)]
 fn walk_along<'a>(
     alloc: Global,
@@ -131,8 +130,8 @@ fn walk_along<'a>(
         (over_each (λ row. combinations (values_of combination.old.items ++ row) (map (seen rows.now.rows) after.now))
         (rows_by_key rows.now.rows joined.now.table.now)) (found kept.new.items) }
 {
-    let mut last = None;
-    'rows: while let Some((key, row)) = rows.next(&joined.table.name, last) {
+    let mut source = rows.walk(&joined.table.name);
+    'rows: while let Some((_key, row)) = source.next() {
         walk_row(
             alloc,
             rows,
@@ -144,7 +143,6 @@ fn walk_along<'a>(
             combination,
             kept,
         )?;
-        last = Some(key);
     }
     Ok(())
 }

@@ -35,7 +35,7 @@ pub(crate) fn listed_rows(
     ensures answer { MatchResult result (λ rows. each (listed_row scope.now items.now order.now) (found kept.now) ≡ Ok rows.items)
         (λ fault. fault ≢ DmlFault.Memory → each (listed_row scope.now items.now order.now) (found kept.now) ≡ Err fault) }
 {
-    let mut rows = Vec::new(alloc);
+    let mut rows = Vec::with_capacity(alloc, kept.len())?;
     'kept: for combination in kept {
         let row = listed_row(alloc, scope, items, order, combination)?;
         push(&mut rows, row)?;
@@ -72,7 +72,7 @@ fn row_of(
 {
     match items {
         Items::All => {
-            let mut values = Vec::new(alloc);
+            let mut values = Vec::with_capacity(alloc, scope.as_slice().len())?;
             all_values(alloc, &mut values, combination.rows.as_slice())?;
             Ok(Row::new(Seq::from_vec(values)))
         }
@@ -114,7 +114,7 @@ fn item_values(
     requires good { IsTrue (all_pass (is_good_item scope.now) items.now) }
     ensures answer { Answers result (each (item_value scope.now (values_of combination.now.rows.items)) items.now) }
 {
-    let mut values = Vec::new(alloc);
+    let mut values = Vec::with_capacity(alloc, items.len())?;
     let mut left = items;
     'items: while let Some((item, rest)) = left.split_first() {
         let value = item_value(alloc, scope, item, combination)?;
@@ -172,7 +172,7 @@ fn ranks_of(
     requires known { first_in (unknown_in_order scope.now) order.now ≡ None }
     ensures ranks { IfOk result (λ ranks. ranks ≡ ranks_of scope.now order.now (values_of combination.now.rows.items)) }
 {
-    let mut ranks = Vec::new(alloc);
+    let mut ranks = Vec::with_capacity(alloc, order.len())?;
     let mut left = order;
     'order: while let Some((by, rest)) = left.split_first() {
         let value = column_value(alloc, by, combination.rows.as_slice())?;

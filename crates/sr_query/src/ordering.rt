@@ -22,7 +22,7 @@ pub(crate) fn ordered(alloc: Global, listed: Vec<Listed>) -> Result<Vec<Row>, No
 fn rows_of(alloc: Global, listed: Vec<Listed>) -> Result<Vec<Row>, NoMemory>
     ensures rows { IfOk result (λ rows. rows.items ≡ map (λ (l : ListedRow). l.row) listed.items) }
 {
-    let mut rows = Vec::new(alloc);
+    let mut rows = Vec::with_capacity(alloc, listed.len())?;
     let mut left = listed;
     left.reverse();
     'listed: while let Some(listed) = left.pop() {

@@ -73,7 +73,7 @@ fn commit_pending<S: Site>(
 fn copied(alloc: Global, changes: &[Change]) -> Result<Seq<Change>, NoMemory>
     ensures equal { IfOk result (λ copy. copy ≡ changes.now) }
 {
-    let mut items = Vec::new(alloc);
+    let mut items = Vec::with_capacity(alloc, changes.len())?;
     let mut left = changes;
     'changes: while let Some((change, rest)) = left.split_first() {
         items.push(change.copy(alloc)?)?;

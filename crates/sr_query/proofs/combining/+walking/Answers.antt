@@ -1,8 +1,8 @@
 use Rattle.std.proofs.Common.{◌≡◌, ◌∷◌, ◌++◌, map, Some, rules, arith, refl, sym, ap, subst, ◌∙◌}
 use Rattle.std.proofs.lemmas.Result.{err_from_is_err_and}
 use Rattle.sr_eval.specs.Bounds.{IsRowOf, AreRows, columns_of, values_of}
-use Rattle.std.specs.Option.{option_copied}
-use Rattle.sr_rows.specs.Walks.{Entry, table_rows, past}
+use Rattle.sr_rows.specs.Walks.{Entry}
+use Rattle.sr_rows.proofs.Cursors.{AreHeld, table_held}
 use Rattle.sr_exec.specs.Edits.{prefixed}
 use Rattle.sr_query.specs.Combinations.{combinations, kept, over_each, Keeps}
 use Rattle.sr_query.specs.Lookups.{fixed_key}
@@ -66,7 +66,8 @@ walk_along-walk_row-requires t c = (
     (
       subst AreRows (sym c.rows.invariant.same) c.requires.fit,
       (
-        row_of_source c.args.rows.now.rows c.args.joined.now c.in-Some.key.now c.in-Some.row.now c.requires.source c.in-Some.ensures.next.held,
+        row_of_source c.args.rows.now.rows c.args.joined.now c.in-Some._key.now c.in-Some.row.now c.requires.source
+            (subst (AreHeld c.args.rows.now.rows c.args.joined.now.table.now.name) c.in-Some.ensures.next c.rows.invariant.held).0,
         (
           c.requires.joined,
           (
@@ -86,11 +87,11 @@ walk_along-returns-in_err-walk_row-clause-kept t c =
     let bounds = c.args.combination.now.items in
     let joined = c.args.joined.now in
     let after = c.args.after.now in
-    let entries = map (λ (e : Entry). e.1) (past (Some c.in-Some.key.now) (table_rows rows joined.table.now.name)) in
+    let entries = map (λ (e : Entry). e.1) c.next.new.self in
     let later = over_each (λ row. combinations (values_of bounds ++ row) (map (seen rows) after)) entries in
     λ rest. rw (p.1, p.2) (λ ne. c.rows.invariant.kept rest
     ∙ goes_on rows c.args.scope.now (conditions_of c.args.select.now) (found c.rows.kept.items) bounds c.rows.combination.items joined after
-    (option_copied c.rows.last) c.in-Some.key.now c.in-Some.row.now rest c.rows.invariant.same c.in-Some.ensures.walk
+    c.rows.source c.next.new.self c.in-Some._key.now c.in-Some.row.now rest c.rows.invariant.same c.in-Some.ensures.next
     ∙ c.in_err-walk_row.ensures.kept (later ++ rest) ne)
 
 pub walk_along-rows-init : goal.walk_along-rows-init
@@ -99,7 +100,8 @@ walk_along-rows-init t c =
       same = refl;
       whole = c.requires.whole;
       kept = begins_walk c.args.rows.now.rows c.args.scope.now (conditions_of c.args.select.now) (found c.args.kept.now.items)
-          (values_of c.args.combination.now.items) c.args.joined.now c.args.after.now;
+          (values_of c.args.combination.now.items) c.args.joined.now c.args.after.now c.walk-source.result c.walk-source.ensures.rows;
+      held = subst (AreHeld c.args.rows.now.rows c.args.joined.now.table.now.name) (sym c.walk-source.ensures.rows) (table_held c.args.rows.now.rows c.args.joined.now.table.now.name);
     }
 
 pub walk_row-walk-requires : goal.walk_row-walk-requires
@@ -136,3 +138,21 @@ walk_row-returns-clause-kept t c =
     ∙ ap (λ v. values_of c.args.combination.now.items ++ v) c.values.ensures.values in
     λ rest. ap (λ vs. prefixed (found c.args.kept.now.items) (kept c.args.scope.now (conditions_of c.args.select.now)
     (combinations vs (map (seen c.args.rows.now.rows) c.args.after.now) ++ rest))) (sym values) ∙ c.in_ok-walk.ensures.kept rest
+
+pub walk_along-rows-preserved : goal.walk_along-rows-preserved
+walk_along-rows-preserved t c =
+    let rows = c.args.rows.now.rows in
+    let bounds = c.args.combination.now.items in
+    let joined = c.args.joined.now in
+    let after = c.args.after.now in
+    let entries = map (λ (e : Entry). e.1) c.next.new.self in
+    let later = over_each (λ row. combinations (values_of bounds ++ row) (map (seen rows) after)) entries in
+    record {
+      same = c.in_ok-walk_row.ensures.same ∙ c.rows.invariant.same;
+      whole = c.in_ok-walk_row.ensures.whole;
+      kept = λ rest. c.rows.invariant.kept rest
+          ∙ goes_on rows c.args.scope.now (conditions_of c.args.select.now) (found c.rows.kept.items) bounds c.rows.combination.items joined after
+          c.rows.source c.next.new.self c.in-Some._key.now c.in-Some.row.now rest c.rows.invariant.same c.in-Some.ensures.next
+          ∙ c.in_ok-walk_row.ensures.kept (later ++ rest);
+      held = (subst (AreHeld c.args.rows.now.rows c.args.joined.now.table.now.name) c.in-Some.ensures.next c.rows.invariant.held).1;
+    }

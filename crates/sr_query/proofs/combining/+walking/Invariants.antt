@@ -1,8 +1,8 @@
 use Rattle.std.proofs.Common.{◌≡◌, ◌+◌, ◌*◌, ◌++◌, List, map, length}
-use Rattle.std.specs.Option.{option_copied}
 use Rattle.sr_base.specs.declared.value.Value.{Value}
 use Rattle.sr_eval.specs.Bounds.{values_of}
-use Rattle.sr_rows.specs.Walks.{Entry, table_rows, past}
+use Rattle.sr_rows.specs.Walks.{Entry}
+use Rattle.sr_rows.proofs.Cursors.{AreHeld}
 use Rattle.sr_exec.specs.Edits.{prefixed}
 use Rattle.sr_query.specs.Combinations.{combinations, kept, over_each}
 use Rattle.sr_query.specs.Sources.{conditions_of, rows_by_key}
@@ -31,8 +31,9 @@ invariant-walk_along-rows l = record {
       (rows_by_key l.rows.rows l.joined.table.now) ++ rest))
       ≡ prefixed (found l.kept.items) (kept l.scope (conditions_of l.select)
       (over_each (λ row. combinations (values_of l.fn.combination.items ++ row) (map (seen l.rows.rows) l.after))
-      (map (λ (e : Entry). e.1) (past (option_copied l.last) (table_rows l.rows.rows l.joined.table.now.name))) ++ rest));
+      (map (λ (e : Entry). e.1) l.source) ++ rest));
+  held : AreHeld l.rows.rows l.joined.table.now.name l.source;
 }
 
 abbrev pub decreases-walk_along-rows : goal.decreases-walk_along-rows
-decreases-walk_along-rows l = length (past (option_copied l.last) (table_rows l.rows.rows l.joined.table.now.name))
+decreases-walk_along-rows l = length l.source
