@@ -4,8 +4,8 @@
 
 `growth` is the time beside that of half the size: about 2 is wanted. `windows` adds windows, one behind the other, takes them all, and takes and drops
 them once more; `nested` drops windows each of which lies in the one before it; `fragments` adds the fragments of one window, the last first. `long`
-cuts one transaction into messages, puts it together and reads it; `x body` is by how many bytes its memory grew, from the size before, for each byte
-by which the body did. `small` cuts transactions as they come.
+cuts one transaction into messages, `text` one of a single long text; `join` puts the messages of the first together, as another program does, and reads
+it. `x body` is by how many bytes the memory grew, from the size before, for each byte by which the body did. `small` cuts transactions as they come.
 """
 
 import re
@@ -17,6 +17,8 @@ SIZES = {
     "nested": (16_384, 32_768, 65_536, 131_072),
     "fragments": (16_384, 32_768, 65_536, 131_072),
     "long": (16_000_000, 32_000_000, 64_000_000),
+    "text": (16_000_000, 32_000_000, 64_000_000),
+    "join": (16_000_000, 32_000_000, 64_000_000),
     "small": (250_000, 500_000, 1_000_000),
 }
 

@@ -1,4 +1,4 @@
-//! A long transaction, cut, put together and read.
+//! A long transaction, cut; and put together and read.
 
 ghost use Rattle.std.specs.Prelude.{◌≡◌, map, IfOk};
 ghost use Rattle.std.specs.List.{AllByRecursion};
@@ -7,7 +7,9 @@ ghost use Rattle.sr_mail.specs.Inboxes.{IsNext};
 ghost use Rattle.sr_mail.specs.declared.piece.Piece.{Piece as APiece};
 ghost use Rattle.sr_msgform.specs.declared.message.Message.{Message as Letter};
 
-use crate::samples::{add_message, cut_at, read_transactions, spell};
+use crate::samples::{
+    Sample, add_message, cut_at, message_of, read_transactions, spell, spell_head, spell_row,
+};
 use sr_answers::{say, say_number};
 use sr_base::{Copied, NoMemory, Offset};
 use sr_cut::read_body;
@@ -19,23 +21,87 @@ use std::alloc::{AllocError, Global};
 /// How many letters a row has.
 const LETTERS: u32 = 32_000;
 
-/// Says what becomes of a transaction with so many letters, in rows of 32,000.
+/// The offset of the transaction.
+const AT: u64 = 100;
+
+/// How many bytes a message carries.
+const ROOM: usize = 49_895;
+
+/// Says what a transaction with so many letters is cut into, in rows of 32,000.
 pub fn say_long(alloc: Global, letters: u32, out: &mut Vec<u8>) -> Result<(), NoMemory> {
-    match messages_of(alloc, letters)? {
+    say_cut_up(alloc, rows_of(letters), LETTERS, out)
+}
+
+/// The same of a transaction with one row.
+pub fn say_text(alloc: Global, letters: u32, out: &mut Vec<u8>) -> Result<(), NoMemory> {
+    say_cut_up(alloc, 1, letters, out)
+}
+
+/// Says what the messages of the transaction with so many letters are put together to.
+pub fn say_joined(alloc: Global, letters: u32, out: &mut Vec<u8>) -> Result<(), NoMemory> {
+    let messages = spelled_messages(alloc, rows_of(letters))?;
+    say_number(out, "", messages.len() as u64)?;
+    say_put_together(alloc, messages, out)
+}
+
+fn rows_of(letters: u32) -> u32 {
+    letters / LETTERS + 1
+}
+
+fn say_cut_up(alloc: Global, rows: u32, letters: u32, out: &mut Vec<u8>) -> Result<(), NoMemory> {
+    match messages_of(alloc, rows, letters)? {
         Some(messages) => {
-            say_number(out, "", messages.len() as u64)?;
-            say_put_together(alloc, messages, out)
+            let count = messages.len() as u64;
+            let size = body_size(messages.as_slice());
+            drop(messages);
+            say_number(out, "", count)?;
+            say_number(out, " messages, ", size)?;
+            say(out, " bytes, cut")
         }
         None => say(out, "too long"),
     }
 }
 
+/// How many bytes the body of a window has, by its first message.
+fn body_size(messages: &[Message]) -> u64 {
+    match messages.first() {
+        Some(message) => message.total as u64,
+        None => 0,
+    }
+}
+
+/// The messages of a transaction that never stands as a whole, as the receiver finds them.
+fn spelled_messages(alloc: Global, rows: u32) -> Result<Vec<Message>, NoMemory> {
+    let mut sample = Sample {
+        prev: 0,
+        upto: AT,
+        total: rows.wrapping_mul(LETTERS + 27).wrapping_add(12),
+        start: 0,
+        length: ROOM,
+    };
+    let mut messages = Vec::new(alloc);
+    let mut left = Vec::new(alloc);
+    spell_head(&mut left, AT, rows)?;
+    for id in 0..rows {
+        spell_row(&mut left, id, LETTERS)?;
+        if left.len() > ROOM {
+            let behind = left.split_off(ROOM)?;
+            let fragment = Vec::from_slice(alloc, left.as_slice())?;
+            messages.push(message_of(alloc, sample, fragment)?)?;
+            sample.start = sample.start.wrapping_add(ROOM as u32);
+            left = behind;
+        }
+    }
+    messages.push(message_of(alloc, sample, left)?)?;
+    Ok(messages)
+}
+
 /// The transaction's bytes, read.
-fn transactions_of(alloc: Global, letters: u32) -> Result<Vec<Transaction>, NoMemory>
+fn transactions_of(alloc: Global, rows: u32, letters: u32) -> Result<Vec<Transaction>, NoMemory>
     ensures { IfOk result (λ transactions. AllByRecursion IsShortTransaction transactions.items) }
 {
     let mut bytes = Vec::new(alloc);
-    let transactions = match spell(&mut bytes, 100, letters / LETTERS + 1, LETTERS) {
+    let transactions = match spell(&mut bytes, AT, rows, letters) {
         Ok(()) => read_transactions(alloc, bytes.as_slice()),
         Err(refused) => Err(refused),
     };
@@ -43,8 +109,8 @@ fn transactions_of(alloc: Global, letters: u32) -> Result<Vec<Transaction>, NoMe
     transactions
 }
 
-fn messages_of(alloc: Global, letters: u32) -> Result<Option<Vec<Message>>, NoMemory> {
-    let transactions = transactions_of(alloc, letters)?;
+fn messages_of(alloc: Global, rows: u32, letters: u32) -> Result<Option<Vec<Message>>, NoMemory> {
+    let transactions = transactions_of(alloc, rows, letters)?;
     let messages = cut_at(alloc, transactions.as_slice(), 50_000);
     drop(transactions);
     messages

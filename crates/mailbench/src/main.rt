@@ -5,7 +5,9 @@
 //! - `windows N`: N windows, one behind the other, are added, taken in their order, and taken once more with each dropped.
 //! - `fragments N`: N fragments of one window, the last first.
 //! - `nested N`: N windows each of which lies in the one before it; each is dropped.
-//! - `long N`: a transaction with N letters of text is cut into messages of at most 50,000 bytes, put together and read.
+//! - `long N`: a transaction with N letters of text, in rows of 32,000, is cut into messages of at most 50,000 bytes.
+//! - `text N`: the same of a transaction with one row, whose text has N letters.
+//! - `join N`: the messages of the transaction of `long` are put together and read.
 //! - `small N`: N transactions of one small row, by the thousand, are pushed to a cutter one by one.
 //!
 //! With no words it reads rows `KIND GIVEN => ANSWER` on standard input, and says each row to which another answer is given, and then how many are

@@ -34,16 +34,27 @@ pub fn head(alloc: Global) -> Result<Head, NoMemory> {
 
 /// Appends the bytes of a transaction at an offset that inserts so many rows into doc, each with a text of so many letters x.
 pub fn spell(bytes: &mut Vec<u8>, at: u64, rows: u32, letters: u32) -> Result<(), NoMemory> {
-    bytes.extend_from_slice(&at.to_be_bytes())?;
-    bytes.extend_from_slice(&rows.to_be_bytes())?;
+    spell_head(bytes, at, rows)?;
     for id in 0..rows {
-        bytes.extend_from_slice(b"\x01\x03doc\x00\x00\x00\x02\x02id\x01")?;
-        bytes.extend_from_slice(&id.to_be_bytes())?;
-        bytes.extend_from_slice(b"\x04body\x03")?;
-        bytes.extend_from_slice(&letters.to_be_bytes())?;
-        for _ in 0..letters {
-            bytes.push(b'x')?;
-        }
+        spell_row(bytes, id, letters)?;
+    }
+    Ok(())
+}
+
+/// The offset, and how many rows there are.
+pub fn spell_head(bytes: &mut Vec<u8>, at: u64, rows: u32) -> Result<(), NoMemory> {
+    bytes.extend_from_slice(&at.to_be_bytes())?;
+    bytes.extend_from_slice(&rows.to_be_bytes())
+}
+
+/// One of the rows.
+pub fn spell_row(bytes: &mut Vec<u8>, id: u32, letters: u32) -> Result<(), NoMemory> {
+    bytes.extend_from_slice(b"\x01\x03doc\x00\x00\x00\x02\x02id\x01")?;
+    bytes.extend_from_slice(&id.to_be_bytes())?;
+    bytes.extend_from_slice(b"\x04body\x03")?;
+    bytes.extend_from_slice(&letters.to_be_bytes())?;
+    for _ in 0..letters {
+        bytes.push(b'x')?;
     }
     Ok(())
 }
@@ -91,10 +102,15 @@ pub struct Sample {
 }
 
 fn message(alloc: Global, sample: Sample) -> Result<Message, NoMemory> {
-    let from = name(alloc, b"cons")?;
-    let to = name(alloc, b"r1")?;
     let mut fragment = Vec::new(alloc);
     fragment.resize(sample.length, b'x')?;
+    message_of(alloc, sample, fragment)
+}
+
+/// The message of a sample that carries these bytes.
+pub fn message_of(alloc: Global, sample: Sample, fragment: Vec<u8>) -> Result<Message, NoMemory> {
+    let from = name(alloc, b"cons")?;
+    let to = name(alloc, b"r1")?;
     Ok(Message {
         from,
         to,

@@ -4,7 +4,7 @@ use crate::arrivals::say_arrival;
 use crate::cuts::{say_bodied, say_cut, say_pushed};
 use crate::files::say_file;
 use crate::inboxes::say_inbox;
-use crate::long::say_long;
+use crate::long::{say_joined, say_long, say_text};
 use crate::saying::count_of;
 use crate::small::say_small;
 use crate::windows::{say_fragments, say_nested, say_windows};
@@ -42,6 +42,8 @@ pub fn say_measured(
     let count = count_of(count);
     match what {
         "long" => say_long(alloc, count, out),
+        "text" => say_text(alloc, count, out),
+        "join" => say_joined(alloc, count, out),
         "small" => say_small(alloc, count, out),
         _ => say_inboxes(alloc, what, count, out),
     }

@@ -224,15 +224,16 @@ pushed_held c after next encoded made e f g over short first pushed before h =
     let one = holds c.head c.limit first pushed (before ++ messages_held c.head c.prev c.upto c.body) c.upto next closed (omega (arith, short, size)) in
     subst (λ (ms : List Message). HasGiven after first (pushed ++ next ∷ []) (before ++ ms)) (sym g) (subst (λ (x : Cutting). HasGiven x first (pushed ++ next ∷ []) (before ++ messages_held c.head c.prev c.upto c.body)) (sym same) one)
 
-pub pushed_sent : (c after : Cutting) (next : Transaction) (encoded : List ℕ) (made : List Message) → encoded ≡ transaction_spelling next → after ≡ record { head = c.head; limit = c.limit; prev = next.at; upto = next.at; body = [] } →
-    (fragments : List (List ℕ)) × AreFragments c.head c.limit fragments × (concat fragments ≡ encoded) × (made ≡ messages_held c.head c.prev c.upto c.body ++ messages_from c.head c.upto next.at (length encoded) 0 fragments) →
-    c.limit < file_length c.head (length c.body + length encoded) → c.limit < file_length c.head (length encoded) →
+pub pushed_sent : (c after : Cutting) (next : Transaction) (encoded : List ℕ) (total : ℕ) (made : List Message) → encoded ≡ transaction_spelling next → total ≡ length encoded → after ≡ record { head = c.head; limit = c.limit; prev = next.at; upto = next.at; body = [] } →
+    (fragments : List (List ℕ)) × AreFragments c.head c.limit fragments × (concat fragments ≡ encoded) × (made ≡ messages_held c.head c.prev c.upto c.body ++ messages_from c.head c.upto next.at total 0 fragments) →
+    c.limit < file_length c.head (length encoded) →
     (first : Offset) (pushed : List Transaction) (before : List Message) → HasGiven c first pushed before → HasGiven after first (pushed ++ next ∷ []) (before ++ made)
-pushed_sent c after next encoded made e f g over long first pushed before h =
-    let size : length encoded ≡ length (transaction_spelling next) = ap length e in
-    let closed = closes c first pushed before next h (omega (arith, over, size, length-append c.body (transaction_spelling next))) in
+pushed_sent c after next encoded total made e n f g long first pushed before h =
+    let size : total ≡ length (transaction_spelling next) = n ∙ ap length e in
+    let alone : length encoded ≡ length (transaction_spelling next) = ap length e in
+    let closed = closes c first pushed before next h (omega (arith, long, alone, length-append c.body (transaction_spelling next))) in
     let held = messages_held c.head c.prev c.upto c.body in
-    let one = sends c.head c.limit first pushed (before ++ held) c.upto next g.0 closed g.1 (g.2 ∙ e) (omega (arith, long, size)) in
+    let one = sends c.head c.limit first pushed (before ++ held) c.upto next g.0 closed g.1 (g.2 ∙ e) (omega (arith, long, alone)) in
     let given : before ++ made ≡ before ++ held ++ messages_from c.head c.upto next.at (length (transaction_spelling next)) 0 g.0 =
-    ap (λ (ms : List Message). before ++ ms) (g.3 ∙ ap (λ (n : ℕ). held ++ messages_from c.head c.upto next.at n 0 g.0) size) ∙ sym (append_assoc before held (messages_from c.head c.upto next.at (length (transaction_spelling next)) 0 g.0)) in
+    ap (λ (ms : List Message). before ++ ms) (g.3 ∙ ap (λ (m : ℕ). held ++ messages_from c.head c.upto next.at m 0 g.0) size) ∙ sym (append_assoc before held (messages_from c.head c.upto next.at (length (transaction_spelling next)) 0 g.0)) in
     subst (λ (ms : List Message). HasGiven after first (pushed ++ next ∷ []) ms) (sym given) (subst (λ (x : Cutting). HasGiven x first (pushed ++ next ∷ []) (before ++ held ++ messages_from c.head c.upto next.at (length (transaction_spelling next)) 0 g.0)) (sym f) one)

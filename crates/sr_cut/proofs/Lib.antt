@@ -5,6 +5,7 @@ pub mod Items
 pub mod Lists
 pub mod Once
 pub mod Parting
+pub mod Pouring
 pub mod Reading
 pub mod Rising
 pub mod Truth

@@ -1,4 +1,5 @@
 pub mod Bodies
 pub mod Cuts
+pub mod Encodings
 pub mod Hexadecimal
 pub mod Truths

@@ -1,6 +1,6 @@
 //! Transactions cut into messages one by one.
 
-ghost use Rattle.std.specs.Prelude.{◌≡◌, ℕ, ◌+◌, ◌^◌, ◌++◌, ◌≤◌, ◌<◌, false, IsTrue, List, [], ◌∷◌, length, IfOk, IfErr, OnOk, OnErr};
+ghost use Rattle.std.specs.Prelude.{◌≡◌, ℕ, ◌+◌, ◌++◌, ◌≤◌, ◌<◌, false, IsTrue, List, [], ◌∷◌, length, IfOk, IfErr, OnOk, OnErr};
 ghost use Rattle.std.specs.List.{concat};
 ghost use Rattle.sr_base.specs.declared.offset.Offset.{Offset as Place};
 ghost use Rattle.sr_logform.specs.declared.op.Transaction.{Transaction as ATransaction};
@@ -9,17 +9,19 @@ ghost use Rattle.sr_cut.specs.Bodies.{longest_transaction};
 ghost use Rattle.sr_cut.specs.Cuts.{Cutting, HasGiven, AreCut, CutCause, file_length, AreFragments, messages_from, messages_held};
 ghost use Rattle.sr_msgform.specs.declared.message.Message.{Message as Letter};
 
+use crate::encoded::Encoded;
+use crate::encoding::encoded_of;
 use crate::fragments::{Span, add_messages, message_of, room};
 use crate::head::Head;
 use crate::too_long::TooLong;
-use sr_base::{Copied, Field, NoMemory, Offset};
+use sr_base::{Copied, NoMemory, Offset, Seq};
 use sr_logform::Transaction;
 use sr_msgform::Message;
 use std::alloc::Global;
 use std::marker::Model;
 
 /// The longest encoding of one transaction, in bytes.
-const LONGEST_TRANSACTION: usize = 67_108_864;
+const LONGEST_TRANSACTION: u64 = 67_108_864;
 
 /// Cuts transactions into messages as they come, and holds of them at most what one message carries.
 ///
@@ -65,7 +67,8 @@ impl Cutter {
         })
     }
 
-    /// The messages that this transaction closes. It takes a time linear in the transaction and in what they carry.
+    /// The messages that this transaction closes. It takes a time linear in the transaction and in what they carry, and beside what is
+    /// held and these messages hardly more memory than one fragment.
     ///
     /// `TooLong::Transaction { need }` comes exactly where its encoding is longer than 64 MiB; `need` is its number of bytes. After a
     /// refusal the cutter is unchanged.
@@ -82,21 +85,28 @@ impl Cutter {
         ensures held { OnOk result (length self.new.body ≤ self.new.limit) }
         ensures err { OnErr result (self.new ≡ self.old) }
     {
-        let mut encoded = Vec::new(alloc);
-        transaction.write(&mut encoded)?;
-        if encoded.len() > LONGEST_TRANSACTION {
-            return Err(TooLong::Transaction {
-                need: encoded.len() as u64,
-            });
+        let encoded = encoded_of(alloc, transaction, self.room())?;
+        let need = encoded.size()?;
+        if need > LONGEST_TRANSACTION {
+            return Err(TooLong::Transaction { need });
         }
-        if self.fits(encoded.len()) {
-            self.join(transaction.at, encoded.as_slice())?;
+        if !encoded.is_one() {
+            return Ok(self.send(alloc, transaction.at, need as u32, encoded)?);
+        }
+        let bytes = encoded.into_bytes();
+        if self.fits(bytes.len()) {
+            self.join(transaction.at, bytes.as_slice())?;
             return Ok(Vec::new(alloc));
         }
-        if self.fits_alone(encoded.len()) {
-            return Ok(self.hold(alloc, transaction.at, encoded)?);
-        }
-        Ok(self.send(alloc, transaction.at, encoded.as_slice())?)
+        Ok(self.hold(alloc, transaction.at, bytes)?)
+    }
+
+    /// How many bytes a message carries.
+    fn room(&self) -> u32
+        ensures room { file_length self.now.head result ≡ self.now.limit }
+        ensures some { 9000 ≤ result }
+    {
+        room(&self.head, self.limit)
     }
 
     /// Whether the message of what is held has room for so many bytes more.
@@ -105,14 +115,6 @@ impl Cutter {
         ensures full { result ≡ false → self.now.limit < file_length self.now.head (length self.now.body + more) }
     {
         more <= room(&self.head, self.limit) as usize - self.body.len()
-    }
-
-    /// Whether a message has room for so many bytes.
-    fn fits_alone(&self, size: usize) -> bool
-        ensures fits { IsTrue result → file_length self.now.head size ≤ self.now.limit }
-        ensures long { result ≡ false → self.now.limit < file_length self.now.head size }
-    {
-        size <= room(&self.head, self.limit) as usize
     }
 
     /// Takes an encoded transaction to what is held.
@@ -147,23 +149,30 @@ impl Cutter {
     }
 
     /// The message of what is held, and those of an encoded transaction that does not fit one; nothing is held then.
-    fn send(&mut self, alloc: Global, at: Offset, encoded: &[u8]) -> Result<Vec<Message>, NoMemory>
-        requires some { 0 < length encoded.now }
-        requires short { length encoded.now < 2 ^ 31 }
-        ensures messages { IfOk result (λ messages. (fragments : List (List ℕ)) × AreFragments self.old.head self.old.limit fragments × (concat fragments ≡ encoded.now)
-            × (messages.items ≡ messages_held self.old.head self.old.prev self.old.upto self.old.body ++ messages_from self.old.head self.old.upto at (length encoded.now) 0 fragments)) }
+    fn send(
+        &mut self,
+        alloc: Global,
+        at: Offset,
+        total: u32,
+        encoded: Encoded,
+    ) -> Result<Vec<Message>, NoMemory>
+        requires some { 0 < total }
+        requires total { total ≡ length encoded.bytes }
+        requires room { file_length self.old.head encoded.room ≡ self.old.limit }
+        ensures messages { IfOk result (λ messages. (fragments : List (List ℕ)) × AreFragments self.old.head self.old.limit fragments × (concat fragments ≡ encoded.bytes)
+            × (messages.items ≡ messages_held self.old.head self.old.prev self.old.upto self.old.body ++ messages_from self.old.head self.old.upto at total 0 fragments)) }
         ensures ok { OnOk result (self.new ≡ record { head = self.old.head; limit = self.old.limit; prev = at; upto = at; body = [] }) }
         ensures err { OnErr result (self.new ≡ self.old) }
     {
+        let fragments = encoded.into_fragments()?;
         let mut messages = Vec::new(alloc);
         self.add_held(alloc, &mut messages)?;
         let span = Span {
             prev: self.upto,
             upto: at,
-            total: encoded.len() as u32,
+            total,
         };
-        let room = room(&self.head, self.limit);
-        add_messages(alloc, &self.head, &span, room, encoded, &mut messages)?;
+        add_messages(alloc, &self.head, &span, fragments, &mut messages)?;
         self.prev = at;
         self.upto = at;
         self.body.clear();
@@ -205,7 +214,8 @@ impl Cutter {
             upto: self.upto,
             total: self.body.len() as u32,
         };
-        messages.push(message_of(alloc, &self.head, &span, 0, self.body.as_slice())?)?;
+        let body = Seq::from_vec(Vec::from_slice(alloc, self.body.as_slice())?);
+        messages.push(message_of(alloc, &self.head, &span, 0, body)?)?;
         Ok(())
     }
 }

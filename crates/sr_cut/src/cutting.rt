@@ -10,7 +10,7 @@ use crate::cutter::Cutter;
 use crate::fragments::{Span, message_of};
 use crate::head::Head;
 use crate::too_long::TooLong;
-use sr_base::{NoMemory, Offset};
+use sr_base::{NoMemory, Offset, Seq};
 use sr_logform::Transaction;
 use sr_msgform::Message;
 use std::alloc::Global;
@@ -49,7 +49,7 @@ fn without_body(alloc: Global, head: &Head, prev: Offset) -> Result<Vec<Message>
         total: 0,
     };
     let mut messages = Vec::new(alloc);
-    messages.push(message_of(alloc, head, &span, 0, &[])?)?;
+    messages.push(message_of(alloc, head, &span, 0, Seq::empty(alloc))?)?;
     Ok(messages)
 }
 

@@ -1,8 +1,8 @@
 //! The messages of one window.
 
-ghost use Rattle.std.specs.Prelude.{◌≡◌, ℕ, ◌+◌, ◌-◌, ◌<◌, ◌≤◌, ◌^◌, ◌++◌, List, [], length, IfOk, OnOk};
+ghost use Rattle.std.specs.Prelude.{◌≡◌, ◌<◌, ◌≤◌, ◌^◌, ◌++◌, length, IfOk, OnOk};
 ghost use Rattle.std.specs.List.{concat};
-ghost use Rattle.sr_cut.specs.Cuts.{carrying, file_length, AreFragments, messages_from};
+ghost use Rattle.sr_cut.specs.Cuts.{carrying, file_length, messages_from};
 
 use crate::head::Head;
 use sr_base::{Copied, NoMemory, Offset, Seq};
@@ -36,9 +36,9 @@ pub(crate) fn message_of(
     head: &Head,
     span: &Span,
     start: u32,
-    fragment: &[u8],
+    fragment: Seq<u8>,
 ) -> Result<Message, NoMemory>
-    ensures { IfOk result (λ m. m ≡ carrying head.now span.now.prev span.now.upto span.now.total start fragment.now) }
+    ensures { IfOk result (λ m. m ≡ carrying head.now span.now.prev span.now.upto span.now.total start fragment) }
 {
     Ok(Message {
         from: head.from.copy(alloc)?,
@@ -48,38 +48,30 @@ pub(crate) fn message_of(
         upto: span.upto,
         total: span.total,
         start,
-        fragment: Seq::from_vec(Vec::from_slice(alloc, fragment)?),
+        fragment,
         confirm: head.confirm,
         ask_count: head.ask_count,
         ask_offset: head.ask_offset,
     })
 }
 
-/// Adds the messages that carry a body which is not empty: as many bytes each as they can, and in the last one what is left.
-/// The body is copied once.
+/// Adds the messages that carry these fragments of a body, one after the other. The fragments are moved to them.
 pub(crate) fn add_messages(
     alloc: Global,
     head: &Head,
     span: &Span,
-    room: u32,
-    body: &[u8],
+    fragments: Vec<Seq<u8>>,
     messages: &mut Vec<Message>,
 ) -> Result<(), NoMemory>
-    requires room { 0 < room }
-    requires body { 0 < length body.now }
-    requires short { length body.now < 2 ^ 31 }
-    requires small { room < 2 ^ 31 }
-    ensures { OnOk result ((fragments : List (List ℕ)) × AreFragments head.now (file_length head.now room) fragments × (concat fragments ≡ body.now)
-        × (messages.new.items ≡ messages.old.items ++ messages_from head.now span.now.prev span.now.upto span.now.total 0 fragments)) }
+    requires { length (concat fragments.items) < 2 ^ 32 }
+    ensures { OnOk result (messages.new.items ≡ messages.old.items ++ messages_from head.now span.now.prev span.now.upto span.now.total 0 fragments.items) }
 {
     let mut start = 0;
-    let mut rest = body;
-    'fragments: while rest.len() > room as usize {
-        let (fragment, after) = rest.split_at(room as usize);
+    let mut left = fragments.into_iter();
+    'fragments: while let Some(fragment) = left.next() {
+        let size = fragment.as_slice().len() as u32;
         messages.push(message_of(alloc, head, span, start, fragment)?)?;
-        start += room;
-        rest = after;
+        start += size;
     }
-    messages.push(message_of(alloc, head, span, start, rest)?)?;
     Ok(())
 }

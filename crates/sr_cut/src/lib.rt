@@ -7,6 +7,8 @@
 mod bodies;
 mod cutter;
 mod cutting;
+mod encoded;
+mod encoding;
 mod fragments;
 mod head;
 mod laws;

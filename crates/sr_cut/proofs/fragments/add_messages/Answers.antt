@@ -1,25 +1,33 @@
-use Rattle.std.proofs.Common.{◌≡◌, ◌++◌, sym, ap₂, ◌∙◌, arith}
-use Rattle.std.proofs.lemmas.List.{take-append-drop}
-use Rattle.sr_cut.proofs.Filling.{SoFar, so_far_more, so_far_last}
+use Rattle.std.proofs.Common.{◌≡◌, ◌+◌, ◌≤◌, [], length, sym, ap, ◌∙◌, arith}
+use Rattle.std.proofs.lemmas.List.{nil_from_length}
+use Rattle.std.specs.List.{concat}
+use Rattle.std.specs.Vec.Iter.{into_iter_items}
+use Rattle.sr_cut.proofs.Filling.{so_far_none, so_far_more, so_far_within, so_far_all}
 use Rattle.sr_cut.proofs.fragments.add_messages.Goals as goal
+
+pub fragments-init : goal.fragments-init
+fragments-init c =
+    rw c.into_iter-left.ensures.rest
+    (so_far_none c.args.head.now c.args.span.now.prev c.args.span.now.upto c.args.span.now.total c.args.fragments.items c.args.messages.now.items)
+
+pub overflow_cast-size : goal.overflow_cast-size
+overflow_cast-size c =
+    let f = c.in-Some.fragment in
+    let within : c.fragments.start + length f ≤ length (concat c.args.fragments.items) = so_far_within _ _ _ _ _ _ _ _ _ _ _ c.in-Some.ensures.items c.fragments.invariant in
+    omega (arith, c.requires, ap length c.as_slice.ensures.items)
+
+pub overflow_add-start : goal.overflow_add-start
+overflow_add-start c =
+    let f = c.in-Some.fragment in
+    let within : c.fragments.start + length f ≤ length (concat c.args.fragments.items) = so_far_within _ _ _ _ _ _ _ _ _ _ _ c.in-Some.ensures.items c.fragments.invariant in
+    omega (arith, c.requires, ap length c.as_slice.ensures.items)
 
 pub fragments-preserved : goal.fragments-preserved
 fragments-preserved c =
-    let head = c.args.head.now in
-    let span = c.args.span.now in
-    let f = c.split_at.result.0.now in
-    let after = c.split_at.result.1.now in
-    let parts : c.fragments.rest.now ≡ f ++ after = sym (ap₂ (λ a b. a ++ b) c.split_at.ensures.front c.split_at.ensures.back ∙ take-append-drop c.args.room c.fragments.rest.now) in
-    let h : SoFar head span.prev span.upto span.total c.args.room c.args.body.now c.args.messages.now.items c.fragments.messages.items c.fragments.start (f ++ after) = rw parts at c.fragments.invariant.so_far in
-    record {
-      so_far = rw (c.in_ok-push.ensures.items, c.in_ok-message_of.ensures) (so_far_more head span.prev span.upto span.total c.args.room c.args.body.now c.args.messages.now.items c.fragments.messages.items c.fragments.start f after h c.split_at.ensures.front_len);
-      some = omega (arith, c.split_at.ensures.back_len, c.fragments-test.true);
-      place = omega (arith, c.split_at.ensures.back_len, c.fragments.invariant.place);
-    }
+    rw (c.in_ok-push.ensures.items, c.in_ok-message_of.ensures, c.as_slice.ensures.items)
+    (so_far_more _ _ _ _ _ _ _ _ _ _ _ c.in-Some.ensures.items c.fragments.invariant)
 
 pub returns : goal.returns
 returns c =
-    let head = c.args.head.now in
-    let span = c.args.span.now in
-    rw (c.in_ok-push-2.ensures.items, c.in_ok-message_of-2.ensures)
-    (so_far_last head span.prev span.upto span.total c.args.room c.args.body.now c.args.messages.now.items c.fragments.messages.items c.fragments.start c.fragments.rest.now c.fragments.invariant.so_far c.fragments.invariant.some (omega (arith, c.fragments-test.false)))
+    let none : into_iter_items c.fragments.left ≡ [] = nil_from_length (into_iter_items c.fragments.left) (sym c.fragments.left.rest.ok.0 ∙ c.in_default.ensures.cases.0) in
+    so_far_all _ _ _ _ _ _ _ _ (rw none at c.fragments.invariant)

@@ -1,13 +1,9 @@
-use Rattle.std.proofs.Common.{◌≡◌, ◌+◌, ◌<◌, length}
+use Rattle.std.specs.Vec.Iter.{into_iter_items, into_iter_len}
 use Rattle.sr_cut.proofs.Filling.{SoFar}
 use Rattle.sr_cut.proofs.fragments.add_messages.Given as goal
 
 abbrev pub invariant-fragments : goal.invariant-fragments
-invariant-fragments l = record {
-  so_far : SoFar l.head l.span.prev l.span.upto l.span.total l.room l.body l.fn.messages.items l.messages.items l.start l.rest;
-  some : 0 < length l.rest;
-  place : l.start + length l.rest ≡ length l.body;
-}
+invariant-fragments l = SoFar l.head l.span.prev l.span.upto l.span.total l.fn.fragments.items l.fn.messages.items l.messages.items l.start (into_iter_items l.left)
 
 abbrev pub decreases-fragments : goal.decreases-fragments
-decreases-fragments l = length l.rest
+decreases-fragments l = into_iter_len l.left
