@@ -1,0 +1,108 @@
+-- Acts behind acts.
+use Rattle.std.proofs.Common.{◌≡◌, ℕ, ◌+◌, ◌≤◌, ◌<◌, ◌^◌, ◌-◌, Bool, true, false, cond, List, [], ◌∷◌, ◌++◌, length, length-append, take, drop, Result, Ok, Err, refl, sym, ap, subst, ◌∙◌, append_assoc, arith}
+use Rattle.std.proofs.lemmas.Bool.{lt-ltb, le-ltb}
+use Rattle.std.proofs.lemmas.List.{length-take, length-drop}
+use Rattle.std.specs.Prelude.{IsErrAnd, IfErr, OnOk, nat_lt}
+use Rattle.sr_base.specs.declared.offset.Offset.{Offset}
+use Rattle.sr_book.specs.Entries.{Name}
+use Rattle.sr_database.specs.Views.{View}
+use Rattle.sr_logform.specs.declared.op.Transaction.{Transaction}
+use Rattle.sr_site.specs.Causes.{DiskStays}
+use Rattle.sr_site.specs.Seen.{Seen}
+use Rattle.sr_receive.specs.Acts.{Act, took, Stand, stand_of, rest_of}
+use Rattle.sr_receive.specs.Entering.{IsReady}
+use Rattle.sr_receive.specs.Letters.{Letter}
+use Rattle.sr_receive.specs.Takings.{Entered, HasTold, StandsThere, GoesOn, StopsTaking}
+use Rattle.sr_receive.specs.Windows.{past}
+use Rattle.sr_receive.specs.declared.fault.ReceiveFault.{ReceiveFault}
+use Rattle.sr_receive.specs.declared.fault.ReceiveFault.TheVariants.{Memory}
+use Rattle.sr_receive.specs.declared.report.Report.{Report}
+use Rattle.sr_receive.specs.declared.taking.Progress.{Progress}
+use Rattle.sr_receive.proofs.Stands.{stands_took}
+use Rattle.sr_receive.proofs.Stopped.{stops_at_reports}
+
+-- what holds of a fault holds of the answer that is it
+pub if_fault : {T : Type 0} (holds : ReceiveFault → Type 0) (fault : ReceiveFault) (result : Result T ReceiveFault) → IsErrAnd result (λ e. e ≡ fault) → holds fault → IfErr result holds
+if_fault holds fault (Ok x) is so = tt
+if_fault holds fault (Err e) is so = subst holds (sym is) so
+
+-- ---- transactions past an offset
+
+past_by : (b : Bool) (received : ℕ) (t : Transaction) (rest : List Transaction) → nat_lt received t.at.0 ≡ b → past received (t ∷ rest) ≡ cond b (t ∷ past received rest) (past received rest)
+past_by b received t rest is = ap (λ (c : Bool). cond c (t ∷ past received rest) (past received rest)) is
+
+pub past_taken : (received : ℕ) (t : Transaction) (rest : List Transaction) → received < t.at.0 → past received (t ∷ rest) ≡ t ∷ past received rest
+past_taken received t rest lies = past_by true received t rest (lt-ltb received t.at.0 lies)
+
+pub past_left : (received : ℕ) (t : Transaction) (rest : List Transaction) → t.at.0 ≤ received → past received (t ∷ rest) ≡ past received rest
+past_left received t rest lies = past_by false received t rest (le-ltb received t.at.0 lies)
+
+-- ---- acts that came
+
+pub goes_nowhere : (old db : View) (before now : Seen) (user : Name) (letters : List Letter) (first : Stand) (acts : List Act) (progress : Progress) (reports all : List Report) (left : List Transaction)
+    → StandsThere old db before now user letters first acts progress reports all → (stand_of first acts).left ≡ left → GoesOn old db before now user letters first acts progress reports all left
+goes_nowhere old db before now user letters first acts progress reports all left stands is = record { more = []; stands = stands; left_are = is; lost_are = refl }
+
+pub goes_further : (old db new : View) (before middle now : Seen) (user : Name) (letters : List Letter) (first : Stand) (acts : List Act) (progress progress' : Progress) (reports all all' : List Report) (left left' : List Transaction)
+    → (one : GoesOn old db before middle user letters first acts progress reports all left) → GoesOn old new before now user letters first (one.more ++ acts) progress' reports all' left' → GoesOn old new before now user letters first acts progress' reports all' left'
+goes_further old db new before middle now user letters first acts progress progress' reports all all' left left' one two =
+    let same : (two.more ++ one.more) ++ acts ≡ two.more ++ (one.more ++ acts) = append_assoc two.more one.more acts in
+    record {
+      more = two.more ++ one.more;
+      stands = subst (λ (l : List Act). StandsThere old new before now user letters first l progress' reports all') (sym same) two.stands;
+      left_are = ap (λ (l : List Act). (stand_of first l).left) same ∙ two.left_are;
+      lost_are = ap (λ (l : List Act). (stand_of first l).lost) same ∙ two.lost_are ∙ one.lost_are;
+    }
+
+pub goes_and_stops : (old db new : View) (before middle now : Seen) (user : Name) (letters : List Letter) (first : Stand) (acts : List Act) (progress : Progress) (reports all all' : List Report) (left : List Transaction) (fault : ReceiveFault)
+    → (one : GoesOn old db before middle user letters first acts progress reports all left) → StopsTaking old new before now user letters first (one.more ++ acts) reports all' fault → StopsTaking old new before now user letters first acts reports all' fault
+goes_and_stops old db new before middle now user letters first acts progress reports all all' left fault one two = record { stops = two.stops; lost_are = two.lost_are ∙ one.lost_are }
+
+pub goes_took : (old db new : View) (before middle now : Seen) (user : Name) (letters : List Letter) (first : Stand) (acts : List Act) (progress progress' : Progress) (reports all all' made : List Report) (t : Transaction) (rest : List Transaction)
+    → IsReady db middle → StandsThere old db before middle user letters first acts progress reports all → (stand_of first acts).left ≡ t ∷ rest → Entered db new middle now user t made → DiskStays middle now
+    → progress'.received ≡ t.at → (progress.took < 2 ^ 64 - 1 → progress'.took ≡ progress.took + 1) → progress'.told ≡ progress.told + length made → all' ≡ take progress.told all ++ (made ++ drop progress.told all)
+    → GoesOn old new before now user letters first acts progress' reports all' rest
+goes_took old db new before middle now user letters first acts progress progress' reports all all' made t rest ready stands left entered stays at count told shown = record {
+  more = took t entered.dones ∷ [];
+  stands = stands_took old db new before middle now user letters first acts progress progress' reports all all' made t rest ready stands left entered stays at count told shown;
+  left_are = ap rest_of left;
+  lost_are = refl;
+}
+
+-- ---- answers
+
+module _ (old db new : View) (before middle now : Seen) (user : Name) (letters : List Letter) (first : Stand) (acts : List Act) (progress : Progress) (reports all made : List Report) (t : Transaction) (rest : List Transaction) (stands : StandsThere old db before middle user letters first acts progress reports all)
+    (left : (stand_of first acts).left ≡ t ∷ rest) (entered : Entered db new middle now user t made) (stays : DiskStays middle now) where
+  told_answer_in : (progress' : Progress) (all' : List Report) (result : Result (Unit {0}) ReceiveFault) → IsReady db middle → OnOk result (HasTold t.at progress progress' made all all') → OnOk result (GoesOn old new before now user letters first acts progress' reports all' rest)
+  told_answer_in progress' all' (Ok x) ready told =
+      goes_took old db new before middle now user letters first acts progress progress' reports all all' made t rest ready stands left entered stays told.received told.took told.told told.reports_are
+  told_answer_in progress' all' (Err fault) ready told = tt
+
+  untold_answer_in : (all' some behind : List Report) (result : Result (Unit {0}) ReceiveFault) → IfErr result (λ f. f ≡ Memory) → made ≡ some ++ behind → all' ≡ take progress.told all ++ (some ++ drop progress.told all)
+      → IfErr result (StopsTaking old new before now user letters first acts reports all')
+  untold_answer_in all' some behind (Ok x) memory parts shown = tt
+  untold_answer_in all' some behind (Err fault) memory parts shown =
+      subst (λ (f : ReceiveFault). StopsTaking old new before now user letters first acts reports all' f) (sym memory)
+      (stops_at_reports old db new before middle now user letters first acts progress reports all all' made some behind t rest stands stays left entered parts shown)
+
+pub told_answer : (old db new : View) (before middle now : Seen) (user : Name) (letters : List Letter) (first : Stand) (acts : List Act) (progress progress' : Progress) (reports all all' made : List Report) (t : Transaction) (rest : List Transaction) (result : Result (Unit {0}) ReceiveFault)
+    → IsReady db middle → StandsThere old db before middle user letters first acts progress reports all → (stand_of first acts).left ≡ t ∷ rest → Entered db new middle now user t made → DiskStays middle now → OnOk result (HasTold t.at progress progress' made all all')
+    → OnOk result (GoesOn old new before now user letters first acts progress' reports all' rest)
+told_answer old db new before middle now user letters first acts progress progress' reports all all' made t rest result ready stands left entered stays told =
+    told_answer_in old db new before middle now user letters first acts progress reports all made t rest stands left entered stays progress' all' result ready told
+
+pub untold_answer : (old db new : View) (before middle now : Seen) (user : Name) (letters : List Letter) (first : Stand) (acts : List Act) (progress : Progress) (reports all all' made some behind : List Report) (t : Transaction) (rest : List Transaction) (result : Result (Unit {0}) ReceiveFault)
+    → StandsThere old db before middle user letters first acts progress reports all → (stand_of first acts).left ≡ t ∷ rest → Entered db new middle now user t made → DiskStays middle now → IfErr result (λ f. f ≡ Memory) → made ≡ some ++ behind
+    → all' ≡ take progress.told all ++ (some ++ drop progress.told all) → IfErr result (StopsTaking old new before now user letters first acts reports all')
+untold_answer old db new before middle now user letters first acts progress reports all all' made some behind t rest result stands left entered stays memory parts shown =
+    untold_answer_in old db new before middle now user letters first acts progress reports all made t rest stands left entered stays all' some behind result memory parts shown
+
+pub within_answer : (at : Offset) (progress progress' : Progress) (made all all' : List Report) (result : Result (Unit {0}) ReceiveFault) → OnOk result (HasTold at progress progress' made all all') → OnOk result (progress'.told ≤ length all')
+within_answer at progress progress' made all all' (Ok x) told = told.within
+within_answer at progress progress' made all all' (Err fault) told = tt
+
+-- the reports that are there after some were put in
+pub told_within : (told next : ℕ) (made all all' : List Report) → told ≤ length all → next ≡ told + length made → all' ≡ take told all ++ (made ++ drop told all) → next ≤ length all'
+told_within told next made all all' within is are =
+    let whole : length all' ≡ length (take told all) + (length made + length (drop told all)) = ap length are ∙ length-append (take told all) (made ++ drop told all) ∙ ap (λ (n : ℕ). length (take told all) + n) (length-append made (drop told all)) in
+    omega (arith, whole, is, within, length-take told all, length-drop told all)

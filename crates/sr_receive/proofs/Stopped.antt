@@ -1,0 +1,257 @@
+-- Where a pass stops at its windows.
+use Rattle.std.proofs.Common.{◌≡◌, List, [], ◌∷◌, ◌++◌, take, drop, refl, sym, ap, subst, ◌∙◌, arith}
+use Rattle.std.specs.Prelude.{IsTrue}
+use Rattle.std.proofs.lemmas.List.{append-nil}
+use Rattle.sr_book.specs.Entries.{Name}
+use Rattle.sr_database.specs.Views.{View, committed}
+use Rattle.sr_history.specs.Folds.{State}
+use Rattle.sr_history.specs.Recorded.{taken}
+use Rattle.sr_logform.specs.declared.op.Transaction.{Transaction}
+use Rattle.sr_mail.specs.Inboxes.{Gathered}
+use Rattle.sr_mail.specs.declared.window.Window.{Window}
+use Rattle.sr_resolve.specs.Taking.{is_above}
+use Rattle.sr_site.specs.Causes.{DiskStays, MailStays}
+use Rattle.sr_site.specs.Happenings.{Happening, mail_in}
+use Rattle.sr_site.specs.Seen.{Seen}
+use Rattle.sr_receive.specs.Acts.{Act, Pairs, took, torn, Stand, stand_of, entries_of, op_reports, torn_reports, mail_after}
+use Rattle.sr_receive.specs.Bags.{Holds}
+use Rattle.sr_receive.specs.Fetches.{FetchStop}
+use Rattle.sr_receive.specs.Judged.{AreDone}
+use Rattle.sr_receive.specs.Letters.{Letter}
+use Rattle.sr_receive.specs.Passes.{AreShownInPart, HasFetched, IsNextEntry, act_reports}
+use Rattle.sr_receive.specs.Takings.{Entered, EntryRefused, NotEntered, StandsThere, StopsThere, StopsTaking, StopsWith}
+use Rattle.sr_receive.specs.declared.fault.ReceiveFault.{ReceiveFault}
+use Rattle.sr_receive.specs.declared.fault.ReceiveFault.TheVariants.{Disk, Mail, Full, Long, Memory}
+use Rattle.sr_receive.specs.declared.report.Report.{Report}
+use Rattle.sr_receive.specs.declared.taking.Progress.{Progress}
+use Rattle.sr_receive.proofs.Acted.{OnlyFetches, fetches_quiet, fetches_mail}
+use Rattle.sr_receive.proofs.Joins.{HasQuiet, reached_on, reached_still, reached_quiet, told_on}
+use Rattle.sr_receive.proofs.Stands.{inserted_reports}
+
+-- ---- all reports are there, or some of the last act's are not
+
+pub shown_all : (user : Name) (acts : List Act) (reports all : List Report) → all ≡ reports ++ act_reports user acts → AreShownInPart user acts reports all
+shown_all user acts reports all are = record {
+  newest = [];
+  shown = acts;
+  parts = refl;
+  one = omega arith;
+  some = [];
+  left = [];
+  ops = sym (append-nil (op_reports user acts));
+  reports_are = are;
+}
+
+-- ---- fetches that came to nothing
+
+pub mail_none : (mail : List Happening) (address : Name) → HasFetched address mail mail
+mail_none mail address = record { more = []; is = refl; fetches = tt }
+
+pub mail_more : (address : Name) (before now mail : List Happening) → OnlyFetches address before now → before ≡ mail → HasFetched address mail now
+mail_more address before now mail only same = record { more = only.more; is = only.is ∙ ap (λ (l : List Happening). only.more ++ l) same; fetches = only.fetches }
+
+-- for want of memory, behind fetches of a window that was not tried to its end
+unfoldable pub stops_short : (old db : View) (before middle now : Seen) (user : Name) (letters : List Letter) (first : Stand) (acts : List Act) (progress : Progress) (reports all : List Report)
+    → StandsThere old db before middle user letters first acts progress reports all → MailStays middle now → (IsTrue middle.told → OnlyFetches old.catalog.publisher middle.happened now.happened)
+    → StopsThere old db before now user letters first reports all Memory
+stops_short old db before middle now user letters first acts progress reports all stands stays only =
+    let quiet : IsTrue middle.told → HasQuiet middle.happened now.happened = λ told. fetches_quiet old.catalog.publisher middle.happened now.happened (only told) in
+    let reached = reached_still old db db before middle now (entries_of user acts) [] stands.reached (reached_quiet db middle now stands.reached.state.0 stands.reached.idle stays quiet) in
+    record {
+      acts = acts;
+      are = stands.are;
+      refused = [];
+      is = tt;
+      next = tt;
+      reached = reached;
+      mail = λ told. mail_more old.catalog.publisher (mail_in middle.happened) (mail_in now.happened) _ (fetches_mail old.catalog.publisher middle.happened now.happened (only (told_on before middle stands.reached.stays told))) (stands.mail told);
+      shown = shown_all user acts reports all stands.reports_are;
+    }
+
+-- for want of memory, where nothing was done
+unfoldable pub stops_here : (old db : View) (before now : Seen) (user : Name) (letters : List Letter) (first : Stand) (acts : List Act) (progress : Progress) (reports all : List Report)
+    → StandsThere old db before now user letters first acts progress reports all → StopsThere old db before now user letters first reports all Memory
+stops_here old db before now user letters first acts progress reports all stands = record {
+  acts = acts;
+  are = stands.are;
+  refused = [];
+  is = tt;
+  next = tt;
+  reached = stands.reached;
+  mail = λ told. record { more = []; is = stands.mail told; fetches = tt };
+  shown = shown_all user acts reports all stands.reports_are;
+}
+
+-- at a fetch
+unfoldable fetch_stops : (old db : View) (before middle now : Seen) (user : Name) (letters : List Letter) (first : Stand) (acts : List Act) (progress : Progress) (reports all : List Report) (fault : ReceiveFault)
+    → StandsThere old db before middle user letters first acts progress reports all → FetchStop old.catalog.publisher middle now fault → StopsThere old db before now user letters first reports all fault
+unfolding stops_short
+fetch_stops old db before middle now user letters first acts progress reports all Disk stands stop = absurd stop.why
+fetch_stops old db before middle now user letters first acts progress reports all (Full end need) stands stop = absurd stop.why
+fetch_stops old db before middle now user letters first acts progress reports all (Long size limit) stands stop = absurd stop.why
+fetch_stops old db before middle now user letters first acts progress reports all Memory stands stop =
+    stops_short old db before middle now user letters first acts progress reports all stands stop.stays (λ told. record { more = stop.more; is = stop.happened told; fetches = stop.fetches })
+fetch_stops old db before middle now user letters first acts progress reports all Mail stands stop =
+    let only : IsTrue middle.told → OnlyFetches old.catalog.publisher middle.happened now.happened = λ told. record { more = stop.more; is = stop.happened told; fetches = stop.fetches } in
+    let short = stops_short old db before middle now user letters first acts progress reports all stands stop.stays only in
+    record {
+      acts = acts;
+      are = stands.are;
+      refused = [];
+      is = tt;
+      next = tt;
+      reached = short.reached;
+      mail = short.mail;
+      shown = stands.reports_are;
+    }
+
+pub stops_fetching : (old db : View) (before middle now : Seen) (user : Name) (letters : List Letter) (first : Stand) (acts : List Act) (progress : Progress) (reports all : List Report) (inbox : List Gathered) (fault : ReceiveFault)
+    → StandsThere old db before middle user letters first acts progress reports all → Holds letters (stand_of first acts).lost inbox → FetchStop old.catalog.publisher middle now fault
+    → StopsWith old db before now user letters first inbox reports all fault
+unfolding stops_short fetch_stops
+stops_fetching old db before middle now user letters first acts progress reports all inbox Disk stands holds stop = absurd stop.why
+stops_fetching old db before middle now user letters first acts progress reports all inbox (Full end need) stands holds stop = absurd stop.why
+stops_fetching old db before middle now user letters first acts progress reports all inbox (Long size limit) stands holds stop = absurd stop.why
+stops_fetching old db before middle now user letters first acts progress reports all inbox Memory stands holds stop =
+    record { stops = fetch_stops old db before middle now user letters first acts progress reports all Memory stands stop; holds = holds }
+stops_fetching old db before middle now user letters first acts progress reports all inbox Mail stands holds stop =
+    record { stops = fetch_stops old db before middle now user letters first acts progress reports all Mail stands stop; holds = holds }
+
+-- ---- at the commit of a transaction
+
+-- the entry is the next
+next_entry : (old new : View) (middle now : Seen) (user : Name) (s : Stand) (t : Transaction) (rest : List Transaction) (fault : ReceiveFault) → s.left ≡ t ∷ rest → committed old ≡ s.state → (refused : EntryRefused old new middle now user t fault)
+    → IsNextEntry user s (taken user t.at refused.dones)
+next_entry old new middle now user s t rest fault left state refused = record {
+  t = t;
+  dones = refused.dones;
+  is = refl;
+  next = record { rest = rest; left_are = left; done = subst (λ (x : State). AreDone x (is_above x user) t.ops refused.dones) state refused.done };
+}
+
+module _ (old db new : View) (before middle now : Seen) (user : Name) (letters : List Letter) (first : Stand) (acts : List Act) (progress : Progress) (reports all : List Report) (stands : StandsThere old db before middle user letters first acts progress reports all) (stays : DiskStays middle now) where
+  mail_still : IsTrue before.told → mail_in now.happened ≡ mail_after old.catalog.publisher acts (mail_in before.happened)
+  mail_still told = stays.mail ∙ stands.mail told
+
+  entry_stops : (t : Transaction) (rest : List Transaction) (fault : ReceiveFault) → (stand_of first acts).left ≡ t ∷ rest → NotEntered db new middle now user t fault → StopsTaking old new before now user letters first acts reports all fault
+  entry_stops t rest Disk left stop =
+      let reached = reached_still old db new before middle now (entries_of user acts) (taken user t.at stop.dones ∷ []) stands.reached stop.stop in
+      record {
+        stops = record {
+          acts = acts;
+          are = stands.are;
+          refused = taken user t.at stop.dones ∷ [];
+          is = tt;
+          next = next_entry db new middle now user (stand_of first acts) t rest Disk left stands.state stop;
+          reached = reached;
+          mail = mail_still;
+          shown = stands.reports_are;
+        };
+        lost_are = refl;
+      }
+  entry_stops t rest Mail left stop = absurd stop
+  entry_stops t rest (Full end need) left stop =
+      let reached = reached_still old db new before middle now (entries_of user acts) [] stands.reached stop.stop.1 in
+      record {
+        stops = record {
+          acts = acts;
+          are = stands.are;
+          refused = taken user t.at stop.dones ∷ [];
+          is = stop.stop.0;
+          next = next_entry db new middle now user (stand_of first acts) t rest (Full end need) left stands.state stop;
+          reached = reached;
+          mail = mail_still;
+          shown = stands.reports_are;
+        };
+        lost_are = refl;
+      }
+  entry_stops t rest (Long size limit) left stop =
+      let reached = reached_still old db new before middle now (entries_of user acts) [] stands.reached stop.stop.1 in
+      record {
+        stops = record {
+          acts = acts;
+          are = stands.are;
+          refused = taken user t.at stop.dones ∷ [];
+          is = stop.stop.0;
+          next = next_entry db new middle now user (stand_of first acts) t rest (Long size limit) left stands.state stop;
+          reached = reached;
+          mail = mail_still;
+          shown = stands.reports_are;
+        };
+        lost_are = refl;
+      }
+  entry_stops t rest Memory left stop =
+      let reached = reached_still old db new before middle now (entries_of user acts) [] stands.reached stop in
+      record {
+        stops = record {
+          acts = acts;
+          are = stands.are;
+          refused = [];
+          is = tt;
+          next = tt;
+          reached = reached;
+          mail = λ told. record { more = []; is = mail_still told; fetches = tt };
+          shown = shown_all user acts reports all stands.reports_are;
+        };
+        lost_are = refl;
+      }
+
+pub stops_at_entry : (old db new : View) (before middle now : Seen) (user : Name) (letters : List Letter) (first : Stand) (acts : List Act) (progress : Progress) (reports all : List Report) (t : Transaction) (rest : List Transaction) (fault : ReceiveFault)
+    → StandsThere old db before middle user letters first acts progress reports all → DiskStays middle now → (stand_of first acts).left ≡ t ∷ rest → NotEntered db new middle now user t fault
+    → StopsTaking old new before now user letters first acts reports all fault
+stops_at_entry old db new before middle now user letters first acts progress reports all t rest fault stands stays left stop =
+    entry_stops old db new before middle now user letters first acts progress reports all stands stays t rest fault left stop
+
+-- ---- at the reports of a transaction that was taken
+
+pub stops_at_reports : (old db new : View) (before middle now : Seen) (user : Name) (letters : List Letter) (first : Stand) (acts : List Act) (progress : Progress) (reports all all' made some left : List Report) (t : Transaction) (rest : List Transaction)
+    → StandsThere old db before middle user letters first acts progress reports all → DiskStays middle now → (stand_of first acts).left ≡ t ∷ rest → Entered db new middle now user t made → made ≡ some ++ left
+    → all' ≡ take progress.told all ++ (some ++ drop progress.told all) → StopsTaking old new before now user letters first acts reports all' Memory
+stops_at_reports old db new before middle now user letters first acts progress reports all all' made some left t rest stands stays next entered parts shown =
+    let reached = reached_on old db new before middle now (entries_of user acts) (taken user t.at entered.dones ∷ []) [] stands.reached entered.reached in
+    record {
+      stops = record {
+        acts = took t entered.dones ∷ acts;
+        are = (stands.are, record { rest = rest; left_are = next; done = subst (λ (x : State). AreDone x (is_above x user) t.ops entered.dones) stands.state entered.done });
+        refused = [];
+        is = tt;
+        next = tt;
+        reached = reached;
+        mail = λ told. record { more = []; is = stays.mail ∙ stands.mail told; fetches = tt };
+        shown = record {
+          newest = took t entered.dones ∷ [];
+          shown = acts;
+          parts = refl;
+          one = omega arith;
+          some = some;
+          left = left;
+          ops = ap (λ (l : List Report). op_reports user acts ++ l) (sym entered.made_are ∙ parts);
+          reports_are = inserted_reports progress.told reports all all' (op_reports user acts) some (torn_reports user acts) stands.told stands.reports_are shown;
+        };
+      };
+      lost_are = refl;
+    }
+
+-- ---- at the report of a torn window
+
+unfoldable pub stops_at_torn : (old db : View) (before now : Seen) (user : Name) (letters : List Letter) (first : Stand) (acts : List Act) (progress : Progress) (reports all all' : List Report) (w : Window) (pairs : Pairs)
+    → StandsThere old db before now user letters first (torn w pairs ∷ acts) progress reports all' → all ≡ reports ++ act_reports user acts → StopsThere old db before now user letters first reports all Memory
+stops_at_torn old db before now user letters first acts progress reports all all' w pairs stands shown = record {
+  acts = torn w pairs ∷ acts;
+  are = stands.are;
+  refused = [];
+  is = tt;
+  next = tt;
+  reached = stands.reached;
+  mail = λ told. record { more = []; is = stands.mail told; fetches = tt };
+  shown = record {
+    newest = torn w pairs ∷ [];
+    shown = acts;
+    parts = refl;
+    one = omega arith;
+    some = [];
+    left = [];
+    ops = sym (append-nil (op_reports user acts));
+    reports_are = shown;
+  };
+}

@@ -1,0 +1,150 @@
+-- What a pass makes of the windows of a user's letters: one thing after the other, the newest first.
+use Rattle.std.specs.Prelude.{◌≡◌, ⊤, ℕ, ◌+◌, List, [], ◌∷◌, ◌++◌, map, Option, Some, Ok}
+use Rattle.std.specs.List.{AllByRecursion}
+use Rattle.sr_book.specs.Entries.{Name}
+use Rattle.sr_base.specs.Values.{offset_from}
+use Rattle.sr_history.specs.Folds.{State, after_dones}
+use Rattle.sr_history.specs.Recorded.{Recorded, Done, taken, done_of}
+use Rattle.sr_logform.specs.declared.op.Transaction.{Transaction}
+use Rattle.sr_mail.specs.Assembled.{IsAssembled}
+use Rattle.sr_mail.specs.declared.piece.Piece.{Piece}
+use Rattle.sr_mail.specs.declared.window.Window.{Window}
+use Rattle.sr_msgform.specs.Messages.{message_spelling}
+use Rattle.sr_msgform.specs.declared.message.Message.{Message}
+use Rattle.sr_site.specs.Happenings.{Happening, fetched}
+use Rattle.sr_resolve.specs.Taking.{is_above}
+use Rattle.sr_receive.specs.Judged.{AreDone, outcome_reports}
+use Rattle.sr_receive.specs.Letters.{Letter, longest_fetch}
+use Rattle.sr_receive.specs.Windows.{IsDue, IsRefetched, IsUnlike, NoneLeads, Spell, past}
+use Rattle.sr_receive.specs.declared.report.Report.{Report}
+use Rattle.sr_receive.specs.declared.report.Report.TheVariants.{Torn}
+
+-- the pieces of the window that was tried, with the messages that their second fetches gave
+abbrev pub Pairs : Type 0
+Pairs = List (Piece × Message)
+
+pub data Act : Type 0 where
+  -- a window was tried and dropped: pieces came again, and then what came of one was not its own
+  dropped : Window → Pairs → Piece → Option (List ℕ) → Act
+  -- a window was tried and torn: all pieces came again, and their bytes spell no transactions of it
+  torn : Window → Pairs → Act
+  -- a window was tried, and its transactions are to be taken
+  begun : Window → Pairs → List Transaction → Act
+  -- the next of its transactions was taken, and this was done with its ops
+  took : Transaction → List Done → Act
+
+-- where a pass stands: the state and what was received, the windows that were lost, and the transactions that are to be taken of the one begun
+pub record Stand : Type 0 where
+  pub state : State
+  pub received : ℕ
+  pub lost : List Window
+  pub left : List Transaction
+
+-- transactions behind the first
+abbrev pub rest_of : List Transaction → List Transaction
+rest_of [] = []
+rest_of (t ∷ ts) = ts
+
+abbrev pub stand_after : Act → Stand → Stand
+stand_after (dropped w pairs piece found) s = record s { lost = w ∷ s.lost }
+stand_after (torn w pairs) s = record s { lost = w ∷ s.lost }
+stand_after (begun w pairs txs) s = record s { left = past s.received txs }
+stand_after (took t dones) s = record s { state = after_dones dones s.state; received = t.at.0; left = rest_of s.left }
+
+abbrev pub stand_of : Stand → List Act → Stand
+stand_of first [] = first
+stand_of first (act ∷ earlier) = stand_after act (stand_of first earlier)
+
+-- ---- which acts may come
+
+-- no window is begun of which transactions are left, and this one is due; all its pieces came again
+pub record CameAgain (publisher user : Name) (letters : List Letter) (s : Stand) (w : Window) (pairs : Pairs) : Type 0 where
+  pub idle : s.left ≡ []
+  pub due : IsDue letters s.lost s.received w (map (λ p. p.0) pairs)
+  pub still : AllByRecursion (IsRefetched publisher user) pairs
+
+-- the bytes of the pieces are these
+pub record IsReadAs (pairs : Pairs) (w : Window) (txs : List Transaction) : Type 0 where
+  pub bytes : List ℕ
+  pub assembled : IsAssembled pairs bytes
+  pub spell : Spell w bytes txs
+
+-- a window is due, and of its pieces those before one came again
+pub record IsDropped (publisher user : Name) (letters : List Letter) (s : Stand) (w : Window) (pairs : Pairs) (piece : Piece) (found : Option (List ℕ)) : Type 0 where
+  pub idle : s.left ≡ []
+  pub behind : List Piece
+  pub due : IsDue letters s.lost s.received w (map (λ p. p.0) pairs ++ piece ∷ behind)
+  pub still : AllByRecursion (IsRefetched publisher user) pairs
+  pub unlike : IsUnlike publisher user piece found
+
+-- the transaction is the next of the window begun, and each op has the outcome that judging gives it in the state before
+pub record IsNextTaken (user : Name) (s : Stand) (t : Transaction) (dones : List Done) : Type 0 where
+  pub rest : List Transaction
+  pub left_are : s.left ≡ t ∷ rest
+  pub done : AreDone s.state (is_above s.state user) t.ops dones
+
+abbrev pub IsAct : Name → Name → List Letter → Stand → Act → Type 0
+IsAct publisher user letters s (dropped w pairs piece found) = IsDropped publisher user letters s w pairs piece found
+IsAct publisher user letters s (torn w pairs) = CameAgain publisher user letters s w pairs × ((txs : List Transaction) → ¬ (IsReadAs pairs w txs))
+IsAct publisher user letters s (begun w pairs txs) = CameAgain publisher user letters s w pairs × IsReadAs pairs w txs
+IsAct publisher user letters s (took t dones) = IsNextTaken user s t dones
+
+-- each may come where those before it have led
+abbrev pub AreActs : Name → Name → List Letter → Stand → List Act → Type 0
+AreActs publisher user letters first [] = ⊤
+AreActs publisher user letters first (act ∷ earlier) = AreActs publisher user letters first earlier × IsAct publisher user letters (stand_of first earlier) act
+
+-- nothing is left to be taken, and no window leads on
+abbrev pub IsAtRest : List Letter → Stand → Type 0
+IsAtRest letters s = (s.left ≡ []) × NoneLeads letters s.lost s.received
+
+-- ---- what follows from acts
+
+-- the entries that were committed, in order
+abbrev pub entries_of : Name → List Act → List Recorded
+entries_of user [] = []
+entries_of user (dropped w pairs piece found ∷ earlier) = entries_of user earlier
+entries_of user (torn w pairs ∷ earlier) = entries_of user earlier
+entries_of user (begun w pairs txs ∷ earlier) = entries_of user earlier
+entries_of user (took t dones ∷ earlier) = entries_of user earlier ++ taken user t.at dones ∷ []
+
+-- how many transactions were taken
+abbrev pub taken_in : List Act → ℕ
+taken_in [] = 0
+taken_in (dropped w pairs piece found ∷ earlier) = taken_in earlier
+taken_in (torn w pairs ∷ earlier) = taken_in earlier
+taken_in (begun w pairs txs ∷ earlier) = taken_in earlier
+taken_in (took t dones ∷ earlier) = taken_in earlier + 1
+
+-- what is reported of the ops that were taken, in order
+abbrev pub op_reports : Name → List Act → List Report
+op_reports user [] = []
+op_reports user (dropped w pairs piece found ∷ earlier) = op_reports user earlier
+op_reports user (torn w pairs ∷ earlier) = op_reports user earlier
+op_reports user (begun w pairs txs ∷ earlier) = op_reports user earlier
+op_reports user (took t dones ∷ earlier) = op_reports user earlier ++ outcome_reports user t.at 1 (map done_of dones)
+
+-- and of torn windows
+abbrev pub torn_reports : Name → List Act → List Report
+torn_reports user [] = []
+torn_reports user (dropped w pairs piece found ∷ earlier) = torn_reports user earlier
+torn_reports user (torn w pairs ∷ earlier) = torn_reports user earlier ++ Torn user (offset_from w.prev) (offset_from w.upto) ∷ []
+torn_reports user (begun w pairs txs ∷ earlier) = torn_reports user earlier
+torn_reports user (took t dones ∷ earlier) = torn_reports user earlier
+
+-- the second fetch of a piece, from the folder of this address
+abbrev pub refetch : Name → Piece → Option (List ℕ) → Happening
+refetch address piece found = fetched address piece.name longest_fetch (Ok found)
+
+-- second fetches that gave messages, the newest first
+abbrev pub refetches : Name → Pairs → List Happening → List Happening
+refetches address [] before = before
+refetches address (p ∷ pairs) before = refetches address pairs (refetch address p.0 (Some (message_spelling p.1)) ∷ before)
+
+-- what happened to the mail
+abbrev pub mail_after : Name → List Act → List Happening → List Happening
+mail_after address [] before = before
+mail_after address (dropped w pairs piece found ∷ earlier) before = refetch address piece found ∷ refetches address pairs (mail_after address earlier before)
+mail_after address (torn w pairs ∷ earlier) before = refetches address pairs (mail_after address earlier before)
+mail_after address (begun w pairs txs ∷ earlier) before = refetches address pairs (mail_after address earlier before)
+mail_after address (took t dones ∷ earlier) before = mail_after address earlier before

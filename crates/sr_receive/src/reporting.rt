@@ -1,0 +1,79 @@
+//! What is reported of ops that were taken.
+
+ghost use Rattle.std.specs.Prelude.{◌≡◌, ◌+◌, ◌++◌, ◌≤◌, List, take, drop, length, IfOk, OnOk};
+ghost use Rattle.sr_receive.specs.Judged.{outcome_report, outcome_reports};
+ghost use Rattle.sr_receive.specs.declared.report.Report.{Report as AReport};
+
+use crate::report::Report;
+use sr_base::{Copied, Name, NoMemory, Offset};
+use sr_logform::{Op, Outcome};
+use std::alloc::{AllocError, Global};
+
+/// The reports of a transaction's ops, numbered from 1.
+pub(crate) fn reports_of(
+    alloc: Global,
+    user: &Name,
+    at: Offset,
+    ops: &[(Op, Outcome)],
+) -> Result<Vec<Report>, NoMemory>
+    ensures reports { IfOk result (λ reports. reports.items ≡ outcome_reports user.now at 1 ops.now) }
+{
+    let mut reports = Vec::new(alloc);
+    let mut number = 1;
+    let mut left = ops;
+    'ops: while let Some((pair, rest)) = left.split_first() {
+        push_report(alloc, &mut reports, user, at, number, &pair.1)?;
+        let Some(next) = number.checked_add(1) else {
+            return Err(AllocError);
+        };
+        number = next;
+        left = rest;
+    }
+    Ok(reports)
+}
+
+/// The report of an op, by its outcome.
+fn push_report(
+    alloc: Global,
+    reports: &mut Vec<Report>,
+    user: &Name,
+    at: Offset,
+    op: u32,
+    outcome: &Outcome,
+) -> Result<(), NoMemory>
+    ensures reports { OnOk result (reports.new.items ≡ reports.old.items ++ outcome_report user.now at op outcome.now) }
+{
+    match outcome {
+        Outcome::Plain(_) => {}
+        Outcome::Conflict { .. } => reports.push(Report::Conflict {
+            user: user.copy(alloc)?,
+            at,
+            op,
+        })?,
+        Outcome::Clash(clash) => reports.push(Report::Clash {
+            user: user.copy(alloc)?,
+            at,
+            op,
+            clash: *clash,
+        })?,
+    }
+    Ok(())
+}
+
+/// Puts reports behind those of ops that stand in front of `at`, before those of torn windows, and answers the place behind them.
+pub(crate) fn insert_all(
+    reports: &mut Vec<Report>,
+    at: usize,
+    made: Vec<Report>,
+) -> Result<usize, NoMemory>
+    requires within { at ≤ length reports.old.items }
+    ensures inserted { IfOk result (λ next. (next ≡ at + length made.items) × (reports.new.items ≡ take at reports.old.items ++ (made.items ++ drop at reports.old.items))) }
+    ensures some { (done left : List AReport) × (made.items ≡ done ++ left) × (reports.new.items ≡ take at reports.old.items ++ (done ++ drop at reports.old.items)) }
+{
+    let mut next = at;
+    'reports: for report in made {
+        reports.insert(next, report)?;
+        next += 1;
+    }
+    Ok(next)
+}

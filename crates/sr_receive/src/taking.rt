@@ -1,0 +1,275 @@
+//! The transactions of a window taken, each as one entry.
+
+ghost use Rattle.std.specs.Prelude.{◌≡◌, ◌+◌, ◌-◌, ◌^◌, ◌<◌, ◌≤◌, ◌∷◌, ◌++◌, [], List, length, take, drop, IsSome, IfErr, IfOk, OnOk};
+ghost use Rattle.std.specs.List.{AllByRecursion};
+ghost use Rattle.sr_database.specs.Commits.{CanCommit, CanCommitSome};
+ghost use Rattle.sr_database.specs.Views.{View as AView};
+ghost use Rattle.sr_history.specs.Recorded.{Recorded};
+ghost use Rattle.sr_logform.specs.Ops.{IsShortTransaction};
+ghost use Rattle.sr_schema.specs.Members.{user_name};
+ghost use Rattle.sr_schema.specs.Names.{named};
+ghost use Rattle.sr_site.specs.Causes.{DiskStays};
+ghost use Rattle.sr_site.specs.Seen.{Seen as SiteSeen};
+ghost use Rattle.sr_receive.specs.Acts.{Act, Stand, stand_of};
+ghost use Rattle.sr_receive.specs.Entering.{IsReady, Reached, CommitStop};
+ghost use Rattle.sr_receive.specs.Judged.{entry_reports};
+ghost use Rattle.sr_receive.specs.Letters.{Letter as ALetter};
+ghost use Rattle.sr_receive.specs.Passes.{AreSteady, IsDeviceFault};
+ghost use Rattle.sr_receive.specs.Takings.{Entered, HasTold, NotEntered, StandsThere, GoesOn, StopsTaking};
+ghost use Rattle.sr_receive.specs.Windows.{past};
+ghost use Rattle.sr_receive.specs.declared.report.Report.{Report as AReport};
+ghost use Rattle.sr_logform.specs.declared.op.Transaction.{Transaction as ATransaction};
+ghost use Rattle.sr_receive.specs.declared.fault.ReceiveFault.TheVariants.{Memory as memory};
+
+use crate::fault::ReceiveFault;
+use crate::judging::entry_of;
+use crate::noting::enter;
+use crate::report::Report;
+use crate::reporting::{insert_all, reports_of};
+use sr_base::{Name, Offset};
+use sr_database::Database;
+use sr_logform::{Entry, Transaction};
+use sr_site::Site;
+use std::alloc::Global;
+
+/// How far a pass has come: what was received, how many transactions were taken, and where in the list of reports those of ops end.
+#[derive(Clone, Copy)]
+pub(crate) struct Progress {
+    pub received: Offset,
+    pub took: u64,
+    pub told: usize,
+}
+
+/// Takes those of a window's transactions that lie past what was received.
+pub(crate) fn take_all<S: Site>(
+    alloc: Global,
+    db: &mut Database,
+    site: &mut S,
+    user: &Name,
+    progress: &mut Progress,
+    reports: &mut Vec<Report>,
+    transactions: &[Transaction],
+) -> Result<(), ReceiveFault>
+    requires ready { IsReady db.old (S.seen site.old) }
+    requires user { IsSome (named user_name user.now db.old.catalog.users) }
+    requires short { AllByRecursion IsShortTransaction transactions.now }
+    requires told { progress.old.told ≤ length reports.old.items }
+    ensures steady { OnOk result (AreSteady (S.seen site.old) (S.seen site.new)) }
+    ensures why { IfErr result (IsDeviceFault (S.seen site.old) (S.seen site.new)) }
+    ensures ready { OnOk result (IsReady db.new (S.seen site.new)) }
+    ensures told { OnOk result (progress.new.told ≤ length reports.new.items) }
+    ensures users { OnOk result (IsSome (named user_name user.now db.new.catalog.users)) }
+    ensures taken { (from : AView) (before : SiteSeen) (letters : List ALetter) (first : Stand) (acts : List Act) (all : List AReport)
+        → StandsThere from db.old before (S.seen site.old) user.now letters first acts progress.old all reports.old.items
+        → (stand_of first acts).left ≡ past progress.old.received.0 transactions.now
+        → OnOk result (GoesOn from db.new before (S.seen site.new) user.now letters first acts progress.new all reports.new.items []) }
+    ensures cause { (from : AView) (before : SiteSeen) (letters : List ALetter) (first : Stand) (acts : List Act) (all : List AReport)
+        → StandsThere from db.old before (S.seen site.old) user.now letters first acts progress.old all reports.old.items
+        → (stand_of first acts).left ≡ past progress.old.received.0 transactions.now
+        → IfErr result (StopsTaking from db.new before (S.seen site.new) user.now letters first acts all reports.new.items) }
+{
+    let received = progress.received.0;
+    let mut left = transactions;
+    'transactions: while let Some((transaction, rest)) = left.split_first() {
+        take_past(
+            alloc,
+            db,
+            site,
+            user,
+            progress,
+            reports,
+            received,
+            transaction,
+        )?;
+        left = rest;
+    }
+    Ok(())
+}
+
+/// Takes a transaction, where it lies past an offset.
+fn take_past<S: Site>(
+    alloc: Global,
+    db: &mut Database,
+    site: &mut S,
+    user: &Name,
+    progress: &mut Progress,
+    reports: &mut Vec<Report>,
+    received: u64,
+    transaction: &Transaction,
+) -> Result<(), ReceiveFault>
+    requires ready { IsReady db.old (S.seen site.old) }
+    requires user { IsSome (named user_name user.now db.old.catalog.users) }
+    requires short { IsShortTransaction transaction.now }
+    requires told { progress.old.told ≤ length reports.old.items }
+    ensures steady { OnOk result (AreSteady (S.seen site.old) (S.seen site.new)) }
+    ensures why { IfErr result (IsDeviceFault (S.seen site.old) (S.seen site.new)) }
+    ensures ready { OnOk result (IsReady db.new (S.seen site.new)) }
+    ensures told { OnOk result (progress.new.told ≤ length reports.new.items) }
+    ensures users { OnOk result (IsSome (named user_name user.now db.new.catalog.users)) }
+    ensures taken { (from : AView) (before : SiteSeen) (letters : List ALetter) (first : Stand) (acts : List Act) (all : List AReport) (rest : List ATransaction)
+        → StandsThere from db.old before (S.seen site.old) user.now letters first acts progress.old all reports.old.items
+        → (stand_of first acts).left ≡ past received (transaction.now ∷ rest)
+        → OnOk result (GoesOn from db.new before (S.seen site.new) user.now letters first acts progress.new all reports.new.items (past received rest)) }
+    ensures cause { (from : AView) (before : SiteSeen) (letters : List ALetter) (first : Stand) (acts : List Act) (all : List AReport) (rest : List ATransaction)
+        → StandsThere from db.old before (S.seen site.old) user.now letters first acts progress.old all reports.old.items
+        → (stand_of first acts).left ≡ past received (transaction.now ∷ rest)
+        → IfErr result (StopsTaking from db.new before (S.seen site.new) user.now letters first acts all reports.new.items) }
+{
+    if received < transaction.at.0 {
+        return take_one(alloc, db, site, user, progress, reports, transaction);
+    }
+    Ok(())
+}
+
+/// Takes a transaction. What is reported of it follows its commit.
+fn take_one<S: Site>(
+    alloc: Global,
+    db: &mut Database,
+    site: &mut S,
+    user: &Name,
+    progress: &mut Progress,
+    reports: &mut Vec<Report>,
+    transaction: &Transaction,
+) -> Result<(), ReceiveFault>
+    requires ready { IsReady db.old (S.seen site.old) }
+    requires user { IsSome (named user_name user.now db.old.catalog.users) }
+    requires short { IsShortTransaction transaction.now }
+    requires told { progress.old.told ≤ length reports.old.items }
+    ensures steady { OnOk result (AreSteady (S.seen site.old) (S.seen site.new)) }
+    ensures why { IfErr result (IsDeviceFault (S.seen site.old) (S.seen site.new)) }
+    ensures ready { OnOk result (IsReady db.new (S.seen site.new)) }
+    ensures told { OnOk result (progress.new.told ≤ length reports.new.items) }
+    ensures users { OnOk result (IsSome (named user_name user.now db.new.catalog.users)) }
+    ensures taken { (from : AView) (before : SiteSeen) (letters : List ALetter) (first : Stand) (acts : List Act) (all : List AReport) (rest : List ATransaction)
+        → StandsThere from db.old before (S.seen site.old) user.now letters first acts progress.old all reports.old.items
+        → (stand_of first acts).left ≡ transaction.now ∷ rest
+        → OnOk result (GoesOn from db.new before (S.seen site.new) user.now letters first acts progress.new all reports.new.items rest) }
+    ensures cause { (from : AView) (before : SiteSeen) (letters : List ALetter) (first : Stand) (acts : List Act) (all : List AReport) (rest : List ATransaction)
+        → StandsThere from db.old before (S.seen site.old) user.now letters first acts progress.old all reports.old.items
+        → (stand_of first acts).left ≡ transaction.now ∷ rest
+        → IfErr result (StopsTaking from db.new before (S.seen site.new) user.now letters first acts all reports.new.items) }
+{
+    match take_entry(alloc, db, site, user, transaction) {
+        Ok(made) => tell(progress, reports, transaction.at, made),
+        Err(fault) => Err(fault),
+    }
+}
+
+/// A transaction was taken that ends at an offset: what is to be reported of it follows the reports of ops.
+fn tell(
+    progress: &mut Progress,
+    reports: &mut Vec<Report>,
+    at: Offset,
+    made: Vec<Report>,
+) -> Result<(), ReceiveFault>
+    requires told { progress.old.told ≤ length reports.old.items }
+    ensures told { OnOk result (HasTold at progress.old progress.new made.items reports.old.items reports.new.items) }
+    ensures some { (done left : List AReport) × (made.items ≡ done ++ left) × (reports.new.items ≡ take progress.old.told reports.old.items ++ (done ++ drop progress.old.told reports.old.items)) }
+    ensures memory { IfErr result (λ fault. fault ≡ memory) }
+{
+    match insert_all(reports, progress.told, made) {
+        Ok(told) => {
+            *progress = Progress {
+                received: at,
+                took: one_more(progress.took),
+                told,
+            };
+            Ok(())
+        }
+        Err(_) => Err(ReceiveFault::Memory),
+    }
+}
+
+/// One more than a count, as far as a count goes.
+fn one_more(count: u64) -> u64
+    ensures more { count < 2 ^ 64 - 1 → result ≡ count + 1 }
+{
+    if count == u64::MAX { count } else { count + 1 }
+}
+
+/// Commits the entry of a transaction, and answers what is to be reported of it.
+fn take_entry<S: Site>(
+    alloc: Global,
+    db: &mut Database,
+    site: &mut S,
+    user: &Name,
+    transaction: &Transaction,
+) -> Result<Vec<Report>, ReceiveFault>
+    requires ready { IsReady db.old (S.seen site.old) }
+    requires user { IsSome (named user_name user.now db.old.catalog.users) }
+    requires short { IsShortTransaction transaction.now }
+    ensures entered { IfOk result (λ made. Entered db.old db.new (S.seen site.old) (S.seen site.new) user.now transaction.now made.items) }
+    ensures ready { OnOk result (IsReady db.new (S.seen site.new)) }
+    ensures stays { DiskStays (S.seen site.old) (S.seen site.new) }
+    ensures cause { IfErr result (NotEntered db.old db.new (S.seen site.old) (S.seen site.new) user.now transaction.now) }
+{
+    match entry_of(alloc, db, user, transaction) {
+        Err(_) => Err(ReceiveFault::Memory),
+        Ok(entry) => {
+            let outcome = enter_told(alloc, db, site, user, &entry);
+            drop(entry);
+            outcome
+        }
+    }
+}
+
+/// Commits an entry of a taken transaction, and answers what is to be reported of it, for which the memory is taken before.
+fn enter_told<S: Site>(
+    alloc: Global,
+    db: &mut Database,
+    site: &mut S,
+    user: &Name,
+    entry: &Entry,
+) -> Result<Vec<Report>, ReceiveFault>
+    requires ready { IsReady db.old (S.seen site.old) }
+    requires entry { CanCommitSome db.old entry.now }
+    ensures made { IfOk result (λ made. made.items ≡ entry_reports user.now entry.now) }
+    ensures entered { (r : Recorded) → CanCommit db.old entry.now r → OnOk result (Reached db.old db.new (S.seen site.old) (S.seen site.new) (r ∷ []) []) }
+    ensures ready { OnOk result (IsReady db.new (S.seen site.new)) }
+    ensures stays { DiskStays (S.seen site.old) (S.seen site.new) }
+    ensures cause { (r : Recorded) → CanCommit db.old entry.now r → IfErr result (CommitStop db.old db.new (S.seen site.old) (S.seen site.new) r) }
+{
+    match reports_in(alloc, user, entry) {
+        Err(_) => Err(ReceiveFault::Memory),
+        Ok(made) => {
+            let outcome = enter(alloc, db, site, entry);
+            with_reports(made, outcome)
+        }
+    }
+}
+
+/// Reports, where their entry was committed.
+fn with_reports(
+    made: Vec<Report>,
+    outcome: Result<(), ReceiveFault>,
+) -> Result<Vec<Report>, ReceiveFault>
+    ensures made { IfOk result (λ told. told.items ≡ made.items) }
+    ensures ok { OnOk result (outcome ≡ Ok tt) }
+    ensures cause { IfErr result (λ fault. outcome ≡ Err fault) }
+{
+    match outcome {
+        Ok(()) => Ok(made),
+        Err(fault) => {
+            drop(made);
+            Err(fault)
+        }
+    }
+}
+
+/// What is to be reported of an entry.
+fn reports_in(alloc: Global, user: &Name, entry: &Entry) -> Result<Vec<Report>, ReceiveFault>
+    ensures reports { IfOk result (λ made. made.items ≡ entry_reports user.now entry.now) }
+    ensures memory { IfErr result (λ fault. fault ≡ memory) }
+{
+    match entry {
+        Entry::From { at, ops, .. } => match reports_of(alloc, user, *at, ops.as_slice()) {
+            Ok(made) => Ok(made),
+            Err(_) => Err(ReceiveFault::Memory),
+        },
+        Entry::Own(_)
+        | Entry::Ddl(_)
+        | Entry::Sync { .. }
+        | Entry::Pass { .. }
+        | Entry::Note { .. } => Ok(Vec::new(alloc)),
+    }
+}

@@ -1,0 +1,135 @@
+-- What the entries of a history give a user, one after the other.
+use Rattle.std.proofs.Common.{◌≡◌, ℕ, ◌+◌, List, [], ◌∷◌, ◌++◌, refl, sym, ap, subst, ◌∙◌, append_assoc}
+use Rattle.std.specs.Prelude.{Bool, true, false, cond, map, filter, nat_lt}
+use Rattle.std.proofs.lemmas.List.{append-nil, map-append}
+use Rattle.std.proofs.lemmas.List.Elements.{filter-append}
+use Rattle.sr_base.specs.Values.{offset_from}
+use Rattle.sr_base.specs.declared.offset.Offset.{Offset}
+use Rattle.sr_book.specs.Entries.{Name}
+use Rattle.sr_database.specs.Databases.{IsOf}
+use Rattle.sr_database.specs.Entries.{IsNext}
+use Rattle.sr_database.specs.Views.{View}
+use Rattle.sr_history.specs.Fitting.{Fits, Stored}
+use Rattle.sr_history.specs.Folds.{State, fresh, size, state_of, end_of}
+use Rattle.sr_history.specs.Recorded.{Recorded, entry_of}
+use Rattle.sr_history.proofs.Joined.{state_from-more, end_from-more, stored_from-append}
+use Rattle.sr_history.proofs.Kept.{stored_holds}
+use Rattle.sr_logform.specs.declared.entry.Entry.{Entry}
+use Rattle.sr_logform.specs.declared.op.Op.{Op}
+use Rattle.sr_logform.specs.declared.op.Transaction.{Transaction}
+use Rattle.sr_scan.specs.Given.{given_of, given_from, gives, with_transaction}
+use Rattle.sr_scan.specs.Scanners.{Scan, IsFed, transaction_of}
+use Rattle.sr_scan.proofs.Agreeing.{fed_same}
+use Rattle.sr_scan.proofs.Growing.{joined, one_more}
+use Rattle.sr_send.specs.Steps.{newer, HasRead, IsScanned}
+use Rattle.sr_send.specs.Stops.{IsFrontOf, IsNextFound}
+use Rattle.sr_send.specs.Unsent.{as_transaction, past, unsent}
+
+-- ---- those past an offset
+
+pub past-append : (sent : ℕ) (xs ys : List (ℕ × List Op)) → past sent (xs ++ ys) ≡ past sent xs ++ past sent ys
+past-append sent xs ys =
+    ap (map as_transaction) (filter-append (λ tx. nat_lt sent tx.0) xs ys)
+    ∙ map-append as_transaction (filter (λ tx. nat_lt sent tx.0) xs) (filter (λ tx. nat_lt sent tx.0) ys)
+
+one_past : (b : Bool) (tx : ℕ × List Op) → map as_transaction (cond b (tx ∷ []) []) ≡ cond b (as_transaction tx ∷ []) []
+one_past true tx = refl
+one_past false tx = refl
+
+-- that of an entry is what a scanner finds
+past_found : (sent place : ℕ) (at : Offset) (ops : List Op) → at.0 ≡ place → past sent (with_transaction place ops []) ≡ newer sent (transaction_of at ops)
+past_found sent place at [] is = refl
+past_found sent place at (op ∷ ops) is =
+    one_past (nat_lt sent place) (place, op ∷ ops)
+    ∙ ap (λ (n : ℕ). cond (nat_lt sent n) (record { at = offset_from n; ops = op ∷ ops } ∷ []) []) (sym is)
+
+-- with one entry more
+unsent_more : (publisher user : Name) (rs : List Recorded) (r : Recorded) (sent : ℕ) (at : Offset) → at.0 ≡ end_of (rs ++ r ∷ [])
+    → unsent publisher (rs ++ r ∷ []) user sent ≡ unsent publisher rs user sent ++ newer sent (transaction_of at (gives (state_of publisher rs) r user))
+unsent_more publisher user rs r sent at is =
+    let place : at.0 ≡ end_of rs + (size r + 5) = is ∙ end_from-more 0 rs r in
+    let ops = gives (state_of publisher rs) r user in
+    ap (past sent) (one_more publisher user rs r)
+    ∙ past-append sent (given_of publisher rs user) (with_transaction (end_of rs + (size r + 5)) ops [])
+    ∙ ap (λ (ts : List Transaction). unsent publisher rs user sent ++ ts) (past_found sent (end_of rs + (size r + 5)) at ops place)
+
+-- those of a front are the first
+unsent_front : (publisher user : Name) (rs qs : List Recorded) (sent : ℕ) → IsFrontOf (unsent publisher rs user sent) (unsent publisher (rs ++ qs) user sent)
+unsent_front publisher user rs qs sent = record {
+  rest = past sent (given_from (state_of publisher rs) (end_of rs) qs user);
+  parts = ap (past sent) (joined publisher user rs qs) ∙ past-append sent (given_of publisher rs user) (given_from (state_of publisher rs) (end_of rs) qs user);
+}
+
+-- ---- a log that is being read
+
+pub read_none : (db : View) (publisher : Name) (es : List Recorded) (user : Name) (sent : ℕ) (after : Offset) (scan : Scan) → IsOf db publisher es → after.0 ≡ db.log.base → scan.catalog ≡ db.base_catalog → scan.user ≡ user
+    → HasRead publisher es user sent after scan []
+read_none db publisher es user sent after scan is at catalog user_is = record {
+  done = [];
+  left = es;
+  parts = refl;
+  after_is = at ∙ is.base;
+  catalog = catalog ∙ is.base_catalog;
+  user_is = user_is;
+  pushed_are = refl;
+}
+
+-- the next entry fits behind those that were read
+fits_next : (publisher : Name) (es done rest : List Recorded) (r : Recorded) → Stored publisher es → es ≡ done ++ r ∷ rest → Stored publisher done × Fits (state_of publisher done) (end_of done) r
+fits_next publisher es done rest r stored parts =
+    let both = (stored_from-append (fresh publisher) 0 done (r ∷ rest)).0 (subst (λ (rs : List Recorded). Stored publisher rs) parts stored) in
+    (both.0, both.1.0)
+
+-- what a scanner finds in it is what it gives
+pub found_next : (publisher : Name) (es done left : List Recorded) (user : Name) (sent : ℕ) (scan scan' : Scan) (end : Offset) (entry : Entry) (added : List Transaction) → Stored publisher es → es ≡ done ++ left
+    → (next_is : IsNext done left end entry) → scan.catalog ≡ (state_of publisher done).catalog → scan.user ≡ user → IsScanned scan end entry sent added scan'
+    → (unsent publisher (done ++ next_is.r ∷ []) user sent ≡ unsent publisher done user sent ++ added) × (scan'.catalog ≡ (state_of publisher (done ++ next_is.r ∷ [])).catalog) × (scan'.user ≡ user)
+found_next publisher es done left user sent scan scan' end entry added stored parts next_is catalog user_is scanned =
+    let r = next_is.r in
+    let s = state_of publisher done in
+    let fits = fits_next publisher es done next_is.rest r stored (parts ∙ ap (λ (rs : List Recorded). done ++ rs) next_is.left_is) in
+    let fed : IsFed scan end (entry_of r) scanned.found scan' = subst (λ (e : Entry). IsFed scan end e scanned.found scan') next_is.entry_is scanned.fed in
+    let same = fed_same s (end_of done) r scan scan' end scanned.found (stored_holds publisher done fits.0) fits.1 catalog fed in
+    let given : added ≡ newer sent (transaction_of end (gives s r user)) =
+    scanned.added_is ∙ ap (newer sent) same.0 ∙ ap (λ (u : Name). newer sent (transaction_of end (gives s r u))) user_is in (
+      unsent_more publisher user done r sent end next_is.end_is ∙ ap (λ (ts : List Transaction). unsent publisher done user sent ++ ts) (sym given),
+      same.1 ∙ ap (λ (x : State). x.catalog) (sym (state_from-more (fresh publisher) done r)),
+      same.2 ∙ user_is,
+    )
+
+pub read_more : (publisher : Name) (es : List Recorded) (user : Name) (sent : ℕ) (after end : Offset) (scan scan' : Scan) (pushed added : List Transaction) (entry : Entry) → Stored publisher es → (read : HasRead publisher es user sent after scan pushed)
+    → IsNext read.done read.left end entry → IsScanned scan end entry sent added scan' → HasRead publisher es user sent end scan' (pushed ++ added)
+read_more publisher es user sent after end scan scan' pushed added entry stored read next_is scanned =
+    let found = found_next publisher es read.done read.left user sent scan scan' end entry added stored read.parts next_is read.catalog read.user_is scanned in
+    record {
+      done = read.done ++ next_is.r ∷ [];
+      left = next_is.rest;
+      parts = read.parts ∙ ap (λ (rs : List Recorded). read.done ++ rs) next_is.left_is ∙ sym (append_assoc read.done (next_is.r ∷ []) next_is.rest);
+      after_is = next_is.end_is;
+      catalog = found.1;
+      user_is = found.2;
+      pushed_are = ap (λ (ts : List Transaction). ts ++ added) read.pushed_are ∙ sym found.0;
+    }
+
+-- nothing is left
+pub read_all : (publisher : Name) (es : List Recorded) (user : Name) (sent : ℕ) (after : Offset) (scan : Scan) (pushed : List Transaction) → (read : HasRead publisher es user sent after scan pushed) → read.left ≡ []
+    → pushed ≡ unsent publisher es user sent
+read_all publisher es user sent after scan pushed read none =
+    read.pushed_are ∙ ap (λ (rs : List Recorded). unsent publisher rs user sent) (sym (read.parts ∙ ap (λ (rs : List Recorded). read.done ++ rs) none ∙ append-nil read.done))
+
+-- what was pushed is the first of what is unsent
+pub read_front : (publisher : Name) (es : List Recorded) (user : Name) (sent : ℕ) (after : Offset) (scan : Scan) (pushed : List Transaction) → HasRead publisher es user sent after scan pushed
+    → IsFrontOf pushed (unsent publisher es user sent)
+read_front publisher es user sent after scan pushed read =
+    let front = unsent_front publisher user read.done read.left sent in
+    record {
+      rest = front.rest;
+      parts = ap (λ (rs : List Recorded). unsent publisher rs user sent) read.parts ∙ front.parts ∙ ap (λ (ts : List Transaction). ts ++ front.rest) (sym read.pushed_are);
+    }
+
+-- with what the next entry gives
+pub next_front : (publisher : Name) (es : List Recorded) (user : Name) (sent : ℕ) (after : Offset) (scan : Scan) (pushed added : List Transaction) → Stored publisher es → (read : HasRead publisher es user sent after scan pushed)
+    → IsNextFound scan sent read.done read.left added → IsFrontOf (pushed ++ added) (unsent publisher es user sent)
+next_front publisher es user sent after scan pushed added stored read found =
+    read_front publisher es user sent found.end found.found.behind (pushed ++ added)
+    (read_more publisher es user sent after found.end scan found.found.behind pushed added found.entry stored read found.next found.found.scanned)

@@ -1,0 +1,13 @@
+pub mod Results
+pub mod Heads
+pub mod Posts
+pub mod Numbers
+pub mod Cutting
+pub mod Pushes
+pub mod Histories
+pub mod Loops
+pub mod Endings
+pub mod NoteEnds
+pub mod PassEnds
+pub mod Truths
+pub mod TrueLetters

@@ -1,0 +1,322 @@
+-- A pass as its caller sees it.
+use Rattle.std.proofs.Common.{◌≡◌, ℕ, List, [], ◌∷◌, ◌++◌, length, Option, Some, None, refl, sym, ap, subst, ◌∙◌, arith, inl, inr}
+use Rattle.std.specs.Prelude.{IsTrue, IsSome, Bool, true, false, ◌≢◌}
+use Rattle.std.specs.Option.{option_map}
+use Rattle.std.proofs.lemmas.List.{append-nil}
+use Rattle.sr_base.specs.Values.{offset_from}
+use Rattle.sr_book.specs.Entries.{Name}
+use Rattle.sr_book.specs.declared.book.Book.{Book}
+use Rattle.sr_cut.specs.Bodies.{last_at, first_long}
+use Rattle.sr_cut.specs.Cuts.{AreCut}
+use Rattle.sr_cut.specs.declared.head.Head.{Head}
+use Rattle.sr_database.specs.Books.{book_in}
+use Rattle.sr_database.specs.Causes.{IsSame, IsTooFar}
+use Rattle.sr_database.specs.Commits.{HasRoom}
+use Rattle.sr_database.specs.Databases.{IsOf, IsDatabase, HasDatabase}
+use Rattle.sr_database.specs.Views.{View}
+use Rattle.sr_history.specs.Recorded.{Recorded, entry_of}
+use Rattle.sr_logform.specs.declared.op.Transaction.{Transaction}
+use Rattle.sr_msgform.specs.declared.message.Message.{Message}
+use Rattle.sr_schema.specs.Catalogs.{Lists}
+use Rattle.sr_schema.specs.declared.user.User.{User}
+use Rattle.sr_site.specs.Causes.{Stays, DiskStays}
+use Rattle.sr_site.specs.Growing.{stays_on}
+use Rattle.sr_site.specs.Happenings.{Happening, mail_in}
+use Rattle.sr_site.specs.Seen.{Seen}
+use Rattle.sr_standing.specs.Items.{Item, commit, commits}
+use Rattle.sr_standing.specs.Trails.{Went}
+use Rattle.sr_standing.proofs.Joining.{joined}
+use Rattle.sr_send.specs.Aims.{aim_at}
+use Rattle.sr_send.specs.Letters.{head_of, address_in, AreMessages, letters, sent_note, noted_letters}
+use Rattle.sr_send.specs.Notes.{Noted, NoteCause}
+use Rattle.sr_send.specs.Passes.{waiting, AreAll, sent_end, Passed, HasSent, PutInPart, Unnoted, PutAndBegan, NoteRefused, NoteFull, HasLongEncoding, SendCause}
+use Rattle.sr_send.specs.Posting.{PutAlone, Posted, NoneFailed, EndsAtPut}
+use Rattle.sr_send.specs.Steps.{PutAll}
+use Rattle.sr_send.specs.Stops.{ReadStop, EndStop, PutStop}
+use Rattle.sr_send.specs.declared.fault.SendFault.{SendFault}
+use Rattle.sr_send.specs.declared.fault.SendFault.TheVariants.{Disk, Mail, Full, Long, Memory}
+use Rattle.sr_send.specs.declared.sending.Sent.{Sent}
+use Rattle.sr_send.proofs.Posts.{of_disk, told_then, alone_on, posted_database, posted_went, steady_on, steady_read, ends_steady, rose_from}
+use Rattle.sr_send.proofs.Numbers.{no_commits, commits_behind}
+use Rattle.sr_send.proofs.Cutting.{still_long}
+use Rattle.sr_send.proofs.Endings.{some_left}
+
+-- the book of a user who is granted
+pub book_is : (o : Option User) (b book : Book) → Some book ≡ option_map (λ _. b) o → book ≡ b
+book_is None b book e = absurd cc
+book_is (Some user) b book e = cc
+
+-- the publisher at the base is that of the history
+head_is : (db : View) (publisher : Name) (es : List Recorded) (user : Name) (book : Book) (ask : Bool) → IsOf db publisher es → head_of db.base_catalog.publisher user book ask ≡ head_of publisher user book ask
+head_is db publisher es user book ask is = ap (λ (c : Lists). head_of c.publisher user book ask) is.base_catalog
+
+are_along : (head head' : Head) (book : Book) (ask : Bool) (limit : ℕ) (ts ts' : List Transaction) (messages : List Message) → head ≡ head' → ts ≡ ts' → AreMessages head book ask limit ts messages → AreMessages head' book ask limit ts' messages
+are_along head head' book ask limit ts ts' messages same whole are =
+    subst (λ (l : List Transaction). AreMessages head' book ask limit l messages) whole (subst (λ (h : Head). AreMessages h book ask limit ts messages) same are)
+
+-- ---- a pass to a user with this book
+
+module _ (db : View) (user : Name) (book : Book) (limit : ℕ) (ask : Bool) (is : book ≡ book_in db.books user) where
+  -- in part
+  abbrev pub InPart : Seen → Seen → Type 0
+  InPart before now = IsTrue before.told → (publisher : Name) (es : List Recorded) → IsDatabase db publisher es before → PutInPart db before now publisher es user book limit ask
+
+  unnoted : (before now : Seen) → Stays before now → InPart before now → Unnoted db db before now user limit ask
+  unnoted before now stays part = record {
+    same = refl;
+    stays = stays;
+    part = λ told publisher es database. subst (λ (b : Book). PutInPart db before now publisher es user b limit ask) is (part told publisher es database);
+  }
+
+  read_part : (before now : Seen) (fault : SendFault) → ReadStop db (aim_at db user book limit ask) user before now fault → InPart before now
+  read_part before now fault stop told publisher es database =
+      let begins = stop.begins told publisher es database in
+      let head = head_of db.base_catalog.publisher user book ask in
+      let more = stop.front.begins begins.rest in
+      let cut = subst (λ (ts : List Transaction). AreCut head (offset_from book.log_sent) ts limit (stop.messages ++ more.0)) (sym begins.parts) more.1 in
+      let some = some_left head (offset_from book.log_sent) book ask limit (waiting publisher es user book) stop.messages more.0 refl cut in
+      record {
+        messages = stop.messages;
+        left = some.0;
+        are = are_along head (head_of publisher user book ask) book ask limit (waiting publisher es user book) (waiting publisher es user book) (stop.messages ++ some.0)
+            (head_is db publisher es user book ask database.is) refl some.1;
+        went = posted_went db publisher es before now _ stop.posted told database;
+        mail = stop.posted.mail told;
+        outcomes = stop.ends told;
+        database = posted_database db publisher es before now _ stop.posted told database;
+      }
+
+  -- all that was put, with what is left
+  all_part : (before now : Seen) (pushed : List Transaction) (messages left : List Message) → AreMessages (head_of db.base_catalog.publisher user book ask) book ask limit pushed (messages ++ left)
+      → Posted before now (letters (address_in db.catalog user) book.send_count messages) → EndsAtPut before now
+      → (IsTrue before.told → (publisher : Name) (es : List Recorded) → IsDatabase db publisher es before → pushed ≡ waiting publisher es user book) → InPart before now
+  all_part before now pushed messages left are posted ends whole told publisher es database = record {
+    messages = messages;
+    left = left;
+    are = are_along (head_of db.base_catalog.publisher user book ask) (head_of publisher user book ask) book ask limit pushed (waiting publisher es user book) (messages ++ left)
+        (head_is db publisher es user book ask database.is) (whole told publisher es database) are;
+    went = posted_went db publisher es before now _ posted told database;
+    mail = posted.mail told;
+    outcomes = ends told;
+    database = posted_database db publisher es before now _ posted told database;
+  }
+
+  end_part : (before now : Seen) (fault : SendFault) → EndStop db (aim_at db user book limit ask) book ask user before now fault → InPart before now
+  end_part before now fault stop = all_part before now stop.pushed stop.messages stop.left stop.are stop.posted stop.ends stop.whole
+
+  put_part : (before now : Seen) (sent : Sent) → PutAll db (aim_at db user book limit ask) book ask user before now sent → InPart before now
+  put_part before now sent put =
+      all_part before now put.pushed put.messages [] (subst (λ (ms : List Message). AreMessages (head_of db.base_catalog.publisher user book ask) book ask limit put.pushed ms) (sym (append-nil put.messages)) put.are)
+      put.posted (ends_steady before now put.steady) put.whole
+
+  -- the first encoding that is too long
+  long_part : (before now : Seen) (size longest : ℕ) → ReadStop db (aim_at db user book limit ask) user before now (Long size longest) → HasLongEncoding db before user size longest
+  long_part before now size longest stop = record {
+    limit_is = stop.cause.0;
+    first = λ told publisher es database.
+        let begins = stop.begins told publisher es database in
+        subst (λ (b : Book). first_long (waiting publisher es user b) ≡ Some size) is (ap first_long begins.parts ∙ still_long stop.pushed begins.rest size stop.cause.1);
+  }
+
+  read_cause : (before now : Seen) (fault : SendFault) → ReadStop db (aim_at db user book limit ask) user before now fault → SendCause db db before now user limit ask fault
+  read_cause before now Disk stop = (stop.cause, inl (unnoted before now stop.posted.stays (read_part before now Disk stop)))
+  read_cause before now Mail stop = (stop.cause, unnoted before now stop.posted.stays (read_part before now Mail stop))
+  read_cause before now (Full end need) stop = absurd stop.cause
+  read_cause before now (Long size longest) stop = (long_part before now size longest stop, unnoted before now stop.posted.stays (read_part before now (Long size longest) stop))
+  read_cause before now Memory stop = unnoted before now stop.posted.stays (read_part before now Memory stop)
+
+  end_cause : (before now : Seen) (fault : SendFault) → EndStop db (aim_at db user book limit ask) book ask user before now fault → SendCause db db before now user limit ask fault
+  end_cause before now Disk stop = absurd stop.cause
+  end_cause before now Mail stop = (stop.cause, unnoted before now stop.posted.stays (end_part before now Mail stop))
+  end_cause before now (Full end need) stop = absurd stop.cause
+  end_cause before now (Long size longest) stop = absurd stop.cause
+  end_cause before now Memory stop = unnoted before now stop.posted.stays (end_part before now Memory stop)
+
+  pub put_stopped : (before now : Seen) (fault : SendFault) → PutStop db (aim_at db user book limit ask) book ask user before now fault → SendCause db db before now user limit ask fault
+  put_stopped before now fault (inl stop) = read_cause before now fault stop
+  put_stopped before now fault (inr stop) = end_cause before now fault stop
+
+  -- ---- the note
+
+  -- what a whole pass leaves, with its note
+  module _ (new : View) (before middle now : Seen) (sent : Sent) (put : PutAll db (aim_at db user book limit ask) book ask user before middle sent) where
+    all_of : IsTrue before.told → (publisher : Name) (es : List Recorded) → IsDatabase db publisher es before → AreAll publisher es user book ask limit put.messages
+    all_of told publisher es database =
+        are_along (head_of db.base_catalog.publisher user book ask) (head_of publisher user book ask) book ask limit put.pushed (waiting publisher es user book) put.messages
+        (head_is db publisher es user book ask database.is) (put.whole told publisher es database) put.are
+
+    end_of_all : IsTrue before.told → (publisher : Name) (es : List Recorded) → IsDatabase db publisher es before → sent.end ≡ sent_end publisher es user book
+    end_of_all told publisher es database = put.end_is ∙ ap (last_at (offset_from book.log_sent)) (put.whole told publisher es database)
+
+    fits_all : IsTrue before.told → (publisher : Name) (es : List Recorded) → IsDatabase db publisher es before → first_long (waiting publisher es user book) ≡ None
+    fits_all told publisher es database = ap first_long (sym (put.whole told publisher es database)) ∙ put.fits
+
+    -- the letters, and then one commit
+    letters_then : (r : Recorded) (publisher : Name) (es : List Recorded) → IsTrue before.told → IsDatabase db publisher es before
+        → (IsTrue middle.told → IsDatabase db publisher es middle → Went middle now publisher es (commit r ∷ []))
+        → Went before now publisher es (letters (address_in db.catalog user) book.send_count put.messages ++ commit r ∷ [])
+    letters_then r publisher es told database noted =
+        let items = letters (address_in db.catalog user) book.send_count put.messages in
+        let same : es ++ commits items ≡ es = ap (λ (rs : List Recorded). es ++ rs) (no_commits (address_in db.catalog user) book.send_count put.messages) ∙ append-nil es in
+        joined before middle now publisher es items (commit r ∷ []) (posted_went db publisher es before middle items put.posted told database)
+        (subst (λ (rs : List Recorded). Went middle now publisher rs (commit r ∷ [])) (sym same)
+        (noted (told_then before middle put.posted.stays told) (posted_database db publisher es before middle items put.posted told database)))
+
+    -- what happened to the mail: nothing but the letters, whatever commit was begun behind them
+    mail_then : (begun : List Item) → IsTrue before.told → PutAlone begun (mail_in middle.happened) (mail_in now.happened)
+        → PutAlone (letters (address_in db.catalog user) book.send_count put.messages ++ begun) (mail_in before.happened) (mail_in now.happened)
+    mail_then begun told alone =
+        alone_on (letters (address_in db.catalog user) book.send_count put.messages) begun (mail_in before.happened) (mail_in middle.happened) (mail_in now.happened) (put.posted.mail told) alone
+
+    -- nothing was put: nothing is noted
+    passed_none : (publisher : Name) (es : List Recorded) → IsTrue before.told → IsDatabase db publisher es before → put.messages ≡ [] → Passed db db before middle publisher es user book limit ask sent
+    passed_none publisher es told database none = record {
+      messages = [];
+      are = subst (λ (ms : List Message). AreAll publisher es user book ask limit ms) none (all_of told publisher es database);
+      count = put.count ∙ ap (λ (ms : List Message). length ms) none;
+      end_is = end_of_all told publisher es database;
+      fits = fits_all told publisher es database;
+      went = subst (λ (ms : List Message). Went before middle publisher es (letters (address_in db.catalog user) book.send_count ms)) none (posted_went db publisher es before middle _ put.posted told database);
+      mail = subst (λ (ms : List Message). PutAlone (letters (address_in db.catalog user) book.send_count ms) (mail_in before.happened) (mail_in middle.happened)) none (put.posted.mail told);
+      database = subst (λ (rs : List Recorded). IsDatabase db publisher rs middle) (sym (append-nil es)) (posted_database db publisher es before middle _ put.posted told database);
+    }
+
+    no_messages : (ms : List Message) → length ms ≡ 0 → ms ≡ []
+    no_messages [] none = refl
+    no_messages (m ∷ ms) none = absurd (omega (arith, none))
+
+    pub sent_none : sent.put ≡ 0 → db.log.usable ≡ true → db.pending ≡ [] → HasSent db db before middle user limit ask sent
+    sent_none none usable pending = record {
+      usable = usable;
+      pending = pending;
+      stays = put.posted.stays;
+      steady = put.steady;
+      idle = λ nothing. refl;
+      room = λ some. absurd (some none);
+      value = λ some. absurd (some none);
+      passed = λ told publisher es database.
+          subst (λ (b : Book). Passed db db before middle publisher es user b limit ask sent) is
+          (passed_none publisher es told database (no_messages put.messages (sym put.count ∙ none)));
+    }
+
+    -- the trail of letters that are some
+    noted_is : (ms : List Message) → ms ≢ [] → noted_letters (address_in db.catalog user) user book sent.end ms
+        ≡ letters (address_in db.catalog user) book.send_count ms ++ commit (sent_note user book sent.end (length ms)) ∷ []
+    noted_is [] some = absurd (some refl)
+    noted_is (m ∷ ms) some = refl
+
+    some_messages : sent.put ≢ 0 → put.messages ≢ []
+    some_messages some none = some (put.count ∙ ap (λ (ms : List Message). length ms) none)
+
+    passed_noted : (publisher : Name) (es : List Recorded) → IsTrue before.told → IsDatabase db publisher es before → sent.put ≢ 0 → DiskStays middle now → Noted db new middle now (sent_note user book sent.end sent.put)
+        → Passed db new before now publisher es user book limit ask sent
+    passed_noted publisher es told database some stays noted =
+        let address = address_in db.catalog user in
+        let r = sent_note user book sent.end sent.put in
+        let trail = noted_is put.messages (some_messages some) in
+        let whole : letters address book.send_count put.messages ++ commit r ∷ [] ≡ noted_letters address user book sent.end put.messages =
+        ap (λ (n : ℕ). letters address book.send_count put.messages ++ commit (sent_note user book sent.end n) ∷ []) put.count ∙ sym trail in
+        let middle_is = posted_database db publisher es before middle _ put.posted told database in
+        let then = told_then before middle put.posted.stays told in
+        let stands : IsDatabase new publisher (es ++ commits (letters address book.send_count put.messages ++ commit r ∷ [])) now =
+        subst (λ (rs : List Recorded). IsDatabase new publisher (es ++ rs) now) (sym (commits_behind address book.send_count put.messages (commit r ∷ []))) (noted.database then publisher es middle_is) in
+        record {
+          messages = put.messages;
+          are = all_of told publisher es database;
+          count = put.count;
+          end_is = end_of_all told publisher es database;
+          fits = fits_all told publisher es database;
+          went = subst (λ (items : List Item). Went before now publisher es items) whole (letters_then r publisher es told database (λ yes there. noted.went yes publisher es there));
+          mail = subst (λ (items : List Item). PutAlone items (mail_in before.happened) (mail_in now.happened)) whole (mail_then (commit r ∷ []) told stays.mail);
+          database = subst (λ (items : List Item). IsDatabase new publisher (es ++ commits items) now) whole stands;
+        }
+
+    pub sent_noted : sent.put ≢ 0 → DiskStays middle now → Noted db new middle now (sent_note user book sent.end sent.put) → HasSent db new before now user limit ask sent
+    sent_noted some stays noted = record {
+      usable = noted.usable;
+      pending = noted.pending;
+      stays = stays_on before middle now put.posted.stays (of_disk middle now stays);
+      steady = steady_on before middle now put.steady (steady_read middle now stays noted.steady);
+      idle = λ none. absurd (some none);
+      value = λ yes publisher es there. subst (λ (b : Book). IsOf new publisher (es ++ sent_note user b sent.end sent.put ∷ [])) is (noted.value publisher es there);
+      room = λ yes. subst (λ (b : Book). HasRoom db.log (entry_of (sent_note user b sent.end sent.put))) is noted.room;
+      passed = λ told publisher es database.
+          subst (λ (b : Book). Passed db new before now publisher es user b limit ask sent) is (passed_noted publisher es told database some stays noted);
+    }
+
+    -- all is as it was before the note
+    unnoted_then : IsSame db new middle now → Unnoted db new before now user limit ask
+    unnoted_then same = record {
+      same = same.value;
+      stays = subst (λ (seen : Seen). Stays before seen) (sym same.site) put.posted.stays;
+      part = λ told publisher es database.
+          subst (λ (seen : Seen). PutInPart db before seen publisher es user (book_in db.books user) limit ask) (sym same.site)
+          (subst (λ (b : Book). PutInPart db before middle publisher es user b limit ask) is (put_part before middle sent put told publisher es database));
+    }
+
+    -- all of them, and then these commits
+    put_and_began : (publisher : Name) (es : List Recorded) (begun : List Item) → IsTrue before.told → IsDatabase db publisher es before
+        → Went before now publisher es (letters (address_in db.catalog user) book.send_count put.messages ++ begun) → PutAlone begun (mail_in middle.happened) (mail_in now.happened)
+        → mail_in now.happened ≡ mail_in middle.happened → PutAndBegan before now (address_in db.catalog user) publisher es user book limit ask sent.end sent.put begun
+    put_and_began publisher es begun told database trail alone same = record {
+      messages = put.messages;
+      are = all_of told publisher es database;
+      count_is = put.count;
+      end_is = end_of_all told publisher es database;
+      went = trail;
+      mail = mail_then begun told alone;
+      done = subst (λ (l : List Happening). NoneFailed (mail_in before.happened) l) (sym same) (put.steady.done told);
+    }
+
+    -- no commit was begun
+    letters_alone : (publisher : Name) (es : List Recorded) → IsTrue before.told → IsDatabase db publisher es before → now ≡ middle
+        → Went before now publisher es (letters (address_in db.catalog user) book.send_count put.messages ++ [])
+    letters_alone publisher es told database same =
+        let items = letters (address_in db.catalog user) book.send_count put.messages in
+        subst (λ (seen : Seen). Went before seen publisher es (items ++ [])) (sym same)
+        (subst (λ (l : List Item). Went before middle publisher es l) (sym (append-nil items)) (posted_went db publisher es before middle items put.posted told database))
+
+    refused_note : sent.put ≢ 0 → DiskStays middle now → NoteCause db new middle now (sent_note user book sent.end sent.put) Disk → NoteRefused db new before now user limit ask
+    refused_note some stays cause = record {
+      spent = cause.0.spent;
+      pending = cause.0.pending;
+      stays = stays_on before middle now put.posted.stays (of_disk middle now stays);
+      sent = sent.end;
+      count = sent.put;
+      some = some;
+      room = subst (λ (b : Book). HasRoom db.log (entry_of (sent_note user b sent.end sent.put))) is cause.1;
+      part = λ told publisher es database.
+          let r = sent_note user book sent.end sent.put in
+          subst (λ (b : Book). PutAndBegan before now (address_in db.catalog user) publisher es user b limit ask sent.end sent.put (commit (sent_note user b sent.end sent.put) ∷ [])) is
+          (put_and_began publisher es (commit r ∷ []) told database (letters_then r publisher es told database (λ yes there. cause.2 yes publisher es there)) stays.mail stays.mail);
+    }
+
+    full_note : (end need : ℕ) → sent.put ≢ 0 → IsTooFar db.log (entry_of (sent_note user book sent.end sent.put)) end need → DiskStays middle now → now ≡ middle → NoteFull db before now user limit ask end need
+    full_note end need some full stays same = record {
+      sent = sent.end;
+      count = sent.put;
+      some = some;
+      full = subst (λ (b : Book). IsTooFar db.log (entry_of (sent_note user b sent.end sent.put)) end need) is full;
+      part = λ told publisher es database.
+          subst (λ (b : Book). PutAndBegan before now (address_in db.catalog user) publisher es user b limit ask sent.end sent.put []) is
+          (put_and_began publisher es [] told database (letters_alone publisher es told database same) stays.mail stays.mail);
+    }
+
+    pub note_stopped : (fault : SendFault) → sent.put ≢ 0 → DiskStays middle now → NoteCause db new middle now (sent_note user book sent.end sent.put) fault → SendCause db new before now user limit ask fault
+    note_stopped Disk some stays cause = (rose_from before.disk_faults middle.disk_faults now.disk_faults put.steady.disk cause.0.rose, inr (refused_note some stays cause))
+    note_stopped Mail some stays cause = absurd cause
+    note_stopped (Full end need) some stays cause = (full_note end need some cause.0 stays cause.1.site, unnoted_then cause.1)
+    note_stopped (Long size longest) some stays cause = absurd cause
+    note_stopped Memory some stays cause = unnoted_then cause
+
+-- a user who is granted has a book
+pub has_book : (found : Option Book) (o : Option User) (b : Book) → found ≡ option_map (λ _. b) o → IsSome o → ((book : Book) → found ≡ Some book → ⊥) → ⊥
+has_book found None b is known none = let both : false ≡ true = known in cc
+has_book found (Some user) b is known none = none b is
+
+-- the database is still there once files were put
+pub still_database : (db : View) (before now : Seen) (items : List Item) → Posted before now items → (IsTrue before.told → HasDatabase db before) → IsTrue now.told → HasDatabase db now
+still_database db before now items posted stands told =
+    let then : IsTrue before.told = subst (λ (b : Bool). IsTrue b) posted.stays.told told in
+    let there = stands then in
+    record { publisher = there.publisher; es = there.es; is = posted_database db there.publisher there.es before now items posted then there.is }

@@ -1,0 +1,201 @@
+-- Files that are put while a database stands still: nothing, one, and some behind others.
+use Rattle.std.proofs.Common.{◌≡◌, ℕ, Bool, true, List, [], ◌∷◌, ◌++◌, append_assoc, refl, sym, ap, subst, ◌∙◌, Result, Err, arith, le_refl, inl, inr}
+use Rattle.std.specs.Prelude.{IsTrue, IsErrOf}
+use Rattle.std.proofs.lemmas.List.{append-nil}
+use Rattle.sr_book.specs.Entries.{Name}
+use Rattle.sr_cut.specs.Hexadecimal.{file_name_of}
+use Rattle.sr_cut.proofs.Lists.{AllByRecursion-append}
+use Rattle.sr_history.specs.Recorded.{Recorded}
+use Rattle.sr_msgform.specs.Messages.{message_spelling}
+use Rattle.sr_msgform.specs.declared.message.Message.{Message}
+use Rattle.sr_site.specs.Causes.{Stays, DiskStays, MailStays, Rose}
+use Rattle.sr_site.specs.Files.{Files}
+use Rattle.sr_site.specs.Growing.{stays_on}
+use Rattle.sr_site.specs.Happenings.{Happening, sent, mail_in}
+use Rattle.sr_site.specs.Images.{IsSettled}
+use Rattle.sr_site.specs.Seen.{Seen}
+use Rattle.sr_site.specs.declared.mail.MailFault.{MailFault}
+use Rattle.sr_site.specs.declared.mail.MailFault.TheVariants as mail
+use Rattle.sr_standing.specs.Items.{Item, put, commit, commits}
+use Rattle.sr_standing.specs.Standing.{StandsAs}
+use Rattle.sr_standing.specs.Trails.{Went}
+use Rattle.sr_standing.proofs.Going.{nothing, quiet, quiet_before, one_put, put_before}
+use Rattle.sr_standing.proofs.Joining.{joined}
+use Rattle.sr_database.specs.Databases.{IsHeld, IsDatabase}
+use Rattle.sr_database.specs.Views.{View}
+use Rattle.sr_send.specs.Faults.{fault_of_mail}
+use Rattle.sr_send.specs.Letters.{letter}
+use Rattle.sr_send.specs.Posting.{PutAlone, Posted, IsDone, NoneFailed, LastMayFail, EndsAtPut, IsSteady}
+use Rattle.sr_send.specs.Stops.{IsPartPut}
+use Rattle.sr_send.specs.declared.fault.SendFault.TheVariants.{Memory}
+
+pub still : (seen : Seen) → Stays seen seen
+still seen = record { told = refl; first = refl; grows = λ moment there. there; disk = le_refl seen.disk_faults; mail = le_refl seen.mail_faults }
+
+pub of_disk : (before now : Seen) → DiskStays before now → Stays before now
+of_disk before now stays = record { told = stays.told; first = stays.first; grows = stays.grows; disk = stays.later; mail = omega (arith, stays.mail_faults) }
+
+pub of_mail : (before now : Seen) → MailStays before now → Stays before now
+of_mail before now stays = record { told = stays.told; first = stays.first; grows = stays.grows; disk = omega (arith, stays.disk_faults); mail = stays.later }
+
+pub told_then : (before now : Seen) → Stays before now → IsTrue before.told → IsTrue now.told
+told_then before now stays told = subst (λ (b : Bool). IsTrue b) (sym stays.told) told
+
+-- ---- what is put
+
+-- some files behind others
+pub alone_on : (items more : List Item) (a b c : List Happening) → PutAlone items a b → PutAlone more b c → PutAlone (items ++ more) a c
+alone_on [] more a b c one two = subst (λ (from : List Happening). PutAlone more from c) one two
+alone_on (commit r ∷ items) more a b c one two = alone_on items more a b c one two
+alone_on (put address name bytes ∷ items) more a b c one two = (one.0, alone_on items more (sent address name bytes one.0 ∷ a) b c one.1 two)
+
+pub posted_none : (seen : Seen) → Posted seen seen []
+posted_none seen = record {
+  stays = still seen;
+  files = λ told. refl;
+  went = λ told publisher es settled. nothing seen publisher es settled;
+  images = λ told image there. there;
+  mail = λ told. refl;
+}
+
+pub posted_read : (before now : Seen) → DiskStays before now → (IsTrue before.told → now.files ≡ before.files) → (IsTrue before.told → now.happened ≡ before.happened) → Posted before now []
+posted_read before now stays files happened = record {
+  stays = of_disk before now stays;
+  files = files;
+  went = λ told publisher es settled. quiet before now publisher es [] settled stays.told stays.first (happened told) tt;
+  images = λ told image there. quiet_before before now [] image stays.first (happened told) tt there;
+  mail = λ told. stays.mail;
+}
+
+pub posted_one : (before now : Seen) (address name bytes : List ℕ) (done : Bool) → MailStays before now → (IsTrue before.told → now.happened ≡ sent address name bytes done ∷ before.happened)
+    → Posted before now (put address name bytes ∷ [])
+posted_one before now address name bytes done stays happened = record {
+  stays = of_mail before now stays;
+  files = λ told. stays.files;
+  went = λ told publisher es settled. one_put before now publisher es address name bytes done settled stays.told stays.first (happened told);
+  images = λ told image there. put_before before now address name bytes done image stays.first (happened told) there;
+  mail = λ told. (done, ap mail_in (happened told));
+}
+
+pub settled_then : (holds : Files → Type 0) (before now : Seen) (items : List Item) → Posted before now items → IsTrue before.told → IsSettled holds before → IsSettled holds now
+settled_then holds before now items posted told settled image there = settled image (posted.images told image there)
+
+pub posted_on : (a b c : Seen) (items more : List Item) → commits items ≡ [] → Posted a b items → Posted b c more → Posted a c (items ++ more)
+posted_on a b c items more silent one two = record {
+  stays = stays_on a b c one.stays two.stays;
+  files = λ told. two.files (told_then a b one.stays told) ∙ one.files told;
+  went = λ told publisher es settled.
+      let same : es ++ commits items ≡ es = ap (λ (rs : List Recorded). es ++ rs) silent ∙ append-nil es in
+      joined a b c publisher es items more (one.went told publisher es settled)
+      (subst (λ (rs : List Recorded). Went b c publisher rs more) (sym same)
+      (two.went (told_then a b one.stays told) publisher es (settled_then (StandsAs publisher es) a b items one told settled)));
+  images = λ told image there. one.images told image (two.images (told_then a b one.stays told) image there);
+  mail = λ told. alone_on items more (mail_in a.happened) (mail_in b.happened) (mail_in c.happened) (one.mail told) (two.mail (told_then a b one.stays told));
+}
+
+-- ---- the database that stands still
+
+pub stands_as : (view : View) (publisher : Name) (es : List Recorded) (seen : Seen) → IsDatabase view publisher es seen → IsSettled (StandsAs publisher es) seen
+stands_as view publisher es seen database image left = record { base = view.log.base; stands = (database.settled image left).stands }
+
+pub posted_database : (view : View) (publisher : Name) (es : List Recorded) (before now : Seen) (items : List Item) → Posted before now items → IsTrue before.told → IsDatabase view publisher es before → IsDatabase view publisher es now
+posted_database view publisher es before now items posted told database = record {
+  is = database.is;
+  held = subst (λ (files : Files). IsHeld view publisher es files) (sym (posted.files told)) database.held;
+  settled = settled_then (IsHeld view publisher es) before now items posted told database.settled;
+}
+
+pub posted_went : (view : View) (publisher : Name) (es : List Recorded) (before now : Seen) (items : List Item) → Posted before now items → IsTrue before.told → IsDatabase view publisher es before → Went before now publisher es items
+posted_went view publisher es before now items posted told database = posted.went told publisher es (stands_as view publisher es before database)
+
+-- ---- counts
+
+-- nothing happened to the mail
+none_failed : (before now : List Happening) → now ≡ before → NoneFailed before now
+none_failed before now same = record { more = []; is = same; done = tt }
+
+none_on : (a b c : List Happening) → NoneFailed a b → NoneFailed b c → NoneFailed a c
+none_on a b c one two = record {
+  more = two.more ++ one.more;
+  is = two.is ∙ ap (λ (l : List Happening). two.more ++ l) one.is ∙ sym (append_assoc two.more one.more a);
+  done = AllByRecursion-append IsDone two.more one.more two.done one.done;
+}
+
+pub same_counts : (seen : Seen) → IsSteady seen seen
+same_counts seen = record { told = refl; disk = refl; mail = refl; done = λ told. none_failed (mail_in seen.happened) (mail_in seen.happened) refl }
+
+pub steady_on : (a b c : Seen) → IsSteady a b → IsSteady b c → IsSteady a c
+steady_on a b c one two = record {
+  told = two.told ∙ one.told;
+  disk = two.disk ∙ one.disk;
+  mail = two.mail ∙ one.mail;
+  done = λ told. none_on (mail_in a.happened) (mail_in b.happened) (mail_in c.happened) (one.done told) (two.done (subst (λ (x : Bool). IsTrue x) (sym one.told) told));
+}
+
+-- ---- where putting ends
+
+-- nothing happened to the mail
+pub ends_none : (before now : Seen) → (IsTrue before.told → mail_in now.happened ≡ mail_in before.happened) → EndsAtPut before now
+ends_none before now same = λ told. record { last = []; one = omega arith; more = []; is = same told; done = tt }
+
+pub ends_same : (seen : Seen) → EndsAtPut seen seen
+ends_same seen = ends_none seen seen (λ told. refl)
+
+pub ends_put : (before now : Seen) (address name bytes : List ℕ) (done : Bool) → (IsTrue before.told → now.happened ≡ sent address name bytes done ∷ before.happened) → EndsAtPut before now
+ends_put before now address name bytes done happened = λ told. record { last = sent address name bytes done ∷ []; one = omega arith; more = []; is = ap mail_in (happened told); done = tt }
+
+last_on : (a b c : List Happening) → NoneFailed a b → LastMayFail b c → LastMayFail a c
+last_on a b c one two = record {
+  last = two.last;
+  one = two.one;
+  more = two.more ++ one.more;
+  is = two.is ∙ ap (λ (l : List Happening). two.last ++ (two.more ++ l)) one.is ∙ ap (λ (l : List Happening). two.last ++ l) (sym (append_assoc two.more one.more a));
+  done = AllByRecursion-append IsDone two.more one.more two.done one.done;
+}
+
+pub ends_on : (a b c : Seen) → IsSteady a b → EndsAtPut b c → EndsAtPut a c
+ends_on a b c steady ends =
+    λ told. last_on (mail_in a.happened) (mail_in b.happened) (mail_in c.happened) (steady.done told) (ends (subst (λ (x : Bool). IsTrue x) (sym steady.told) told))
+
+pub ends_steady : (a b : Seen) → IsSteady a b → EndsAtPut a b
+ends_steady a b steady = ends_on a b b steady (ends_same b)
+
+-- a call of the disk succeeded
+pub steady_read : (before now : Seen) → DiskStays before now → now.disk_faults ≡ before.disk_faults → IsSteady before now
+steady_read before now stays same = record {
+  told = stays.told;
+  disk = same;
+  mail = stays.mail_faults;
+  done = λ told. none_failed (mail_in before.happened) (mail_in now.happened) stays.mail;
+}
+
+-- a put did
+pub steady_put : (before now : Seen) (address name bytes : List ℕ) → MailStays before now → now.mail_faults ≡ before.mail_faults → (IsTrue before.told → now.happened ≡ sent address name bytes true ∷ before.happened) → IsSteady before now
+steady_put before now address name bytes stays same happened = record {
+  told = stays.told;
+  disk = stays.disk_faults;
+  mail = same;
+  done = λ told. record { more = sent address name bytes true ∷ []; is = ap mail_in (happened told); done = (refl, tt) };
+}
+
+pub rose_from : (old middle new : ℕ) → middle ≡ old → Rose middle new → Rose old new
+rose_from old middle new same rose = subst (λ (n : ℕ). Rose n new) same rose
+
+-- ---- one message
+
+-- it is put as its file
+pub put_as : (before now : Seen) (address name bytes : List ℕ) (done : Bool) (number : ℕ) (m : Message) → name ≡ file_name_of m.from number → bytes ≡ message_spelling m → MailStays before now
+    → (IsTrue before.told → now.happened ≡ sent address name bytes done ∷ before.happened) → Posted before now (letter address number m ∷ [])
+put_as before now address name bytes done number m name_is bytes_are stays happened =
+    posted_one before now address (file_name_of m.from number) (message_spelling m) done stays
+    (λ told. happened told
+    ∙ ap (λ (n : List ℕ). sent address n bytes done ∷ before.happened) name_is
+    ∙ ap (λ (b : List ℕ). sent address (file_name_of m.from number) b done ∷ before.happened) bytes_are)
+
+pub not_begun : (seen : Seen) (item : Item) → IsPartPut seen seen item Memory
+not_begun seen item = record { posted = inl (posted_none seen); cause = tt; ends = ends_same seen }
+
+pub part_begun : (before now : Seen) (item : Item) (fault : MailFault) (result : Result (Unit {0}) MailFault) → result ≡ Err fault → Posted before now (item ∷ []) → EndsAtPut before now
+    → (IsErrOf result mail.Failed → Rose before.mail_faults now.mail_faults) → IsPartPut before now item (fault_of_mail fault)
+part_begun before now item mail.Failed result is posted ends cause = record { posted = inr posted; cause = cause is; ends = ends }
+part_begun before now item mail.Memory result is posted ends cause = record { posted = inr posted; cause = tt; ends = ends }

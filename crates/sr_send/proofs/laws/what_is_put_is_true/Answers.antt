@@ -1,0 +1,5 @@
+use Rattle.sr_send.proofs.TrueLetters.{all_true}
+use Rattle.sr_send.proofs.laws.what_is_put_is_true.Goals as goal
+
+pub returns : goal.returns
+returns c = all_true

@@ -1,0 +1,42 @@
+use Rattle.std.proofs.Common.{Option, refl, subst}
+use Rattle.sr_base.specs.declared.offset.Offset.{Offset}
+use Rattle.sr_send.specs.Steps.{DoneStep}
+use Rattle.sr_send.specs.Stops.{ReadStop}
+use Rattle.sr_send.proofs.Loops.{base_first, under_start, some_made, under_step, loop_end, under_stopped}
+use Rattle.sr_send.proofs.Results.{if_fault}
+use Rattle.sr_send.proofs.reading.put_given.Goals as goal
+
+pub entries-init : goal.entries-init
+entries-init g c =
+    under_start c.args.db.now c.args.aim.now c.args.scanner.now.user c.args.scanner.now c.args.post.now c.base-after.result (g.S.Held.seen c.args.site.now) c.requires.made c.base-after.ensures.base
+    (base_first c.args.db.now (c.usable-usable_here.ensures.some c.requires.usable)) c.requires.catalog refl
+
+pub step-requires-clause-after : goal.step-requires-clause-after
+step-requires-clause-after g c = (c.entries.invariant.from_base, c.entries.invariant.within)
+
+pub step-requires-clause-made : goal.step-requires-clause-made
+step-requires-clause-made g c =
+    some_made c.args.db.now c.args.aim.now c.args.scanner.now.user c.entries.scanner c.entries.post c.entries.after (g.S.Held.seen c.args.site.now) (g.S.Held.seen c.entries.site) c.entries.invariant
+
+pub step-requires-clause-behind : goal.step-requires-clause-behind
+step-requires-clause-behind g c = c.entries.invariant.behind
+
+pub returns-in_err-end-clause-cause : goal.returns-in_err-end-clause-cause
+returns-in_err-end-clause-cause g c =
+    let first = g.S.Held.seen c.args.site.now in
+    let before = g.S.Held.seen c.entries.site in
+    let now = g.S.Held.seen c.step.new.site in
+    if_fault (ReadStop c.args.db.now c.args.aim.now c.args.scanner.now.user first now) c.in_err-end.field-0.0 c.from_residual.result c.from_residual.ensures.1
+    (under_stopped c.args.db.now c.args.aim.now c.args.scanner.now.user c.entries.scanner c.entries.post c.entries.after first before now c.in_err-end.field-0.0 c.entries.invariant c.in_err-end.ensures.cause)
+
+pub entries-preserved : goal.entries-preserved
+entries-preserved g c =
+    under_step c.args.db.now c.args.aim.now c.args.scanner.now.user c.entries.scanner c.step.new.scanner c.entries.post c.step.new.post c.entries.after c.in-Some.end (g.S.Held.seen c.args.site.now) (g.S.Held.seen c.entries.site)
+    (g.S.Held.seen c.step.new.site) c.entries.invariant
+    (subst (λ (found : Option Offset). DoneStep c.args.db.now c.args.aim.now c.entries.scanner c.step.new.scanner c.entries.post c.step.new.post c.entries.after (g.S.Held.seen c.entries.site) (g.S.Held.seen c.step.new.site) found) c.in-Some.is
+    c.in_ok-end.ensures.done)
+
+pub returns-clause-read : goal.returns-clause-read
+returns-clause-read g c =
+    loop_end c.args.db.now c.args.aim.now c.args.scanner.now.user c.entries.scanner c.step.new.scanner c.entries.post c.step.new.post c.entries.after (g.S.Held.seen c.args.site.now) (g.S.Held.seen c.entries.site) (g.S.Held.seen c.step.new.site)
+    c.in_ok-end.field-0 c.entries.invariant c.in_default.not-Some c.in_ok-end.ensures.done

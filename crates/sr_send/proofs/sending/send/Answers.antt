@@ -1,0 +1,62 @@
+use Rattle.std.proofs.Common.{◌≡◌, ◌≤◌, sym, subst, ◌∙◌}
+use Rattle.sr_book.specs.declared.book.Book.{Book}
+use Rattle.sr_database.specs.Books.{book_in}
+use Rattle.sr_schema.specs.Members.{user_name}
+use Rattle.sr_schema.specs.Names.{named}
+use Rattle.sr_send.specs.Passes.{SendCause}
+use Rattle.sr_send.specs.declared.fault.SendFault.{SendFault}
+use Rattle.sr_send.proofs.PassEnds.{book_is, has_book, put_stopped, sent_none, sent_noted, note_stopped, still_database}
+use Rattle.sr_send.proofs.Results.{if_fault}
+use Rattle.sr_send.proofs.sending.send.Goals as goal
+
+pub returns-in_default-clause-cause : goal.returns-in_default-clause-cause
+returns-in_default-clause-cause g c =
+    absurd (has_book c.book.result (named user_name c.args.user.now c.args.db.now.catalog.users) (book_in c.args.db.now.books c.args.user.now) c.book.ensures.book c.requires.user c.in_default.not-Some)
+
+pub put_due-requires-clause-ask : goal.put_due-requires-clause-ask
+put_due-requires-clause-ask g c asked =
+    let is : c.in-Some.book ≡ book_in c.args.db.now.books c.args.user.now = book_is (named user_name c.args.user.now c.args.db.now.catalog.users) _ _ (sym c.in-Some.is ∙ c.book.ensures.book) in
+    subst (λ (b : Book). 1 ≤ b.rereceive_count) (sym is) (c.requires.ask asked)
+
+pub returns-in_err-sent-clause-cause : goal.returns-in_err-sent-clause-cause
+returns-in_err-sent-clause-cause g c =
+    let db = c.args.db.now in
+    let before = g.S.Held.seen c.args.site.now in
+    let now = g.S.Held.seen c.put_due.new.site in
+    let is : c.in-Some.book ≡ book_in db.books c.args.user.now = book_is (named user_name c.args.user.now db.catalog.users) _ _ (sym c.in-Some.is ∙ c.book.ensures.book) in
+    if_fault (λ (f : SendFault). SendCause db db before now c.args.user.now c.args.length c.args.ask f) c.in_err-sent.field-0.0 c.from_residual.result c.from_residual.ensures.1
+    (put_stopped db c.args.user.now c.in-Some.book c.args.length c.args.ask is before now c.in_err-sent.field-0.0 c.in_err-sent.ensures.cause)
+
+pub returns-then-is_empty-clause-sent : goal.returns-then-is_empty-clause-sent
+returns-then-is_empty-clause-sent g c =
+    let db = c.args.db.now in
+    let before = g.S.Held.seen c.args.site.now in
+    let now = g.S.Held.seen c.put_due.new.site in
+    let is : c.in-Some.book ≡ book_in db.books c.args.user.now = book_is (named user_name c.args.user.now db.catalog.users) _ _ (sym c.in-Some.is ∙ c.book.ensures.book) in
+    sent_none db c.args.user.now c.in-Some.book c.args.length c.args.ask is db before now now c.in_ok-sent.sent c.in_ok-sent.ensures.put
+    (c.is_empty.ensures.none c.if-is_empty.true) c.requires.usable c.requires.pending
+
+pub note_sent-requires-clause-stands : goal.note_sent-requires-clause-stands
+note_sent-requires-clause-stands g c =
+    still_database c.args.db.now (g.S.Held.seen c.args.site.now) (g.S.Held.seen c.put_due.new.site) _ c.in_ok-sent.ensures.put.posted c.requires.stands
+
+pub returns-in_err-note_sent-clause-cause : goal.returns-in_err-note_sent-clause-cause
+returns-in_err-note_sent-clause-cause g c =
+    let db = c.args.db.now in
+    let before = g.S.Held.seen c.args.site.now in
+    let middle = g.S.Held.seen c.put_due.new.site in
+    let now = g.S.Held.seen c.note_sent.new.site in
+    let is : c.in-Some.book ≡ book_in db.books c.args.user.now = book_is (named user_name c.args.user.now db.catalog.users) _ _ (sym c.in-Some.is ∙ c.book.ensures.book) in
+    if_fault (λ (f : SendFault). SendCause db c.note_sent.new.db before now c.args.user.now c.args.length c.args.ask f) c.in_err-note_sent.field-0.0 c.from_residual-in_err-note_sent.result c.from_residual-in_err-note_sent.ensures.1
+    (note_stopped db c.args.user.now c.in-Some.book c.args.length c.args.ask is c.note_sent.new.db before middle now c.in_ok-sent.sent c.in_ok-sent.ensures.put c.in_err-note_sent.field-0.0
+    (c.is_empty.ensures.some c.if-is_empty.false) c.note_sent.ensures.stays c.in_err-note_sent.ensures.cause)
+
+pub returns-clause-sent : goal.returns-clause-sent
+returns-clause-sent g c =
+    let db = c.args.db.now in
+    let before = g.S.Held.seen c.args.site.now in
+    let middle = g.S.Held.seen c.put_due.new.site in
+    let now = g.S.Held.seen c.note_sent.new.site in
+    let is : c.in-Some.book ≡ book_in db.books c.args.user.now = book_is (named user_name c.args.user.now db.catalog.users) _ _ (sym c.in-Some.is ∙ c.book.ensures.book) in
+    sent_noted db c.args.user.now c.in-Some.book c.args.length c.args.ask is c.note_sent.new.db before middle now c.in_ok-sent.sent c.in_ok-sent.ensures.put (c.is_empty.ensures.some c.if-is_empty.false) c.note_sent.ensures.stays
+    c.in_ok-note_sent.ensures.noted

@@ -1,0 +1,11 @@
+pub mod Writable
+pub mod Unsent
+pub mod Letters
+pub mod Faults
+pub mod Posting
+pub mod Aims
+pub mod Steps
+pub mod Stops
+pub mod Notes
+pub mod Passes
+pub mod TrueLetters

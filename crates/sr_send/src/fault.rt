@@ -1,0 +1,79 @@
+ghost use Rattle.std.specs.Prelude.{◌≡◌};
+ghost use Rattle.sr_send.specs.Faults.{fault_of_store};
+ghost use Rattle.sr_send.specs.declared.fault.SendFault.TheVariants.{Memory as memory};
+
+use sr_cut::TooLong;
+use sr_database::DatabaseFault;
+use sr_site::MailFault;
+use std::alloc::AllocError;
+
+/// The longest encoding of one transaction, in bytes: 64 MiB.
+const LONGEST_TRANSACTION: u64 = 67_108_864;
+
+/// Why a pass ended before its end. What was put before stays.
+#[derive(Clone, Copy, Debug, PartialEq, Eq)]
+pub enum SendFault {
+    /// The disk refused: its count of faults rose in this call.
+    Disk,
+    /// The mail refused: its count of faults rose in this call.
+    Mail,
+    /// The note of the messages has no room in the log. `end` is the place in the log file past its first closed gate, `need` the record's number of
+    /// bytes with the gate behind it.
+    Full { end: u64, need: u64 },
+    /// The encoding of a transaction has `length` bytes, more than the `limit` of 64 MiB.
+    Long { length: u64, limit: u64 },
+    /// There is no memory.
+    Memory,
+}
+
+impl From<AllocError> for SendFault {
+    ghost from_gives = { λ _ e. e ≡ memory };
+
+    fn from(_refused: AllocError) -> SendFault {
+        SendFault::Memory
+    }
+}
+
+impl From<MailFault> for SendFault {
+    ghost use Rattle.sr_send.specs.Faults.{fault_of_mail};
+
+    ghost from_gives = { λ fault e. e ≡ fault_of_mail fault };
+
+    fn from(fault: MailFault) -> SendFault {
+        match fault {
+            MailFault::Failed => SendFault::Mail,
+            MailFault::Memory => SendFault::Memory,
+        }
+    }
+}
+
+impl From<TooLong> for SendFault {
+    ghost use Rattle.sr_send.specs.Faults.{fault_of_cut};
+
+    ghost from_gives = { λ fault e. e ≡ fault_of_cut fault };
+
+    fn from(fault: TooLong) -> SendFault {
+        match fault {
+            TooLong::Transaction { need } => SendFault::Long {
+                length: need,
+                limit: LONGEST_TRANSACTION,
+            },
+            TooLong::Memory => SendFault::Memory,
+        }
+    }
+}
+
+/// The fault of a pass whose database refuses. An open one is not missing, there or damaged; and the record of a note is never too long.
+pub(crate) fn store_fault(fault: DatabaseFault) -> SendFault
+    ensures fault { result ≡ fault_of_store fault }
+{
+    match fault {
+        DatabaseFault::Disk => SendFault::Disk,
+        DatabaseFault::Full { end, need } => SendFault::Full { end, need },
+        DatabaseFault::Missing
+        | DatabaseFault::Exists
+        | DatabaseFault::Damaged { .. }
+        | DatabaseFault::Long { .. }
+        | DatabaseFault::Memory => SendFault::Memory,
+    }
+}

@@ -1,0 +1,23 @@
+//! The send pass to one partner: what the log gives him and he has not been sent, put as messages into his folder and noted in his book.
+//!
+//! It stands on sr_database for the log, on sr_scan for what its entries give, on sr_cut for messages. The log is read once, entry by entry, and each
+//! message is put as soon as it is filled, so that memory does not grow with the log. The contract that matters most is that of
+//! `send`: the messages are the one cut of what the history gives him past what he was sent, and the note comes behind them.
+#![tactic(auto)]
+
+mod aim;
+mod fault;
+mod finishing;
+mod heading;
+mod laws;
+mod noting;
+mod post;
+mod posting;
+mod pushing;
+mod reading;
+mod sending;
+mod writable;
+
+pub use fault::SendFault;
+pub use laws::what_is_put_is_true;
+pub use sending::{Sent, send};

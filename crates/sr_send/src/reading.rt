@@ -1,0 +1,110 @@
+//! A log read entry by entry, and what it gives put as messages.
+
+ghost use Rattle.std.specs.Prelude.{◌≡◌, ◌≤◌, ◌<◌, ◌++◌, true, [], List, IsTrue, IfOk, IfErr, IfSome, OnOk};
+ghost use Rattle.sr_book.specs.Entries.{Name as AName};
+ghost use Rattle.sr_history.specs.Folds.{end_of};
+ghost use Rattle.sr_history.specs.Recorded.{Recorded};
+ghost use Rattle.sr_database.specs.Databases.{IsDatabase};
+ghost use Rattle.sr_database.specs.Entries.{IsEntryAfter};
+ghost use Rattle.sr_send.specs.Aims.{IsAim, HasMade, HasMadeSome};
+ghost use Rattle.sr_send.specs.Posting.{Posted, IsSteady};
+ghost use Rattle.sr_send.specs.Steps.{IsBehind, DoneStep, AllRead, stepped_to};
+ghost use Rattle.sr_send.specs.Stops.{NextFault, StepStop, ReadStop};
+
+use crate::aim::Aim;
+use crate::fault::{SendFault, store_fault};
+use crate::post::Post;
+use crate::pushing::feed_one;
+use sr_base::Offset;
+use sr_database::Database;
+use sr_logform::Entry;
+use sr_scan::Scanner;
+use sr_site::Site;
+use std::alloc::Global;
+
+/// The entry behind an offset, with its end. That a record is damaged, which only a disk can say that does not give what was written to it, is taken
+/// for want of memory.
+fn next_entry<S: Site>(
+    alloc: Global,
+    db: &Database,
+    site: &mut S,
+    after: Offset,
+) -> Result<Option<(Offset, Entry)>, SendFault>
+    requires usable { db.now.log.usable ≡ true }
+    requires after { (db.now.log.base ≤ after.0) × (after.0 ≤ db.now.log.end) }
+    ensures entry { IsTrue (S.seen site.old).told → (publisher : AName) (done left : List Recorded) → IsDatabase db.now publisher (done ++ left) (S.seen site.old) → after.0 ≡ end_of done
+        → IfOk result (IsEntryAfter done left) }
+    ensures within { IfOk result (λ found. IfSome found (λ x. (after.0 < x.0.0) × (x.0.0 ≤ db.now.log.end))) }
+    ensures posted { Posted (S.seen site.old) (S.seen site.new) [] }
+    ensures steady { OnOk result (IsSteady (S.seen site.old) (S.seen site.new)) }
+    ensures mail { (S.seen site.new).mail_faults ≡ (S.seen site.old).mail_faults }
+    ensures cause { IfErr result (NextFault (S.seen site.old) (S.seen site.new)) }
+{
+    match db.entry_after(alloc, site, after) {
+        Ok(found) => Ok(found),
+        Err(fault) => Err(store_fault(fault)),
+    }
+}
+
+/// A step to the end of an entry, where what it gives was put.
+fn stepped_to(end: Offset, outcome: Result<(), SendFault>) -> Result<Option<Offset>, SendFault>
+    ensures { result ≡ stepped_to end outcome }
+{
+    match outcome {
+        Ok(()) => Ok(Some(end)),
+        Err(fault) => Err(fault),
+    }
+}
+
+/// Reads the entry behind an offset and puts what it gives; answers its end.
+fn step<S: Site>(
+    alloc: Global,
+    db: &Database,
+    site: &mut S,
+    aim: &Aim,
+    scanner: &mut Scanner,
+    post: &mut Post,
+    after: Offset,
+) -> Result<Option<Offset>, SendFault>
+    requires usable { db.now.log.usable ≡ true }
+    requires after { (db.now.log.base ≤ after.0) × (after.0 ≤ db.now.log.end) }
+    requires aim { IsAim aim.now }
+    requires made { HasMadeSome aim.now post.old }
+    requires behind { IsBehind aim.now.prev.0 after.0 post.old.end.0 }
+    ensures done { IfOk result (DoneStep db.now aim.now scanner.old scanner.new post.old post.new after (S.seen site.old) (S.seen site.new)) }
+    ensures cause { IfErr result (StepStop db.now aim.now scanner.old post.old after (S.seen site.old) (S.seen site.new)) }
+{
+    match next_entry(alloc, db, site, after)? {
+        None => Ok(None),
+        Some((end, entry)) => {
+            let outcome = feed_one(alloc, site, aim, scanner, post, end, &entry);
+            drop(entry);
+            stepped_to(end, outcome)
+        }
+    }
+}
+
+/// Reads a log from its base to its end, and puts what it gives.
+pub(crate) fn put_given<S: Site>(
+    alloc: Global,
+    db: &Database,
+    site: &mut S,
+    aim: &Aim,
+    scanner: &mut Scanner,
+    post: &mut Post,
+) -> Result<(), SendFault>
+    requires usable { db.now.log.usable ≡ true }
+    requires aim { IsAim aim.now }
+    requires made { HasMade aim.now post.old [] [] }
+    requires catalog { scanner.old.catalog ≡ db.now.base_catalog }
+    ensures read { OnOk result (AllRead db.now aim.now scanner.old.user post.new (S.seen site.old) (S.seen site.new)) }
+    ensures cause { IfErr result (ReadStop db.now aim.now scanner.old.user (S.seen site.old) (S.seen site.new)) }
+{
+    let usable_here = db.usable();
+    prove!(usable_here);
+    let mut after = db.base();
+    'entries: while let Some(end) = step(alloc, db, site, aim, scanner, post, after)? {
+        after = end;
+    }
+    Ok(())
+}
