@@ -1,0 +1,88 @@
+-- The receive pass as a whole: the mail, and then each partner's turn.
+use Rattle.std.proofs.Common.{◌≡◌, ◌+◌, Bool, ℕ, List, [], ◌∷◌, ◌++◌, refl, sym, subst, ◌∙◌, arith}
+use Rattle.std.specs.Prelude.{IsTrue, Err}
+use Rattle.std.specs.List.{AllByRecursion}
+use Rattle.sr_book.specs.Entries.{Name}
+use Rattle.sr_database.specs.Views.{View}
+use Rattle.sr_receive.specs.Bags.{Has}
+use Rattle.sr_receive.specs.Entering.{IsReady}
+use Rattle.sr_receive.specs.Letters.{Came, letters_from}
+use Rattle.sr_receive.specs.declared.bag.Share.{Share}
+use Rattle.sr_site.specs.Growing.{stays_on}
+use Rattle.sr_site.specs.Seen.{Seen}
+use Rattle.sr_site.specs.Streams.{Output}
+use Rattle.sr_agent.specs.Steps.{GatheringBroken, GatheringDone, HoldsAll, MaySendTo, ReceivingBroken, ReceivingDone, TookTurns, TurnsBroken, TurnsDone, in_mail, in_turns}
+use Rattle.sr_agent.specs.Lines.{Line, alarms}
+use Rattle.sr_agent.specs.declared.fault.AgentFault.{AgentFault}
+use Rattle.sr_agent.specs.declared.partner.Partner.{Partner}
+use Rattle.sr_agent.specs.declared.progress.Progress.{Progress}
+use Rattle.sr_agent.proofs.Joints.{of_mail, steady_on, told_then}
+use Rattle.sr_agent.proofs.Written.{alarms_on, ended_behind, told_on}
+
+holds_all : (bag : List Share) (comes : List Came) → ((user : Name) → Has bag user (letters_from user comes) []) → (users : List Name) → HoldsAll bag comes users
+holds_all bag comes has [] = tt
+holds_all bag comes has (user ∷ users) = (has user, holds_all bag comes has users)
+
+sum_on : (first behind : List Line) (before after count : ℕ) → count ≡ alarms first → before ≡ count → after ≡ before + alarms behind → after ≡ alarms (first ++ behind)
+sum_on first behind before after count one same two = omega (arith, one, same, two, alarms_on first behind)
+
+asks_of : (items from asks : List Partner) → from ≡ [] → items ≡ from ++ asks → asks ≡ items
+asks_of items from asks none are = sym (subst (λ (l : List Partner). items ≡ l ++ asks) none are)
+
+pub all_done : (old new : View) (before seen now : Seen) (users : List Name) (purge : Bool) (bag : List Share) (count : ℕ) (progress progress' : Progress) (written between written' : Output)
+    → GatheringDone old before seen bag count written between → progress.alarms ≡ count → progress.partners.items ≡ []
+    → TurnsDone old new seen now users bag purge progress progress' between written' → ReceivingDone old new before now users purge written written' progress'
+all_done old new before seen now users purge bag count progress progress' written between written' gathered count_is none turns =
+    let asks_are = asks_of progress'.partners.items progress.partners.items turns.asks none turns.partners_are in
+    record {
+      lines = gathered.lines ++ turns.lines;
+      told = told_on gathered.lines turns.lines written between written' gathered.told turns.told;
+      alarms_are = sum_on gathered.lines turns.lines progress.alarms progress'.alarms count gathered.count_is count_is turns.alarms_are;
+      may = subst (λ (ps : List Partner). AllByRecursion (MaySendTo new) ps) asks_are turns.may;
+      steady = steady_on before seen now (record { disk = gathered.site.disk_faults; mail = gathered.steady }) turns.steady;
+      stays = stays_on before seen now (of_mail before seen gathered.site) turns.stays;
+      did = λ told publisher es database once.
+          let all = gathered.did told publisher es database in
+          record {
+            bag = bag;
+            seen = seen;
+            view = old;
+            first = gathered.lines;
+            gathered = all;
+            behind = turns.lines;
+            took = subst (λ (ps : List Partner). TookTurns new seen now publisher es all.gathering.comes purge users ps turns.lines) asks_are
+                (turns.did (told_then before seen (of_mail before seen gathered.site) told) publisher es all.gathering.comes all.database (holds_all bag all.gathering.comes all.bag_is users) once);
+            lines_are = refl;
+          };
+    }
+
+pub all_stopped : (old new : View) (before seen now : Seen) (users : List Name) (purge : Bool) (bag : List Share) (count : ℕ) (written between written' : Output) (fault : AgentFault)
+    → GatheringDone old before seen bag count written between → TurnsBroken old new seen now users bag purge between written' fault → ReceivingBroken old new before now users purge written written' fault
+all_stopped old new before seen now users purge bag count written between written' fault gathered broken = record {
+  lines = gathered.lines ++ broken.lines;
+  ended = ended_behind new before seen now written between written' gathered.lines broken.lines fault gathered.told (record { disk = gathered.site.disk_faults; mail = gathered.steady }) (of_mail before seen gathered.site) broken.ended;
+  did = λ told publisher es database once.
+      let all = gathered.did told publisher es database in
+      in_turns bag seen gathered.lines broken.lines all
+      (broken.did (told_then before seen (of_mail before seen gathered.site) told) publisher es all.gathering.comes all.database (holds_all bag all.gathering.comes all.bag_is users) once) refl;
+}
+
+pub all_broken : (old : View) (before now : Seen) (users : List Name) (purge : Bool) (written written' : Output) (fault : AgentFault) → GatheringBroken old before now written written' fault
+    → ReceivingBroken old old before now users purge written written' fault
+all_broken old before now users purge written written' fault broken = record {
+  lines = broken.lines;
+  ended = broken.ended;
+  did = λ told publisher es database once. in_mail refl (broken.did told publisher es database);
+}
+
+-- the database stands at the site as the mail was gathered
+pub ready_then : (old : View) (before seen : Seen) (bag : List Share) (count : ℕ) (written between : Output) → IsReady old before → GatheringDone old before seen bag count written between → IsReady old seen
+ready_then old before seen bag count written between ready gathered = record {
+  usable = ready.usable;
+  idle = ready.idle;
+  some = ready.some;
+  stands = λ told.
+      let told' : IsTrue before.told = subst (λ (b : Bool). IsTrue b) gathered.site.told told in
+      let has = ready.stands told' in
+      record { publisher = has.publisher; es = has.es; is = (gathered.did told' has.publisher has.es has.is).database };
+}

@@ -1,0 +1,340 @@
+-- What a run promises, from what its passes do.
+use Rattle.std.proofs.Common.{◌≡◌, ◌+◌, ◌⊎◌, Bool, true, false, ℕ, List, [], ◌∷◌, ◌++◌, map, refl, sym, ap, subst, inl, inr, ◌∙◌, append_assoc, arith}
+use Rattle.std.specs.Prelude.{IsTrue, Option, Some, None, Result, Ok, Err}
+use Rattle.std.proofs.lemmas.List.{append-nil}
+use Rattle.sr_book.specs.Entries.{Name}
+use Rattle.sr_database.specs.Databases.{IsDatabase}
+use Rattle.sr_database.specs.Views.{View}
+use Rattle.sr_history.specs.Recorded.{Recorded}
+use Rattle.sr_receive.specs.Entering.{IsReady}
+use Rattle.sr_receive.specs.Passes.{AreSteady as IsSteady}
+use Rattle.sr_site.specs.Causes.{Stays}
+use Rattle.sr_receive.specs.declared.bag.Share.{Share}
+use Rattle.sr_schema.specs.Members.{user_name}
+use Rattle.sr_site.specs.Growing.{stays_on}
+use Rattle.sr_site.specs.Seen.{Seen}
+use Rattle.sr_site.specs.Streams.{Output}
+use Rattle.sr_standing.specs.Items.{Item, commit}
+use Rattle.sr_standing.specs.Trails.{Went}
+use Rattle.sr_standing.proofs.Joining.{joined}
+use Rattle.sr_agent.specs.Agents.{CameSoFar, RanAgent, RanInPart, RanWhole}
+use Rattle.sr_agent.specs.Deliveries.{Delivery, after_deliveries, deliveries_items, deliveries_lines}
+use Rattle.sr_agent.specs.Ends.{Ended}
+use Rattle.sr_agent.specs.Lines.{Line, alarms, lines_text}
+use Rattle.sr_agent.specs.Runs.{IsSending, Receives, Run, Sends, after_receiving, after_run, asked, comes_of, lines_of, nothing_done, run_lines, taken_entries, trail_of}
+use Rattle.sr_agent.specs.Steps.{AreOnce, BrokeInDeliveries, BrokeInGathering, BrokeInReceiving, BrokeInTurns, BrokenWhere, DeliveriesBroken, DeliveriesDone, HasGatheredAll, IsForWant, IsInNextDelivery, IsNothingSent, IsUntoldThere, MadePass, PassBroken, ReceivingBroken, SendingBroken, SendingDone, SentPartWhere, SentWhere, TookDeliveries, Told, told_in_part, gathered_in_part, in_mail, in_turns}
+use Rattle.sr_agent.specs.Stops.{DeliveryStop, GatheringStop, IsSendingUpTo, IsUntold, StopsAt, TurnStop, at_first, gathering, receiving, in_turn, sending, in_delivery}
+use Rattle.sr_agent.specs.Turns.{gathering_lines, partners, turns_entries, turns_lines}
+use Rattle.sr_agent.specs.declared.fault.AgentFault.{AgentFault}
+use Rattle.sr_agent.specs.declared.fault.AgentFault.TheVariants.{Memory}
+use Rattle.sr_agent.specs.declared.options.Options.{Options}
+use Rattle.sr_agent.specs.declared.partner.Partner.{Partner}
+use Rattle.sr_agent.specs.declared.progress.Progress.{Progress}
+use Rattle.sr_agent.proofs.Joints.{commits_of}
+use Rattle.sr_agent.proofs.Made.{HasMade, are_users, made_where, names_of_history, names_once}
+use Rattle.sr_agent.proofs.Reaching.{Reaches, came_alone, came_behind, gathered_run, reaches_mail, reaches_none, reaches_turns, took_none, went_behind_mail, with_deliveries}
+use Rattle.sr_agent.proofs.Wholes.{Received, history_is}
+use Rattle.sr_agent.proofs.Written.{alarms_on, ended_at_once, ended_behind, still_site, still_steady, still_told, told_on}
+
+-- ---- the receive pass ended by a fault
+
+-- nothing was done
+in_part_at_once : (view : View) (seen : Seen) (publisher : Name) (es : List Recorded) (options : Options) (fault : AgentFault) → IsDatabase view publisher es seen → IsUntold fault
+    → RanInPart view seen seen publisher es options [] fault
+in_part_at_once view seen publisher es options fault database untold =
+    let came = came_alone view seen seen publisher es options nothing_done (reaches_none view seen publisher es options database) in
+    record { run = nothing_done; db = view; seen = seen; came = came; items = []; told = []; stops = at_first refl refl refl refl refl untold; went = came.went; lines_are = refl }
+
+-- the mail was gathered, and not told
+in_part_untold : (view : View) (before now : Seen) (publisher : Name) (es : List Recorded) (options : Options) (bag : List Share) (lines : List Line) (fault : AgentFault) → options.receive ≡ true
+    → HasGatheredAll view before now publisher es bag lines → IsUntold fault → RanInPart view before now publisher es options lines fault
+in_part_untold view before now publisher es options bag lines fault on gathered untold =
+    let run = gathered_run gathered.gathering [] in
+    let came = came_alone view before now publisher es options run (reaches_mail view before now publisher es options bag lines gathered) in
+    record {
+      run = run;
+      db = view;
+      seen = now;
+      came = came;
+      items = [];
+      told = [];
+      stops = receiving (partners publisher es)
+          (record { asked_for = on; done = []; parts = refl; receiving = record { gathering = gathered.gathering; gathered_is = refl; is = gathered.is; are = tt; whose = refl }; none = refl })
+          refl refl refl refl untold;
+      went = came.went;
+      lines_are = gathered.lines_are ∙ sym (append-nil (gathering_lines gathered.gathering)) ∙ sym (append-nil (gathering_lines gathered.gathering ++ []));
+    }
+
+-- it was gathered in part
+in_part_gathering : (view : View) (before now : Seen) (publisher : Name) (es : List Recorded) (options : Options) (lines : List Line) (fault : AgentFault) → options.receive ≡ true → IsDatabase view publisher es before
+    → GatheringStop publisher es before now lines fault → Went before now publisher es [] → RanInPart view before now publisher es options lines fault
+in_part_gathering view before now publisher es options lines fault on database stop went = record {
+  run = nothing_done;
+  db = view;
+  seen = before;
+  came = came_alone view before before publisher es options nothing_done (reaches_none view before publisher es options database);
+  items = [];
+  told = lines;
+  stops = gathering on refl refl refl stop;
+  went = went;
+  lines_are = refl;
+}
+
+-- and a turn was broken
+in_part_turn : (old new : View) (before seen now : Seen) (publisher : Name) (es : List Recorded) (options : Options) (bag : List Share) (users : List Name) (first behind : List Line) (fault : AgentFault)
+    → options.receive ≡ true → users ≡ partners publisher es → (gathered : HasGatheredAll old before seen publisher es bag first)
+    → BrokeInTurns old new seen now publisher es gathered.gathering.comes options.purge users behind fault → RanInPart new before now publisher es options (first ++ behind) fault
+in_part_turn old new before seen now publisher es options bag users first behind fault on users_are gathered broke =
+    let g = gathered.gathering in
+    let run = gathered_run g broke.took.turns in
+    let added = turns_entries publisher es g.comes broke.took.turns in
+    let reaches = reaches_turns old broke.db before seen broke.seen publisher es options bag first broke.done broke.asks broke.earlier gathered broke.took in
+    record {
+      run = run;
+      db = broke.db;
+      seen = broke.seen;
+      came = came_alone broke.db before broke.seen publisher es options run reaches;
+      items = broke.items;
+      told = broke.told;
+      stops = in_turn broke.user broke.left
+          (record {
+            asked_for = on;
+            done = broke.done;
+            parts = sym users_are ∙ broke.parts;
+            receiving = record { gathering = g; gathered_is = refl; is = gathered.is; are = broke.took.are; whose = broke.took.whose };
+            none = refl;
+          })
+          (subst (λ (rs : List Recorded). TurnStop publisher rs g.comes broke.user broke.db new broke.seen now broke.items broke.told fault) (sym (append-nil (es ++ added)) ∙ history_is es added []) broke.stop);
+      went = subst (λ (items : List Item). Went before now publisher es (items ++ broke.items)) (sym (append-nil (map commit added)))
+          (went_behind_mail before seen now publisher es (map commit added ++ broke.items) gathered.went broke.went);
+      lines_are =
+          ap (λ (ls : List Line). ls ++ behind) gathered.lines_are
+          ∙ ap (λ (ls : List Line). gathering_lines g ++ ls) (broke.lines_are ∙ ap (λ (ls : List Line). ls ++ broke.told) (broke.took.lines_are ∙ sym (append-nil (turns_lines publisher es g.comes broke.took.turns))))
+          ∙ sym (append_assoc (gathering_lines g) (turns_lines publisher es g.comes broke.took.turns ++ []) broke.told);
+    }
+
+in_part_received : (old new : View) (before now : Seen) (publisher : Name) (es : List Recorded) (options : Options) (users : List Name) (lines : List Line) (fault : AgentFault) → options.receive ≡ true
+    → users ≡ partners publisher es → IsDatabase old publisher es before → BrokeInReceiving old new before now publisher es options.purge users lines fault
+    → RanInPart new before now publisher es options lines fault
+in_part_received old new before now publisher es options users lines fault on users_are database (in_mail same (told_in_part bag gathered untold)) =
+    subst (λ (v : View). RanInPart v before now publisher es options lines fault) (sym same) (in_part_untold old before now publisher es options bag lines fault on gathered untold)
+in_part_received old new before now publisher es options users lines fault on users_are database (in_mail same (gathered_in_part stop went)) =
+    subst (λ (v : View). RanInPart v before now publisher es options lines fault) (sym same) (in_part_gathering old before now publisher es options lines fault on database stop went)
+in_part_received old new before now publisher es options users lines fault on users_are database (in_turns bag seen first behind gathered broke lines_are) =
+    subst (λ (ls : List Line). RanInPart new before now publisher es options ls fault) (sym lines_are)
+    (in_part_turn old new before seen now publisher es options bag users first behind fault on users_are gathered broke)
+
+-- a run that ended at once for want of memory
+pub ran_none : (view : View) (seen : Seen) (written : Output) (options : Options) → view.pending ≡ [] → RanAgent view view seen seen written written options (Err Memory)
+ran_none view seen written options pending = record {
+  lines = [];
+  ended = ended_at_once view seen written pending;
+  count = tt;
+  did = λ told publisher es database. in_part_at_once view seen publisher es options Memory database (inr refl);
+}
+
+broken_where : (b : Bool) (old new : View) (before now : Seen) (options : Options) (users : List Name) (written written' : Output) (fault : AgentFault) → options.receive ≡ b → old.pending ≡ []
+    → users ≡ map user_name old.catalog.users → BrokenWhere b options.purge old new before now users written written' fault → RanAgent old new before now written written' options (Err fault)
+broken_where false old new before now options users written written' fault off pending users_are want =
+    subst (λ (f : AgentFault). RanAgent old new before now written written' options (Err f)) (sym want.why)
+    (subst (λ (v : View). RanAgent old v before now written written' options (Err Memory)) (sym want.same)
+    (subst (λ (s : Seen). RanAgent old old before s written written' options (Err Memory)) (sym want.still)
+    (subst (λ (o : Output). RanAgent old old before before written o options (Err Memory)) (sym want.silent) (ran_none old before written options pending))))
+broken_where true old new before now options users written written' fault on pending users_are broken = record {
+  lines = broken.lines;
+  ended = broken.ended;
+  count = tt;
+  did = λ told publisher es database.
+      in_part_received old new before now publisher es options users broken.lines fault on (names_of_history old publisher es users database.is users_are) database
+      (broken.did told publisher es database (names_once old publisher es users database.is users_are));
+}
+
+pub ran_broken : (old new : View) (before now : Seen) (options : Options) (users : List Name) (written written' : Output) (fault : AgentFault) → IsReady old before → users ≡ map user_name old.catalog.users
+    → PassBroken options old new before now users written written' fault → RanAgent old new before now written written' options (Err fault)
+ran_broken old new before now options users written written' fault ready users_are broken = broken_where options.receive old new before now options users written written' fault refl ready.idle users_are broken
+
+-- ---- the send pass behind it
+
+receives_with : (b : Bool) (publisher : Name) (es : List Recorded) (run : Run) (deliveries : List Delivery) → Receives b publisher es run → Receives b publisher es (with_deliveries run deliveries)
+receives_with true publisher es run deliveries receives = record { gathering = receives.gathering; gathered_is = receives.gathered_is; is = receives.is; are = receives.are; whose = receives.whose }
+receives_with false publisher es run deliveries receives = record { gathered_is = receives.gathered_is; none = receives.none }
+
+asked_with : (b : Bool) (publisher : Name) (es : List Recorded) (run : Run) (deliveries : List Delivery) → asked b publisher es run ≡ asked b publisher es (with_deliveries run deliveries)
+asked_with true publisher es run deliveries = refl
+asked_with false publisher es run deliveries = refl
+
+reaches_of : (new : View) (before now : Seen) (publisher : Name) (es : List Recorded) (options : Options) (asks : List Partner) (lines : List Line)
+    (received : Received new before now publisher es options asks lines) → Reaches new before now publisher es options received.run
+reaches_of new before now publisher es options asks lines received = record { database = received.database; went = received.went; mail = received.mail; steady = received.steady }
+
+-- lines of both passes
+lines_on : (publisher : Name) (es : List Recorded) (run : Run) (deliveries : List Delivery) (earlier lines : List Line) → earlier ≡ lines_of run.gathered ++ turns_lines publisher es (comes_of run.gathered) run.turns
+    → lines ≡ deliveries_lines publisher (after_receiving publisher es run) deliveries → earlier ++ lines ≡ run_lines publisher es (with_deliveries run deliveries)
+lines_on publisher es run deliveries earlier lines one two =
+    let turned = turns_lines publisher es (comes_of run.gathered) run.turns in
+    ap (λ (ls : List Line). ls ++ lines) one
+    ∙ append_assoc (lines_of run.gathered) turned lines
+    ∙ ap (λ (ls : List Line). lines_of run.gathered ++ (turned ++ ls)) two
+
+-- as far as these deliveries
+sending_to : (publisher : Name) (es : List Recorded) (options : Options) (run : Run) (deliveries : List Delivery) (asks done left : List Partner) → options.send ≡ true → Receives options.receive publisher es run
+    → asks ≡ asked options.receive publisher es run → asks ≡ done ++ left → IsSending publisher es options.length (with_deliveries run deliveries) done
+    → IsSendingUpTo publisher es options (with_deliveries run deliveries) left
+sending_to publisher es options run deliveries asks done left on receives asks_are parts sends = record {
+  asked_for = on;
+  received = receives_with options.receive publisher es run deliveries receives;
+  done = done;
+  parts = sym (asked_with options.receive publisher es run deliveries) ∙ sym asks_are ∙ parts;
+  sending = sends;
+}
+
+stops_there : (publisher : Name) (es : List Recorded) (options : Options) (run : Run) (deliveries : List Delivery) (left : List Partner) (db new : View) (seen now : Seen) (told : List Line) (fault : AgentFault)
+    → IsSendingUpTo publisher es options (with_deliveries run deliveries) left → IsUntoldThere db new seen now told fault
+    → StopsAt publisher es options (with_deliveries run deliveries) db new seen now [] told fault
+stops_there publisher es options run deliveries left db new seen now told fault up_to there = sending left up_to there.same there.still refl there.none there.why
+
+in_part_sent : (middle new : View) (before seen now : Seen) (publisher : Name) (es : List Recorded) (options : Options) (asks : List Partner) (earlier lines : List Line) (fault : AgentFault) → options.send ≡ true
+    → (received : Received middle before seen publisher es options asks earlier) → BrokeInDeliveries middle new seen now publisher (after_receiving publisher es received.run) options.length asks lines fault
+    → RanInPart new before now publisher es options (earlier ++ lines) fault
+in_part_sent middle new before seen now publisher es options asks earlier lines fault on received broke =
+    let run = received.run in
+    let ds = broke.took.deliveries in
+    let whole = with_deliveries run ds in
+    let added = taken_entries publisher es run in
+    let put = deliveries_items publisher (es ++ added) ds in
+    let came = came_behind middle broke.db before seen broke.seen publisher es options run options.length broke.done broke.earlier (reaches_of middle before seen publisher es options asks earlier received) broke.took in
+    let up_to = sending_to publisher es options run ds asks broke.done broke.left on received.receives received.asks_are broke.parts (record { are = broke.took.are; whom = broke.took.whom }) in
+    let lines_are = ap (λ (ls : List Line). earlier ++ ls) broke.lines_are ∙ sym (append_assoc earlier broke.earlier broke.told)
+    ∙ ap (λ (ls : List Line). ls ++ broke.told) (lines_on publisher es run ds earlier broke.earlier received.lines_are broke.took.lines_are) in
+    elim broke.stop [
+      | inl there ↦ record {
+        run = whole;
+        db = broke.db;
+        seen = broke.seen;
+        came = came;
+        items = [];
+        told = broke.told;
+        stops = stops_there publisher es options run ds broke.left broke.db new broke.seen now broke.told fault up_to there;
+        went = subst (λ (s : Seen). Went before s publisher es (trail_of publisher es whole ++ [])) (sym there.still)
+            (subst (λ (items : List Item). Went before broke.seen publisher es items) (sym (append-nil (trail_of publisher es whole))) came.went);
+        lines_are = lines_are;
+      }
+      | inr next ↦ record {
+        run = whole;
+        db = broke.db;
+        seen = broke.seen;
+        came = came;
+        items = next.broke.items;
+        told = broke.told;
+        stops = in_delivery next.partner next.others
+            (subst (λ (ps : List Partner). IsSendingUpTo publisher es options whole ps) next.next up_to) next.broke.no_lines
+            (subst (λ (rs : List Recorded). DeliveryStop publisher rs options.length next.partner broke.db new broke.seen now next.broke.items fault) (history_is es added put) next.broke.stop);
+        went = joined before broke.seen now publisher es (trail_of publisher es whole) next.broke.items came.went
+            (subst (λ (rs : List Recorded). Went broke.seen now publisher rs next.broke.items) (history_is es added put) next.broke.went);
+        lines_are = lines_are;
+      }
+    ]
+
+sent_part_where : (b : Bool) (old middle new : View) (before seen now : Seen) (options : Options) (users : List Name) (asks : List Partner) (count : ℕ) (written between written' : Output) (fault : AgentFault)
+    → options.send ≡ b → users ≡ map user_name old.catalog.users → HasMade old middle before seen options users asks count written between
+    → SentPartWhere b options.length middle new seen now asks between written' fault → RanAgent old new before now written written' options (Err fault)
+sent_part_where false old middle new before seen now options users asks count written between written' fault off users_are made broken = absurd broken
+sent_part_where true old middle new before seen now options users asks count written between written' fault on users_are made broken = record {
+  lines = made.lines ++ broken.lines;
+  ended = ended_behind new before seen now written between written' made.lines broken.lines fault made.told made.steady made.stays broken.ended;
+  count = tt;
+  did = λ told publisher es database.
+      let received = made.did told publisher es database (names_of_history old publisher es users database.is users_are) (names_once old publisher es users database.is users_are) in
+      in_part_sent middle new before seen now publisher es options asks made.lines broken.lines fault on received
+      (broken.did (subst (λ (b : Bool). IsTrue b) (sym made.stays.told) told) publisher (after_receiving publisher es received.run) received.database);
+}
+
+pub ran_stopped : (old middle new : View) (before seen now : Seen) (options : Options) (users : List Name) (progress : Progress) (written between written' : Output) (fault : AgentFault)
+    → users ≡ map user_name old.catalog.users → MadePass options old middle before seen users written between progress
+    → SendingBroken options middle new seen now progress.partners.items between written' fault → RanAgent old new before now written written' options (Err fault)
+ran_stopped old middle new before seen now options users progress written between written' fault users_are pass broken =
+    sent_part_where options.send old middle new before seen now options users progress.partners.items progress.alarms written between written' fault refl users_are
+    (made_where options.receive old middle before seen options users written between progress (are_users old users users_are) refl pass) broken
+
+-- ---- both passes to their ends
+
+whole_of : (middle new : View) (before seen now : Seen) (publisher : Name) (es : List Recorded) (options : Options) (asks to : List Partner) (earlier lines : List Line)
+    (received : Received middle before seen publisher es options asks earlier) (took : TookDeliveries new seen now publisher (after_receiving publisher es received.run) options.length to lines)
+    → Sends options options.send publisher es (with_deliveries received.run took.deliveries) → RanWhole new before now publisher es options (earlier ++ lines)
+whole_of middle new before seen now publisher es options asks to earlier lines received took sends =
+    let run = received.run in
+    record {
+      run = with_deliveries run took.deliveries;
+      is = record { receives = receives_with options.receive publisher es run took.deliveries received.receives; sends = sends };
+      came = came_behind middle new before seen now publisher es options run options.length to lines (reaches_of middle before seen publisher es options asks earlier received) took;
+      lines_are = lines_on publisher es run took.deliveries earlier lines received.lines_are took.lines_are;
+    }
+
+whole_sent : (middle new : View) (before seen now : Seen) (publisher : Name) (es : List Recorded) (options : Options) (asks : List Partner) (earlier lines : List Line) → options.send ≡ true
+    → (received : Received middle before seen publisher es options asks earlier) → TookDeliveries new seen now publisher (after_receiving publisher es received.run) options.length asks lines
+    → RanWhole new before now publisher es options (earlier ++ lines)
+whole_sent middle new before seen now publisher es options asks earlier lines on received took =
+    let whole = with_deliveries received.run took.deliveries in
+    whole_of middle new before seen now publisher es options asks asks earlier lines received took
+    (subst (λ (b : Bool). Sends options b publisher es whole) (sym on)
+    (record { are = took.are; whom = took.whom ∙ received.asks_are ∙ asked_with options.receive publisher es received.run took.deliveries }))
+
+whole_unsent : (middle : View) (before seen : Seen) (publisher : Name) (es : List Recorded) (options : Options) (asks : List Partner) (earlier : List Line) → options.send ≡ false
+    → Received middle before seen publisher es options asks earlier → RanWhole middle before seen publisher es options (earlier ++ [])
+whole_unsent middle before seen publisher es options asks earlier off received =
+    let whole = with_deliveries received.run [] in
+    whole_of middle middle before seen seen publisher es options asks [] earlier [] received
+    (took_none middle seen publisher (after_receiving publisher es received.run) options.length received.database)
+    (subst (λ (b : Bool). Sends options b publisher es whole) (sym off) refl)
+
+-- a whole run ends well
+ended_well : (new : View) (before seen now : Seen) (written between written' : Output) (first behind : List Line) (count : ℕ) → IsReady new now → Told (lines_text first) written between
+    → Told (lines_text behind) between written' → IsSteady before seen → IsSteady seen now → Stays before seen → Stays seen now → Ended new before now written written' (first ++ behind) (Ok count)
+ended_well new before seen now written between written' first behind count ready one two steady steady' stays stays' =
+    let told = told_on first behind written between written' one two in
+    record {
+      wrote = told.taken;
+      counts = (steady'.disk ∙ steady.disk, steady'.mail ∙ steady.mail, told.steady);
+      usable = ready.usable;
+      pending = ready.idle;
+      site = stays_on before seen now stays stays';
+      sink = told.stays;
+    }
+
+count_on : (first behind : List Line) (count : ℕ) → count ≡ alarms first → alarms behind ≡ 0 → count ≡ alarms (first ++ behind)
+count_on first behind count one none = omega (arith, one, none, alarms_on first behind)
+
+sent_where : (b : Bool) (old middle new : View) (before seen now : Seen) (options : Options) (users : List Name) (asks : List Partner) (count : ℕ) (written between written' : Output)
+    → options.send ≡ b → users ≡ map user_name old.catalog.users → IsReady new now → HasMade old middle before seen options users asks count written between
+    → SentWhere b options.length middle new seen now asks between written' → RanAgent old new before now written written' options (Ok count)
+sent_where true old middle new before seen now options users asks count written between written' on users_are ready made done = record {
+  lines = made.lines ++ done.lines;
+  ended = ended_well new before seen now written between written' made.lines done.lines count ready made.told done.told made.steady done.steady made.stays done.stays;
+  count = count_on made.lines done.lines count made.alarms_are done.no_alarm;
+  did = λ told publisher es database.
+      let received = made.did told publisher es database (names_of_history old publisher es users database.is users_are) (names_once old publisher es users database.is users_are) in
+      whole_sent middle new before seen now publisher es options asks made.lines done.lines on received
+      (done.did (subst (λ (b : Bool). IsTrue b) (sym made.stays.told) told) publisher (after_receiving publisher es received.run) received.database);
+}
+sent_where false old middle new before seen now options users asks count written between written' off users_are ready made none =
+    subst (λ (v : View). RanAgent old v before now written written' options (Ok count)) (sym none.same)
+    (subst (λ (s : Seen). RanAgent old middle before s written written' options (Ok count)) (sym none.still)
+    (subst (λ (o : Output). RanAgent old middle before seen written o options (Ok count)) (sym none.silent)
+    (record {
+      lines = made.lines ++ [];
+      ended = ended_well middle before seen seen written between between made.lines [] count
+          (subst (λ (v : View). IsReady v seen) none.same (subst (λ (s : Seen). IsReady new s) none.still ready))
+          made.told (still_told between) made.steady (still_steady seen) made.stays (still_site seen);
+      count = count_on made.lines [] count made.alarms_are refl;
+      did = λ told publisher es database.
+          let received = made.did told publisher es database (names_of_history old publisher es users database.is users_are) (names_once old publisher es users database.is users_are) in
+          whole_unsent middle before seen publisher es options asks made.lines off received;
+    })))
+
+pub ran_whole : (old middle new : View) (before seen now : Seen) (options : Options) (users : List Name) (progress : Progress) (written between written' : Output) (count : ℕ)
+    → users ≡ map user_name old.catalog.users → IsReady new now → MadePass options old middle before seen users written between progress
+    → SendingDone options middle new seen now progress.partners.items between written' → count ≡ progress.alarms → RanAgent old new before now written written' options (Ok count)
+ran_whole old middle new before seen now options users progress written between written' count users_are ready pass done count_is =
+    subst (λ (n : ℕ). RanAgent old new before now written written' options (Ok n)) (sym count_is)
+    (sent_where options.send old middle new before seen now options users progress.partners.items progress.alarms written between written' refl users_are ready
+    (made_where options.receive old middle before seen options users written between progress (are_users old users users_are) refl pass) done)

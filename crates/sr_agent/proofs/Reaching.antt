@@ -1,0 +1,113 @@
+-- How far a run came, from what its passes say.
+use Rattle.std.proofs.Common.{◌≡◌, Bool, true, false, ℕ, List, [], ◌∷◌, ◌++◌, map, refl, sym, ap, subst, ◌∙◌, append_assoc}
+use Rattle.std.specs.Prelude.{Option, Some, None}
+use Rattle.std.proofs.lemmas.List.{append-nil}
+use Rattle.sr_book.specs.Entries.{Name}
+use Rattle.sr_database.specs.Databases.{IsDatabase}
+use Rattle.sr_database.specs.Views.{View}
+use Rattle.sr_history.specs.Recorded.{Recorded}
+use Rattle.sr_receive.specs.Passes.{AreSteady as IsSteady}
+use Rattle.sr_receive.specs.Letters.{Came}
+use Rattle.sr_receive.specs.declared.bag.Share.{Share}
+use Rattle.sr_site.specs.Happenings.{Happening, mail_in}
+use Rattle.sr_site.specs.Seen.{Seen}
+use Rattle.sr_standing.specs.Items.{Item, commit, commits}
+use Rattle.sr_standing.specs.Trails.{Went}
+use Rattle.sr_standing.proofs.Going.{nothing}
+use Rattle.sr_standing.proofs.Joining.{joined}
+use Rattle.sr_agent.specs.Agents.{CameSoFar}
+use Rattle.sr_agent.specs.Deliveries.{Delivery, deliveries_items, with_puts}
+use Rattle.sr_agent.specs.Lines.{Line}
+use Rattle.sr_agent.specs.Runs.{Run, Receives, after_receiving, comes_of, lines_of, nothing_done, received_mail, taken_entries}
+use Rattle.sr_agent.specs.Steps.{HasGatheredAll, TookDeliveries, TookTurns}
+use Rattle.sr_agent.specs.Turns.{Gathering, Turn, gathering_lines, turns_entries, turns_lines, turns_mail}
+use Rattle.sr_agent.specs.declared.options.Options.{Options}
+use Rattle.sr_agent.specs.declared.partner.Partner.{Partner}
+use Rattle.sr_agent.proofs.Joints.{commits_of, settled_as, steady_on}
+use Rattle.sr_agent.proofs.Wholes.{history_is}
+
+-- what a receive pass comes to, up to where it came
+pub record Reaches (new : View) (before now : Seen) (publisher : Name) (es : List Recorded) (options : Options) (run : Run) : Type 0 where
+  pub database : IsDatabase new publisher (after_receiving publisher es run) now
+  pub went : Went before now publisher es (map commit (taken_entries publisher es run))
+  pub mail : mail_in now.happened ≡ received_mail publisher es options.purge run (mail_in before.happened)
+  pub steady : IsSteady before now
+
+-- a run with these deliveries, and with none
+abbrev pub with_deliveries : Run → List Delivery → Run
+with_deliveries run deliveries = record run { deliveries = deliveries }
+
+-- ---- the receive pass
+
+pub nothing_more : (view : View) (publisher : Name) (es : List Recorded) (seen : Seen) → IsDatabase view publisher es seen → IsDatabase view publisher (es ++ []) seen
+nothing_more view publisher es seen database = subst (λ (rs : List Recorded). IsDatabase view publisher rs seen) (sym (append-nil es)) database
+
+pub reaches_none : (view : View) (seen : Seen) (publisher : Name) (es : List Recorded) (options : Options) → IsDatabase view publisher es seen → Reaches view seen seen publisher es options nothing_done
+reaches_none view seen publisher es options database = record {
+  database = nothing_more view publisher es seen database;
+  went = nothing seen publisher es (settled_as view publisher es seen database);
+  mail = refl;
+  steady = record { disk = refl; mail = refl };
+}
+
+-- the mail was gathered
+abbrev pub gathered_run : Gathering → List Turn → Run
+gathered_run g turns = record { gathered = Some g; turns = turns; deliveries = [] }
+
+pub reaches_mail : (view : View) (before now : Seen) (publisher : Name) (es : List Recorded) (options : Options) (bag : List Share) (lines : List Line)
+    (gathered : HasGatheredAll view before now publisher es bag lines) → Reaches view before now publisher es options (gathered_run gathered.gathering [])
+reaches_mail view before now publisher es options bag lines gathered = record {
+  database = nothing_more view publisher es now gathered.database;
+  went = gathered.went;
+  mail = gathered.mail;
+  steady = gathered.steady;
+}
+
+pub went_behind_mail : (before seen now : Seen) (publisher : Name) (es : List Recorded) (items : List Item) → Went before seen publisher es [] → Went seen now publisher es items → Went before now publisher es items
+went_behind_mail before seen now publisher es items one two =
+    joined before seen now publisher es [] items one (subst (λ (rs : List Recorded). Went seen now publisher rs items) (sym (append-nil es)) two)
+
+-- and partners had their turns
+pub reaches_turns : (old new : View) (before seen now : Seen) (publisher : Name) (es : List Recorded) (options : Options) (bag : List Share) (first : List Line) (users : List Name) (asks : List Partner) (lines : List Line)
+    (gathered : HasGatheredAll old before seen publisher es bag first) (took : TookTurns new seen now publisher es gathered.gathering.comes options.purge users asks lines)
+    → Reaches new before now publisher es options (gathered_run gathered.gathering took.turns)
+reaches_turns old new before seen now publisher es options bag first users asks lines gathered took = record {
+  database = took.database;
+  went = went_behind_mail before seen now publisher es (map commit (turns_entries publisher es gathered.gathering.comes took.turns)) gathered.went took.went;
+  mail = took.mail ∙ ap (λ (l : List Happening). turns_mail publisher es gathered.gathering.comes options.purge took.turns l) gathered.mail;
+  steady = steady_on before seen now gathered.steady took.steady;
+}
+
+-- ---- and the send pass
+
+abbrev pub took_none : (view : View) (seen : Seen) (publisher : Name) (es : List Recorded) (limit : ℕ) → IsDatabase view publisher es seen → TookDeliveries view seen seen publisher es limit [] []
+took_none view seen publisher es limit database = record {
+  deliveries = [];
+  whom = refl;
+  are = tt;
+  database = nothing_more view publisher es seen database;
+  steady = record { disk = refl; mail = refl };
+  went = nothing seen publisher es (settled_as view publisher es seen database);
+  mail = refl;
+  lines_are = refl;
+}
+
+pub came_behind : (middle new : View) (before seen now : Seen) (publisher : Name) (es : List Recorded) (options : Options) (run : Run) (limit : ℕ) (to : List Partner) (lines : List Line)
+    → Reaches middle before seen publisher es options run → (took : TookDeliveries new seen now publisher (after_receiving publisher es run) limit to lines)
+    → CameSoFar new before now publisher es options (with_deliveries run took.deliveries)
+came_behind middle new before seen now publisher es options run limit to lines reaches took =
+    let added = taken_entries publisher es run in
+    let items = deliveries_items publisher (es ++ added) took.deliveries in
+    record {
+      database = subst (λ (rs : List Recorded). IsDatabase new publisher rs now) (history_is es added items) took.database;
+      went = joined before seen now publisher es (map commit added) items reaches.went
+          (subst (λ (rs : List Recorded). Went seen now publisher (es ++ rs) items) (sym (commits_of added)) took.went);
+      mail = took.mail ∙ ap (λ (l : List Happening). with_puts items l) reaches.mail;
+      steady = steady_on before seen now reaches.steady took.steady;
+    }
+
+-- nothing was sent
+pub came_alone : (view : View) (before now : Seen) (publisher : Name) (es : List Recorded) (options : Options) (run : Run) → Reaches view before now publisher es options run
+    → CameSoFar view before now publisher es options (with_deliveries run [])
+came_alone view before now publisher es options run reaches =
+    came_behind view view before now now publisher es options run 0 [] [] reaches (took_none view now publisher (after_receiving publisher es run) 0 reaches.database)

@@ -1,0 +1,142 @@
+-- What a database's value comes to, as its history has it, and what of it stays so.
+use Rattle.std.proofs.Common.{◌≡◌, ◌+◌, ◌≤◌, Bool, true, false, List, [], ◌∷◌, ◌++◌, bytes_eq, refl, sym, ap, subst, ◌∙◌, arith, if◌then◌else◌}
+use Rattle.std.specs.Prelude.{IsSome, max, nat_lt}
+use Rattle.sr_ast.specs.declared.stmt.Stmt.{Stmt}
+use Rattle.sr_book.specs.Books.{new_book, with_note, with_taken}
+use Rattle.sr_book.specs.Entries.{Name, Sight, booked, from_user, local, noted}
+use Rattle.sr_book.specs.Histories.{book_from}
+use Rattle.sr_book.specs.declared.book.Book.{Book}
+use Rattle.sr_book.specs.declared.note.Note.{Note}
+use Rattle.sr_book.specs.declared.note.Note.TheVariants.{Confirmed, Asked, Raised, Sent}
+use Rattle.sr_book.proofs.Folds.{book_from-append}
+use Rattle.sr_database.specs.Books.{book_in}
+use Rattle.sr_database.specs.Databases.{IsOf}
+use Rattle.sr_database.specs.Views.{View, committed}
+use Rattle.sr_history.specs.Fitting.{Knows}
+use Rattle.sr_history.specs.Folds.{State, after_done, after_dones, after_pass, books_of, fresh, next, sees, state_from, state_of, with_changes, with_statement}
+use Rattle.sr_history.specs.Recorded.{Done, plain, ran, conflict, clash}
+use Rattle.sr_history.specs.Recorded.{Recorded, own, taken, ddl, sync, pass, note}
+use Rattle.sr_history.proofs.Granted.{stays_known}
+use Rattle.sr_history.proofs.Joined.{state_from-append}
+use Rattle.sr_logform.specs.declared.change.Change.{Change}
+use Rattle.sr_logform.specs.declared.op.Op.{Op}
+use Rattle.sr_receive.specs.Acts.{Stand}
+use Rattle.sr_receive.specs.Passes.{first_of}
+use Rattle.sr_replay.proofs.ReplayNexts.{publisher_next}
+use Rattle.sr_rows.specs.Marks.{RowMap}
+use Rattle.sr_schema.specs.Catalogs.{Lists}
+use Rattle.sr_schema.specs.Members.{user_name}
+use Rattle.sr_schema.specs.Names.{named}
+use Rattle.sr_agent.specs.Steps.{IsUser, KeepsPartners}
+use Rattle.sr_agent.specs.Turns.{beginning}
+
+-- ---- the state and the book
+
+pub state_is : (view : View) (publisher : Name) (es : List Recorded) → IsOf view publisher es → committed view ≡ state_of publisher es
+state_is view publisher es is =
+    let by_catalog : Lists → State = λ c. record { catalog = c; rows = view.rows.marked } in
+    let by_rows : RowMap → State = λ r. record { catalog = (state_of publisher es).catalog; rows = r } in
+    ap by_catalog is.catalog ∙ ap by_rows is.marked
+
+-- where a turn begins
+pub beginning_is : (view : View) (publisher : Name) (es : List Recorded) (user : Name) → IsOf view publisher es → first_of view (book_in view.books user) [] ≡ beginning publisher es user
+beginning_is view publisher es user is =
+    let by_state : State → Stand = λ s. record { state = s; received = (book_in view.books user).log_received; lost = []; left = [] } in
+    let by_book : Book → Stand = λ b. record { state = state_of publisher es; received = b.log_received; lost = []; left = [] } in
+    ap by_state (state_is view publisher es is) ∙ ap by_book (is.books user)
+
+-- ---- the publisher
+
+statement_keeps : (s : State) (statement : Stmt) → (with_statement statement s).catalog.publisher ≡ s.catalog.publisher
+unfolding with_statement
+statement_keeps s statement = publisher_next s.catalog statement
+
+done_keeps : (d : Done) (s : State) → (after_done d s).catalog.publisher ≡ s.catalog.publisher
+done_keeps (plain op changes) s = refl
+done_keeps (ran statement changes) s = statement_keeps (with_changes changes s) statement
+done_keeps (conflict op inserts before after) s = refl
+done_keeps (clash op why) s = refl
+
+dones_keep : (dones : List Done) (s : State) → (after_dones dones s).catalog.publisher ≡ s.catalog.publisher
+dones_keep [] s = refl
+dones_keep (d ∷ dones) s = dones_keep dones (after_done d s) ∙ done_keeps d s
+
+pass_keeps : (only : Bool) (statement : Stmt) (changes : List Change) (s : State) → (after_pass only statement changes s).catalog.publisher ≡ s.catalog.publisher
+pass_keeps true statement changes s = refl
+pass_keeps false statement changes s = statement_keeps (with_changes changes s) statement
+
+next_keeps : (s : State) (r : Recorded) → (next s r).catalog.publisher ≡ s.catalog.publisher
+unfolding next
+next_keeps s (own changes) = refl
+next_keeps s (taken user at dones) = dones_keep dones s
+next_keeps s (ddl statement) = statement_keeps s statement
+next_keeps s (sync user tables) = refl
+next_keeps s (pass users only statement changes) = pass_keeps only statement changes s
+next_keeps s (note user what) = refl
+
+all_keep : (s : State) (rs : List Recorded) → (state_from s rs).catalog.publisher ≡ s.catalog.publisher
+all_keep s [] = refl
+all_keep s (r ∷ rs) = all_keep (next s r) rs ∙ next_keeps s r
+
+pub publisher_is : (view : View) (publisher : Name) (es : List Recorded) → IsOf view publisher es → view.catalog.publisher ≡ publisher
+publisher_is view publisher es is = ap (λ (c : Lists). c.publisher) is.catalog ∙ all_keep (fresh publisher) es
+
+-- ---- what passes ask of partners
+
+known_from : (s : State) (rs : List Recorded) (user : Name) → Knows s user → Knows (state_from s rs) user
+known_from s [] user knows = knows
+known_from s (r ∷ rs) user knows = known_from (next s r) rs user (stays_known s r user knows)
+
+asked_note : (b : Bool) (book changed : Book) → changed.rereceive_count ≡ book.rereceive_count → 1 ≤ book.rereceive_count → 1 ≤ (if b then changed else book).rereceive_count
+asked_note true book changed same one = omega (arith, same, one)
+asked_note false book changed same one = one
+
+raised_note : (book : Book) (n : Note) → 1 ≤ book.rereceive_count → 1 ≤ (with_note book n).rereceive_count
+raised_note book (Confirmed place) one = one
+raised_note book (Asked count place) one =
+    asked_note (nat_lt book.resend_count count) book (record book { log_sent = max book.confirm_sent place.0; resend_count = count }) refl one
+raised_note book Raised one = omega (arith, one)
+raised_note book (Sent end messages confirm) one = one
+
+raised_where : (b : Bool) (book changed : Book) → 1 ≤ book.rereceive_count → 1 ≤ changed.rereceive_count → 1 ≤ (if b then changed else book).rereceive_count
+raised_where true book changed one other = other
+raised_where false book changed one other = one
+
+raised_booked : (user : Name) (book : Book) (s : Sight (List Op)) → 1 ≤ book.rereceive_count → 1 ≤ (booked user book s).rereceive_count
+raised_booked user book local one = one
+raised_booked user book (from_user other place ops) one = raised_where (bytes_eq user other) book (with_taken book place) one one
+raised_booked user book (noted other n) one = raised_where (bytes_eq user other) book (with_note book n) one (raised_note book n one)
+
+raised_from : (user : Name) (book : Book) (rs : List Recorded) → 1 ≤ book.rereceive_count → 1 ≤ (book_from sees user book rs).rereceive_count
+raised_from user book [] one = one
+raised_from user book (r ∷ rs) one = raised_from user (booked user book (sees r)) rs (raised_booked user book (sees r) one)
+
+known_along : (old new : View) (publisher : Name) (es added : List Recorded) (user : Name) → IsOf old publisher es → IsOf new publisher (es ++ added) → IsUser old user → IsUser new user
+known_along old new publisher es added user was is user_is =
+    let there : Knows (state_of publisher es) user = subst (λ (c : Lists). IsSome (named user_name user c.users)) was.catalog user_is in
+    let later : Knows (state_of publisher (es ++ added)) user =
+    subst (λ (s : State). Knows s user) (sym (state_from-append (fresh publisher) es added)) (known_from (state_of publisher es) added user there) in
+    subst (λ (c : Lists). IsSome (named user_name user c.users)) (sym is.catalog) later
+
+raised_along : (old new : View) (publisher : Name) (es added : List Recorded) (user : Name) → IsOf old publisher es → IsOf new publisher (es ++ added) → 1 ≤ (book_in old.books user).rereceive_count
+    → 1 ≤ (book_in new.books user).rereceive_count
+raised_along old new publisher es added user was is one =
+    let there : 1 ≤ (books_of user es).rereceive_count = subst (λ (b : Book). 1 ≤ b.rereceive_count) (was.books user) one in
+    let later : 1 ≤ (books_of user (es ++ added)).rereceive_count =
+    subst (λ (b : Book). 1 ≤ b.rereceive_count) (sym (book_from-append sees user new_book es added)) (raised_from user (books_of user es) added there) in
+    subst (λ (b : Book). 1 ≤ b.rereceive_count) (sym (is.books user)) later
+
+pub keeps_partners : (old new : View) (publisher : Name) (es added : List Recorded) → IsOf old publisher es → IsOf new publisher (es ++ added) → KeepsPartners old new
+keeps_partners old new publisher es added was is = record {
+  users = λ user user_is. known_along old new publisher es added user was is user_is;
+  asks = λ p may. record {
+    user = known_along old new publisher es added p.user was is may.user;
+    raised = λ ask. raised_along old new publisher es added p.user was is (may.raised ask);
+  };
+}
+
+pub keeps_twice : (a b c : View) → KeepsPartners a b → KeepsPartners b c → KeepsPartners a c
+keeps_twice a b c one two = record { users = λ user is. two.users user (one.users user is); asks = λ p may. two.asks p (one.asks p may) }
+
+pub keeps_same : (a : View) → KeepsPartners a a
+keeps_same a = record { users = λ user is. is; asks = λ p may. may }

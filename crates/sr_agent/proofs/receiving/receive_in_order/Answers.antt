@@ -1,0 +1,46 @@
+use Rattle.std.proofs.Common.{List, ◌∷◌, subst}
+use Rattle.sr_book.specs.Entries.{Name}
+use Rattle.sr_agent.specs.Steps.{TurnsBroken}
+use Rattle.sr_agent.proofs.OrderSteps.{turning_more, turning_start}
+use Rattle.sr_agent.proofs.OrderStops.{turning_stop}
+use Rattle.sr_agent.proofs.Ordering.{IsTurning}
+use Rattle.sr_agent.proofs.Purged.{if_err}
+use Rattle.sr_agent.proofs.receiving.receive_in_order.Goals as goal
+
+pub partners-init : goal.partners-init
+partners-init g c =
+    turning_start c.args.db.now (g.S.Held.seen c.args.site.now) c.args.names.now c.args.bag.now c.args.purges c.args.progress.now (g.O.Sink.seen c.args.sink.now) c.requires.ready c.requires.users c.requires.holds
+
+pub returns-in_err-receive_from-clause-broken : goal.returns-in_err-receive_from-clause-broken
+returns-in_err-receive_from-clause-broken g c =
+    let old = c.args.db.now in
+    let db = c.partners.db in
+    let new = c.receive_from.new.db in
+    let before = g.S.Held.seen c.args.site.now in
+    let seen = g.S.Held.seen c.partners.site in
+    let now = g.S.Held.seen c.receive_from.new.site in
+    let written = g.O.Sink.seen c.args.sink.now in
+    let written' = g.O.Sink.seen c.partners.sink in
+    let written'' = g.O.Sink.seen c.receive_from.new.sink in
+    let fault = c.in_err-receive_from.field-0.0 in
+    let so : IsTurning old db before seen c.args.names.now (c.in-Some.user.now ∷ c.in-Some.rest.now) c.args.bag.now c.partners.bag c.args.purges c.args.progress.now c.partners.progress written written' =
+    subst (λ (l : List Name). IsTurning old db before seen c.args.names.now l c.args.bag.now c.partners.bag c.args.purges c.args.progress.now c.partners.progress written written') c.in-Some.ensures.cases.0 c.partners.invariant in
+    if_err (TurnsBroken old new before now c.args.names.now c.args.bag.now c.args.purges written written'') fault c.from_residual.result c.from_residual.ensures.1
+    (turning_stop old db new before seen now c.args.names.now c.in-Some.user.now c.in-Some.rest.now c.args.bag.now c.partners.bag c.args.purges c.args.progress.now c.partners.progress written written' written'' fault so
+    c.in_err-receive_from.ensures.broken)
+
+pub partners-preserved : goal.partners-preserved
+partners-preserved g c =
+    let old = c.args.db.now in
+    let db = c.partners.db in
+    let new = c.receive_from.new.db in
+    let before = g.S.Held.seen c.args.site.now in
+    let seen = g.S.Held.seen c.partners.site in
+    let now = g.S.Held.seen c.receive_from.new.site in
+    let written = g.O.Sink.seen c.args.sink.now in
+    let written' = g.O.Sink.seen c.partners.sink in
+    let written'' = g.O.Sink.seen c.receive_from.new.sink in
+    let so : IsTurning old db before seen c.args.names.now (c.in-Some.user.now ∷ c.in-Some.rest.now) c.args.bag.now c.partners.bag c.args.purges c.args.progress.now c.partners.progress written written' =
+    subst (λ (l : List Name). IsTurning old db before seen c.args.names.now l c.args.bag.now c.partners.bag c.args.purges c.args.progress.now c.partners.progress written written') c.in-Some.ensures.cases.0 c.partners.invariant in
+    turning_more old db new before seen now c.args.names.now c.in-Some.user.now c.in-Some.rest.now c.args.bag.now c.partners.bag c.receive_from.new.bag c.args.purges c.args.progress.now c.partners.progress c.receive_from.new.progress
+    written written' written'' so c.in_ok-receive_from.ensures.ready c.in_ok-receive_from.ensures.keeps c.in_ok-receive_from.ensures.holds c.in_ok-receive_from.ensures.done

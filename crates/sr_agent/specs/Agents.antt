@@ -1,0 +1,66 @@
+-- What a run of the agent promises.
+use Rattle.std.specs.Prelude.{◌≡◌, ℕ, List, ◌++◌, IsTrue, IfOk, Result, Ok, Err}
+use Rattle.sr_book.specs.Entries.{Name}
+use Rattle.sr_database.specs.Databases.{IsDatabase}
+use Rattle.sr_database.specs.Views.{View}
+use Rattle.sr_history.specs.Recorded.{Recorded}
+use Rattle.sr_receive.specs.Passes.{AreSteady as IsSteady}
+use Rattle.sr_site.specs.Happenings.{mail_in}
+use Rattle.sr_site.specs.Seen.{Seen}
+use Rattle.sr_site.specs.Streams.{Output}
+use Rattle.sr_standing.specs.Items.{Item}
+use Rattle.sr_standing.specs.Trails.{Went}
+use Rattle.sr_agent.specs.Deliveries.{with_puts}
+use Rattle.sr_agent.specs.Ends.{Ended}
+use Rattle.sr_agent.specs.Lines.{Line, alarms}
+use Rattle.sr_agent.specs.Runs.{Run, IsRun, after_run, received_mail, run_lines, sent_items, trail_of}
+use Rattle.sr_agent.specs.Stops.{StopsAt}
+use Rattle.sr_agent.specs.declared.fault.AgentFault.{AgentFault}
+use Rattle.sr_agent.specs.declared.options.Options.{Options}
+
+-- nothing happened to the mail but what the run did: one listing, and a fetch of each listed file; for each partner his second fetches and
+-- removals; and then the puts
+abbrev pub MailDone : Name → List Recorded → Options → Run → Seen → Seen → Type 0
+MailDone publisher es options run before now =
+    mail_in now.happened ≡ with_puts (sent_items publisher es run) (received_mail publisher es options.purge run (mail_in before.happened))
+
+-- the database of a history is that of the history with what the run added, and its site went through the run's trail
+pub record CameSoFar (new : View) (before now : Seen) (publisher : Name) (es : List Recorded) (options : Options) (run : Run) : Type 0 where
+  pub database : IsDatabase new publisher (after_run publisher es run) now
+  pub went : Went before now publisher es (trail_of publisher es run)
+  pub mail : MailDone publisher es options run before now
+  -- no device failed on the way: the first fault ends a run
+  pub steady : IsSteady before now
+
+-- ---- to the end, and not
+
+-- the whole run
+pub record RanWhole (new : View) (before now : Seen) (publisher : Name) (es : List Recorded) (options : Options) (lines : List Line) : Type 0 where
+  pub run : Run
+  pub is : IsRun publisher es options run
+  pub came : CameSoFar new before now publisher es options run
+  pub lines_are : lines ≡ run_lines publisher es run
+
+-- a fault ended it: the first steps of a run were done, and then what was begun of the next
+pub record RanInPart (new : View) (before now : Seen) (publisher : Name) (es : List Recorded) (options : Options) (lines : List Line) (fault : AgentFault) : Type 0 where
+  pub run : Run
+  pub db : View
+  pub seen : Seen
+  pub came : CameSoFar db before seen publisher es options run
+  pub items : List Item
+  pub told : List Line
+  pub stops : StopsAt publisher es options run db new seen now items told fault
+  pub went : Went before now publisher es (trail_of publisher es run ++ items)
+  pub lines_are : lines ≡ run_lines publisher es run ++ told
+
+abbrev pub Did : View → Seen → Seen → Name → List Recorded → Options → List Line → Result ℕ AgentFault → Type 0
+Did new before now publisher es options lines (Ok count) = RanWhole new before now publisher es options lines
+Did new before now publisher es options lines (Err fault) = RanInPart new before now publisher es options lines fault
+
+-- ---- the whole of it
+
+pub record RanAgent (old new : View) (before now : Seen) (written written' : Output) (options : Options) (result : Result ℕ AgentFault) : Type 0 where
+  pub lines : List Line
+  pub ended : Ended new before now written written' lines result
+  pub count : IfOk result (λ n. n ≡ alarms lines)
+  pub did : IsTrue before.told → (publisher : Name) (es : List Recorded) → IsDatabase old publisher es before → Did new before now publisher es options lines result

@@ -1,0 +1,10 @@
+pub mod Lines
+pub mod Faults
+pub mod Turns
+pub mod Deliveries
+pub mod Runs
+pub mod Ends
+pub mod Stops
+pub mod Steps
+pub mod Agents
+pub mod Shares

@@ -1,0 +1,20 @@
+//! One run of the agent on an opened database: the mail taken from each partner, and what is due sent to each.
+//!
+//! It stands on sr_receive and sr_send for what is done with one partner. Here is what joins them: which passes a run makes, the partners in
+//! order of grant, the lines, and the first fault, which ends it. The contract that matters most is that of `agent`: what was done is a whole run,
+//! or the first steps of one and a part of the next, and the lines tell just that.
+#![tactic(auto)]
+
+mod fault;
+mod options;
+mod partner;
+mod progress;
+mod receiving;
+mod reporting;
+mod running;
+mod sending;
+mod telling;
+
+pub use fault::AgentFault;
+pub use options::Options;
+pub use running::agent;
