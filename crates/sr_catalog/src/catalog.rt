@@ -1,12 +1,13 @@
 ghost use Rattle.std.specs.Prelude.{◌≡◌, None, IfOk, OnErr, OnOk};
 ghost use Rattle.std.specs.Option.{option_copied};
 ghost use Rattle.sr_change.specs.Changes.{IsChange, next, refusal};
+ghost use Rattle.sr_ddl.specs.Subscriptions.{is_started};
 ghost use Rattle.sr_replay.specs.Scripts.{IsMade};
 ghost use Rattle.sr_schema.specs.Catalogs.{nothing_but};
 ghost use Rattle.sr_schema.specs.Members.{publication_name, table_name, user_name};
 ghost use Rattle.sr_schema.specs.Names.{named};
 
-use sr_ast::Stmt;
+use sr_ast::{Stmt, SubscriptionRule};
 use sr_base::{Copied, Name, NoMemory};
 use sr_change::{apply, refusal};
 use sr_schema::{DdlFault, Publication, Schema, Subscription, Table, Trigger, User};
@@ -143,6 +144,13 @@ impl Catalog {
         ensures subscriptions { result.now ≡ self.now.subscriptions }
     {
         self.schema.subscriptions()
+    }
+
+    /// Whether there is the subscription of a rule, and is started. It takes constant time.
+    pub fn has_started(&self, alloc: Global, rule: &SubscriptionRule) -> Result<bool, NoMemory>
+        ensures started { IfOk result (λ started. started ≡ is_started self.now rule.now) }
+    {
+        self.schema.has_started(alloc, rule)
     }
 }
 

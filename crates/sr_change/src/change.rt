@@ -1,18 +1,17 @@
 //! What statements do to a schema, by their kinds.
 
-ghost use Rattle.std.specs.Prelude.{◌≡◌, ◌∷◌, ◌++◌, [], filter, map, not, IfOk, OnErr, OnOk};
+ghost use Rattle.std.specs.Prelude.{◌≡◌, ◌∷◌, ◌++◌, [], IfOk, OnErr, OnOk};
 ghost use Rattle.sr_change.specs.Changes.{causes, refusal, next};
 ghost use Rattle.sr_ddl.specs.Publications.{publication_of};
-ghost use Rattle.sr_ddl.specs.Subscriptions.{is_of, marked};
 
 use crate::dropping::drop_table_causes;
-use sr_ast::{CreatePublication, Stmt, SubscriptionRule};
+use sr_ast::{CreatePublication, Stmt};
 use sr_base::NoMemory;
 use sr_ddl::{
-    all_but, all_marked, create_publication_causes, create_subscription_causes,
-    create_table_causes, drop_publication_causes, drop_subscription_causes, grant_causes,
-    passthrough_causes, publication_of, start_causes, stop_causes, subscription_of,
-    synchronize_causes, table_of, user_of,
+    create_publication_causes, create_subscription_causes, create_table_causes,
+    drop_publication_causes, drop_subscription_causes, grant_causes, passthrough_causes,
+    publication_of, start_causes, stop_causes, subscription_of, synchronize_causes, table_of,
+    user_of,
 };
 use sr_schema::{Causes, DdlFault, Schema};
 use sr_trigger::{create_trigger_causes, drop_trigger_causes, trigger_of};
@@ -69,10 +68,13 @@ pub fn apply(schema: &mut Schema, alloc: Global, stmt: &Stmt) -> Result<(), NoMe
         Stmt::DropPublication(name) => schema.remove_publication(alloc, name),
         Stmt::GrantRemote(grant) => schema.add_user(alloc, user_of(alloc, false, grant)?),
         Stmt::GrantConsolidate(grant) => schema.add_user(alloc, user_of(alloc, true, grant)?),
-        Stmt::CreateSubscription(rule) => schema.add_subscription(subscription_of(alloc, rule)?),
-        Stmt::StartSubscription(rule) => mark(schema, alloc, true, rule),
-        Stmt::StopSubscription(rule) => mark(schema, alloc, false, rule),
-        Stmt::DropSubscription(rule) => remove_subscription(schema, alloc, rule),
+        Stmt::CreateSubscription(rule) => schema.add_subscription(
+            alloc,
+            subscription_of(alloc, rule)?,
+        ),
+        Stmt::StartSubscription(rule) => schema.mark_subscription(alloc, true, rule),
+        Stmt::StopSubscription(rule) => schema.mark_subscription(alloc, false, rule),
+        Stmt::DropSubscription(rule) => schema.remove_subscription(alloc, rule),
         Stmt::CreateTrigger(rule) => schema.add_trigger(alloc, trigger_of(alloc, rule)?),
         Stmt::DropTrigger(name) => schema.remove_trigger(alloc, name),
         Stmt::Synchronize(_) => Ok(()),
@@ -96,33 +98,4 @@ fn add_publication(
 {
     let publication = publication_of(schema, alloc, rule)?;
     schema.add_publication(alloc, publication)
-}
-
-/// START or STOP of a subscription.
-fn mark(
-    schema: &mut Schema,
-    alloc: Global,
-    started: bool,
-    rule: &SubscriptionRule,
-) -> Result<(), NoMemory>
-    ensures ok { OnOk result (schema.new ≡ record schema.old { subscriptions = map (marked started rule.now) schema.old.subscriptions }) }
-    ensures err { OnErr result (schema.new ≡ schema.old) }
-{
-    let after = all_marked(alloc, started, rule, schema.subscriptions())?;
-    schema.set_subscriptions(after);
-    Ok(())
-}
-
-/// DROP SUBSCRIPTION.
-fn remove_subscription(
-    schema: &mut Schema,
-    alloc: Global,
-    rule: &SubscriptionRule,
-) -> Result<(), NoMemory>
-    ensures ok { OnOk result (schema.new ≡ record schema.old { subscriptions = filter (λ s. not (is_of rule.now s)) schema.old.subscriptions }) }
-    ensures err { OnErr result (schema.new ≡ schema.old) }
-{
-    let after = all_but(alloc, rule, schema.subscriptions())?;
-    schema.set_subscriptions(after);
-    Ok(())
 }

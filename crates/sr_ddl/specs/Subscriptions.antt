@@ -1,8 +1,7 @@
 -- CREATE, START, STOP, SYNCHRONIZE and DROP SUBSCRIPTION.
-use Rattle.std.specs.Prelude.{ℕ, Bool, true, false, not, ◌&&◌, cond, nat_le, List, [], length, Option, Some, None, option_map, bytes_eq}
+pub use Rattle.sr_schema.specs.Rules.{is_same_value, is_of, marked}
+use Rattle.std.specs.Prelude.{ℕ, Bool, false, not, ◌&&◌, nat_le, List, [], length, Option, Some, None, option_map, bytes_eq}
 use Rattle.std.specs.List.{list_any}
-use Rattle.std.specs.Ordering.{eq_by_cmp}
-use Rattle.sr_base.specs.Order.{value_cmp}
 use Rattle.sr_base.specs.declared.value.Value.{Value}
 use Rattle.sr_ast.specs.Classes.{value_class, kind_class, is_comparable}
 use Rattle.sr_ast.specs.Exprs.{term_of}
@@ -24,17 +23,6 @@ use Rattle.sr_schema.specs.declared.table.Column.{Column}
 use Rattle.sr_schema.specs.declared.publication.Publication.{Publication}
 use Rattle.sr_schema.specs.declared.publication.Article.{Article}
 use Rattle.sr_schema.specs.declared.subscription.Subscription.{Subscription}
-
--- equal values; a subscription with the value NULL and one without a value are two
-abbrev pub is_same_value : Option Value → Option Value → Bool
-is_same_value None None = true
-is_same_value None (Some w) = false
-is_same_value (Some v) None = false
-is_same_value (Some v) (Some w) = eq_by_cmp value_cmp v w
-
--- whether a subscription is the one of a statement
-abbrev pub is_of : SubscriptionRule → Subscription → Bool
-is_of r s = bytes_eq r.publication s.publication && (bytes_eq r.user s.user && is_same_value r.value s.value)
 
 abbrev pub is_there : Lists → SubscriptionRule → Bool
 is_there c r = list_any (is_of r) c.subscriptions
@@ -144,7 +132,3 @@ synchronize_causes c r = record no_cause {
 -- what speaks against DROP SUBSCRIPTION: the publication, the user or the subscription is not there
 unfoldable pub drop_subscription_causes : Lists → SubscriptionRule → Causes
 drop_subscription_causes c r = record no_cause { missing = missing_unless (is_there c r) c r }
-
--- a subscription after START or STOP of one
-abbrev pub marked : Bool → SubscriptionRule → Subscription → Subscription
-marked started r s = cond (is_of r s) (record s { started = started }) s

@@ -12,7 +12,7 @@ mod tables;
 pub use grants::{grant_causes, passthrough_causes, user_of};
 pub use publications::{create_publication_causes, drop_publication_causes, publication_of};
 pub use subscriptions::{
-    all_but, all_marked, create_subscription_causes, drop_subscription_causes, start_causes,
-    stop_causes, subscription_of, synchronize_causes,
+    create_subscription_causes, drop_subscription_causes, start_causes, stop_causes,
+    subscription_of, synchronize_causes,
 };
 pub use tables::{create_table_causes, table_of};

@@ -1,17 +1,15 @@
-//! What speaks against the statements on subscriptions, and what they leave.
+//! What speaks against the statements on subscriptions, and the subscription that is made.
 
-ghost use Rattle.std.specs.Prelude.{◌≡◌, ◌&&◌, not, filter, map, nat_le, length, IfOk};
+ghost use Rattle.std.specs.Prelude.{◌≡◌, ◌&&◌, nat_le, length, IfOk};
 ghost use Rattle.std.specs.Option.{option_copied};
 ghost use Rattle.std.specs.List.{list_any};
 ghost use Rattle.sr_ast.specs.Exprs.{term_of};
 ghost use Rattle.sr_schema.specs.Firsts.{where_true};
 ghost use Rattle.sr_schema.specs.Names.{named};
 ghost use Rattle.sr_schema.specs.Members.{table_name};
+ghost use Rattle.sr_ddl.specs.Elsewhere.{is_other_with, is_started_there};
 ghost use Rattle.sr_ddl.specs.Subscriptions.{
-  is_same_value,
-  is_of,
   is_there,
-  is_started,
   has_both,
   missing_either,
   missing_unless,
@@ -30,58 +28,16 @@ ghost use Rattle.sr_ddl.specs.Subscriptions.{
   synchronize_causes,
   drop_subscription_causes,
   subscription_of,
-  marked,
-  is_another_with,
 };
 
 use crate::grants::is_remote;
 use sr_ast::{Class, Expr, SubscriptionRule, is_comparable, kind_class, value_class};
-use sr_base::{Copied, Name, NoMemory, Seq, Value};
+use sr_base::{Copied, Name, NoMemory, Value};
 use sr_schema::{
     Article, Causes, Column, Publication, Schema, Subscription, Table, first, is_full, item_named,
     limit_where, owned, paired, where_true,
 };
 use std::alloc::Global;
-
-fn is_same_value(one: &Option<Value>, other: &Option<Value>) -> bool
-    ensures { result ≡ is_same_value one.now other.now }
-{
-    match one {
-        None => match other {
-            None => true,
-            Some(_) => false,
-        },
-        Some(one) => match other {
-            None => false,
-            Some(other) => one == other,
-        },
-    }
-}
-
-/// Whether a subscription is the one of a statement.
-pub fn is_of(rule: &SubscriptionRule, subscription: &Subscription) -> bool
-    ensures { result ≡ is_of rule.now subscription.now }
-{
-    rule.publication.bytes() == subscription.publication.bytes()
-        && (rule.user.bytes() == subscription.user.bytes()
-            && is_same_value(&rule.value, &subscription.value))
-}
-
-fn is_there(schema: &Schema, rule: &SubscriptionRule) -> bool
-    ensures { result ≡ is_there schema.now rule.now }
-{
-    schema
-        .subscriptions()
-        .iter()
-        .any(|subscription| is_of(rule, subscription))
-}
-
-fn is_started(schema: &Schema, rule: &SubscriptionRule) -> bool
-    ensures { result ≡ is_started schema.now rule.now }
-{
-    schema.subscriptions().iter().any(|subscription| is_of(rule, subscription)
-        && subscription.started)
-}
 
 /// Its publication or its user, where it is not there.
 fn missing_either<'a>(schema: &Schema, rule: &'a SubscriptionRule) -> Option<&'a Name>
@@ -137,7 +93,7 @@ fn exists(schema: &Schema, alloc: Global, rule: &SubscriptionRule) -> Result<Opt
     ensures { IfOk result (λ found. found ≡ where_true (has_both schema.now rule.now && is_there schema.now rule.now) rule.now.publication) }
 {
     let both = has_both(schema, rule);
-    let there = is_there(schema, rule);
+    let there = schema.has_subscription(alloc, rule)?;
     owned(alloc, where_true(both && there, &rule.publication))
 }
 
@@ -244,59 +200,67 @@ fn has_article(publication: Option<&Publication>, table: &Name) -> bool
         .any(|article| table.bytes() == article.table.bytes())
 }
 
-/// A started subscription of this user to another publication that has the table.
-fn is_elsewhere(
-    schema: &Schema,
-    rule: &SubscriptionRule,
-    table: &Name,
-    subscription: &Subscription,
-) -> bool
-    ensures { result ≡ is_elsewhere schema.now rule.now table.now subscription.now }
+/// Whether a publication is another one that has the table.
+fn is_other_with(rule: &SubscriptionRule, table: &Name, publication: &Publication) -> bool
+    ensures { result ≡ is_other_with rule.now table.now publication.now }
 {
-    subscription.started
-        && (rule.user.bytes() == subscription.user.bytes()
-            && is_another_with(schema, rule, table, subscription))
+    rule.publication.bytes() != publication.name.bytes() && has_article(Some(publication), table)
 }
 
-/// Whether a subscription is to another publication, which has the table.
-fn is_another_with(
+/// Whether a publication is another one that has the table, and the user has a started subscription of it.
+fn is_started_there(
     schema: &Schema,
+    alloc: Global,
     rule: &SubscriptionRule,
     table: &Name,
-    subscription: &Subscription,
-) -> bool
-    ensures { result ≡ is_another_with schema.now rule.now table.now subscription.now }
+    publication: &Publication,
+) -> Result<bool, NoMemory>
+    ensures { IfOk result (λ started. started ≡ is_started_there schema.now.subscriptions rule.now table.now publication.now) }
 {
-    rule.publication.bytes() != subscription.publication.bytes()
-        && has_article(schema.publication(&subscription.publication), table)
+    if !is_other_with(rule, table, publication) {
+        return Ok(false);
+    }
+    let started = schema.has_starts(alloc, &rule.user, &publication.name)?;
+    Ok(started)
 }
 
-fn is_subscribed_elsewhere(schema: &Schema, rule: &SubscriptionRule, table: &Name) -> bool
-    ensures { result ≡ list_any (is_elsewhere schema.now rule.now table.now) schema.now.subscriptions }
+/// Whether the user has a started subscription of another publication that has the table. It looks at the publications, and not at
+/// the subscriptions.
+fn is_subscribed_elsewhere(
+    schema: &Schema,
+    alloc: Global,
+    rule: &SubscriptionRule,
+    table: &Name,
+) -> Result<bool, NoMemory>
+    ensures { IfOk result (λ elsewhere. elsewhere ≡ list_any (is_elsewhere schema.now rule.now table.now) schema.now.subscriptions) }
 {
-    let mut rest = schema.subscriptions();
-    'subscriptions: while let Some((subscription, after)) = rest.split_first() {
-        if is_elsewhere(schema, rule, table, subscription) {
-            return true;
+    let mut rest = schema.distinct_publications();
+    'publications: while let Some((publication, after)) = rest.split_first() {
+        if is_started_there(schema, alloc, rule, table, publication)? {
+            return Ok(true);
         }
         rest = after;
     }
-    false
+    Ok(false)
 }
 
 /// The first table of the publication that such a subscription has already.
 #[tactic(auto, unfolding(crate::specs::Subscriptions::twice_subscribed))]
-fn twice_subscribed<'a>(schema: &'a Schema, rule: &SubscriptionRule) -> Option<&'a Name>
-    ensures { option_copied result ≡ twice_subscribed schema.now rule.now }
+fn twice_subscribed<'a>(
+    schema: &'a Schema,
+    alloc: Global,
+    rule: &SubscriptionRule,
+) -> Result<Option<&'a Name>, NoMemory>
+    ensures { IfOk result (λ table. option_copied table ≡ twice_subscribed schema.now rule.now) }
 {
     let mut rest = articles_of(schema.publication(&rule.publication));
     'articles: while let Some((article, after)) = rest.split_first() {
-        if is_subscribed_elsewhere(schema, rule, &article.table) {
-            return Some(&article.table);
+        if is_subscribed_elsewhere(schema, alloc, rule, &article.table)? {
+            return Ok(Some(&article.table));
         }
         rest = after;
     }
-    None
+    Ok(None)
 }
 
 #[tactic(auto, unfolding(crate::specs::Subscriptions::start_causes))]
@@ -307,9 +271,10 @@ pub fn start_causes(
 ) -> Result<Causes, NoMemory>
     ensures { IfOk result (λ causes. causes ≡ start_causes schema.now rule.now) }
 {
-    let found = is_there(schema, rule);
+    let found = schema.has_subscription(alloc, rule)?;
     let missing = owned(alloc, missing_unless(found, schema, rule))?;
-    let twice = paired(alloc, &rule.user, twice_subscribed(schema, rule))?;
+    let table = twice_subscribed(schema, alloc, rule)?;
+    let twice = paired(alloc, &rule.user, table)?;
     Ok(Causes {
         missing,
         twice,
@@ -325,7 +290,7 @@ pub fn stop_causes(
 ) -> Result<Causes, NoMemory>
     ensures { IfOk result (λ causes. causes ≡ stop_causes schema.now rule.now) }
 {
-    let found = is_started(schema, rule);
+    let found = schema.has_started(alloc, rule)?;
     let missing = owned(alloc, missing_unless(found, schema, rule))?;
     Ok(Causes::only_missing(missing))
 }
@@ -338,7 +303,7 @@ pub fn synchronize_causes(
 ) -> Result<Causes, NoMemory>
     ensures { IfOk result (λ causes. causes ≡ synchronize_causes schema.now rule.now) }
 {
-    let found = is_started(schema, rule);
+    let found = schema.has_started(alloc, rule)?;
     let missing = missing_unless(found, schema, rule);
     let remote = is_remote(schema.user(&rule.user));
     let missing = owned(alloc, first(missing, where_true(!remote, &rule.user)))?;
@@ -353,8 +318,8 @@ pub fn drop_subscription_causes(
 ) -> Result<Causes, NoMemory>
     ensures { IfOk result (λ causes. causes ≡ drop_subscription_causes schema.now rule.now) }
 {
-    let missing = missing_unless(is_there(schema, rule), schema, rule);
-    let missing = owned(alloc, missing)?;
+    let there = schema.has_subscription(alloc, rule)?;
+    let missing = owned(alloc, missing_unless(there, schema, rule))?;
     Ok(Causes::only_missing(missing))
 }
 
@@ -368,56 +333,4 @@ pub fn subscription_of(alloc: Global, rule: &SubscriptionRule) -> Result<Subscri
         user: rule.user.copy(alloc)?,
         started: false,
     })
-}
-
-/// The subscriptions after START or STOP of one.
-pub fn all_marked(
-    alloc: Global,
-    started: bool,
-    rule: &SubscriptionRule,
-    subscriptions: &[Subscription],
-) -> Result<Seq<Subscription>, NoMemory>
-    ensures { IfOk result (λ after. after ≡ map (marked started rule.now) subscriptions.now) }
-{
-    let mut copies = Vec::new(alloc);
-    let mut rest = subscriptions;
-    'subscriptions: while let Some((subscription, after)) = rest.split_first() {
-        copies.push(marked(alloc, started, rule, subscription)?)?;
-        rest = after;
-    }
-    Ok(Seq::from_vec(copies))
-}
-
-fn marked(
-    alloc: Global,
-    started: bool,
-    rule: &SubscriptionRule,
-    subscription: &Subscription,
-) -> Result<Subscription, NoMemory>
-    ensures { IfOk result (λ after. after ≡ marked started rule.now subscription.now) }
-{
-    let mut copy = subscription.copy(alloc)?;
-    if is_of(rule, subscription) {
-        copy.started = started;
-    }
-    Ok(copy)
-}
-
-/// The subscriptions without one.
-pub fn all_but(
-    alloc: Global,
-    rule: &SubscriptionRule,
-    subscriptions: &[Subscription],
-) -> Result<Seq<Subscription>, NoMemory>
-    ensures { IfOk result (λ after. after ≡ filter (λ s. not (is_of rule.now s)) subscriptions.now) }
-{
-    let mut copies = Vec::new(alloc);
-    let mut rest = subscriptions;
-    'subscriptions: while let Some((subscription, after)) = rest.split_first() {
-        if !is_of(rule, subscription) {
-            copies.push(subscription.copy(alloc)?)?;
-        }
-        rest = after;
-    }
-    Ok(Seq::from_vec(copies))
 }

@@ -1,1 +1,4 @@
+pub mod Counted
 pub mod Places
+pub mod Single
+pub mod Spelled

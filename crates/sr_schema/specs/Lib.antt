@@ -2,5 +2,8 @@ pub mod Catalogs
 pub mod Causes
 pub mod Expressions
 pub mod Firsts
+pub mod Keys
 pub mod Members
 pub mod Names
+pub mod Rules
+pub mod Singles

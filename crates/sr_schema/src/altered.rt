@@ -1,8 +1,9 @@
 //! A schema with one list changed. Where memory lacks it stays as it was.
 
-ghost use Rattle.std.specs.Prelude.{◌≡◌, ◌∷◌, ◌++◌, [], OnOk, OnErr};
+ghost use Rattle.std.specs.Prelude.{◌≡◌, ◌∷◌, ◌++◌, [], filter, map, not, OnOk, OnErr};
 ghost use Rattle.sr_schema.specs.Members.{table_name, publication_name, trigger_name};
 ghost use Rattle.sr_schema.specs.Names.{without};
+ghost use Rattle.sr_schema.specs.Rules.{is_of, marked};
 
 use crate::publication::Publication;
 use crate::schema::Schema;
@@ -10,8 +11,9 @@ use crate::subscription::Subscription;
 use crate::table::Table;
 use crate::trigger::Trigger;
 use crate::user::User;
-use sr_base::{Name, NoMemory, Seq};
-use std::alloc::{AllocError, Global};
+use sr_ast::SubscriptionRule;
+use sr_base::{Name, NoMemory};
+use std::alloc::Global;
 
 impl Schema {
     /// One user more.
@@ -51,14 +53,15 @@ impl Schema {
     }
 
     /// One subscription more.
-    pub fn add_subscription(&mut self, subscription: Subscription) -> Result<(), NoMemory>
+    pub fn add_subscription(
+        &mut self,
+        alloc: Global,
+        subscription: Subscription,
+    ) -> Result<(), NoMemory>
         ensures ok { OnOk result (self.new ≡ record self.old { subscriptions = self.old.subscriptions ++ subscription ∷ [] }) }
         ensures err { OnErr result (self.new ≡ self.old) }
     {
-        match self.subscriptions.push(subscription) {
-            Ok(()) => Ok(()),
-            Err(_) => Err(AllocError),
-        }
+        self.subscriptions.push(alloc, subscription)
     }
 
     /// One table less.
@@ -85,10 +88,28 @@ impl Schema {
         self.triggers.remove(alloc, name)
     }
 
-    /// These subscriptions in place of its own.
-    pub fn set_subscriptions(&mut self, subscriptions: Seq<Subscription>)
-        ensures subscriptions { self.new ≡ record self.old { subscriptions = subscriptions } }
+    /// START or STOP of the subscription of a rule. It takes constant time.
+    pub fn mark_subscription(
+        &mut self,
+        alloc: Global,
+        started: bool,
+        rule: &SubscriptionRule,
+    ) -> Result<(), NoMemory>
+        ensures ok { OnOk result (self.new ≡ record self.old { subscriptions = map (marked started rule.now) self.old.subscriptions }) }
+        ensures err { OnErr result (self.new ≡ self.old) }
     {
-        self.subscriptions = subscriptions;
+        self.subscriptions.mark(alloc, started, rule)
+    }
+
+    /// The subscription of a rule less.
+    pub fn remove_subscription(
+        &mut self,
+        alloc: Global,
+        rule: &SubscriptionRule,
+    ) -> Result<(), NoMemory>
+        ensures ok { OnOk result (self.new ≡ record self.old { subscriptions = filter (λ s. not (is_of rule.now s)) self.old.subscriptions }) }
+        ensures err { OnErr result (self.new ≡ self.old) }
+    {
+        self.subscriptions.remove(alloc, rule)
     }
 }

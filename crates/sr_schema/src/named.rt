@@ -1,6 +1,7 @@
-ghost use Rattle.std.specs.Prelude.{◌≡◌, ◌∷◌, ◌++◌, [], List, ℕ, Option, slice_get, IfOk, OnErr, OnOk};
+ghost use Rattle.std.specs.Prelude.{◌≡◌, ◌∷◌, ◌++◌, [], List, ℕ, Option, bytes_eq, slice_get, IfOk, OnErr, OnOk};
 ghost use Rattle.std.specs.Option.{option_copied};
 ghost use Rattle.sr_schema.specs.Names.{named, place_of, taken, without};
+ghost use Rattle.sr_schema.specs.Singles.{IsSingle};
 
 use indexmap::IndexSet;
 use sr_ast::{ColumnRule, Image};
@@ -81,6 +82,15 @@ impl<T: HasName> Named<T> {
     pub fn as_slice(&self) -> &[T]
         ensures items { result.now ≡ self.now }
     {
+        self.items.as_slice()
+    }
+
+    /// The things in order of creation, no two of one name.
+    pub fn distinct(&self) -> &[T]
+        ensures items { result.now ≡ self.now }
+        ensures single { (name : List ℕ) → IsSingle (λ t. bytes_eq name (T.name_of t)) self.now }
+    {
+        let _count = self.names.len();
         self.items.as_slice()
     }
 

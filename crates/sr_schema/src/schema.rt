@@ -1,16 +1,21 @@
-ghost use Rattle.std.specs.Prelude.{◌≡◌, IfOk};
-ghost use Rattle.std.specs.Option.{option_copied};
+ghost use Rattle.std.specs.Prelude.{◌≡◌, ◌&&◌, ℕ, false, List, bytes_eq, is_some, IfOk};
+ghost use Rattle.std.specs.List.{list_any};
+ghost use Rattle.std.specs.Option.{option_copied, option_map_or};
 ghost use Rattle.sr_schema.specs.Catalogs.{nothing_but};
 ghost use Rattle.sr_schema.specs.Members.{table_name, user_name, publication_name, trigger_name};
 ghost use Rattle.sr_schema.specs.Names.{named, taken};
+ghost use Rattle.sr_schema.specs.Rules.{is_of};
+ghost use Rattle.sr_schema.specs.Singles.{IsSingle};
 
 use crate::named::Named;
 use crate::publication::Publication;
 use crate::subscription::Subscription;
+use crate::subscriptions::Subscriptions;
 use crate::table::Table;
 use crate::trigger::Trigger;
 use crate::user::User;
-use sr_base::{Copied, Name, NoMemory, Seq};
+use sr_ast::SubscriptionRule;
+use sr_base::{Copied, Name, NoMemory};
 use std::alloc::Global;
 use std::marker::Model;
 
@@ -23,7 +28,7 @@ pub struct Schema {
     pub(crate) tables: Named<Table>,
     pub(crate) publications: Named<Publication>,
     pub(crate) triggers: Named<Trigger>,
-    pub(crate) subscriptions: Seq<Subscription>,
+    pub(crate) subscriptions: Subscriptions,
 }
 
 impl Model for Schema {
@@ -57,7 +62,7 @@ impl Schema {
             tables: Named::new(alloc),
             publications: Named::new(alloc),
             triggers: Named::new(alloc),
-            subscriptions: Seq::empty(alloc),
+            subscriptions: Subscriptions::new(alloc),
         }
     }
 
@@ -101,6 +106,14 @@ impl Schema {
         ensures publications { result.now ≡ self.now.publications }
     {
         self.publications.as_slice()
+    }
+
+    /// The publications in order of creation, no two of one name.
+    pub fn distinct_publications(&self) -> &[Publication]
+        ensures publications { result.now ≡ self.now.publications }
+        ensures single { (name : List ℕ) → IsSingle (λ p. bytes_eq name (publication_name p)) self.now.publications }
+    {
+        self.publications.distinct()
     }
 
     /// The triggers in order of creation.
@@ -150,6 +163,52 @@ impl Schema {
         ensures taken { result ≡ taken trigger_name name.now self.now.triggers }
     {
         self.triggers.holds(name)
+    }
+
+    /// Whether there is the subscription of a rule. It takes constant time.
+    pub fn has_subscription(&self, alloc: Global, rule: &SubscriptionRule) -> Result<bool, NoMemory>
+        ensures there { IfOk result (λ there. there ≡ list_any (is_of rule.now) self.now.subscriptions) }
+    {
+        let found = self.subscriptions.get(alloc, rule)?;
+        Ok(is_there(found))
+    }
+
+    /// Whether there is the subscription of a rule, and is started. It takes constant time.
+    pub fn has_started(&self, alloc: Global, rule: &SubscriptionRule) -> Result<bool, NoMemory>
+        ensures started { IfOk result (λ started. started ≡ list_any (λ s. is_of rule.now s && s.started) self.now.subscriptions) }
+    {
+        let found = self.subscriptions.get(alloc, rule)?;
+        Ok(is_started(found))
+    }
+
+    /// Whether a user has a started subscription of a publication. It takes constant time.
+    pub fn has_starts(
+        &self,
+        alloc: Global,
+        user: &Name,
+        publication: &Name,
+    ) -> Result<bool, NoMemory>
+        ensures starts { IfOk result (λ starts. starts ≡ list_any (λ s. s.started && (bytes_eq user.now s.user && bytes_eq publication.now s.publication)) self.now.subscriptions) }
+    {
+        self.subscriptions.has_starts(alloc, user, publication)
+    }
+}
+
+fn is_there(subscription: Option<&Subscription>) -> bool
+    ensures { result ≡ is_some (option_copied subscription.entry) }
+{
+    match subscription {
+        None => false,
+        Some(_) => true,
+    }
+}
+
+fn is_started(subscription: Option<&Subscription>) -> bool
+    ensures { result ≡ option_map_or (λ s. s.started) (option_copied subscription.entry) false }
+{
+    match subscription {
+        None => false,
+        Some(subscription) => subscription.started,
     }
 }
 

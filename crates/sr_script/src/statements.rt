@@ -1,16 +1,14 @@
 //! What one statement comes to on a catalog and rows, or what refuses it.
 
-ghost use Rattle.std.specs.Prelude.{◌≡◌, ◌&&◌, MatchResult};
-ghost use Rattle.sr_ddl.specs.Subscriptions.{is_of, is_same_value};
-ghost use Rattle.std.specs.List.{list_any};
+ghost use Rattle.std.specs.Prelude.{◌≡◌, IfOk, MatchResult};
 ghost use Rattle.sr_exec.specs.Conditions.{RowsFit};
 ghost use Rattle.sr_script.specs.Answers.{IsStop};
 ghost use Rattle.sr_script.specs.Meaning.{accepted, changes_by, rows_by, is_done_already};
 
 use crate::refusal::Stop;
-use sr_ast::{Dml, Select, Stmt, SubscriptionRule};
-use sr_base::{Row, Value};
-use sr_catalog::{Catalog, Subscription};
+use sr_ast::{Dml, Select, Stmt};
+use sr_base::{NoMemory, Row};
+use sr_catalog::Catalog;
 use sr_exec::{Changes, exec};
 use sr_query::select;
 use sr_rows::Rows;
@@ -54,48 +52,12 @@ pub fn answer(
     }
 }
 
-/// Whether a statement is a START of a subscription that is started. It looks at each subscription.
-pub fn is_done_already(catalog: &Catalog, stmt: &Stmt) -> bool
-    ensures { result ≡ is_done_already catalog.now stmt.now }
+/// Whether a statement is a START of a subscription that is started. It takes constant time.
+pub fn is_done_already(alloc: Global, catalog: &Catalog, stmt: &Stmt) -> Result<bool, NoMemory>
+    ensures { IfOk result (λ done. done ≡ is_done_already catalog.now stmt.now) }
 {
     match stmt {
-        Stmt::StartSubscription(rule) => is_started(catalog.subscriptions(), rule),
-        _ => false,
-    }
-}
-
-fn is_started(subscriptions: &[Subscription], rule: &SubscriptionRule) -> bool
-    ensures { result ≡ list_any (λ s. is_of rule.now s && s.started) subscriptions.now }
-{
-    let mut left = subscriptions;
-    'subscriptions: while let Some((subscription, rest)) = left.split_first() {
-        if is_of(rule, subscription) && subscription.started {
-            return true;
-        }
-        left = rest;
-    }
-    false
-}
-
-fn is_of(rule: &SubscriptionRule, subscription: &Subscription) -> bool
-    ensures { result ≡ is_of rule.now subscription.now }
-{
-    rule.publication.bytes() == subscription.publication.bytes()
-        && (rule.user.bytes() == subscription.user.bytes()
-            && is_same_value(&rule.value, &subscription.value))
-}
-
-fn is_same_value(one: &Option<Value>, other: &Option<Value>) -> bool
-    ensures { result ≡ is_same_value one.now other.now }
-{
-    match one {
-        None => match other {
-            None => true,
-            Some(_) => false,
-        },
-        Some(one) => match other {
-            None => false,
-            Some(other) => one == other,
-        },
+        Stmt::StartSubscription(rule) => catalog.has_started(alloc, rule),
+        _ => Ok(false),
     }
 }

@@ -32,7 +32,8 @@ pub(crate) fn change<S: Site>(
     ensures took { (region : Option Region) → Took (changed stmt.now (work_of db.old region)) db.old db.new (S.seen site.old) (S.seen site.new) lines.old.items lines.new.items region result }
 {
     accept(alloc, db.catalog(), stmt)?;
-    if is_done_already(db.catalog(), stmt) {
+    let done = is_done_already(alloc, db.catalog(), stmt)?;
+    if done {
         lines.extend_from_slice(b"nothing to commit\n")?;
         return Ok(());
     }

@@ -21,6 +21,13 @@ returns-in_err-accept g c =
           (subst (λ (l : Lists). IsStop (accepted l c.args.stmt.now) why) c.catalog.ensures.catalog c.in_err-accept.ensures.meant));
     }
 
+pub returns-in_err-done : goal.returns-in_err-done
+returns-in_err-done g c = record {
+  took = λ region.
+      took_memory (changed c.args.stmt.now (work_of c.args.db.now region)) c.args.db.now (g.S.Held.seen c.args.site.now) c.args.lines.now.items c.args.lines.now.items region
+      c.from_residual-in_err-done.result c.from_residual-in_err-done.ensures.1 c.requires.ready.usable (λ i. c.args.lines.now.items);
+}
+
 pub returns-in_err-extend_from_slice : goal.returns-in_err-extend_from_slice
 returns-in_err-extend_from_slice g c = record {
   took = λ region.
@@ -28,14 +35,14 @@ returns-in_err-extend_from_slice g c = record {
       c.from_residual-in_err-extend_from_slice.result c.from_residual-in_err-extend_from_slice.ensures.1 c.requires.ready.usable c.in_err-extend_from_slice.ensures.items;
 }
 
-pub returns-then-is_done_already : goal.returns-then-is_done_already
-returns-then-is_done_already g c =
+pub returns-then-done : goal.returns-then-done
+returns-then-done g c =
     let view = c.args.db.now in
     record {
       took = λ region.
           changed_already view (g.S.Held.seen c.args.site.now) c.args.lines.now.items c.extend_from_slice.new.self.items region c.args.stmt.now c.requires.ready.usable
           (subst (λ (l : Lists). accepted l c.args.stmt.now ≡ Ok tt) c.catalog.ensures.catalog c.in_ok-accept.ensures.meant)
-          (ap (λ (l : Lists). is_done_already l c.args.stmt.now) (sym c.catalog-2.ensures.catalog) ∙ sym c.is_done_already.ensures ∙ c.if-is_done_already.true) c.in_ok-extend_from_slice.ensures.items;
+          (ap (λ (l : Lists). is_done_already l c.args.stmt.now) (sym c.catalog-2.ensures.catalog) ∙ sym c.in_ok-done.ensures ∙ c.if-done.true) c.in_ok-extend_from_slice.ensures.items;
     }
 
 pub returns-in_err-text_of : goal.returns-in_err-text_of
@@ -57,7 +64,7 @@ returns g c =
     record {
       took = λ region.
           changed_entry view c.enter.new.db (g.S.Held.seen c.args.site.now) (g.S.Held.seen c.enter.new.site) c.args.lines.now.items c.enter.new.lines.items region c.args.stmt.now c.enter.result fine
-          (ap (λ (l : Lists). is_done_already l c.args.stmt.now) (sym c.catalog-2.ensures.catalog) ∙ sym c.is_done_already.ensures ∙ c.if-is_done_already.false)
+          (ap (λ (l : Lists). is_done_already l c.args.stmt.now) (sym c.catalog-2.ensures.catalog) ∙ sym c.in_ok-done.ensures ∙ c.if-done.false)
           (c.enter.ensures.took (ddl c.args.stmt.now) region
           (can_ddl view c.args.stmt.now c.in_ok-text_of.field-0 c.requires.pending c.requires.ddl c.in_ok-text_of.ensures.text c.in_ok-text_of.ensures.short fine));
     }
