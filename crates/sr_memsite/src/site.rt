@@ -7,6 +7,7 @@ use std::alloc::Global;
 
 mod disk;
 mod mail;
+mod way;
 
 /// A site in memory. It tells its files, and each call since they began.
 #[derive(Drop)]
@@ -70,6 +71,20 @@ impl MemorySite {
         ensures wanted { result ≡ wanted_of self.now }
     {
         self.wanted
+    }
+
+    /// How many calls of the disk and of `attach` have failed, as far as 2^64 - 1.
+    pub fn disk_faults(&self) -> u64
+        ensures count { result ≡ (seen_of self.now).disk_faults }
+    {
+        self.disk_faults
+    }
+
+    /// How many calls of the mail have failed, as far as 2^64 - 1.
+    pub fn mail_faults(&self) -> u64
+        ensures count { result ≡ (seen_of self.now).mail_faults }
+    {
+        self.mail_faults
     }
 
     /// The files and the folders as they stand, what is not yet synced included.

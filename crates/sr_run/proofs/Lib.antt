@@ -1,5 +1,4 @@
-pub mod Ended
-pub mod Opened
-pub mod Statuses
-pub mod Scripts
-pub mod Shown
+mod Completing
+mod Ended
+mod Partners
+mod Statuses

@@ -1,26 +1,33 @@
-ghost use Rattle.std.specs.Prelude.{◌≡◌, ◌≢◌, ◌⊎◌, None};
-ghost use Rattle.sr_site.specs.Causes.{DiskStays, Rose};
-ghost use Rattle.sr_run.specs.Outside.{outside};
-ghost use Rattle.sr_run.specs.Runs.{Ran};
-ghost use Rattle.sr_run.specs.Words.{order_of};
+ghost use Rattle.std.specs.Prelude.{◌≡◌, ◌⊎◌, IsTrue, List, None};
+ghost use Rattle.sr_book.specs.Entries.{Name};
+ghost use Rattle.sr_history.specs.Fitting.{Stored};
+ghost use Rattle.sr_history.specs.Recorded.{Recorded};
+ghost use Rattle.sr_prefix.specs.Keeping.{KeepsPartner};
+ghost use Rattle.sr_site.specs.Causes.{Stays, Rose};
+ghost use Rattle.sr_command.specs.Outside.{outside};
+ghost use Rattle.sr_run.specs.Runs.{CatchesUp, HasAlarms, IsComplete, Ran};
+ghost use Rattle.sr_words.specs.Orders.{order_of};
 
-use crate::commands::{command, tell};
-use crate::fault::Fault;
-use crate::words::order_of;
 use sr_base::Text;
+use sr_command::{Fault, command, tell};
 use sr_database::DatabaseFault;
 use sr_site::{Sink, Site, Source};
+use sr_words::order_of;
 use std::alloc::Global;
 
 /// Does all that the program does, and answers its exit status.
 ///
-/// The words `init NAME USER` make a database, `sql NAME` runs the script on `input` on one, and `show NAME` prints what one is. All other words
-/// are refused.
+/// The words `init NAME USER` make a database, `sql NAME` runs the script on `input` on one, `agent NAME --mail FOLDER` with any of `-r`, `-s`, `-p`
+/// and `-l N`, which stand anywhere behind `agent`, takes and sends its mail, and `show NAME` prints what one is. All other words are refused.
 ///
-/// The status is 0; or that of the fault that ended the run: 2 for other words, 3 for a database that is missing, there or damaged, 4 for a
-/// script or a statement that is refused, 5 for the disk, 7 for the source or the sink, 8 for want of memory, 9 for a limit. No run has mail
-/// yet, and none asks for the time.
-#[tactic(auto, using(crate::proofs::Statuses::of_runs))]
+/// The status is 0; or 1 where the agent ran to its end and a line told of something amiss; or that of the fault that ended the run: 2 for
+/// other words, 3 for a database that is missing, there or damaged, 4 for a script or a statement that is refused, 5 for the disk, 6 for the
+/// mail, 7 for the source or the sink, 8 for want of memory, 9 for a limit. Where no device fails, and what is there is what the words ask
+/// for, it is 0, 1, 8 or 9. No run asks for the time.
+///
+/// Whatever files lie in the mail folder, none forged, what the database took from a partner stays a beginning of what the partner's log gives it, in
+/// commit order and each once; so it is at each moment of the run, for whatever a crash leaves then, to its end or to the fault that ended it.
+#[tactic(auto, using(crate::proofs::Statuses::of_runs, crate::proofs::Completing::run_complete, crate::proofs::Completing::run_caught_up, crate::proofs::Partners::partners_kept))]
 pub fn run<S: Site, I: Source, O: Sink>(
     alloc: Global,
     words: &[Text],
@@ -30,14 +37,17 @@ pub fn run<S: Site, I: Source, O: Sink>(
     now: i64,
 ) -> u8
     ensures ran { Ran (order_of words.now) (outside (S.seen site.old) (I.seen input.old) (O.seen output.old)) (outside (S.seen site.new) (I.seen input.new) (O.seen output.new)) result }
-    ensures stays { DiskStays (S.seen site.old) (S.seen site.new) }
+    ensures stays { Stays (S.seen site.old) (S.seen site.new) }
     ensures words { result ≡ 2 → order_of words.now ≡ None }
     ensures disk { result ≡ 5 → Rose (S.seen site.old).disk_faults (S.seen site.new).disk_faults }
     ensures streams { result ≡ 7 → Rose ((I.seen input.old).faults) ((I.seen input.new).faults) ⊎ Rose ((O.seen output.old).faults) ((O.seen output.new).faults) }
-    ensures never { (result ≢ 1) × (result ≢ 6) }
+    ensures mail { result ≡ 6 → Rose (S.seen site.old).mail_faults (S.seen site.new).mail_faults }
+    ensures complete { IsComplete (order_of words.now) (outside (S.seen site.old) (I.seen input.old) (O.seen output.old)) (outside (S.seen site.new) (I.seen input.new) (O.seen output.new)) result }
+    ensures caught_up { CatchesUp (order_of words.now) (outside (S.seen site.old) (I.seen input.old) (O.seen output.old)) (outside (S.seen site.new) (I.seen input.new) (O.seen output.new)) result }
+    ensures partners { (publisher user : Name) (us : List Recorded) → IsTrue (S.seen site.old).told → Stored user us → KeepsPartner publisher user us (S.seen site.old) (S.seen site.new) }
+    ensures amiss { result ≡ 1 → HasAlarms (order_of words.now) (outside (S.seen site.old) (I.seen input.old) (O.seen output.old)) (outside (S.seen site.new) (I.seen input.new) (O.seen output.new)) }
 {
-    let _now = now;
-    done(alloc, words, site, input, output)
+    done(alloc, words, site, input, output, now)
 }
 
 /// Does what words ask for.
@@ -48,13 +58,14 @@ fn done<S: Site, I: Source, O: Sink>(
     site: &mut S,
     input: &mut I,
     output: &mut O,
+    now: i64,
 ) -> u8
     ensures ran { Ran (order_of words.now) (outside (S.seen site.old) (I.seen input.old) (O.seen output.old)) (outside (S.seen site.new) (I.seen input.new) (O.seen output.new)) result }
-    ensures stays { DiskStays (S.seen site.old) (S.seen site.new) }
+    ensures stays { Stays (S.seen site.old) (S.seen site.new) }
 {
     match order_of(alloc, words) {
         Ok(Some(order)) => {
-            let status = command(alloc, &order, site, input, output);
+            let status = command(alloc, &order, site, input, output, now);
             drop(order);
             status
         }

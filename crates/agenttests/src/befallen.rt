@@ -1,0 +1,194 @@
+//! A row: what befalls its step once, or for each call that the step makes.
+
+use crate::offices::Offices;
+use crate::running::Trouble;
+use crate::steps::{push_part, say_befallen, say_steps};
+use sr_answers::{say, word};
+use sr_base::NoMemory;
+use std::alloc::Global;
+
+/// More calls than a step makes.
+const CALLS: u64 = 4000;
+
+/// The crashes that are tried: what the last syncs left, what stood, and two between.
+const PICKS: u64 = 4;
+
+/// A row from the step on that it is about.
+#[derive(Clone, Copy)]
+struct Row<'a> {
+    kind: &'a str,
+    /// That step.
+    step: &'a str,
+    /// The steps behind it.
+    behind: &'a str,
+}
+
+/// Says what a row asks for.
+pub fn say_row(alloc: Global, question: &str, out: &mut Vec<u8>) -> Result<(), NoMemory> {
+    let mut offices = Offices::new(alloc);
+    let said = say_on(alloc, &mut offices, question, out);
+    drop(offices);
+    said
+}
+
+/// Makes the steps before the one that the row is about, and says what the row asks for from there.
+fn say_on(
+    alloc: Global,
+    offices: &mut Offices,
+    question: &str,
+    out: &mut Vec<u8>,
+) -> Result<(), NoMemory> {
+    let (kind, steps) = question.split_once("; ").unwrap_or((question, ""));
+    let (before, rest) = steps.split_once("; *").unwrap_or((steps, ""));
+    let (step, behind) = rest.split_once("; ").unwrap_or((rest, ""));
+    say_steps(alloc, offices, before, out)?;
+    let row = Row { kind, step, behind };
+    match word(kind, 0) {
+        "fail" | "stop" => say_each(alloc, offices, row, out),
+        "once" => say_once(alloc, offices, row, out),
+        "lost" | "other" => say_changed(alloc, offices, row, out),
+        _ => say(out, "no kind"),
+    }
+}
+
+fn say_once(alloc: Global, offices: &Offices, row: Row, out: &mut Vec<u8>) -> Result<(), NoMemory> {
+    say_from(alloc, offices, row, Trouble::Nothing, out)?;
+    Ok(())
+}
+
+fn say_changed(
+    alloc: Global,
+    offices: &Offices,
+    row: Row,
+    out: &mut Vec<u8>,
+) -> Result<(), NoMemory> {
+    say_from(alloc, offices, row, Trouble::Changes(row.kind), out)?;
+    Ok(())
+}
+
+/// Makes the row's step and those behind it on offices like these. Answers whether no call of its site failed.
+fn say_from(
+    alloc: Global,
+    offices: &Offices,
+    row: Row,
+    trouble: Trouble,
+    out: &mut Vec<u8>,
+) -> Result<bool, NoMemory> {
+    let mut like = Offices::new(alloc);
+    let is_whole = say_like(alloc, offices, &mut like, row, trouble, out);
+    drop(like);
+    is_whole
+}
+
+fn say_like(
+    alloc: Global,
+    offices: &Offices,
+    like: &mut Offices,
+    row: Row,
+    trouble: Trouble,
+    out: &mut Vec<u8>,
+) -> Result<bool, NoMemory> {
+    like.set_like(alloc, offices)?;
+    let is_whole = say_befallen(alloc, like, row.step, trouble, out)?;
+    if !row.behind.is_empty() {
+        say_steps(alloc, like, row.behind, out)?;
+    }
+    Ok(is_whole)
+}
+
+/// Says what the steps say for each call, the same only once behind each other.
+fn say_each(alloc: Global, offices: &Offices, row: Row, out: &mut Vec<u8>) -> Result<(), NoMemory> {
+    let mut last = Vec::new(alloc);
+    let mut now = Vec::new(alloc);
+    let said = say_calls(alloc, offices, row, &mut last, &mut now, out);
+    drop(now);
+    drop(last);
+    said
+}
+
+fn say_calls(
+    alloc: Global,
+    offices: &Offices,
+    row: Row,
+    last: &mut Vec<u8>,
+    now: &mut Vec<u8>,
+    out: &mut Vec<u8>,
+) -> Result<(), NoMemory> {
+    for calls in 0..CALLS {
+        now.clear();
+        let is_whole = say_call(alloc, offices, row, calls, now)?;
+        if now.as_slice() != last.as_slice() {
+            push_part(out, " > ", now.as_slice())?;
+            last.clear();
+            last.extend_from_slice(now.as_slice())?;
+        }
+        if is_whole {
+            return Ok(());
+        }
+    }
+    say(out, " NO END")
+}
+
+/// Says what the steps say where the call behind so many fails, or is not made. Answers whether there is no such call.
+fn say_call(
+    alloc: Global,
+    offices: &Offices,
+    row: Row,
+    calls: u64,
+    out: &mut Vec<u8>,
+) -> Result<bool, NoMemory> {
+    if row.kind == "fail" {
+        let call = calls.saturating_add(1);
+        say_from(alloc, offices, row, Trouble::Fails(call), out)
+    } else {
+        say_crashes(alloc, offices, row, calls, out)
+    }
+}
+
+/// Says what the steps say for each crash behind so many calls, the same only once. Answers whether all calls were made.
+fn say_crashes(
+    alloc: Global,
+    offices: &Offices,
+    row: Row,
+    calls: u64,
+    out: &mut Vec<u8>,
+) -> Result<bool, NoMemory> {
+    let mut said = Vec::new(alloc);
+    let is_whole = say_picks(alloc, offices, row, calls, &mut said, out);
+    drop(said);
+    is_whole
+}
+
+fn say_picks(
+    alloc: Global,
+    offices: &Offices,
+    row: Row,
+    calls: u64,
+    said: &mut Vec<Vec<u8>>,
+    out: &mut Vec<u8>,
+) -> Result<bool, NoMemory> {
+    let mut is_whole = true;
+    for pick in 0..PICKS {
+        let mut found = Vec::new(alloc);
+        let trouble = Trouble::Stops(calls, pick);
+        let is_over = say_from(alloc, offices, row, trouble, &mut found)?;
+        is_whole = is_whole && is_over;
+        if has(said.as_slice(), found.as_slice()) {
+            drop(found);
+        } else {
+            push_part(out, " OR ", found.as_slice())?;
+            said.push(found)?;
+        }
+    }
+    Ok(is_whole)
+}
+
+/// Whether this was said.
+fn has(said: &[Vec<u8>], found: &[u8]) -> bool {
+    for part in said {
+        if part.as_slice() == found {
+            return true;
+        }
+    }
+    false
+}

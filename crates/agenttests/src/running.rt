@@ -1,0 +1,159 @@
+//! One run of the program on the site of an office.
+
+use crate::offices::Offices;
+use crate::shifting::{Change, Shifting};
+use sr_answers::word;
+use sr_base::{NoMemory, Text};
+use sr_memsite::{MemorySink, MemorySite, MemorySource};
+use sr_run::run;
+use sr_site::Site;
+use std::alloc::Global;
+
+/// What befalls a run.
+#[derive(Clone, Copy)]
+pub enum Trouble<'a> {
+    Nothing,
+    /// The call of this number fails.
+    Fails(u64),
+    /// Only so many calls are made, and then a crash of this pick follows.
+    Stops(u64, u64),
+    /// The change that a kind of row tells.
+    Changes(&'a str),
+}
+
+/// How a run ended: its status, and the devices of which a call has failed.
+#[derive(Clone, Copy)]
+pub struct Ended {
+    pub status: u8,
+    pub disk: bool,
+    pub mail: bool,
+}
+
+impl Ended {
+    /// Whether no call of the site has failed.
+    pub fn is_whole(&self) -> bool {
+        !self.disk && !self.mail
+    }
+
+    /// Whether the status is that of the device that failed, or of none.
+    pub fn is_right(&self) -> bool {
+        match self.status {
+            0 | 1 => self.is_whole(),
+            5 => self.disk && !self.mail,
+            6 => self.mail && !self.disk,
+            _ => false,
+        }
+    }
+}
+
+/// Runs the program with words on the site of the office that the second one names. What it prints is appended to `out`.
+pub fn run_at(
+    alloc: Global,
+    offices: &mut Offices,
+    words: &str,
+    script: &[u8],
+    trouble: Trouble,
+    out: &mut Vec<u8>,
+) -> Result<Ended, NoMemory> {
+    let change = change_of(alloc, trouble)?;
+    let site = offices.take_site(alloc, word(words, 1));
+    let mut shifting = Shifting {
+        site,
+        change,
+        fetches: 0,
+    };
+    let ended = run_befallen(alloc, &mut shifting, words, script, trouble, out);
+    let Shifting { site, change, .. } = shifting;
+    drop(change);
+    offices.give_back(word(words, 1), site);
+    ended
+}
+
+fn change_of(alloc: Global, trouble: Trouble) -> Result<Change, NoMemory> {
+    match trouble {
+        Trouble::Changes(kind) => Change::of(alloc, kind),
+        _ => Change::of(alloc, ""),
+    }
+}
+
+/// Runs the program while the trouble lasts.
+fn run_befallen(
+    alloc: Global,
+    shifting: &mut Shifting,
+    words: &str,
+    script: &[u8],
+    trouble: Trouble,
+    out: &mut Vec<u8>,
+) -> Result<Ended, NoMemory> {
+    begin(alloc, &mut shifting.site, trouble)?;
+    let status = run_words(alloc, words, shifting, script, out)?;
+    let ended = Ended {
+        status,
+        disk: shifting.site.disk_faults() > 0,
+        mail: shifting.site.mail_faults() > 0,
+    };
+    end(alloc, &mut shifting.site, trouble)?;
+    Ok(ended)
+}
+
+fn begin(alloc: Global, site: &mut MemorySite, trouble: Trouble) -> Result<(), NoMemory> {
+    match trouble {
+        Trouble::Fails(call) => site.fail_calls(alloc, &[call]),
+        Trouble::Stops(calls, _) => {
+            site.stop_after(calls);
+            Ok(())
+        }
+        _ => Ok(()),
+    }
+}
+
+fn end(alloc: Global, site: &mut MemorySite, trouble: Trouble) -> Result<(), NoMemory> {
+    match trouble {
+        Trouble::Stops(_, pick) => site.crash(alloc, pick),
+        _ => Ok(()),
+    }
+}
+
+/// Runs the program with words on any site.
+fn run_words<S: Site>(
+    alloc: Global,
+    words: &str,
+    site: &mut S,
+    script: &[u8],
+    out: &mut Vec<u8>,
+) -> Result<u8, NoMemory> {
+    let words = texts_of(alloc, words)?;
+    let status = run_texts(alloc, words.as_slice(), site, script, out);
+    drop(words);
+    status
+}
+
+/// The words, of the agent with the mail folder behind the name.
+fn texts_of(alloc: Global, words: &str) -> Result<Vec<Text>, NoMemory> {
+    let mut texts = Vec::new(alloc);
+    for word in words.split(' ') {
+        texts.push(Text::from_str(alloc, word)?)?;
+        if texts.len() == 2 && words.starts_with("agent") {
+            texts.push(Text::from_str(alloc, "--mail")?)?;
+            texts.push(Text::from_str(alloc, "m")?)?;
+        }
+    }
+    Ok(texts)
+}
+
+fn run_texts<S: Site>(
+    alloc: Global,
+    words: &[Text],
+    site: &mut S,
+    script: &[u8],
+    out: &mut Vec<u8>,
+) -> Result<u8, NoMemory> {
+    let mut input = MemorySource::new(Vec::from_slice(alloc, script)?);
+    let mut output = MemorySink::new(alloc);
+    let status = run(alloc, words, site, &mut input, &mut output, 0);
+    let kept = out.extend_from_slice(output.bytes());
+    drop(output);
+    drop(input);
+    kept?;
+    Ok(status)
+}

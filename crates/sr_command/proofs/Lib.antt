@@ -1,0 +1,10 @@
+pub mod AgentRuns
+mod Catching
+pub mod Caught
+pub mod Completing
+pub mod Ended
+pub mod Opened
+pub mod Statuses
+pub mod Scripts
+pub mod Shown
+mod Spelled

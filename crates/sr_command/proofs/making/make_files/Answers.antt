@@ -1,0 +1,27 @@
+use Rattle.std.proofs.Common.{[]}
+use Rattle.sr_command.proofs.Opened.{tried_on, guarded_refused, guarded_still, guarded_on, made}
+use Rattle.sr_command.proofs.making.make_files.Goals as goal
+
+pub returns-in_err-attach_alone-clause-guarded : goal.returns-in_err-attach_alone-clause-guarded
+returns-in_err-attach_alone-clause-guarded g c = guarded_refused c.args.name.now [] c.args.user.now (g.S.Held.seen c.args.site.now) (g.S.Held.seen c.attach_alone.new.site) c.in_err-attach_alone.ensures.attaches
+
+pub returns-in_err-line-clause-guarded : goal.returns-in_err-line-clause-guarded
+returns-in_err-line-clause-guarded g c = guarded_still c.args.name.now [] c.args.user.now (g.S.Held.seen c.args.site.now) (g.S.Held.seen c.attach_alone.new.site) c.in_ok-attach_alone.ensures.attaches
+
+pub returns-in_err-create-clause-tried : goal.returns-in_err-create-clause-tried
+returns-in_err-create-clause-tried g c = tried_on c.args.name.now [] (g.S.Held.seen c.args.site.now) (g.S.Held.seen c.attach_alone.new.site) (g.S.Held.seen c.create.new.site) c.in_ok-attach_alone.ensures.attaches c.create.ensures.stays c.create.ensures.attached
+
+pub returns-in_err-create-clause-guarded : goal.returns-in_err-create-clause-guarded
+returns-in_err-create-clause-guarded g c = guarded_on c.args.name.now [] c.args.user.now (g.S.Held.seen c.args.site.now) (g.S.Held.seen c.attach_alone.new.site) (g.S.Held.seen c.create.new.site)
+    c.in_ok-attach_alone.ensures.attaches c.create.ensures.moments c.create.ensures.there
+
+pub returns-clause-tried : goal.returns-clause-tried
+returns-clause-tried g c = tried_on c.args.name.now [] (g.S.Held.seen c.args.site.now) (g.S.Held.seen c.attach_alone.new.site) (g.S.Held.seen c.create.new.site) c.in_ok-attach_alone.ensures.attaches c.create.ensures.stays c.create.ensures.attached
+
+pub returns-clause-guarded : goal.returns-clause-guarded
+returns-clause-guarded g c = guarded_on c.args.name.now [] c.args.user.now (g.S.Held.seen c.args.site.now) (g.S.Held.seen c.attach_alone.new.site) (g.S.Held.seen c.create.new.site)
+    c.in_ok-attach_alone.ensures.attaches c.create.ensures.moments c.create.ensures.there
+
+pub returns-clause-made : goal.returns-clause-made
+returns-clause-made g c = made c.args.name.now c.args.user.now (g.S.Held.seen c.args.site.now) (g.S.Held.seen c.attach_alone.new.site) (g.S.Held.seen c.create.new.site)
+    c.in_ok-attach_alone.ensures.attaches c.in_ok-attach_alone.ensures.steady c.create.ensures.stays c.create.ensures.attached c.in_ok-create.ensures.steady c.in_ok-create.ensures.made c.in_ok-create.ensures.settled c.in_ok-create.ensures.missing

@@ -1,0 +1,15 @@
+pub mod Agents
+pub mod Attaching
+pub mod CaughtUp
+pub mod Complete
+pub mod Faults
+pub mod Limits
+pub mod Making
+pub mod Orders
+pub mod Outside
+pub mod Reports
+pub mod Running
+pub mod Runs
+pub mod Showing
+pub mod Steps
+pub mod Streams

@@ -1,0 +1,142 @@
+ghost use Rattle.std.specs.Prelude.{◌≡◌, ◌≤◌, ◌||◌, false, IsTrue};
+ghost use Rattle.sr_site.specs.Causes.{DiskStays, Stays};
+ghost use Rattle.sr_site.specs.Streams.{Input};
+ghost use Rattle.sr_command.specs.CaughtUp.{CatchesUp};
+ghost use Rattle.sr_command.specs.Complete.{IsComplete};
+ghost use Rattle.sr_command.specs.Outside.{outside};
+ghost use Rattle.sr_command.specs.Orders.{MayOrder};
+ghost use Rattle.sr_command.specs.Runs.{RanAgentOrder, RanInit, RanOrder, RanShow, RanSql, Told};
+
+use crate::agents::{run_agent, status_of_alarms};
+use crate::fault::Fault;
+use crate::making::make;
+use crate::order::Order;
+use crate::reporting::report;
+use crate::running::run_sql;
+use crate::showing::show;
+use sr_agent::Options;
+use sr_base::{Name, Text};
+use sr_site::{Sink, Site, Source};
+use std::alloc::Global;
+
+/// Does what an order asks for, to its last line or to that of the fault that ended it. Answers the exit status.
+///
+/// Where no device fails, and what is there is what the order asks for, it is done: the status is 0, 1 with what the agent reports, 9 at a
+/// limit, or 8.
+#[tactic(auto, using(crate::proofs::Completing::is_complete, crate::proofs::Caught::catches_up))]
+pub fn command<S: Site, I: Source, O: Sink>(
+    alloc: Global,
+    order: &Order,
+    site: &mut S,
+    input: &mut I,
+    output: &mut O,
+    now: i64,
+) -> u8
+    requires may { MayOrder order.now }
+    ensures ran { RanOrder order.now (outside (S.seen site.old) (I.seen input.old) (O.seen output.old)) (outside (S.seen site.new) (I.seen input.new) (O.seen output.new)) result }
+    ensures stays { Stays (S.seen site.old) (S.seen site.new) }
+    ensures complete { IsComplete order.now (outside (S.seen site.old) (I.seen input.old) (O.seen output.old)) (outside (S.seen site.new) (I.seen input.new) (O.seen output.new)) result }
+    ensures caught_up { CatchesUp order.now (outside (S.seen site.old) (I.seen input.old) (O.seen output.old)) (outside (S.seen site.new) (I.seen input.new) (O.seen output.new)) result }
+{
+    ordered(alloc, order, site, input, output, now)
+}
+
+/// Does what an order asks for.
+#[tactic(auto, using(crate::proofs::AgentRuns::of_disk))]
+fn ordered<S: Site, I: Source, O: Sink>(
+    alloc: Global,
+    order: &Order,
+    site: &mut S,
+    input: &mut I,
+    output: &mut O,
+    now: i64,
+) -> u8
+    requires may { MayOrder order.now }
+    ensures ran { RanOrder order.now (outside (S.seen site.old) (I.seen input.old) (O.seen output.old)) (outside (S.seen site.new) (I.seen input.new) (O.seen output.new)) result }
+    ensures stays { Stays (S.seen site.old) (S.seen site.new) }
+{
+    match order {
+        Order::Init { name, user } => command_init(alloc, name, user, site, output),
+        Order::Sql { name } => command_sql(alloc, name, site, input, output),
+        Order::Show { name } => command_show(alloc, name, site, output),
+        Order::Agent {
+            name,
+            mail,
+            options,
+        } => command_agent(alloc, name, mail, options, site, output, now),
+    }
+}
+
+/// Tells the fault that ended a run, and answers the run's exit status.
+#[tactic(auto, using(crate::proofs::Ended::told_as))]
+pub fn tell<O: Sink>(alloc: Global, output: &mut O, fault: Fault) -> u8
+    ensures told { Told fault (O.seen output.old) (O.seen output.new) result }
+{
+    let told = report(alloc, output, fault);
+    told.status()
+}
+
+fn command_init<S: Site, O: Sink>(
+    alloc: Global,
+    name: &Text,
+    user: &Name,
+    site: &mut S,
+    output: &mut O,
+) -> u8
+    ensures ran { (input : Input) → RanInit name.now user.now (outside (S.seen site.old) input (O.seen output.old)) (outside (S.seen site.new) input (O.seen output.new)) result }
+    ensures stays { DiskStays (S.seen site.old) (S.seen site.new) }
+{
+    match make(alloc, name, user, site, output) {
+        Ok(()) => 0,
+        Err(fault) => tell(alloc, output, fault),
+    }
+}
+
+fn command_sql<S: Site, I: Source, O: Sink>(
+    alloc: Global,
+    name: &Text,
+    site: &mut S,
+    input: &mut I,
+    output: &mut O,
+) -> u8
+    ensures ran { RanSql name.now (outside (S.seen site.old) (I.seen input.old) (O.seen output.old)) (outside (S.seen site.new) (I.seen input.new) (O.seen output.new)) result }
+    ensures stays { DiskStays (S.seen site.old) (S.seen site.new) }
+{
+    match run_sql(alloc, name, site, input, output) {
+        Ok(()) => 0,
+        Err(fault) => tell(alloc, output, fault),
+    }
+}
+
+fn command_show<S: Site, O: Sink>(alloc: Global, name: &Text, site: &mut S, output: &mut O) -> u8
+    ensures ran { (input : Input) → RanShow name.now (outside (S.seen site.old) input (O.seen output.old)) (outside (S.seen site.new) input (O.seen output.new)) result }
+    ensures stays { DiskStays (S.seen site.old) (S.seen site.new) }
+{
+    match show(alloc, name, site, output) {
+        Ok(()) => 0,
+        Err(fault) => tell(alloc, output, fault),
+    }
+}
+
+/// `agent NAME --mail FOLDER`, with its options.
+fn command_agent<S: Site, O: Sink>(
+    alloc: Global,
+    name: &Text,
+    mail: &Text,
+    options: &Options,
+    site: &mut S,
+    output: &mut O,
+    now: i64,
+) -> u8
+    requires some_pass { IsTrue (options.now.receive || options.now.send) }
+    requires no_restart { options.now.restart ≡ false }
+    requires least { 10000 ≤ options.now.length }
+    requires most { options.now.length ≤ 1048576 }
+    ensures ran { (input : Input) → RanAgentOrder name.now mail.now options.now (outside (S.seen site.old) input (O.seen output.old)) (outside (S.seen site.new) input (O.seen output.new)) result }
+    ensures stays { Stays (S.seen site.old) (S.seen site.new) }
+{
+    match run_agent(alloc, name, mail, options, site, output, now) {
+        Ok(count) => status_of_alarms(count),
+        Err(fault) => tell(alloc, output, fault),
+    }
+}

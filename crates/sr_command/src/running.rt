@@ -1,0 +1,149 @@
+ghost use Rattle.std.specs.Prelude.{◌≡◌, [], true, ℕ, List, IsTrue, IfOk, IfErr, OnOk};
+ghost use Rattle.std.specs.List.{AllByRecursion};
+ghost use Rattle.sr_database.specs.Databases.{HasDatabase};
+ghost use Rattle.sr_grammar.specs.NormalForms.{IsNormal};
+ghost use Rattle.sr_site.specs.Causes.{DiskStays};
+ghost use Rattle.sr_site.specs.Seen.{Seen};
+ghost use Rattle.sr_standing.specs.Items.{attaches_in};
+ghost use Rattle.sr_command.specs.Outside.{outside, IsAttachTried};
+ghost use Rattle.sr_command.specs.Running.{IsOpened, IsUntouched, OpenedCause, RanWhole, Stopped, fault_of};
+ghost use Rattle.sr_command.specs.Steps.{RanToEnd, RanToFault};
+
+use crate::attaching::attach;
+use crate::fault::Fault;
+use crate::reading::read_script;
+use sr_ast::Script;
+use sr_base::Text;
+use sr_database::{Database, DatabaseFault};
+use sr_session::{SessionFault, run_script};
+use sr_site::{Sink, Site, Source};
+use std::alloc::Global;
+
+/// Attaches the files of a name and opens the database.
+#[tactic(auto, using(sr_site::specs::Growing::disk_stays_on, crate::proofs::Opened::attaching))]
+pub(crate) fn open<S: Site>(
+    alloc: Global,
+    name: &Text,
+    mail: &Text,
+    site: &mut S,
+) -> Result<Database, DatabaseFault>
+    ensures opened { IfOk result (λ db. IsOpened name.now mail.now db (S.seen site.old) (S.seen site.new)) }
+    ensures ready { IfOk result (λ db. (db.log.usable ≡ true) × (db.pending ≡ [])) }
+    ensures stands { IsTrue (S.seen site.new).told → IfOk result (λ db. HasDatabase db (S.seen site.new)) }
+    ensures tried { IsAttachTried name.now mail.now (S.seen site.old) (S.seen site.new) }
+    ensures untouched { IsUntouched (S.seen site.old) (S.seen site.new) }
+    ensures stays { DiskStays (S.seen site.old) (S.seen site.new) }
+    ensures cause { IfErr result (OpenedCause (S.seen site.old) (S.seen site.new)) }
+{
+    attach(alloc, name, mail, site)?;
+    let database = Database::open(alloc, site)?;
+    let usable = database.usable();
+    prove!(usable);
+    Ok(database)
+}
+
+/// Attaches the files of a name and opens the database, for a command without mail.
+pub(crate) fn open_alone<S: Site>(
+    alloc: Global,
+    name: &Text,
+    site: &mut S,
+) -> Result<Database, DatabaseFault>
+    ensures opened { IfOk result (λ db. IsOpened name.now [] db (S.seen site.old) (S.seen site.new)) }
+    ensures ready { IfOk result (λ db. (db.log.usable ≡ true) × (db.pending ≡ [])) }
+    ensures stands { IsTrue (S.seen site.new).told → IfOk result (λ db. HasDatabase db (S.seen site.new)) }
+    ensures tried { IsAttachTried name.now [] (S.seen site.old) (S.seen site.new) }
+    ensures untouched { IsUntouched (S.seen site.old) (S.seen site.new) }
+    ensures stays { DiskStays (S.seen site.old) (S.seen site.new) }
+    ensures cause { IfErr result (OpenedCause (S.seen site.old) (S.seen site.new)) }
+{
+    let mail = Text::empty(alloc);
+    let opened = open(alloc, name, &mail, site);
+    drop(mail);
+    opened
+}
+
+/// Runs a script on a database that was opened.
+fn run_on<S: Site, O: Sink>(
+    alloc: Global,
+    database: &mut Database,
+    site: &mut S,
+    script: &Script,
+    output: &mut O,
+) -> Result<(), Fault>
+    requires usable { database.old.log.usable ≡ true }
+    requires pending { database.old.pending ≡ [] }
+    requires normal { AllByRecursion IsNormal script.now }
+    requires stands { IsTrue (S.seen site.old).told → HasDatabase database.old (S.seen site.old) }
+    ensures done { OnOk result (RanToEnd database.old database.new (S.seen site.old) (S.seen site.new) (O.seen output.old) (O.seen output.new) script.now) }
+    ensures stopped { IfErr result (RanToFault database.old database.new (S.seen site.old) (S.seen site.new) (O.seen output.old) (O.seen output.new) script.now) }
+    ensures attached { IsTrue (S.seen site.old).told → attaches_in (S.seen site.new).happened ≡ attaches_in (S.seen site.old).happened }
+    ensures stays { DiskStays (S.seen site.old) (S.seen site.new) }
+{
+    match run_script(alloc, database, site, script, output) {
+        Ok(_) => Ok(()),
+        Err(fault) => Err(fault_of(fault)),
+    }
+}
+
+/// Reads the whole script and runs it on the database that was opened.
+#[tactic(auto, using(crate::proofs::Scripts::script_normal))]
+fn read_and_run<S: Site, I: Source, O: Sink>(
+    alloc: Global,
+    database: &mut Database,
+    site: &mut S,
+    input: &mut I,
+    output: &mut O,
+) -> Result<(), Fault>
+    requires usable { database.old.log.usable ≡ true }
+    requires pending { database.old.pending ≡ [] }
+    requires stands { IsTrue (S.seen site.old).told → HasDatabase database.old (S.seen site.old) }
+    ensures done { (name : List ℕ) (before : Seen) → IsOpened name [] database.old before (S.seen site.old) → OnOk result (RanWhole name (outside before (I.seen input.old) (O.seen output.old)) (outside (S.seen site.new) (I.seen input.new) (O.seen output.new))) }
+    ensures stopped { (name : List ℕ) (before : Seen) → IsOpened name [] database.old before (S.seen site.old) → IfErr result (Stopped name (outside before (I.seen input.old) (O.seen output.old)) (outside (S.seen site.new) (I.seen input.new) (O.seen output.new))) }
+    ensures attached { IsTrue (S.seen site.old).told → attaches_in (S.seen site.new).happened ≡ attaches_in (S.seen site.old).happened }
+    ensures stays { DiskStays (S.seen site.old) (S.seen site.new) }
+{
+    match read_script(alloc, input) {
+        Ok(script) => {
+            let ran = run_on(alloc, database, site, &script, output);
+            drop(script);
+            ran
+        }
+        Err(fault) => Err(fault),
+    }
+}
+
+/// `sql NAME`: opens the database, reads the whole script and runs it.
+#[tactic(auto, using(sr_site::specs::Growing::disk_stays_on))]
+pub fn run_sql<S: Site, I: Source, O: Sink>(
+    alloc: Global,
+    name: &Text,
+    site: &mut S,
+    input: &mut I,
+    output: &mut O,
+) -> Result<(), Fault>
+    ensures done { OnOk result (RanWhole name.now (outside (S.seen site.old) (I.seen input.old) (O.seen output.old)) (outside (S.seen site.new) (I.seen input.new) (O.seen output.new))) }
+    ensures stopped { IfErr result (Stopped name.now (outside (S.seen site.old) (I.seen input.old) (O.seen output.old)) (outside (S.seen site.new) (I.seen input.new) (O.seen output.new))) }
+    ensures tried { IsAttachTried name.now [] (S.seen site.old) (S.seen site.new) }
+    ensures stays { DiskStays (S.seen site.old) (S.seen site.new) }
+{
+    match open_alone(alloc, name, site) {
+        Ok(mut database) => {
+            let ran = read_and_run(alloc, &mut database, site, input, output);
+            drop(database);
+            ran
+        }
+        Err(fault) => Err(Fault::Database(fault)),
+    }
+}
+
+/// The fault of a script's run.
+fn fault_of(fault: SessionFault) -> Fault
+    ensures { result ≡ fault_of fault }
+{
+    match fault {
+        SessionFault::Statement { number, fault } => Fault::Statement { number, fault },
+        SessionFault::Store(fault) => Fault::Database(fault),
+        SessionFault::Sink => Fault::Sink,
+        SessionFault::Memory => Fault::Database(DatabaseFault::Memory),
+    }
+}

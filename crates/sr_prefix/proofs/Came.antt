@@ -1,0 +1,128 @@
+-- What came of fetches that gave nothing forged: messages of the partner that are true.
+use Rattle.std.proofs.Common.{◌≡◌, ℕ, ◌≤◌, List, [], ◌∷◌, map, Option, Some, None, refl, sym, subst, ◌∙◌, inl, inr, arith}
+use Rattle.std.specs.Prelude.{⊤, Bool, true, false, if◌then◌else◌, nat_lt, ◌||◌}
+use Rattle.std.specs.List.{AllByRecursion}
+use Rattle.sr_book.specs.Entries.{Name}
+use Rattle.sr_book.specs.Histories.{taken_end}
+use Rattle.sr_book.specs.declared.book.Book.{Book}
+use Rattle.sr_book.specs.declared.note.Note.{Note}
+use Rattle.sr_book.specs.declared.note.Note.TheVariants.{Confirmed, Raised}
+use Rattle.sr_book.proofs.Folds.{name_test}
+use Rattle.sr_base.specs.Values.{offset_from}
+use Rattle.sr_history.specs.Folds.{sees}
+use Rattle.sr_history.specs.Recorded.{Recorded}
+use Rattle.sr_msgform.specs.Messages.{message_spelling}
+use Rattle.sr_receive.specs.Acts.{Act, dropped, torn, begun, took, Pairs, Stand, AreActs, mail_after, refetch, refetches}
+use Rattle.sr_receive.specs.Bags.{filed_of}
+use Rattle.sr_receive.specs.Gathers.{fetches}
+use Rattle.sr_receive.specs.Greatest.{ask_at, asks, confirm_in, confirms, count_in, has_gap, least_ask, raises}
+use Rattle.sr_receive.specs.Letters.{Came, gone, junk, stranger, letter, IsCame, Letter, fetch_of, letters_from}
+use Rattle.sr_receive.specs.Windows.{IsRefetched}
+use Rattle.sr_receive.specs.declared.bag.Filed.{Filed}
+use Rattle.sr_schema.specs.Catalogs.{Lists}
+use Rattle.sr_site.specs.Happenings.{Happening}
+use Rattle.sr_prefix.specs.Forging.{CameUnforged}
+use Rattle.sr_prefix.specs.Truths.{IsTrue}
+use Rattle.sr_prefix.proofs.Bodies.{IsTruePair}
+use Rattle.sr_prefix.proofs.Leading.{IsTrueAct}
+use Rattle.sr_prefix.proofs.Taking.{ConfirmsWithin}
+
+module _ (publisher user : Name) (us : List Recorded) where
+  abbrev pub Unforged : Happening → Type 0
+  Unforged step = CameUnforged publisher user us step
+
+  -- ---- second fetches
+
+  refetched : (whose : Name) (pairs : Pairs) (before : List Happening) → AllByRecursion (IsRefetched publisher whose) pairs → AllByRecursion Unforged (refetches publisher pairs before)
+      → AllByRecursion (IsTruePair publisher user us) pairs × AllByRecursion Unforged before
+  refetched whose [] before still all = (tt, all)
+  refetched whose (p ∷ pairs) before still all =
+      let later = refetched whose pairs (refetch publisher p.0 (Some (message_spelling p.1)) ∷ before) still.1 all in
+      ((λ (from : p.1.from ≡ user). later.1.0 p.1 still.0.0 refl from still.0.1.to, later.0), later.1.1)
+
+  pub acts_true : (whose : Name) (letters : List Letter) (first : Stand) (acts : List Act) (before : List Happening) → AreActs publisher whose letters first acts
+      → AllByRecursion Unforged (mail_after publisher acts before) → AllByRecursion (IsTrueAct publisher user us) acts × AllByRecursion Unforged before
+  acts_true whose letters first [] before are all = (tt, all)
+  acts_true whose letters first (dropped w pairs piece found ∷ earlier) before are all =
+      let these = refetched whose pairs (mail_after publisher earlier before) are.1.still all.1 in
+      let others = acts_true whose letters first earlier before are.0 these.1 in
+      ((tt, others.0), others.1)
+  acts_true whose letters first (torn w pairs ∷ earlier) before are all =
+      let these = refetched whose pairs (mail_after publisher earlier before) are.1.0.still all in
+      let others = acts_true whose letters first earlier before are.0 these.1 in
+      ((tt, others.0), others.1)
+  acts_true whose letters first (begun w pairs txs ∷ earlier) before are all =
+      let these = refetched whose pairs (mail_after publisher earlier before) are.1.0.still all in
+      let others = acts_true whose letters first earlier before are.0 these.1 in
+      ((these.0, others.0), others.1)
+  acts_true whose letters first (took t dones ∷ earlier) before are all =
+      let others = acts_true whose letters first earlier before are.0 all in
+      ((tt, others.0), others.1)
+
+  -- ---- first fetches
+
+  -- a letter that the user sent is true
+  abbrev pub IsTrueCame : Came → Type 0
+  IsTrueCame (gone name) = ⊤
+  IsTrueCame (junk name bytes) = ⊤
+  IsTrueCame (stranger name m) = ⊤
+  IsTrueCame (letter name m) = m.from ≡ user → IsTrue user us m
+
+  one_came : (catalog : Lists) (end : ℕ) (came : Came) → catalog.publisher ≡ publisher → IsCame catalog end came → Unforged (fetch_of publisher came) → IsTrueCame came
+  one_came catalog end (gone name) own is unforged = tt
+  one_came catalog end (junk name bytes) own is unforged = tt
+  one_came catalog end (stranger name m) own is unforged = tt
+  one_came catalog end (letter name m) own is unforged = λ (from : m.from ≡ user). unforged m is.0 refl from (is.1.to ∙ own)
+
+  pub all_came : (catalog : Lists) (end : ℕ) (comes : List Came) (before : List Happening) → catalog.publisher ≡ publisher → AllByRecursion (IsCame catalog end) comes
+      → AllByRecursion Unforged (fetches publisher comes before) → AllByRecursion IsTrueCame comes × AllByRecursion Unforged before
+  all_came catalog end [] before own are all = (tt, all)
+  all_came catalog end (came ∷ comes) before own are all =
+      let later = all_came catalog end comes (fetch_of publisher came ∷ before) own are.1 all in
+      ((one_came catalog end came own are.0 later.1.0, later.0), later.1.1)
+
+  -- a letter confirms no more than the user took
+  abbrev pub IsWithin : Filed → Type 0
+  IsWithin f = f.confirm.0 ≤ taken_end sees publisher us
+
+  pub letters_within : (catalog : Lists) (end : ℕ) (comes : List Came) → catalog.publisher ≡ publisher → AllByRecursion (IsCame catalog end) comes → AllByRecursion IsTrueCame comes
+      → AllByRecursion IsWithin (map filed_of (letters_from user comes))
+  letters_within catalog end [] own are hold = tt
+  letters_within catalog end (gone name ∷ comes) own are hold = letters_within catalog end comes own are.1 hold.1
+  letters_within catalog end (junk name bytes ∷ comes) own are hold = letters_within catalog end comes own are.1 hold.1
+  letters_within catalog end (stranger name m ∷ comes) own are hold = letters_within catalog end comes own are.1 hold.1
+  letters_within catalog end (letter name m ∷ comes) own are hold = elim (name_test user m.from) [
+    | inl t ↦
+        let is : IsTrue user us m = hold.0 (sym t.1) in
+        let within : m.confirm.0 ≤ taken_end sees publisher us = subst (λ (n : Name). m.confirm.0 ≤ taken_end sees n us) (are.0.1.to ∙ own) is.confirms in
+        rw t.0 (within, letters_within catalog end comes own are.1 hold.1)
+    | inr t ↦ rw t (letters_within catalog end comes own are.1 hold.1)
+  ]
+
+-- ---- the notes that are made of letters
+
+greatest_within : (bound : ℕ) (files : List Filed) → AllByRecursion (λ f. f.confirm.0 ≤ bound) files → confirm_in files ≤ bound
+greatest_within bound [] within = omega arith
+greatest_within bound (f ∷ files) within = omega (arith, within.0, greatest_within bound files within.1)
+
+one_note : (bound : ℕ) (b : Bool) (what : Note) → ConfirmsWithin bound what → AllByRecursion (ConfirmsWithin bound) (if b then what ∷ [] else [])
+one_note bound true what within = (within, tt)
+one_note bound false what within = tt
+
+pub confirms_within : (bound : ℕ) (book : Book) (files : List Filed) → AllByRecursion (λ f. f.confirm.0 ≤ bound) files → AllByRecursion (ConfirmsWithin bound) (confirms book files)
+confirms_within bound book files within =
+    one_note bound (nat_lt book.confirm_sent (confirm_in files) || nat_lt book.log_sent (confirm_in files)) (Confirmed (offset_from (confirm_in files))) (greatest_within bound files within)
+
+ask_within : (bound count : ℕ) (least : Option ℕ) → AllByRecursion (ConfirmsWithin bound) (ask_at count least)
+ask_within bound count None = tt
+ask_within bound count (Some place) = (tt, tt)
+
+ask_where : (bound : ℕ) (b : Bool) (count : ℕ) (least : Option ℕ) → AllByRecursion (ConfirmsWithin bound) (if b then ask_at count least else [])
+ask_where bound true count least = ask_within bound count least
+ask_where bound false count least = tt
+
+pub asks_within : (bound : ℕ) (book : Book) (files : List Filed) → AllByRecursion (ConfirmsWithin bound) (asks book files)
+asks_within bound book files = ask_where bound (nat_lt book.resend_count (count_in files)) (count_in files) (least_ask (count_in files) files)
+
+pub raises_within : (bound received : ℕ) (files : List Filed) → AllByRecursion (ConfirmsWithin bound) (raises received files)
+raises_within bound received files = one_note bound (has_gap received files) Raised tt

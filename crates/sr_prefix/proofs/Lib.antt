@@ -1,0 +1,17 @@
+pub mod Along
+pub mod Spelled
+pub mod Bodies
+pub mod Taking
+pub mod Leading
+pub mod Mail
+pub mod Came
+pub mod Turned
+pub mod Ran
+pub mod Stopped
+pub mod Whole
+pub mod Moments
+pub mod Putting
+pub mod Backed
+pub mod Lasting
+pub mod OwnActs
+pub mod Opened

@@ -1,0 +1,151 @@
+-- What happened to the mail, one thing behind another.
+use Rattle.std.proofs.Common.{◌≡◌, Bool, true, false, List, [], ◌∷◌, ◌++◌, Option, Some, None, Ok, refl, sym, ap, ◌∙◌, subst, append_assoc}
+use Rattle.std.specs.List.{AllByRecursion}
+use Rattle.std.proofs.lemmas.List.{append_cancel_right}
+use Rattle.sr_book.specs.Entries.{Name}
+use Rattle.sr_cut.proofs.Lists.{AllByRecursion-back, AllByRecursion-front}
+use Rattle.sr_history.specs.Folds.{books_of}
+use Rattle.sr_history.specs.Recorded.{Recorded}
+use Rattle.sr_receive.specs.Acts.{Act, dropped, torn, begun, took, Pairs, mail_after, refetch, refetches}
+use Rattle.sr_receive.specs.Gathers.{fetches}
+use Rattle.sr_receive.specs.Letters.{Came, fetch_of}
+use Rattle.sr_receive.specs.Purges.{dead, removals}
+use Rattle.sr_receive.specs.declared.bag.Filed.{Filed}
+use Rattle.sr_msgform.specs.Messages.{message_spelling}
+use Rattle.sr_site.specs.Happenings.{Happening, attached, wrote, cut_to, synced, listed, fetched, sent, removed, mail_in, Grows}
+use Rattle.sr_site.specs.Growing.{all_of_it, more_than}
+use Rattle.sr_standing.specs.Items.{Item, commit, put}
+use Rattle.sr_agent.specs.Deliveries.{with_puts}
+use Rattle.sr_agent.specs.Runs.{mail_of}
+use Rattle.sr_agent.specs.Turns.{Gathering, Turn, after_turns, files_of, turn_entries, turn_mail, turn_removals, turns_mail}
+
+-- ---- what happened more stands before what happened then
+
+refetches_on : (address : Name) (pairs : Pairs) (more before : List Happening) → refetches address pairs (more ++ before) ≡ refetches address pairs more ++ before
+refetches_on address [] more before = refl
+refetches_on address (p ∷ pairs) more before = refetches_on address pairs (refetch address p.0 (Some (message_spelling p.1)) ∷ more) before
+
+pub acts_mail_on : (address : Name) (acts : List Act) (more before : List Happening) → mail_after address acts (more ++ before) ≡ mail_after address acts more ++ before
+acts_mail_on address [] more before = refl
+acts_mail_on address (dropped w pairs piece found ∷ earlier) more before =
+    ap (λ (l : List Happening). refetch address piece found ∷ l)
+    (ap (refetches address pairs) (acts_mail_on address earlier more before) ∙ refetches_on address pairs (mail_after address earlier more) before)
+acts_mail_on address (torn w pairs ∷ earlier) more before =
+    ap (refetches address pairs) (acts_mail_on address earlier more before) ∙ refetches_on address pairs (mail_after address earlier more) before
+acts_mail_on address (begun w pairs txs ∷ earlier) more before =
+    ap (refetches address pairs) (acts_mail_on address earlier more before) ∙ refetches_on address pairs (mail_after address earlier more) before
+acts_mail_on address (took t dones ∷ earlier) more before = acts_mail_on address earlier more before
+
+removals_on : (address : Name) (files : List Filed) (more before : List Happening) → removals address files (more ++ before) ≡ removals address files more ++ before
+removals_on address [] more before = refl
+removals_on address (f ∷ files) more before = removals_on address files (removed address f.name true ∷ more) before
+
+pub fetches_on : (address : Name) (comes : List Came) (more before : List Happening) → fetches address comes (more ++ before) ≡ fetches address comes more ++ before
+fetches_on address [] more before = refl
+fetches_on address (came ∷ comes) more before = fetches_on address comes (fetch_of address came ∷ more) before
+
+turn_removals_on : (publisher : Name) (es : List Recorded) (comes : List Came) (purge : Bool) (t : Turn) (more before : List Happening)
+    → turn_removals publisher es comes purge t (more ++ before) ≡ turn_removals publisher es comes purge t more ++ before
+turn_removals_on publisher es comes true t more before = removals_on publisher (dead (books_of t.user (es ++ turn_entries publisher es comes t)) (files_of comes t)) more before
+turn_removals_on publisher es comes false t more before = refl
+
+turn_mail_on : (publisher : Name) (es : List Recorded) (comes : List Came) (purge : Bool) (t : Turn) (more before : List Happening)
+    → turn_mail publisher es comes purge t (more ++ before) ≡ turn_mail publisher es comes purge t more ++ before
+turn_mail_on publisher es comes purge t more before =
+    ap (turn_removals publisher es comes purge t) (acts_mail_on publisher t.acts more before)
+    ∙ turn_removals_on publisher es comes purge t (mail_after publisher t.acts more) before
+
+pub turns_mail_on : (publisher : Name) (es : List Recorded) (comes : List Came) (purge : Bool) (turns : List Turn) (more before : List Happening)
+    → turns_mail publisher es comes purge turns (more ++ before) ≡ turns_mail publisher es comes purge turns more ++ before
+turns_mail_on publisher es comes purge [] more before = refl
+turns_mail_on publisher es comes purge (t ∷ earlier) more before =
+    ap (turn_mail publisher (after_turns publisher es comes earlier) comes purge t) (turns_mail_on publisher es comes purge earlier more before)
+    ∙ turn_mail_on publisher (after_turns publisher es comes earlier) comes purge t (turns_mail publisher es comes purge earlier more) before
+
+pub mail_of_on : (publisher : Name) (gathered : Option Gathering) (more before : List Happening) → mail_of publisher gathered (more ++ before) ≡ mail_of publisher gathered more ++ before
+mail_of_on publisher None more before = refl
+mail_of_on publisher (Some g) more before = fetches_on publisher g.comes (listed publisher g.folder (Ok g.listing) ∷ more) before
+
+pub puts_on : (items : List Item) (more before : List Happening) → with_puts items (more ++ before) ≡ with_puts items more ++ before
+puts_on [] more before = refl
+puts_on (commit r ∷ items) more before = puts_on items more before
+puts_on (put address name bytes ∷ items) more before = puts_on items (sent address name bytes true ∷ more) before
+
+-- ---- so what holds of each holds of each before
+
+module _ (P : Happening → Type 0) where
+  pub under_turn : (publisher : Name) (es : List Recorded) (comes : List Came) (purge : Bool) (t : Turn) (before : List Happening) → AllByRecursion P (turn_mail publisher es comes purge t before)
+      → AllByRecursion P (mail_after publisher t.acts before)
+  under_turn publisher es comes purge t before all =
+      AllByRecursion-back P (turn_removals publisher es comes purge t []) (mail_after publisher t.acts before)
+      (subst (λ (l : List Happening). AllByRecursion P l) (turn_removals_on publisher es comes purge t [] (mail_after publisher t.acts before)) all)
+
+  pub under_turns : (publisher : Name) (es : List Recorded) (comes : List Came) (purge : Bool) (turns : List Turn) (before : List Happening)
+      → AllByRecursion P (turns_mail publisher es comes purge turns before) → AllByRecursion P before
+  under_turns publisher es comes purge turns before all =
+      AllByRecursion-back P (turns_mail publisher es comes purge turns []) before
+      (subst (λ (l : List Happening). AllByRecursion P l) (turns_mail_on publisher es comes purge turns [] before) all)
+
+  pub under_puts : (items : List Item) (before : List Happening) → AllByRecursion P (with_puts items before) → AllByRecursion P before
+  under_puts items before all =
+      AllByRecursion-back P (with_puts items []) before (subst (λ (l : List Happening). AllByRecursion P l) (puts_on items [] before) all)
+
+-- ---- the mail alone
+
+mail-append : (more before : List Happening) → mail_in (more ++ before) ≡ mail_in more ++ mail_in before
+mail-append [] before = refl
+mail-append (attached name folder done ∷ more) before = mail-append more before
+mail-append (wrote file place bytes done after ∷ more) before = mail-append more before
+mail-append (cut_to file to done after ∷ more) before = mail-append more before
+mail-append (synced file done after ∷ more) before = mail-append more before
+mail-append (listed address folder listing ∷ more) before = ap (λ (l : List Happening). listed address folder listing ∷ l) (mail-append more before)
+mail-append (fetched address name limit found ∷ more) before = ap (λ (l : List Happening). fetched address name limit found ∷ l) (mail-append more before)
+mail-append (sent address name bytes done ∷ more) before = ap (λ (l : List Happening). sent address name bytes done ∷ l) (mail-append more before)
+mail-append (removed address name done ∷ more) before = ap (λ (l : List Happening). removed address name done ∷ l) (mail-append more before)
+
+all_mail : (P : Happening → Type 0) (steps : List Happening) → AllByRecursion P steps → AllByRecursion P (mail_in steps)
+all_mail P [] all = tt
+all_mail P (attached name folder done ∷ steps) all = all_mail P steps all.1
+all_mail P (wrote file place bytes done after ∷ steps) all = all_mail P steps all.1
+all_mail P (cut_to file to done after ∷ steps) all = all_mail P steps all.1
+all_mail P (synced file done after ∷ steps) all = all_mail P steps all.1
+all_mail P (listed address folder listing ∷ steps) all = (all.0, all_mail P steps all.1)
+all_mail P (fetched address name limit found ∷ steps) all = (all.0, all_mail P steps all.1)
+all_mail P (sent address name bytes done ∷ steps) all = (all.0, all_mail P steps all.1)
+all_mail P (removed address name done ∷ steps) all = (all.0, all_mail P steps all.1)
+
+-- ---- what happened since
+
+-- these happened since, and so it is of each of them
+pub record AllSince (P : Happening → Type 0) (before now : List Happening) : Type 0 where
+  pub more : List Happening
+  pub is : now ≡ more ++ before
+  pub each : AllByRecursion P more
+
+pub mail_since : (P : Happening → Type 0) (before now more : List Happening) → now ≡ more ++ before → AllByRecursion P more → AllSince P (mail_in before) (mail_in now)
+mail_since P before now more is each = record { more = mail_in more; is = ap mail_in is ∙ mail-append more before; each = all_mail P more each }
+
+-- by a moment between, both parts
+pub since_parts : (P : Happening → Type 0) (before middle now first second : List Happening) → AllSince P before now → middle ≡ first ++ before → now ≡ second ++ middle
+    → AllByRecursion P second × AllByRecursion P first
+since_parts P before middle now first second all one two =
+    let joined : now ≡ (second ++ first) ++ before = two ∙ ap (λ (l : List Happening). second ++ l) one ∙ sym (append_assoc second first before) in
+    let same : all.more ≡ second ++ first = append_cancel_right all.more (second ++ first) before (sym all.is ∙ joined) in
+    let each : AllByRecursion P (second ++ first) = subst (λ (l : List Happening). AllByRecursion P l) same all.each in
+    (AllByRecursion-front P second first each, AllByRecursion-back P second first each)
+
+-- what only grows goes on from what it was
+pub record GoesOn (before now : List Happening) : Type 0 where
+  pub more : List Happening
+  pub is : now ≡ more ++ before
+
+pub goes_on : (before now : List Happening) → Grows before now → GoesOn before now
+goes_on before now grows = let all = more_than before now (grows before (all_of_it before)) in record { more = all.0; is = all.1 }
+
+pub grows_on : (before now : List Happening) → Grows before now → GoesOn (mail_in before) (mail_in now)
+grows_on before now grows =
+    let all = goes_on before now grows in
+    record { more = mail_in all.more; is = ap mail_in all.is ∙ mail-append all.more before }
+
+pub no_more : (now : List Happening) → GoesOn now now
+no_more now = record { more = []; is = refl }

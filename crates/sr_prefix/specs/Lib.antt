@@ -1,0 +1,5 @@
+pub mod Truths
+pub mod Partners
+pub mod Forging
+pub mod Keeping
+pub mod Puts

@@ -1,0 +1,19 @@
+//! What was taken stays a beginning of what the partner's log gives: in commit order and each once, in every run, also one that a fault ended,
+//! and whatever a crash leaves.
+//!
+//! It stands on sr_agent and sr_session, which say what a run does; its proofs take lemmas of sr_model and sr_world. It has no run time: each
+//! function carries laws as its clauses. The one that matters most is `a_run_keeps_partners_in_step`: whatever files lie in the folder, none forged,
+//! each moment of a run leaves a history that goes with the partner's.
+#![tactic(auto)]
+
+mod beginnings;
+mod histories;
+mod letters;
+mod runs;
+mod scripts;
+
+pub use beginnings::a_run_keeps_partners_in_step;
+pub use histories::{own_entries_keep_partners_in_step, what_is_true_stays_so};
+pub use letters::{what_a_run_puts_is_true, what_is_true_is_not_forged};
+pub use runs::whole_runs_keep_partners;
+pub use scripts::a_script_keeps_partners_in_step;

@@ -1,0 +1,31 @@
+//! Whole runs, from the moment at which nothing was opened yet.
+
+ghost use Rattle.std.specs.Prelude.{ℕ, IsTrue, List, Result};
+ghost use Rattle.sr_agent.specs.Agents.{RanAgent};
+ghost use Rattle.sr_agent.specs.declared.fault.AgentFault.{AgentFault as AFault};
+ghost use Rattle.sr_agent.specs.declared.options.Options.{Options as Choices};
+ghost use Rattle.sr_ast.specs.declared.stmt.Stmt.{Stmt as Statement};
+ghost use Rattle.sr_book.specs.Entries.{Name};
+ghost use Rattle.sr_database.specs.Databases.{IsDatabase};
+ghost use Rattle.sr_database.specs.Views.{View};
+ghost use Rattle.sr_history.specs.Fitting.{Stored};
+ghost use Rattle.sr_history.specs.Recorded.{Recorded};
+ghost use Rattle.sr_session.specs.Runs.{RanScript};
+ghost use Rattle.sr_session.specs.declared.fault.SessionFault.{SessionFault as ScriptFault};
+ghost use Rattle.sr_site.specs.Causes.{Stays};
+ghost use Rattle.sr_site.specs.Images.{IsImage, RestsThroughout};
+ghost use Rattle.sr_site.specs.Seen.{Seen};
+ghost use Rattle.sr_site.specs.Streams.{Output};
+ghost use Rattle.sr_prefix.specs.Keeping.{KeepsPartner};
+
+/// A whole run keeps each partner: one that changes nothing; one that opens a database and runs the agent on it; one that opens it and runs a script.
+/// All that is asked of the opening is that a crash leaves then what it could have left before.
+pub fn whole_runs_keep_partners()
+    ensures untouched { (publisher user : Name) (us : List Recorded) (before now : Seen) → RestsThroughout (IsImage before) before now → KeepsPartner publisher user us before now }
+    ensures agent { (publisher user owner : Name) (es us : List Recorded) (options : Choices) (view new : View) (before opened now : Seen) (written written' : Output) (result : Result ℕ AFault)
+        → IsTrue before.told → Stays before now → RestsThroughout (IsImage before) before opened → IsDatabase view owner es opened → Stored user us
+        → RanAgent view new opened now written written' options result → KeepsPartner publisher user us before now }
+    ensures script { (publisher user owner : Name) (es us : List Recorded) (view new : View) (before opened now : Seen) (written written' : Output) (statements : List Statement)
+        (result : Result ℕ ScriptFault) → IsTrue before.told → Stays before now → RestsThroughout (IsImage before) before opened → IsDatabase view owner es opened
+        → RanScript view new opened now written written' statements result → KeepsPartner publisher user us before now }
+{}

@@ -1,0 +1,4 @@
+pub mod Digits
+pub mod Found
+pub mod Known
+pub mod Mays

@@ -1,0 +1,14 @@
+use Rattle.std.proofs.Common.{◌≡◌, ◌≤◌, length}
+use Rattle.sr_words.specs.Numbers.{digits_behind, number_in}
+use Rattle.sr_words.proofs.Digits.{most_before}
+use Rattle.sr_words.proofs.numbers.number_in.Given as goal
+
+abbrev pub invariant-digits : goal.invariant-digits
+invariant-digits l = record {
+  number : digits_behind l.number l.left ≡ number_in l.word;
+  few : length l.left ≤ 6;
+  within : l.number ≤ most_before (length l.left);
+}
+
+abbrev pub decreases-digits : goal.decreases-digits
+decreases-digits l = length l.left
