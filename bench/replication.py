@@ -3,8 +3,8 @@
     python3 bench/replication.py crates/replbench/out/replbench crates/dbremote/out/dbremote [--folder F] [--times N] [--small]
 
 `scan` reads a log of 1,000,000 transactions that insert one row each, with the statements before it that make a table whose rows go to partners by a
-column's value, and feeds the entries to a scanner for one partner: microseconds an entry beyond reading it, for 100, 1,000 and 5,000 started
-subscriptions. (To make them takes a time that grows with their square today, so more of them are not tried.) `judge` judges updates by key from below
+column's value, and feeds the entries to a scanner for one partner: microseconds an entry beyond reading it, for 100 to 60,000 started
+subscriptions. `judge` judges updates by key from below
 on tables of growing size: microseconds an update, which is to grow with the logarithm of the rows. `synchronize` is a SYNCHRONIZE of a table of
 growing size by the program: seconds beyond the same script without it, which are to grow with the rows and their logarithm.
 """
@@ -54,7 +54,7 @@ def least(words, program, arguments, source, folder):
 def scans(words, folder, rows):
     """Microseconds an entry beyond reading it."""
     table = []
-    for subscriptions in (100, 1_000, 5_000):
+    for subscriptions in (100, 1_000, 10_000, 60_000):
         with open(f"{folder}/bodies", "wb") as file:
             file.write(log(subscriptions, rows))
         empty, _ = written(folder, "made", log(subscriptions, 0))
