@@ -24,12 +24,14 @@ if "$top/install.sh" "$folder" >/dev/null; then
         warnings=$(groff -ww -man -Tutf8 "$page" 2>&1 >/dev/null)
         [ -z "$warnings" ] || say "the man page has warnings: $warnings"
     fi
-    for command in init sql show; do
+    for command in init sql agent show; do
         grep -q "^\.B dbremote $command$" "$page" || say "the man page lacks $command"
     done
     if command -v bash >/dev/null; then
         words=$(bash -c 'source "$1" && COMP_WORDS=(dbremote s) && COMP_CWORD=1 && _dbremote && echo "${COMPREPLY[*]}"' - "$folder/share/bash-completion/completions/dbremote")
         [ "$words" = 'sql show' ] || say "the completion of s is: $words"
+        words=$(bash -c 'source "$1" && COMP_WORDS=(dbremote agent c1 --mail m -r "") && COMP_CWORD=6 && _dbremote && echo "${COMPREPLY[*]}"' - "$folder/share/bash-completion/completions/dbremote")
+        [ "$words" = '-s -p -l' ] || say "the completion behind -r is: $words"
     fi
     "$top/install.sh" --remove "$folder" >/dev/null || say 'it could not be taken away'
     left=$(find "$folder" -mindepth 1)

@@ -1,11 +1,14 @@
 """Runs the cases of this folder with a built program. README.md has their forms."""
 
+import ctypes
 import os
 import re
 import shlex
 import subprocess
 import sys
 import tempfile
+
+from steps import cases_of, files_in, many_times, run, write
 
 HERE = os.path.dirname(os.path.abspath(__file__))
 
@@ -16,121 +19,54 @@ def rows_of(path):
         return [line.rstrip("\n") for line in file if line.strip() and not line.startswith("#")]
 
 
-def run(program, words, folder, script=b""):
-    """The exit status of a run in a folder, and what it printed."""
-    done = subprocess.run([program, *words], cwd=folder, input=script, capture_output=True, check=False)
-    return done.returncode, done.stdout
-
-
-def write(folder, name, data):
-    """Writes a file of a folder, and the folders on its way."""
-    path = os.path.join(folder, name)
-    os.makedirs(os.path.dirname(path), exist_ok=True)
-    with open(path, "wb") as file:
-        file.write(data)
-
-
-def read(folder, name):
-    """The bytes of a file; none where it is not there."""
-    path = os.path.join(folder, name)
-    if not os.path.exists(path):
-        return b""
-    with open(path, "rb") as file:
-        return file.read()
-
-
-def files_in(folder):
-    """The files of a folder that have bytes, by their names."""
-    found = {}
-    for root, _, names in os.walk(folder):
-        for name in names:
-            path = os.path.relpath(os.path.join(root, name), folder)
-            data = read(folder, path)
-            if data:
-                found[path] = data
-    return found
-
-
-# ---- program/*.case
-
-
-def steps_of(path):
-    """The steps of a case: each its words, and the blocks behind it by their names."""
-    steps = []
-    block = None
-    with open(path, encoding="utf-8", newline="") as file:
-        for line in file.read().split("\n"):
-            if line.startswith(("  |", "  \\")):
-                steps[-1][1][block] += line[3:].encode() + (b"\n" if line[2] == "|" else b"")
-            elif line in ("stdin", "stdout"):
-                block = line
-                steps[-1][1][block] = b""
-            elif line.startswith("status "):
-                steps[-1][1]["status"] = int(line[7:])
-            elif line:
-                steps.append((line.split(" "), {}))
-    return steps
-
-
-def step_met(program, folder, words, blocks, held):
-    """Does a step in a folder, and answers whether it went as the case says."""
-    kind, *rest = words
-    if kind == "run":
-        wanted = blocks["status"], blocks.get("stdout", b"")
-        return run(program, rest, folder, blocks.get("stdin", b"")) == wanted
-    name = rest[0]
-    if kind == "file":
-        return read(folder, name).hex() == "".join(rest[1:])
-    if kind == "delete":
-        os.remove(os.path.join(folder, name))
-    elif kind == "copy":
-        write(folder, rest[1], read(folder, name))
-    elif kind == "touch":
-        write(folder, name, b"")
-    elif kind == "part":
-        write(folder, rest[1], read(folder, name)[: int(rest[2])])
-    elif kind == "cut":
-        write(folder, name, read(folder, name)[: int(rest[2])])
-    elif kind == "append":
-        write(folder, name, read(folder, name) + bytes.fromhex(rest[1]))
-    elif kind == "hold":
-        held[name] = read(folder, name)
-        os.remove(os.path.join(folder, name))
-    elif kind == "release":
-        write(folder, name, held[name])
-    else:
-        return False
-    return True
-
-
-def case_met(program, path):
-    """Whether each step of a case goes as it says, and where it names the files that are left, whether they are left."""
-    left = {}
-    held = {}
+def bind_modes():
+    """Has the modes of files bind the programs that are run, also where they are run by root; answers whether they do."""
+    prctl = getattr(ctypes.CDLL(None), "prctl", None)
+    for capability in (1, 2):  # to read and write whatever the mode, and to look into each folder
+        if prctl:
+            prctl(24, capability, 0, 0, 0)  # takes it from what a program can get that is started from here
     with tempfile.TemporaryDirectory() as folder:
-        for words, blocks in steps_of(path):
-            if words[0] == "left":
-                left[words[1]] = bytes.fromhex(words[3])
-            elif not step_met(program, folder, words, blocks, held):
-                return False
-        return not left or files_in(folder) == left
+        path = os.path.join(folder, "closed")
+        write(path, b"")
+        os.chmod(path, 0)
+        return subprocess.run(["cat", path], capture_output=True, check=False).returncode != 0
 
 
-def cases(program):
-    """The cases of program/, each its name and whether it is met."""
-    for name in sorted(os.listdir(os.path.join(HERE, "program"))):
-        yield f"program/{name}", case_met(program, os.path.join(HERE, "program", name))
+def paths_of(names):
+    """The files of cases that are named, or all of program/ and agent/."""
+    if names:
+        return names
+    return [f"{group}/{name}" for group in ("program", "agent") for name in sorted(os.listdir(os.path.join(HERE, group)))]
+
+
+def cases(program, names=()):
+    """The cases of these files, each its name and what of it is not met."""
+    with_modes = bind_modes()
+    if not with_modes:
+        print("cases: those with a step `mode` are left out, for modes bind nobody here")
+    for path in paths_of(names):
+        yield from cases_of(program, os.path.join(HERE, path), path, with_modes)
 
 
 # ---- words.txt, refused.txt, damaged.txt
 
 
+def fault(met):
+    """What is said of a row that is met or not."""
+    return "" if met else "the status, a line or a file is another"
+
+
 def words(program):
-    """Words that are refused: nothing is made."""
+    """Words, each with the status and the line that is wanted of it. Where they are refused, nothing is made."""
+    wanted = 0, b""
     for row in rows_of("words.txt"):
+        if row.startswith("> "):
+            status, line = row[2:].split(" ", 1)
+            wanted = int(status), line.encode() + b"\n"
+            continue
         with tempfile.TemporaryDirectory() as folder:
-            met = run(program, shlex.split(row), folder) == (2, b"words refused\n") and not os.listdir(folder)
-        yield f"words.txt: {row}", met
+            met = run(program, shlex.split(many_times(row)), folder) == wanted and (wanted[0] != 2 or not os.listdir(folder))
+        yield f"words.txt: {row}", fault(met)
 
 
 def script_of(text):
@@ -148,20 +84,21 @@ def refused(program):
     made = "\n".join(row[2:] for row in rows if row.startswith("> "))
     with tempfile.TemporaryDirectory() as folder:
         run(program, ["init", "c1", "cons"], folder)
-        yield "refused.txt: the database", run(program, ["sql", "c1"], folder, made.encode())[0] == 0
+        yield "refused.txt: the database", fault(run(program, ["sql", "c1"], folder, made.encode())[0] == 0)
         whole = files_in(folder)
     for row in rows:
         if row.startswith("> "):
             continue
-        fault, _, text = row.partition(": ")
+        refusal, _, text = row.partition(": ")
         script, place = script_of(text)
-        status = 9 if fault.startswith("TooMany") else 4
+        status = 9 if refusal.startswith("TooMany") else 4
         with tempfile.TemporaryDirectory() as folder:
             for name, data in whole.items():
-                write(folder, name, data)
+                write(os.path.join(folder, name), data)
             answered, lines = run(program, ["sql", "c1"], folder, script.encode())
-            told = lines.endswith(b"statement %d refused: %s\n" % (place, fault.encode()))
-            yield f"refused.txt: {row}", told and answered == status and lines.count(b"\n") == place and (place > 1 or files_in(folder) == whole)
+            told = lines.endswith(b"statement %d refused: %s\n" % (place, refusal.encode()))
+            kept = place > 1 or files_in(folder) == whole
+            yield f"refused.txt: {row}", fault(told and answered == status and lines.count(b"\n") == place and kept)
 
 
 def span(text):
@@ -203,24 +140,32 @@ def damaged(program):
         lines = b"" if verdict == "stands" else b"database missing\n" if verdict == "missing" else b"database damaged %s\n" % verdict.encode()
         with tempfile.TemporaryDirectory() as folder:
             for file, data in files.items():
-                write(folder, f"c1.{file}", data)
+                write(os.path.join(folder, f"c1.{file}"), data)
             told = run(program, ["sql", "c1"], folder) == (0 if verdict == "stands" else 3, lines)
-            yield f"damaged.txt: {name}", told and files_in(folder) == {f"c1.{file}": data for file, data in files.items() if data}
+            left = {f"c1.{file}": data for file, data in files.items() if data}
+            yield f"damaged.txt: {name}", fault(told and files_in(folder) == left)
+
+
+def rows(program):
+    """The rows of the tables."""
+    for table in (words, refused, damaged):
+        yield from table(program)
 
 
 def main(arguments):
-    """Runs every case, and answers the exit status."""
-    if len(arguments) != 2:
-        print("usage: cases/run.sh PROGRAM")
+    """Runs the cases that are named, or all and the rows of the tables, and answers the exit status."""
+    if len(arguments) < 2:
+        print("usage: cases/run.sh PROGRAM [CASE ..]")
         return 2
-    program = os.path.abspath(arguments[1])
+    program, *names = arguments[1:]
+    program = os.path.abspath(program)
     met = count = 0
-    for group in (cases, words, refused, damaged):
-        for name, good in group(program):
+    for group in (cases(program, names), [] if names else rows(program)):
+        for name, wrong in group:
             count += 1
-            met += good
-            if not good:
-                print(f"not met: {name}")
+            met += not wrong
+            if wrong:
+                print(f"not met: {name}: {wrong}", flush=True)
     print(f"cases: {met} of {count} met")
     return 0 if met == count else 1
 
