@@ -32,36 +32,32 @@ BELOW = (
 )
 
 
-def script(folder, text):
-    """Writes a script; returns its path."""
+def script(folder, lines):
+    """Writes a script, line by line, for a child's peak begins at what this process holds; returns its path."""
     with open(f"{folder}/script", "wb") as file:
-        file.write(text)
+        file.writelines(lines)
     return f"{folder}/script"
 
 
-def inserts(first, rows, each):
-    """So many INSERT lines from a key on, with a COMMIT after each so many."""
-    lines = []
+def inserts(first, rows):
+    """So many INSERT lines from a key on, each with its COMMIT."""
     for key in range(first, first + rows):
-        lines.append(common.INSERT % (key, key * 7))
-        if (key + 1) % each == 0:
-            lines.append(b"COMMIT;\n")
-    return b"".join(lines) + b"COMMIT;\n"
+        yield common.INSERT % (key, key * 7) + b"COMMIT;\n"
 
 
 def make(words, folder, name, publisher, setup):
     """Makes a database anew with its partner."""
     common.fresh(folder, name)
-    nothing = script(folder, b"")
+    nothing = script(folder, [])
     common.run([words.program, "init", name, publisher], nothing, folder)
-    common.run([words.program, "sql", name], script(folder, setup), folder)
+    common.run([words.program, "sql", name], script(folder, [setup]), folder)
 
 
 def fill(words, folder, rows):
     """The database above with so many transactions of one row; nothing of them is sent."""
     shutil.rmtree(f"{folder}/mail", ignore_errors=True)
     make(words, folder, "above", "above", ABOVE)
-    common.run([words.program, "sql", "above"], script(folder, inserts(0, rows, 1)), folder)
+    common.run([words.program, "sql", "above"], script(folder, inserts(0, rows)), folder)
 
 
 def copied(folder, name, to):
@@ -73,13 +69,13 @@ def copied(folder, name, to):
 
 def agent(words, folder, name, *flags):
     """One run of the agent; returns its seconds and its peak."""
-    seconds, peak, _ = common.run([words.program, "agent", name, "--mail", "mail", *flags], script(folder, b""), folder)
+    seconds, peak, _ = common.run([words.program, "agent", name, "--mail", "mail", *flags], script(folder, []), folder)
     return seconds, peak
 
 
 def shown(words, folder, name):
     """Opening alone; returns its seconds and its peak."""
-    seconds, peak, _ = common.run([words.program, "show", name], script(folder, b""), folder)
+    seconds, peak, _ = common.run([words.program, "show", name], script(folder, []), folder)
     return seconds, peak
 
 
@@ -176,7 +172,7 @@ def idles(words, folder, rows):
     for records in (rows // 4, rows):
         shutil.rmtree(f"{folder}/mail", ignore_errors=True)
         make(words, folder, "above", "above", ABOVE)
-        common.run([words.program, "sql", "above"], script(folder, inserts(0, records, 1)), folder)
+        common.run([words.program, "sql", "above"], script(folder, inserts(0, records)), folder)
         agent(words, folder, "above", "-s")
         opened, idle = [], []
         for _ in range(words.times):
@@ -193,10 +189,10 @@ def memories(words, folder, rows):
         shutil.rmtree(f"{folder}/mail", ignore_errors=True)
         make(words, folder, "above", "above", ABOVE)
         # rows that go again, so that the log grows and the table does not
-        text = b"".join(common.INSERT % (0, key) + b"COMMIT;\nDELETE FROM t WHERE id = 0;\nCOMMIT;\n" for key in range(records // 2))
-        common.run([words.program, "sql", "above"], script(folder, text), folder)
+        lines = (common.INSERT % (0, key) + b"COMMIT;\nDELETE FROM t WHERE id = 0;\nCOMMIT;\n" for key in range(records // 2))
+        common.run([words.program, "sql", "above"], script(folder, lines), folder)
         agent(words, folder, "above", "-s")
-        common.run([words.program, "sql", "above"], script(folder, inserts(1, 1_000, 1)), folder)
+        common.run([words.program, "sql", "above"], script(folder, inserts(1, 1_000)), folder)
         _, opened = shown(words, folder, "above")
         _, peak = agent(words, folder, "above", "-s")
         table.append([records, os.path.getsize(f"{folder}/above.log0") / 1048576, opened, peak])
