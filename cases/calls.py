@@ -12,7 +12,8 @@ import sys
 import tempfile
 
 SCRIPT = b"INSERT INTO t VALUES (%d, 1);\nINSERT INTO t VALUES (%d, 2);\nCOMMIT;\n"
-PUTS = "devices::a_message_is_put_listed_fetched_and_removed"
+# a row of the program that tests the devices: messages are put, one in place of another
+PUTS = b"host folder box; attach box/db box/mail; put r1 b.2 two; put r1 b.1 one; put r1 b.2 again; gone box => ok; ok; ok; ok; ok; ok\n"
 WATCHED = "openat,pwrite64,write,ftruncate,fdatasync,fsync,rename,mkdir"
 CALL = re.compile(r"(?:\d+ +)?(\w+)\((.*)\) += (-?\d+)")
 
@@ -71,15 +72,15 @@ def commits(program, folder):
 
 
 def puts(tests, folder):
-    """The steps of the puts of a test, one after the other, and those that are wanted of each."""
+    """The steps of the puts of a row, one after the other, and those that are wanted of each."""
     made, drafts, found, wanted = [], set(), [], []
-    for name, rest in traced([tests, PUTS], folder):
+    for name, rest in traced([tests], folder, PUTS):
         if name == "mkdir":
             made.append(os.path.join(folder, rest.split('"')[1]))
         elif name == "openat" and "O_EXCL" in rest:
             path = os.path.join(folder, rest.split('"')[1])
             inbox, draft = os.path.split(path)
-            # the folder of the test itself, the first, is not made by a put
+            # the folder of the row itself, the first, is not made by a put
             holding = [os.path.dirname(each) for each in made if os.path.dirname(each) != folder]
             entries = dict.fromkeys([*holding, os.path.dirname(inbox)])
             wanted += [f"write {path}", f"fsync {path}", f"rename {os.path.join(inbox, draft[1:])}"]
@@ -90,6 +91,8 @@ def puts(tests, folder):
             found.append("rename " + os.path.join(folder, rest.split('"')[3]))
         elif name == "fsync" or name == "write" and path_of(rest) in drafts:
             found.append(f"{name} {path_of(rest)}")
+    if sum(step.startswith("rename ") for step in wanted) != 3:
+        sys.exit("calls: the row did not put its three messages")
     return found, wanted
 
 

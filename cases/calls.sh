@@ -1,7 +1,7 @@
 #!/bin/sh
-# Counts the system calls of a built program: those of commits and, by the built tests, those of putting messages.
+# Counts the system calls of a built program: those of commits and, by the built program that tests the devices, those of putting messages.
 #
-# Usage: cases/calls.sh PROGRAM [TESTS]
+# Usage: cases/calls.sh PROGRAM [LAYERTESTS]
 #
 # It ends with status 1 where a call is missing, out of its place or one too many. Where there is no strace, or none that may look at a
 # process, or no python3, it says so in a line, and ends with status 0.

@@ -57,16 +57,17 @@ def fault(met):
 
 
 def words(program):
-    """Words, each with the status and the line that is wanted of it. Where they are refused, nothing is made."""
+    """Words, each with the status and the lines that are wanted of it. Where they are refused, or ask for the demonstration, nothing is made."""
     wanted = 0, b""
     for row in rows_of("words.txt"):
         if row.startswith("> "):
             status, line = row[2:].split(" ", 1)
-            wanted = int(status), line.encode() + b"\n"
+            wanted = int(status), line.replace("\\n", "\n").encode() + b"\n"
             continue
         with tempfile.TemporaryDirectory() as folder:
-            met = run(program, shlex.split(many_times(row)), folder) == wanted and (wanted[0] != 2 or not os.listdir(folder))
-        yield f"words.txt: {row}", fault(met)
+            told = run(program, shlex.split(many_times(row)), folder) == wanted
+            made = os.listdir(folder)
+        yield f"words.txt: {row}", fault(told and not (made and (wanted[0] == 2 or row.startswith("demo"))))
 
 
 def script_of(text):
@@ -146,9 +147,24 @@ def damaged(program):
             yield f"damaged.txt: {name}", fault(told and files_in(folder) == left)
 
 
+def demonstration(program):
+    """A demonstration of 2000 statements, twice: the same five lines, and behind the lost messages and the conflicts nothing differs in the end. And one whose
+    lines nobody takes."""
+    with tempfile.TemporaryDirectory() as folder:
+        status, lines = run(program, ["demo", "1", "2000"], folder)
+        again = run(program, ["demo", "1", "2000"], folder)
+        made = os.listdir(folder)
+    form = rb"statements 2000\nmessages \d+ lost [1-9]\d*\nrows( [1-9]\d*){4}\nconflicts [1-9]\d* clashes \d+\ndiffer 0\n"
+    yield "demo 1 2000", fault(status == 0 and re.fullmatch(form, lines) and not made)
+    yield "demo 1 2000, again", fault(again == (status, lines))
+    if os.path.exists("/dev/full"):
+        with open("/dev/full", "wb") as full:
+            yield "demo 7 0, to a full device", fault(subprocess.run([program, "demo", "7", "0"], stdout=full, check=False).returncode == 7)
+
+
 def rows(program):
-    """The rows of the tables."""
-    for table in (words, refused, damaged):
+    """The rows of the tables, and the demonstration."""
+    for table in (words, refused, damaged, demonstration):
         yield from table(program)
 
 

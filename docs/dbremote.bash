@@ -24,8 +24,8 @@ _dbremote() {
     local word=${COMP_WORDS[COMP_CWORD]}
     COMPREPLY=()
     case $COMP_CWORD in
-        1) mapfile -t COMPREPLY < <(compgen -W 'init sql agent show' -- "$word") ;;
-        2) _dbremote_names "$word" ;;
+        1) mapfile -t COMPREPLY < <(compgen -W 'init sql agent show demo' -- "$word") ;;
+        2) [ "${COMP_WORDS[1]}" = demo ] || _dbremote_names "$word" ;;
         *) [ "${COMP_WORDS[1]}" != agent ] || _dbremote_agent "$word" ;;
     esac
 }

@@ -3,14 +3,14 @@
 use crate::offices::Offices;
 use crate::running::Trouble;
 use crate::steps::{push_part, say_befallen, say_steps};
-use sr_answers::{say, word};
+use sr_answers::{number, say, word};
 use sr_base::NoMemory;
 use std::alloc::Global;
 
 /// More calls than a step makes.
 const CALLS: u64 = 4000;
 
-/// The crashes that are tried: what the last syncs left, what stood, and two between.
+/// The crashes that are tried where a row does not say how many: what the last syncs left, what stood, and two between.
 const PICKS: u64 = 4;
 
 /// A row from the step on that it is about.
@@ -47,13 +47,14 @@ fn say_on(
         "fail" | "stop" => say_each(alloc, offices, row, out),
         "once" => say_once(alloc, offices, row, out),
         "lost" | "other" => say_changed(alloc, offices, row, out),
+        "source" => say_with(alloc, offices, row, Trouble::Source, out),
+        "sink" => say_with(alloc, offices, row, Trouble::Sink, out),
         _ => say(out, "no kind"),
     }
 }
 
 fn say_once(alloc: Global, offices: &Offices, row: Row, out: &mut Vec<u8>) -> Result<(), NoMemory> {
-    say_from(alloc, offices, row, Trouble::Nothing, out)?;
-    Ok(())
+    say_with(alloc, offices, row, Trouble::Nothing, out)
 }
 
 fn say_changed(
@@ -62,7 +63,17 @@ fn say_changed(
     row: Row,
     out: &mut Vec<u8>,
 ) -> Result<(), NoMemory> {
-    say_from(alloc, offices, row, Trouble::Changes(row.kind), out)?;
+    say_with(alloc, offices, row, Trouble::Changes(row.kind), out)
+}
+
+fn say_with(
+    alloc: Global,
+    offices: &Offices,
+    row: Row,
+    trouble: Trouble,
+    out: &mut Vec<u8>,
+) -> Result<(), NoMemory> {
+    say_from(alloc, offices, row, trouble, out)?;
     Ok(())
 }
 
@@ -137,7 +148,7 @@ fn say_call(
     calls: u64,
     out: &mut Vec<u8>,
 ) -> Result<bool, NoMemory> {
-    if row.kind == "fail" {
+    if word(row.kind, 0) == "fail" {
         let call = calls.saturating_add(1);
         say_from(alloc, offices, row, Trouble::Fails(call), out)
     } else {
@@ -168,7 +179,7 @@ fn say_picks(
     out: &mut Vec<u8>,
 ) -> Result<bool, NoMemory> {
     let mut is_whole = true;
-    for pick in 0..PICKS {
+    for pick in 0..picks_of(row.kind) {
         let mut found = Vec::new(alloc);
         let trouble = Trouble::Stops(calls, pick);
         let is_over = say_from(alloc, offices, row, trouble, &mut found)?;
@@ -181,6 +192,14 @@ fn say_picks(
         }
     }
     Ok(is_whole)
+}
+
+/// How many crashes are tried: what stands behind `stop`.
+fn picks_of(kind: &str) -> u64 {
+    match number(kind, 1) {
+        0 => PICKS,
+        picks => picks,
+    }
 }
 
 /// Whether this was said.

@@ -11,13 +11,14 @@
 //! |---|---|
 //! | `once` | nothing |
 //! | `fail` | the first call of its site fails; then, made anew, the second one, and so on until it makes no such call |
-//! | `stop` | it is stopped before the first call of its site; then before the second one, and so on. Each time a crash follows, of each pick from 0 to 3 |
+//! | `stop` | it is stopped before the first call of its site; then before the second one, and so on. Each time a crash follows, of each pick from 0 to 3, or of the first N of `stop N` |
 //! | `lost N NAME` | just before the N-th fetch the file of this name is lost |
 //! | `other N NAME FILE` | just before the N-th fetch a copy of another file takes its place |
+//! | `source`, `sink` | the first call of the script's source, or of what takes its lines, fails |
 //!
 //! For `fail` and `stop` what the steps say stands once for all calls behind each other with which they say the same, with ` > ` between; where it
 //! differs by the pick, ` OR ` stands between. The status of the step behind `*` is 5 where a call of the disk failed in it, 6 where one of the
-//! mail did, and 0 or 1 where none did: `WRONG` stands where it is not.
+//! mail did, 7 where one of a stream did, and 0, 1 or 4 where none did: `WRONG` stands where it is not.
 //!
 //! Steps and answers have `; ` between them. A run with `?` before it says its status and its lines, with ` / ` between; any other run says
 //! `ENDED` and its status where that is neither 0 nor 1.
@@ -25,6 +26,7 @@
 //! | Step | |
 //! |---|---|
 //! | `begin`, `papers` | makes both databases, with a table `cust` in two partitions, or a table `doc` for long texts |
+//! | `stand` | gives `cons` the files of a database with every kind of entry, made elsewhere |
 //! | `sql NAME SCRIPT`, `agent NAME WORDS`, `show NAME` | the program with these words, of the agent with the mail folder behind the name; no blank stands behind a `;` in a script |
 //! | `write cons` | a script that inserts six rows into `doc`, each with a text of 29,971 letters |
 //! | `lay TO NAME BYTES`, `lose TO NAME`, `hold TO NAME`, `repeat TO NAME AS`, `release` | what becomes of a file on its way |
@@ -38,6 +40,7 @@ mod offices;
 mod running;
 mod scripts;
 mod shifting;
+mod standing;
 mod steps;
 
 use befallen::say_row;

@@ -40,6 +40,13 @@ impl Offices {
         Ok(())
     }
 
+    /// Gives `cons` this log and this snapshot, both whole, and a root that names them.
+    pub fn set_above(&mut self, log: Vec<u8>, snapshot: Vec<u8>, root: Vec<u8>) {
+        self.above.set(File::Log0, log);
+        self.above.set(File::Snap0, snapshot);
+        self.above.set(File::Root, root);
+    }
+
     /// The site of an office over the folders, until it is given back.
     pub fn take_site(&mut self, alloc: Global, name: &str) -> MemorySite {
         let mail = replace(&mut self.mail, SharedMail::new(alloc));

@@ -19,6 +19,16 @@ pub enum Trouble<'a> {
     Stops(u64, u64),
     /// The change that a kind of row tells.
     Changes(&'a str),
+    /// The first call of the script's source fails.
+    Source,
+    /// The first call of the sink that takes the lines fails.
+    Sink,
+}
+
+impl Trouble<'_> {
+    fn is_of_streams(&self) -> bool {
+        matches!(self, Trouble::Source | Trouble::Sink)
+    }
 }
 
 /// How a run ended: its status, and the devices of which a call has failed.
@@ -27,20 +37,22 @@ pub struct Ended {
     pub status: u8,
     pub disk: bool,
     pub mail: bool,
+    pub streams: bool,
 }
 
 impl Ended {
-    /// Whether no call of the site has failed.
+    /// Whether no call of a device has failed.
     pub fn is_whole(&self) -> bool {
-        !self.disk && !self.mail
+        !self.disk && !self.mail && !self.streams
     }
 
-    /// Whether the status is that of the device that failed, or of none.
+    /// Whether the status is that of the device that failed, or of none: all was done, some of it with a report, or a statement was refused.
     pub fn is_right(&self) -> bool {
         match self.status {
-            0 | 1 => self.is_whole(),
-            5 => self.disk && !self.mail,
-            6 => self.mail && !self.disk,
+            0 | 1 | 4 => self.is_whole(),
+            5 => self.disk && !self.mail && !self.streams,
+            6 => self.mail && !self.disk && !self.streams,
+            7 => self.streams && !self.disk && !self.mail,
             _ => false,
         }
     }
@@ -86,11 +98,12 @@ fn run_befallen(
     out: &mut Vec<u8>,
 ) -> Result<Ended, NoMemory> {
     begin(alloc, &mut shifting.site, trouble)?;
-    let status = run_words(alloc, words, shifting, script, out)?;
+    let status = run_words(alloc, words, shifting, script, trouble, out)?;
     let ended = Ended {
         status,
         disk: shifting.site.disk_faults() > 0,
         mail: shifting.site.mail_faults() > 0,
+        streams: trouble.is_of_streams(),
     };
     end(alloc, &mut shifting.site, trouble)?;
     Ok(ended)
@@ -120,10 +133,11 @@ fn run_words<S: Site>(
     words: &str,
     site: &mut S,
     script: &[u8],
+    trouble: Trouble,
     out: &mut Vec<u8>,
 ) -> Result<u8, NoMemory> {
     let words = texts_of(alloc, words)?;
-    let status = run_texts(alloc, words.as_slice(), site, script, out);
+    let status = run_texts(alloc, words.as_slice(), site, script, trouble, out);
     drop(words);
     status
 }
@@ -146,14 +160,21 @@ fn run_texts<S: Site>(
     words: &[Text],
     site: &mut S,
     script: &[u8],
+    trouble: Trouble,
     out: &mut Vec<u8>,
 ) -> Result<u8, NoMemory> {
     let mut input = MemorySource::new(Vec::from_slice(alloc, script)?);
     let mut output = MemorySink::new(alloc);
+    let failing = match trouble {
+        Trouble::Source => input.fail_calls(alloc, &[1]),
+        Trouble::Sink => output.fail_calls(alloc, &[1]),
+        _ => Ok(()),
+    };
     let status = run(alloc, words, site, &mut input, &mut output, 0);
     let kept = out.extend_from_slice(output.bytes());
     drop(output);
     drop(input);
+    failing?;
     kept?;
     Ok(status)
 }

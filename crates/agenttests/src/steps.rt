@@ -4,6 +4,7 @@ use crate::calls::say_mail;
 use crate::offices::Offices;
 use crate::running::{Ended, Trouble, run_at};
 use crate::scripts::{CUSTOMERS_ABOVE, CUSTOMERS_BELOW, PAPERS_ABOVE, PAPERS_BELOW, papers};
+use crate::standing::stand;
 use sr_answers::{say, say_number, word};
 use sr_base::NoMemory;
 use std::alloc::Global;
@@ -74,6 +75,7 @@ fn say_step(
     match word(step, 0) {
         "begin" => say_begun(alloc, offices, CUSTOMERS_ABOVE, CUSTOMERS_BELOW, out),
         "papers" => say_begun(alloc, offices, PAPERS_ABOVE, PAPERS_BELOW, out),
+        "stand" => stand(alloc, offices),
         "lay" | "lose" | "hold" | "repeat" | "release" | "puts" | "file" => {
             say_mail(alloc, offices, step, out)
         }

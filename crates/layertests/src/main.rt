@@ -2,7 +2,8 @@
 //! answer is given, and then how many are answered as they stand. The rows were made by hand or outside; none comes from this program.
 //!
 //! It is nothing but a test, so that the crates that it tries have none and are proved once. What scripts are answered stands in the stored run of
-//! `scriptbench`. A line without ` => ` is a heading.
+//! `scriptbench`. A line without ` => ` is a heading. Steps on devices, and how they end, have `; ` between them; a byte there that is no letter, digit
+//! or sign is written as `\` and two digits.
 //!
 //! | Kind | Given | Answer |
 //! |---|---|---|
@@ -17,13 +18,24 @@
 //! | `gives` | an expression | what it gives over `o.i` INTEGER 7, `n.i` BIGINT 8, `o.d` DATE NULL and the variable `v` INTEGER -9 |
 //! | `date` | a text | its day from 1970-01-01, or `none` |
 //! | `order`, `compare`, `fit`, `literal` | values: `NULL`, a number, one with `L` a BIGINT, `'` a text, `@` a date | how two keys or values compare; the value in a column; how it prints |
+//! | `site` | steps on a new site in memory: `length FILE`, `write FILE AT BYTES`, `cut FILE TO`, `sync FILE`, `read FILE AT` (of eight bytes), `attach NAME FOLDER`, `put TO NAME BYTES`, `remove TO NAME`, `list TO`, `fetch TO NAME LIMIT`; and `fail CALL ..`, `stop CALLS`, `crash PICK` | how each ends |
+//! | `mail` | steps on new folders in memory: `put`, `lay`, `fetch`, `remove` and `list` as above, `file TO NAME`, `lose TO NAME`, `hold TO NAME`, `repeat TO NAME AS`, `release`, `puts` | how each ends |
+//! | `host` | steps on a new site over real files, those of a site but the last three; and `folder PATH`, made anew, `file PATH BYTES`, `gone PATH`, and `other NAME FOLDER`, which attaches a second site | how each ends |
+//! | `streams` | nothing | what a read of no bytes from standard input gives, and a write of none to standard output |
+//! | `log` | numbers of stops and of crashes | the first stop and the first crash behind which a log that two records are committed to is left otherwise than it is to be, or `none` |
 #![tactic(auto)]
 
 mod books;
 mod damages;
 mod entries;
 mod expressions;
+mod hosts;
+mod letters;
+mod logs;
+mod mail;
 mod messages;
+mod saying;
+mod sites;
 mod table;
 mod texts;
 mod tokens;
@@ -33,7 +45,7 @@ use std::process::ExitCode;
 use table::Bench;
 
 fn main(rt: HostRuntime) -> ExitCode {
-    let mut bench = Bench::new(rt.alloc());
+    let mut bench = Bench::new(rt);
     let status = sr_answers::run(rt, &mut bench);
     drop(bench);
     ExitCode::from(status)

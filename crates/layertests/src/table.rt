@@ -4,7 +4,11 @@ use crate::books::{say_need, say_noted, say_took};
 use crate::damages::{say_cut, say_more, say_set};
 use crate::entries::{say_entry, say_op};
 use crate::expressions::say_given;
+use crate::hosts::{say_host, say_streams};
+use crate::letters::say_letters;
+use crate::logs::say_crashes;
 use crate::messages::{say_bits, say_file};
+use crate::sites::say_site;
 use crate::texts::{say_date, say_name, say_text};
 use crate::tokens::{say_kinds, say_lexed, say_tokens};
 use crate::values::{say_compared, say_fitted, say_literal, say_order};
@@ -16,6 +20,7 @@ use std::alloc::Global;
 /// What goes from one row to the next, and room for bytes.
 #[derive(Drop)]
 pub struct Bench {
+    rt: HostRuntime,
     /// The last entry.
     entry: Vec<u8>,
     /// The book that was noted in.
@@ -25,11 +30,12 @@ pub struct Bench {
 }
 
 impl Bench {
-    pub fn new(alloc: Global) -> Bench {
+    pub fn new(rt: HostRuntime) -> Bench {
         Bench {
-            entry: Vec::new(alloc),
+            rt,
+            entry: Vec::new(rt.alloc()),
             book: Book::new(),
-            bytes: Vec::new(alloc),
+            bytes: Vec::new(rt.alloc()),
         }
     }
 }
@@ -44,6 +50,9 @@ impl Answerer for Bench {
                 answer_bytes(alloc, &mut self.bytes, kind, given, out)
             }
             "tokens" | "kinds" | "gives" | "date" => answer_text(alloc, kind, given, out),
+            "site" | "mail" | "host" | "streams" | "log" => {
+                answer_devices(alloc, self.rt, kind, given, out)
+            }
             _ => answer_values(alloc, kind, given, out),
         }
     }
@@ -133,5 +142,21 @@ fn answer_values(
         "fit" => say_fitted(alloc, given, out),
         "literal" => say_literal(alloc, given, out),
         _ => say(out, "no kind"),
+    }
+}
+
+fn answer_devices(
+    alloc: Global,
+    rt: HostRuntime,
+    kind: &str,
+    given: &str,
+    out: &mut Vec<u8>,
+) -> Result<(), NoMemory> {
+    match kind {
+        "site" => say_site(alloc, given, out),
+        "mail" => say_letters(alloc, given, out),
+        "host" => say_host(rt, given, out),
+        "streams" => say_streams(rt, out),
+        _ => say_crashes(alloc, given, out),
     }
 }

@@ -4,10 +4,10 @@ use Rattle.std.specs.Prelude.{IsTrue, Err}
 use Rattle.std.specs.List.{AllByRecursion}
 use Rattle.sr_book.specs.Entries.{Name}
 use Rattle.sr_database.specs.Views.{View}
-use Rattle.sr_receive.specs.Bags.{Has}
+use Rattle.sr_gather.specs.Bags.{Has}
 use Rattle.sr_receive.specs.Entering.{IsReady}
-use Rattle.sr_receive.specs.Letters.{Came, letters_from}
-use Rattle.sr_receive.specs.declared.bag.Share.{Share}
+use Rattle.sr_gather.specs.Letters.{Came, letters_from}
+use Rattle.sr_gather.specs.declared.bag.Share.{Share}
 use Rattle.sr_site.specs.Growing.{stays_on}
 use Rattle.sr_site.specs.Seen.{Seen}
 use Rattle.sr_site.specs.Streams.{Output}

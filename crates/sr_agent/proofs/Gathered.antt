@@ -7,13 +7,13 @@ use Rattle.sr_database.specs.Views.{View}
 use Rattle.sr_history.specs.Folds.{state_of, end_of}
 use Rattle.sr_history.specs.Recorded.{Recorded}
 use Rattle.sr_receive.specs.Entering.{IsReady}
-use Rattle.sr_receive.specs.Gathers.{FetchedInPart, GatherCause, HappenedAll, HappenedInPart, HasGathered, IsLastFetch, IsListedInPart, IsMailFault, IsUnlisted, fetches}
-use Rattle.sr_receive.specs.Letters.{Came, fetch_of}
+use Rattle.sr_gather.specs.Gathers.{FetchedInPart, GatherCause, HappenedAll, HappenedInPart, HasGathered, IsLastFetch, IsListedInPart, IsMailFault, IsUnlisted, fetches}
+use Rattle.sr_gather.specs.Letters.{Came, fetch_of}
 use Rattle.sr_receive.specs.Passes.{IsDeviceFault}
-use Rattle.sr_receive.specs.declared.bag.Share.{Share}
-use Rattle.sr_receive.specs.declared.fault.ReceiveFault.{ReceiveFault}
-use Rattle.sr_receive.specs.declared.fault.ReceiveFault.TheVariants as receives
-use Rattle.sr_receive.specs.declared.report.Report.{Report}
+use Rattle.sr_gather.specs.declared.bag.Share.{Share}
+use Rattle.sr_gather.specs.declared.fault.ReceiveFault.{ReceiveFault}
+use Rattle.sr_gather.specs.declared.fault.ReceiveFault.TheVariants as receives
+use Rattle.sr_gather.specs.declared.report.Report.{Report}
 use Rattle.sr_schema.specs.Catalogs.{Lists}
 use Rattle.sr_site.specs.Causes.{MailStays}
 use Rattle.sr_site.specs.Happenings.{Happening, attached, wrote, cut_to, synced, listed, fetched, sent, removed, mail_in}

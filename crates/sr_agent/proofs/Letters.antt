@@ -16,17 +16,17 @@ use Rattle.sr_history.specs.Folds.{books_of, sees}
 use Rattle.sr_history.specs.Recorded.{Recorded, note}
 use Rattle.sr_mail.specs.declared.window.Window.{Window}
 use Rattle.sr_receive.specs.Acts.{Act, entries_of}
-use Rattle.sr_receive.specs.Bags.{Has, filed_of, share_of}
+use Rattle.sr_gather.specs.Bags.{Has, filed_of, share_of}
 use Rattle.sr_receive.specs.Entering.{IsReady, Reached}
-use Rattle.sr_receive.specs.Greatest.{has_gap, raises, upto_in}
-use Rattle.sr_receive.specs.Letters.{Came, Letter, letters_from}
+use Rattle.sr_gather.specs.Greatest.{has_gap, raises, upto_in}
+use Rattle.sr_gather.specs.Letters.{Came, Letter, letters_from}
 use Rattle.sr_receive.specs.Passes.{HasReceived, IsDeviceFault, Passed, PassedInPart, ReceiveCause, act_reports, begun_by, first_notes, gap_report, note_entries}
-use Rattle.sr_receive.specs.declared.bag.Filed.{Filed}
-use Rattle.sr_receive.specs.declared.bag.Share.{Share}
-use Rattle.sr_receive.specs.declared.fault.ReceiveFault.{ReceiveFault}
-use Rattle.sr_receive.specs.declared.fault.ReceiveFault.TheVariants as receives
+use Rattle.sr_gather.specs.declared.bag.Filed.{Filed}
+use Rattle.sr_gather.specs.declared.bag.Share.{Share}
+use Rattle.sr_gather.specs.declared.fault.ReceiveFault.{ReceiveFault}
+use Rattle.sr_gather.specs.declared.fault.ReceiveFault.TheVariants as receives
 use Rattle.sr_receive.specs.declared.receiving.Received.{Received}
-use Rattle.sr_receive.specs.declared.report.Report.{Report}
+use Rattle.sr_gather.specs.declared.report.Report.{Report}
 use Rattle.sr_receive.proofs.Committing.{ready_then}
 use Rattle.sr_site.specs.Causes.{Stays}
 use Rattle.sr_site.specs.Seen.{Seen}

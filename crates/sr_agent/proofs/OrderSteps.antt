@@ -9,8 +9,8 @@ use Rattle.sr_database.specs.Databases.{IsDatabase}
 use Rattle.sr_database.specs.Views.{View}
 use Rattle.sr_history.specs.Recorded.{Recorded}
 use Rattle.sr_receive.specs.Entering.{IsReady}
-use Rattle.sr_receive.specs.Letters.{Came}
-use Rattle.sr_receive.specs.declared.bag.Share.{Share}
+use Rattle.sr_gather.specs.Letters.{Came}
+use Rattle.sr_gather.specs.declared.bag.Share.{Share}
 use Rattle.sr_site.specs.Causes.{MailStays}
 use Rattle.sr_site.specs.Growing.{stays_on}
 use Rattle.sr_site.specs.Seen.{Seen}

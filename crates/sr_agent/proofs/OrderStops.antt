@@ -5,9 +5,9 @@ use Rattle.sr_book.specs.Entries.{Name}
 use Rattle.sr_database.specs.Databases.{IsDatabase}
 use Rattle.sr_database.specs.Views.{View}
 use Rattle.sr_history.specs.Recorded.{Recorded}
-use Rattle.sr_receive.specs.Letters.{Came}
+use Rattle.sr_gather.specs.Letters.{Came}
 use Rattle.sr_receive.specs.Passes.{AreSteady as IsSteady}
-use Rattle.sr_receive.specs.declared.bag.Share.{Share}
+use Rattle.sr_gather.specs.declared.bag.Share.{Share}
 use Rattle.sr_session.specs.Said.{WroteFront}
 use Rattle.sr_site.specs.Causes.{Rose, Stays}
 use Rattle.sr_site.specs.Growing.{stays_on}

@@ -8,11 +8,11 @@ use Rattle.sr_book.proofs.Folds.{name_test}
 use Rattle.sr_database.specs.Databases.{IsDatabase}
 use Rattle.sr_database.specs.Views.{View}
 use Rattle.sr_history.specs.Recorded.{Recorded}
-use Rattle.sr_receive.specs.Bags.{Has, IsShareWhere, OthersStay, share_of}
+use Rattle.sr_gather.specs.Bags.{Has, IsShareWhere, OthersStay, share_of}
 use Rattle.sr_receive.specs.Entering.{IsReady}
-use Rattle.sr_receive.specs.Letters.{Came, letters_from}
+use Rattle.sr_gather.specs.Letters.{Came, letters_from}
 use Rattle.sr_receive.specs.Passes.{AreSteady as IsSteady}
-use Rattle.sr_receive.specs.declared.bag.Share.{Share}
+use Rattle.sr_gather.specs.declared.bag.Share.{Share}
 use Rattle.sr_site.specs.Causes.{Stays}
 use Rattle.sr_site.specs.Growing.{stays_on}
 use Rattle.sr_site.specs.Seen.{Seen}

@@ -8,15 +8,15 @@ use Rattle.sr_database.specs.Databases.{IsDatabase}
 use Rattle.sr_database.specs.Views.{View}
 use Rattle.sr_history.specs.Folds.{books_of}
 use Rattle.sr_history.specs.Recorded.{Recorded}
-use Rattle.sr_receive.specs.Bags.{Has, share_of}
+use Rattle.sr_gather.specs.Bags.{Has, share_of}
 use Rattle.sr_receive.specs.Entering.{IsReady}
-use Rattle.sr_receive.specs.Letters.{Came, letters_from}
+use Rattle.sr_gather.specs.Letters.{Came, letters_from}
 use Rattle.sr_receive.specs.Passes.{IsDeviceFault, AreSteady as IsSteady}
-use Rattle.sr_receive.specs.Purges.{HasPurged, PurgeCause, PurgedInPart, Removes, dead, files_in, removals}
-use Rattle.sr_receive.specs.declared.bag.Filed.{Filed}
-use Rattle.sr_receive.specs.declared.bag.Share.{Share}
-use Rattle.sr_receive.specs.declared.fault.ReceiveFault.{ReceiveFault}
-use Rattle.sr_receive.specs.declared.fault.ReceiveFault.TheVariants as receives
+use Rattle.sr_gather.specs.Purges.{HasPurged, PurgeCause, PurgedInPart, Removes, dead, files_in, removals}
+use Rattle.sr_gather.specs.declared.bag.Filed.{Filed}
+use Rattle.sr_gather.specs.declared.bag.Share.{Share}
+use Rattle.sr_gather.specs.declared.fault.ReceiveFault.{ReceiveFault}
+use Rattle.sr_gather.specs.declared.fault.ReceiveFault.TheVariants as receives
 use Rattle.sr_receive.specs.declared.receiving.Received.{Received}
 use Rattle.sr_site.specs.Causes.{Rose, Stays}
 use Rattle.sr_site.specs.Growing.{stays_on}

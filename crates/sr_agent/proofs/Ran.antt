@@ -9,7 +9,7 @@ use Rattle.sr_history.specs.Recorded.{Recorded}
 use Rattle.sr_receive.specs.Entering.{IsReady}
 use Rattle.sr_receive.specs.Passes.{AreSteady as IsSteady}
 use Rattle.sr_site.specs.Causes.{Stays}
-use Rattle.sr_receive.specs.declared.bag.Share.{Share}
+use Rattle.sr_gather.specs.declared.bag.Share.{Share}
 use Rattle.sr_schema.specs.Members.{user_name}
 use Rattle.sr_site.specs.Growing.{stays_on}
 use Rattle.sr_site.specs.Seen.{Seen}

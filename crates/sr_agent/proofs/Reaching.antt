@@ -7,8 +7,8 @@ use Rattle.sr_database.specs.Databases.{IsDatabase}
 use Rattle.sr_database.specs.Views.{View}
 use Rattle.sr_history.specs.Recorded.{Recorded}
 use Rattle.sr_receive.specs.Passes.{AreSteady as IsSteady}
-use Rattle.sr_receive.specs.Letters.{Came}
-use Rattle.sr_receive.specs.declared.bag.Share.{Share}
+use Rattle.sr_gather.specs.Letters.{Came}
+use Rattle.sr_gather.specs.declared.bag.Share.{Share}
 use Rattle.sr_site.specs.Happenings.{Happening, mail_in}
 use Rattle.sr_site.specs.Seen.{Seen}
 use Rattle.sr_standing.specs.Items.{Item, commit, commits}

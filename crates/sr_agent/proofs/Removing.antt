@@ -2,11 +2,11 @@
 use Rattle.std.proofs.Common.{◌≡◌, ℕ, true, List, [], ◌∷◌, ◌++◌, map, refl, sym, ap, ◌∙◌, append_assoc}
 use Rattle.std.specs.Prelude.{Option, Some, None}
 use Rattle.sr_mail.specs.declared.window.Window.{Window}
-use Rattle.sr_receive.specs.Bags.{filed_of, Has, IsShareWhere, share_of}
-use Rattle.sr_receive.specs.Letters.{Letter}
-use Rattle.sr_receive.specs.Purges.{files_in, removals}
-use Rattle.sr_receive.specs.declared.bag.Filed.{Filed}
-use Rattle.sr_receive.specs.declared.bag.Share.{Share}
+use Rattle.sr_gather.specs.Bags.{filed_of, Has, IsShareWhere, share_of}
+use Rattle.sr_gather.specs.Letters.{Letter}
+use Rattle.sr_gather.specs.Purges.{files_in, removals}
+use Rattle.sr_gather.specs.declared.bag.Filed.{Filed}
+use Rattle.sr_gather.specs.declared.bag.Share.{Share}
 use Rattle.sr_site.specs.Happenings.{Happening, attached, wrote, cut_to, synced, listed, fetched, sent, removed, mail_in}
 use Rattle.sr_standing.specs.Items.{AreQuiet}
 

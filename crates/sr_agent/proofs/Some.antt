@@ -2,10 +2,10 @@
 use Rattle.std.proofs.Common.{◌≡◌, ℕ, List, [], Result, Ok, Err, IfOk, sym, subst}
 use Rattle.sr_book.specs.Entries.{Name}
 use Rattle.sr_database.specs.Views.{View}
-use Rattle.sr_receive.specs.Gathers.{HasGathered}
-use Rattle.sr_receive.specs.Letters.{letters_from}
-use Rattle.sr_receive.specs.declared.bag.Share.{Share}
-use Rattle.sr_receive.specs.declared.report.Report.{Report}
+use Rattle.sr_gather.specs.Gathers.{HasGathered}
+use Rattle.sr_gather.specs.Letters.{letters_from}
+use Rattle.sr_gather.specs.declared.bag.Share.{Share}
+use Rattle.sr_gather.specs.declared.report.Report.{Report}
 use Rattle.sr_site.specs.Seen.{Seen}
 use Rattle.sr_agent.specs.Shares.{HoldsSome}
 use Rattle.sr_agent.specs.declared.fault.AgentFault.{AgentFault}

@@ -11,14 +11,14 @@ use Rattle.sr_history.specs.Folds.{books_of}
 use Rattle.sr_history.specs.Recorded.{Recorded}
 use Rattle.sr_mail.specs.declared.window.Window.{Window}
 use Rattle.sr_receive.specs.Acts.{Act, Stand, stand_of, AreActs, IsAtRest, entries_of, mail_after, taken_in}
-use Rattle.sr_receive.specs.Bags.{filed_of}
-use Rattle.sr_receive.specs.Greatest.{has_gap, raises}
-use Rattle.sr_receive.specs.Letters.{Came, letters_from}
+use Rattle.sr_gather.specs.Bags.{filed_of}
+use Rattle.sr_gather.specs.Greatest.{has_gap, raises}
+use Rattle.sr_gather.specs.Letters.{Came, letters_from}
 use Rattle.sr_receive.specs.Passes.{Passed, act_reports, first_notes, first_of, gap_report, note_entries}
-use Rattle.sr_receive.specs.Purges.{HasPurged, dead, removals}
-use Rattle.sr_receive.specs.declared.bag.Filed.{Filed}
+use Rattle.sr_gather.specs.Purges.{HasPurged, dead, removals}
+use Rattle.sr_gather.specs.declared.bag.Filed.{Filed}
 use Rattle.sr_receive.specs.declared.receiving.Received.{Received}
-use Rattle.sr_receive.specs.declared.report.Report.{Report}
+use Rattle.sr_gather.specs.declared.report.Report.{Report}
 use Rattle.sr_receive.specs.Passes.{AreSteady as IsSteady}
 use Rattle.sr_site.specs.Happenings.{Happening, mail_in}
 use Rattle.sr_site.specs.Seen.{Seen}

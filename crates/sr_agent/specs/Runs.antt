@@ -3,7 +3,7 @@ use Rattle.std.specs.Prelude.{◌≡◌, ℕ, Bool, true, false, List, [], ◌++
 use Rattle.sr_book.specs.Entries.{Name}
 use Rattle.sr_history.specs.Folds.{state_of, end_of}
 use Rattle.sr_history.specs.Recorded.{Recorded}
-use Rattle.sr_receive.specs.Letters.{Came}
+use Rattle.sr_gather.specs.Letters.{Came}
 use Rattle.sr_site.specs.Happenings.{Happening}
 use Rattle.sr_standing.specs.Items.{Item, commit, commits}
 use Rattle.sr_agent.specs.Deliveries.{Delivery, AreDeliveries, deliveries_items, deliveries_lines, sent_to}

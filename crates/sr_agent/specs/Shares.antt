@@ -6,12 +6,12 @@ use Rattle.sr_database.specs.Views.{View}
 use Rattle.sr_history.specs.Recorded.{Recorded}
 use Rattle.sr_mail.specs.declared.window.Window.{Window}
 use Rattle.sr_receive.specs.Acts.{mail_after}
-use Rattle.sr_receive.specs.Bags.{Has, OthersStay, share_of}
+use Rattle.sr_gather.specs.Bags.{Has, OthersStay, share_of}
 use Rattle.sr_receive.specs.Entering.{IsReady}
-use Rattle.sr_receive.specs.Letters.{Came, Letter, letters_from}
+use Rattle.sr_gather.specs.Letters.{Came, Letter, letters_from}
 use Rattle.sr_receive.specs.Passes.{AreSteady as IsSteady}
-use Rattle.sr_receive.specs.Purges.{files_in}
-use Rattle.sr_receive.specs.declared.bag.Share.{Share}
+use Rattle.sr_gather.specs.Purges.{files_in}
+use Rattle.sr_gather.specs.declared.bag.Share.{Share}
 use Rattle.sr_receive.specs.declared.receiving.Received.{Received}
 use Rattle.sr_site.specs.Causes.{Stays}
 use Rattle.sr_site.specs.Happenings.{mail_in}

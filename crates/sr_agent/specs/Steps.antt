@@ -7,13 +7,13 @@ use Rattle.sr_database.specs.Databases.{IsDatabase}
 use Rattle.sr_database.specs.Views.{View}
 use Rattle.sr_history.specs.Folds.{state_of, end_of}
 use Rattle.sr_history.specs.Recorded.{Recorded}
-use Rattle.sr_receive.specs.Bags.{Has, OthersStay, share_of}
-use Rattle.sr_receive.specs.Letters.{Came, letters_from}
-use Rattle.sr_receive.specs.Purges.{HasPurged, PurgeCause, files_in}
-use Rattle.sr_receive.specs.declared.bag.Share.{Share}
-use Rattle.sr_receive.specs.declared.fault.ReceiveFault.{ReceiveFault}
+use Rattle.sr_gather.specs.Bags.{Has, OthersStay, share_of}
+use Rattle.sr_gather.specs.Letters.{Came, letters_from}
+use Rattle.sr_gather.specs.Purges.{HasPurged, PurgeCause, files_in}
+use Rattle.sr_gather.specs.declared.bag.Share.{Share}
+use Rattle.sr_gather.specs.declared.fault.ReceiveFault.{ReceiveFault}
 use Rattle.sr_receive.specs.declared.receiving.Received.{Received}
-use Rattle.sr_receive.specs.declared.report.Report.{Report}
+use Rattle.sr_gather.specs.declared.report.Report.{Report}
 use Rattle.sr_schema.specs.Members.{user_name}
 use Rattle.sr_schema.specs.Names.{named}
 use Rattle.sr_receive.specs.Passes.{AreSteady as IsSteady}

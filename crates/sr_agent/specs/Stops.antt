@@ -9,12 +9,12 @@ use Rattle.sr_mail.specs.declared.window.Window.{Window}
 use Rattle.sr_msgform.specs.declared.message.Message.{Message}
 use Rattle.sr_receive.specs.Acts.{mail_after}
 use Rattle.sr_receive.specs.Entering.{Reached}
-use Rattle.sr_receive.specs.Gathers.{GatherCause}
-use Rattle.sr_receive.specs.Letters.{Came, letters_from}
+use Rattle.sr_gather.specs.Gathers.{GatherCause}
+use Rattle.sr_gather.specs.Letters.{Came, letters_from}
 use Rattle.sr_receive.specs.Passes.{PassedInPart}
-use Rattle.sr_receive.specs.Purges.{PurgeCause}
-use Rattle.sr_receive.specs.declared.fault.ReceiveFault.{ReceiveFault}
-use Rattle.sr_receive.specs.declared.report.Report.{Report}
+use Rattle.sr_gather.specs.Purges.{PurgeCause}
+use Rattle.sr_gather.specs.declared.fault.ReceiveFault.{ReceiveFault}
+use Rattle.sr_gather.specs.declared.report.Report.{Report}
 use Rattle.sr_send.specs.Letters.{letters, sent_note}
 use Rattle.sr_send.specs.Passes.{AreAll, SendCause, sent_end}
 use Rattle.sr_send.specs.declared.fault.SendFault.{SendFault}

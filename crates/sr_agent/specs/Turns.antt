@@ -10,13 +10,13 @@ use Rattle.sr_site.specs.Happenings.{Happening, listed}
 use Rattle.sr_site.specs.Listings.{Lists as ListsFirst}
 use Rattle.sr_site.specs.declared.mail.Listing.{Listing}
 use Rattle.sr_receive.specs.Acts.{Act, Stand, stand_of, AreActs, IsAtRest, entries_of, taken_in, mail_after}
-use Rattle.sr_receive.specs.Bags.{filed_of}
-use Rattle.sr_receive.specs.Gathers.{fetches, reports_of}
-use Rattle.sr_receive.specs.Greatest.{has_gap, raises}
-use Rattle.sr_receive.specs.Letters.{Came, Letter, IsCame, letters_from, name_of}
+use Rattle.sr_gather.specs.Bags.{filed_of}
+use Rattle.sr_gather.specs.Gathers.{fetches, reports_of}
+use Rattle.sr_gather.specs.Greatest.{has_gap, raises}
+use Rattle.sr_gather.specs.Letters.{Came, Letter, IsCame, letters_from, name_of}
 use Rattle.sr_receive.specs.Passes.{act_reports, first_notes, gap_report, note_entries}
-use Rattle.sr_receive.specs.Purges.{dead, removals}
-use Rattle.sr_receive.specs.declared.bag.Filed.{Filed}
+use Rattle.sr_gather.specs.Purges.{dead, removals}
+use Rattle.sr_gather.specs.declared.bag.Filed.{Filed}
 use Rattle.sr_agent.specs.Lines.{Line, received, report_lines}
 use Rattle.sr_agent.specs.declared.partner.Partner.{Partner}
 

@@ -1,7 +1,7 @@
 ghost use Rattle.std.specs.Prelude.{◌≡◌};
 ghost use Rattle.sr_agent.specs.declared.fault.AgentFault.TheVariants.{Memory as memory};
 
-use sr_receive::ReceiveFault;
+use sr_gather::ReceiveFault;
 use sr_send::SendFault;
 use std::alloc::{AllocError, AllocFailed};
 use thiserror::Error;

@@ -11,7 +11,8 @@ use crate::progress::Progress;
 use crate::telling::{tell_reports, tell_turn};
 use sr_base::Name;
 use sr_database::Database;
-use sr_receive::{Bag, ReceiveFault, Received, Report, gather, purge, receive};
+use sr_gather::{Bag, ReceiveFault, Report, gather, purge};
+use sr_receive::{Received, receive};
 use sr_site::{Sink, Site};
 use std::alloc::Global;
 

@@ -6,8 +6,8 @@ ghost use Rattle.sr_agent.specs.Lines.{alarms, clash_name, is_alarm, line_text, 
 
 use itoa::Buffer;
 use sr_base::{Name, NoMemory, Text};
+use sr_gather::Report;
 use sr_logform::Clash;
-use sr_receive::Report;
 use std::alloc::AllocError;
 
 /// Appends a number.

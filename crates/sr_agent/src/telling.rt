@@ -3,12 +3,13 @@
 ghost use Rattle.std.specs.Prelude.{◌≡◌, ◌++◌, ◌∷◌, [], List, IfErr, IfOk, OnOk};
 ghost use Rattle.sr_agent.specs.Lines.{alarms, line_text, lines_text, received as received_line, report_lines, sent as sent_line};
 ghost use Rattle.sr_agent.specs.Steps.{IsParted, TellCause, Told};
-ghost use Rattle.sr_receive.specs.declared.report.Report.{Report as AReport};
+ghost use Rattle.sr_gather.specs.declared.report.Report.{Report as AReport};
 
 use crate::fault::AgentFault;
 use crate::reporting::{count_alarms, push_number, push_reports};
 use sr_base::{Name, NoMemory};
-use sr_receive::{Received, Report};
+use sr_gather::Report;
+use sr_receive::Received;
 use sr_send::Sent;
 use sr_session::say;
 use sr_site::Sink;

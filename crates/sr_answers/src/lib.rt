@@ -7,5 +7,5 @@
 mod saying;
 mod telling;
 
-pub use saying::{number, number_of, push_hex, say, say_bytes, say_number, word};
+pub use saying::{count_of, number, number_of, push_hex, say, say_bytes, say_number, word};
 pub use telling::{Answerer, print, run};

@@ -53,6 +53,14 @@ pub fn number_of(text: &str) -> u64 {
     }
 }
 
+/// The number of decimal digits, at most 100,000,000; anything else is 0.
+pub fn count_of(text: &str) -> u32 {
+    match text.parse::<u32>() {
+        Ok(count) => count.min(100_000_000),
+        Err(_) => 0,
+    }
+}
+
 /// The word at a place, between blanks; none is empty.
 pub fn word(question: &str, place: usize) -> &str {
     match question.split(' ').nth(place) {

@@ -170,7 +170,10 @@ impl Ord for Key {
     ghost matches_eq = { Prim.search (comparing, rules) };
 
     fn cmp(&self, other: &Key) -> Ordering {
-        self.values().cmp(other.values())
+        match (self.values(), other.values()) {
+            ([Value::Int(number)], [Value::Int(other)]) => number.cmp(other),
+            (values, others) => values.cmp(others),
+        }
     }
 }
 

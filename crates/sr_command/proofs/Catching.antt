@@ -20,12 +20,12 @@ use Rattle.sr_logform.specs.declared.op.Op.{Op}
 use Rattle.sr_mail.specs.Reaching.{IsFar}
 use Rattle.sr_receive.proofs.Reaching.{far_taken}
 use Rattle.sr_receive.specs.Acts.{Act, Stand, begun, dropped, entries_of, stand_of, took, torn}
-use Rattle.sr_receive.specs.Bags.{filed_of}
-use Rattle.sr_receive.specs.Greatest.{ask_at, asks, confirm_in, confirms, count_in, least_ask, lesser, raises}
-use Rattle.sr_receive.specs.Letters.{Came, Letter}
+use Rattle.sr_gather.specs.Bags.{filed_of}
+use Rattle.sr_gather.specs.Greatest.{ask_at, asks, confirm_in, confirms, count_in, least_ask, lesser, raises}
+use Rattle.sr_gather.specs.Letters.{Came, Letter}
 use Rattle.sr_receive.specs.Passes.{note_entries}
-use Rattle.sr_receive.specs.Windows.{IsWholeOf}
-use Rattle.sr_receive.specs.declared.bag.Filed.{Filed}
+use Rattle.sr_gather.specs.Windows.{IsWholeOf}
+use Rattle.sr_gather.specs.declared.bag.Filed.{Filed}
 use Rattle.sr_command.specs.CaughtUp.{AreCaughtUp, IsCaughtUp, IsNoted, book_behind}
 
 -- ---- a user's book behind his own entries

@@ -9,8 +9,8 @@ use Rattle.sr_book.specs.declared.book.Book.{Book}
 use Rattle.sr_history.specs.Folds.{books_of}
 use Rattle.sr_history.specs.Recorded.{Recorded}
 use Rattle.sr_mail.specs.Reaching.{IsFar}
-use Rattle.sr_receive.specs.Letters.{Came, Letter}
-use Rattle.sr_receive.specs.Windows.{IsWholeOf}
+use Rattle.sr_gather.specs.Letters.{Came, Letter}
+use Rattle.sr_gather.specs.Windows.{IsWholeOf}
 use Rattle.sr_standing.specs.Standing.{StandsAs}
 use Rattle.sr_command.specs.Outside.{Outside}
 use Rattle.sr_command.specs.declared.order.Order.{Order}

@@ -1,5 +1,5 @@
 -- The entry behind an offset.
-use Rattle.std.proofs.Common.{◌≡◌, ◌≢◌, ℕ, List, [], ◌∷◌, ◌++◌, length, take, Option, Some, None, Result, Ok, Err, refl, sym, ◌∙◌, ap, subst, arith}
+use Rattle.std.proofs.Common.{◌≡◌, ◌≢◌, ℕ, ◌+◌, List, [], ◌∷◌, ◌++◌, length, take, Option, Some, None, Result, Ok, Err, refl, sym, ◌∙◌, ap, subst, arith}
 use Rattle.std.specs.Prelude.{IsTrue, IfErr, MatchOption}
 use Rattle.std.proofs.lemmas.List.{map-append}
 use Rattle.sr_base.specs.declared.offset.Offset.{Offset}
@@ -11,7 +11,9 @@ use Rattle.sr_history.proofs.Joined.{end_from-more, stored_from-append}
 use Rattle.sr_logfile.specs.Faults.{NextCause, RecordAfterCause}
 use Rattle.sr_logfile.specs.Log.{Log}
 use Rattle.sr_logfile.specs.Logs.{IsLog, IsAt}
-use Rattle.sr_logfile.specs.Steps.{IsNext as IsNextBody}
+use Rattle.sr_logfile.specs.Steps.{IsNext as IsNextBody, IsLonger, IsStep}
+use Rattle.sr_logfile.specs.declared.reading.Step.{Step}
+use Rattle.sr_logfile.specs.declared.reading.Step.TheVariants as steps
 use Rattle.sr_logfile.specs.declared.fault.LogFault.{LogFault}
 use Rattle.sr_logfile.specs.declared.fault.LogFault.TheVariants as logs
 use Rattle.sr_logfile.specs.declared.fault.RecordFault.{RecordFault}
@@ -28,7 +30,7 @@ use Rattle.sr_standing.specs.Standing.{body, bodies}
 use Rattle.sr_standing.proofs.Standing.{ends_are, size_is}
 use Rattle.sr_database.specs.Causes.{EntryCause, IsRecordFault}
 use Rattle.sr_database.specs.Databases.{IsHeld, IsDatabase}
-use Rattle.sr_database.specs.Entries.{IsNext, Parts, BehindCause}
+use Rattle.sr_database.specs.Entries.{IsNext, IsNextEnd, Parts, BehindCause}
 use Rattle.sr_database.specs.Openings.{IsLogFault}
 use Rattle.sr_database.specs.Replays.{SpellingCause}
 use Rattle.sr_database.specs.Views.{View}
@@ -72,6 +74,19 @@ module _ (log : Log) (publisher : Name) (done : List Recorded) (after : ℕ) (at
         end_is = omega (arith, n.end_is, n.count_is, at, end_from-more 0 done r, size_is r, ap length heads);
       }
 
+  -- its end
+  end_of_next : (left : List Recorded) (body_is : List ℕ) (rest : List (List ℕ)) (end : Offset) → bodies left ≡ body_is ∷ rest → end.0 ≡ after + 5 + length body_is → IsNextEnd done left end
+  end_of_next [] body_is rest end left_is ends = absurd cc
+  end_of_next (r ∷ rs) body_is rest end left_is ends =
+      let heads : body r ≡ body_is = cc in
+      record { r = r; rest = rs; left_is = refl; end_is = omega (arith, ends, at, end_from-more 0 done r, size_is r, ap length heads) }
+
+  pub short_end : (left : List Recorded) (room need : ℕ) (end : Offset) → IsLonger (bodies left) room need → end.0 ≡ after + 5 + need → IsNextEnd done left end
+  short_end left room need end longer ends = end_of_next left longer.body longer.rest end longer.left_is (omega (arith, ends, longer.need_is))
+
+  pub record_end : (left : List Recorded) (files : Files) (buffer : List ℕ) (end : Offset) (count : ℕ) → IsNextBody log after (bodies done) (bodies left) files buffer end.0 count → IsNextEnd done left end
+  record_end left files buffer end count n = end_of_next left n.body n.rest end n.left_is (omega (arith, n.end_is, n.count_is))
+
   -- what is read there is spelled
   pub always_spelled : (left : List Recorded) (files : Files) (buffer : List ℕ) (end count : ℕ) → Stored publisher (done ++ left) → IsNextBody log after (bodies done) (bodies left) files buffer end count
       → ((entry : Entry) → IsEntry entry → take count buffer ≢ entry_spelling entry) → ⊥
@@ -83,6 +98,9 @@ module _ (log : Log) (publisher : Name) (done : List Recorded) (after : ℕ) (at
 -- what the log tells of the record behind a position
 abbrev StepOf : Log → ℕ → Seen → Files → List ℕ → Option (Offset × ℕ) → Type 0
 StepOf log after before files buffer found = (done left : List (List ℕ)) → IsAt log after done left before.files → MatchOption found (left ≡ []) (λ x. IsNextBody log after done left files buffer x.0.0 x.1)
+
+abbrev pub StepsTo : Log → ℕ → Seen → Files → List ℕ → Step → Type 0
+StepsTo log after before files buffer step = (done left : List (List ℕ)) → IsAt log after done left before.files → IsStep log after done left files buffer step
 
 -- an entry that was read
 module _ (log : Log) (after : ℕ) (before now : Seen) where
@@ -108,8 +126,19 @@ module _ (log : Log) (after : ℕ) (before now : Seen) where
     spelling_behind step file place (Long size limit) cause = absurd cause
     spelling_behind step file place Memory cause = tt
 
+  -- an end that was read
+  pub no_end : (files : Files) (buffer : List ℕ) → StepsTo log after before files buffer steps.End → (publisher : Name) (done left : List Recorded) → Parts log after publisher done left before → left ≡ []
+  no_end files buffer step publisher done left parts = none_left left (step (bodies done) (bodies left) parts.at)
+
+  pub end_short : (files : Files) (buffer : List ℕ) (need : ℕ) (end : Offset) → end.0 ≡ after + 5 + need → StepsTo log after before files buffer (steps.Short need) → (publisher : Name) (done left : List Recorded) → Parts log after publisher done left before
+      → IsNextEnd done left end
+  end_short files buffer need end ends step publisher done left parts = short_end log publisher done after parts.after_is left (length buffer) need end (step (bodies done) (bodies left) parts.at) ends
+
+  pub end_whole : (files : Files) (buffer : List ℕ) (end : Offset) (count : ℕ) → StepsTo log after before files buffer (steps.Record end count) → (publisher : Name) (done left : List Recorded) → Parts log after publisher done left before → IsNextEnd done left end
+  end_whole files buffer end count step publisher done left parts = record_end log publisher done after parts.after_is left files buffer end count (step (bodies done) (bodies left) parts.at).0
+
   -- the log's refusal
-  next_refused : (file : File) (fault : LogFault) (answer : DatabaseFault) → IsLogFault file fault answer → NextCause log after before now fault → BehindCause log after before now answer
+  pub next_refused : (file : File) (fault : LogFault) (answer : DatabaseFault) → IsLogFault file fault answer → NextCause log after before now fault → BehindCause log after before now answer
   next_refused file logs.Disk answer is cause = subst (λ (a : DatabaseFault). BehindCause log after before now a) (sym is) cause
   next_refused file (logs.Full end need) answer is cause = absurd cause
   next_refused file (logs.Damaged at) answer is cause =
@@ -135,7 +164,7 @@ module _ (view : View) (log : Log) (log_is : view.log ≡ log) (after : Offset) 
   behind_cause (Long size limit) cause = absurd cause
   behind_cause Memory cause = tt
 
-  pub behind_refused : (result : Result (Option (Offset × Entry)) DatabaseFault) → IfErr result (BehindCause log after.0 before now) → IfErr result (EntryCause view after before now)
+  pub behind_refused : {A : Type 0} (result : Result A DatabaseFault) → IfErr result (BehindCause log after.0 before now) → IfErr result (EntryCause view after before now)
   behind_refused (Ok found) cause = tt
   behind_refused (Err fault) cause = behind_cause fault cause
 

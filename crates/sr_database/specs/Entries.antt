@@ -29,6 +29,18 @@ abbrev pub IsEntryAfter : List Recorded → List Recorded → Option (Offset × 
 IsEntryAfter done left None = left ≡ []
 IsEntryAfter done left (Some found) = IsNext done left found.0 found.1
 
+-- the first of those that are left ends here
+pub record IsNextEnd (done left : List Recorded) (end : Offset) : Type 0 where
+  pub r : Recorded
+  pub rest : List Recorded
+  pub left_is : left ≡ r ∷ rest
+  pub end_is : end.0 ≡ end_of (done ++ r ∷ [])
+
+-- none exactly where none is left
+abbrev pub IsEndAfter : List Recorded → List Recorded → Option Offset → Type 0
+IsEndAfter done left None = left ≡ []
+IsEndAfter done left (Some end) = IsNextEnd done left end
+
 -- the offset is the beginning of the database's history, or the end of one of its entries
 pub record IsEnd (view : View) (after : Offset) (seen : Seen) : Type 0 where
   pub publisher : Name

@@ -5,14 +5,14 @@ ghost use Rattle.sr_history.specs.Recorded.{Recorded};
 ghost use Rattle.sr_site.specs.Causes.{DiskStays};
 ghost use Rattle.sr_database.specs.Causes.{EntryCause, IsRecordFault};
 ghost use Rattle.sr_database.specs.Databases.{IsDatabase};
-ghost use Rattle.sr_database.specs.Entries.{IsEntryAfter, Parts, BehindCause};
+ghost use Rattle.sr_database.specs.Entries.{IsEntryAfter, IsEndAfter, Parts, BehindCause};
 ghost use Rattle.sr_database.specs.Openings.{ReadAlone, IsLogFault};
 
 use crate::database::Database;
 use crate::fault::DatabaseFault;
 use crate::replaying::entry_in;
 use sr_base::Offset;
-use sr_logfile::{LogFault, LogFile, RecordFault};
+use sr_logfile::{LogFault, LogFile, RecordFault, Step};
 use sr_logform::Entry;
 use sr_site::{File, Site};
 use std::alloc::Global;
@@ -40,6 +40,52 @@ impl Database {
         ensures cause { IfErr result (EntryCause self.now after (S.seen site.old) (S.seen site.new)) }
     {
         entry_behind(alloc, &self.log, site, after)
+    }
+
+    /// The end of the entry that follows the offset `after`, the base or the end of an entry. `None` comes exactly where none follows.
+    ///
+    /// It reads no more of an entry than its length, and takes no memory. Where the disk tells what it holds, it is never `Damaged`.
+    pub fn end_after<S: Site>(
+        &self,
+        site: &mut S,
+        after: Offset,
+    ) -> Result<Option<Offset>, DatabaseFault>
+        requires usable { self.now.log.usable ≡ true }
+        requires after { (self.now.log.base ≤ after.0) × (after.0 ≤ self.now.log.end) }
+        ensures end { IsTrue (S.seen site.old).told → (publisher : AName) (done left : List Recorded) → IsDatabase self.now publisher (done ++ left) (S.seen site.old) → after.0 ≡ end_of done
+            → IfOk result (IsEndAfter done left) }
+        ensures later { IfOk result (λ found. IfSome found (λ end. after.0 < end.0)) }
+        ensures files { IsTrue (S.seen site.old).told → (S.seen site.new).files ≡ (S.seen site.old).files }
+        ensures happened { IsTrue (S.seen site.old).told → (S.seen site.new).happened ≡ (S.seen site.old).happened }
+        ensures database { IsTrue (S.seen site.old).told → (publisher : AName) (es : List Recorded) → IsDatabase self.now publisher es (S.seen site.old) → IsDatabase self.now publisher es (S.seen site.new) }
+        ensures stays { DiskStays (S.seen site.old) (S.seen site.new) }
+        ensures steady { OnOk result ((S.seen site.new).disk_faults ≡ (S.seen site.old).disk_faults) }
+        ensures cause { IfErr result (EntryCause self.now after (S.seen site.old) (S.seen site.new)) }
+    {
+        end_behind(&self.log, site, after)
+    }
+}
+
+/// The end of the entry that follows an offset of a log.
+fn end_behind<S: Site>(
+    log: &LogFile,
+    site: &mut S,
+    after: Offset,
+) -> Result<Option<Offset>, DatabaseFault>
+    requires after { (log.now.base ≤ after.0) × (after.0 ≤ log.now.end) }
+    ensures end { IsTrue (S.seen site.old).told → (publisher : AName) (done left : List Recorded) → Parts log.now after.0 publisher done left (S.seen site.old) → IfOk result (IsEndAfter done left) }
+    ensures later { IfOk result (λ found. IfSome found (λ end. after.0 < end.0)) }
+    ensures read { ReadAlone (S.seen site.old) (S.seen site.new) }
+    ensures steady { OnOk result ((S.seen site.new).disk_faults ≡ (S.seen site.old).disk_faults) }
+    ensures cause { IfErr result (BehindCause log.now after.0 (S.seen site.old) (S.seen site.new)) }
+{
+    let _end = log.end();
+    let mut front = [0];
+    match log.next(site, after, &mut front) {
+        Ok(Step::End) => Ok(None),
+        Ok(Step::Short { need }) => Ok(Some(Offset(after.0 + 5 + need as u64))),
+        Ok(Step::Record { end, .. }) => Ok(Some(end)),
+        Err(fault) => Err(log_fault(log.file(), fault)),
     }
 }
 

@@ -1,3 +1,4 @@
+pub mod Judgements
 pub mod Plain
 pub mod Sources
 pub mod Typed

@@ -30,6 +30,9 @@ pub fn is_null(value: &Value) -> bool
 pub fn comparison(sign: Sign, left: &Value, right: &Value) -> Truth
     ensures truth { result ≡ comparison (test_of sign) left.now right.now }
 {
+    if let (Value::Int(left), Value::Int(right)) = (left, right) {
+        return Truth::known(passes(sign, left.cmp(right)));
+    }
     match compare(left, right) {
         Some(order) => Truth::known(passes(sign, order)),
         None => Truth::Unknown,

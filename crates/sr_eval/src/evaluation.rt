@@ -9,6 +9,7 @@ ghost use Rattle.sr_eval.specs.Meanings.Meaning.{value as a_value};
 
 use crate::bound::Bound;
 use crate::fault::EvalFault;
+use crate::judging::judged;
 use crate::meaning::meaning;
 use crate::truth::Truth;
 use crate::worth::Worth;
@@ -78,8 +79,8 @@ pub fn holds_over(expr: &Expr, sources: &[Bound]) -> Result<bool, EvalFault>
     requires fit { AreRows sources.now }
     ensures held { IsHeld result (meaning (columns_of sources.now) (values_of sources.now) (term_of expr.now)) }
 {
-    match meaning(expr, sources) {
-        Some(worth) => Ok(worth.truth() == Truth::True),
+    match judged(expr, sources) {
+        Some(truth) => Ok(truth == Truth::True),
         None => Err(EvalFault::Overflow),
     }
 }
@@ -93,8 +94,8 @@ pub fn holds_plain(expr: &Expr, row: &Bound) -> bool
     requires { IsRowOf row.now.scope.now row.now.values.now }
     ensures held { result ≡ is_true (meaning row.now.scope.now row.now.values.now (term_of expr.now)) }
 {
-    match meaning(expr, slice::from_ref(row)) {
-        Some(worth) => worth.truth() == Truth::True,
+    match judged(expr, slice::from_ref(row)) {
+        Some(truth) => truth == Truth::True,
         None => false,
     }
 }

@@ -8,6 +8,7 @@ mod bound;
 mod comparison;
 mod evaluation;
 mod fault;
+mod judging;
 mod laws;
 mod meaning;
 mod number;

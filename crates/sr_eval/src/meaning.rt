@@ -1,4 +1,4 @@
-ghost use Rattle.std.specs.Prelude.{◌≡◌, bytes_eq};
+ghost use Rattle.std.specs.Prelude.{◌≡◌, Some, IfSome, bytes_eq, unwrap_or};
 ghost use Rattle.std.specs.Option.{option_map, option_copied};
 ghost use Rattle.sr_ast.specs.Exprs.{term_of};
 ghost use Rattle.sr_ast.specs.Classes.{is_meant};
@@ -46,17 +46,41 @@ fn operand_meaning<'a>(operand: &'a Operand, sources: &[Bound<'a>]) -> Option<Wo
     meaning(operand.expr(), sources)
 }
 
-/// The value of the first column that a name means: one pass over the columns.
+/// The value of the first column that a name means; NULL where none is meant.
 fn column_worth<'a>(sources: &[Bound<'a>], table: &Option<Name>, name: &Name) -> Worth<'a>
     requires { AreRows sources.now }
     ensures { meant result ≡ a_value (value_at (columns_of sources.now) (values_of sources.now) table.now name.now) }
 {
+    match column_value(sources, table, name) {
+        Some(value) => Worth::Held(value),
+        None => Worth::Made(Value::Null),
+    }
+}
+
+/// The value of the first column that a name means, where it lies: one pass over the columns.
+fn column_value<'a>(sources: &[Bound<'a>], table: &Option<Name>, name: &Name) -> Option<&'a Value>
+    requires { AreRows sources.now }
+    ensures value { value_at (columns_of sources.now) (values_of sources.now) table.now name.now ≡ unwrap_or (option_copied result) Value.Null }
+{
     let Some((source, after)) = sources.split_first() else {
-        return Worth::Made(Value::Null);
+        return None;
     };
     match value_in(source, table, name) {
-        Some(value) => Worth::Held(value),
-        None => column_worth(after, table, name),
+        Some(value) => Some(value),
+        None => column_value(after, table, name),
+    }
+}
+
+/// The value of a literal or of a column, where it lies. Other expressions have none that lies anywhere.
+pub fn lying<'a>(expr: &'a Expr, sources: &[Bound<'a>]) -> Option<&'a Value>
+    requires { AreRows sources.now }
+    ensures value { IfSome (option_copied result) (λ v. meaning (columns_of sources.now) (values_of sources.now) (term_of expr.now) ≡ Some (a_value v)) }
+{
+    match expr {
+        Expr::Literal(value) => Some(value),
+        Expr::Column(table, name) => column_value(sources, table, name),
+        Expr::Unary(_, _) => None,
+        Expr::Binary(_, _, _) => None,
     }
 }
 

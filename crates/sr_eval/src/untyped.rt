@@ -9,6 +9,7 @@ ghost use Rattle.sr_eval.specs.Meanings.Meaning.{value as a_value};
 use crate::bound::Bound;
 use crate::evaluation::held;
 use crate::fault::EvalFault;
+use crate::judging::judged;
 use crate::meaning::meaning;
 use crate::truth::Truth;
 use crate::worth::Worth;
@@ -47,8 +48,8 @@ pub fn is_true_over(expr: &Expr, sources: &[Bound]) -> Result<bool, EvalFault>
     requires fit { AreRows sources.now }
     ensures held { IsHeld result (meaning (columns_of sources.now) (values_of sources.now) (term_of expr.now)) }
 {
-    match meaning(expr, sources) {
-        Some(worth) => Ok(worth.truth() == Truth::True),
+    match judged(expr, sources) {
+        Some(truth) => Ok(truth == Truth::True),
         None => Err(EvalFault::Overflow),
     }
 }

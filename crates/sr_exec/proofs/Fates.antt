@@ -22,10 +22,10 @@ use Rattle.sr_exec.specs.Statements.{staying, becoming, selections, counted, ent
 use Rattle.sr_exec.proofs.Folding.{Key, same_key}
 use Rattle.sr_exec.proofs.Outcomes.{under-append, above_same, after_of, row_under, one_under, settled_alike}
 
-abbrev Pick : Type 0
+abbrev pub Pick : Type 0
 Pick = Key × Option Key
 
-abbrev Fated : Type 0
+abbrev pub Fated : Type 0
 Fated = Result (List Fate) DmlFault
 
 -- the picks are those of the fates
@@ -47,7 +47,7 @@ picks_are table sets condition (e ∷ es) =
     ap (with_pick e.0 (fate_of table sets condition e.1)) (picks_are table sets condition es) ∙ pick_step e es (fate_of table sets condition e.1) (fates_of table sets condition es)
 
 -- one fate for each row
-abbrev IsOneEach : List Entry → List Fate → Type 0
+abbrev pub IsOneEach : List Entry → List Fate → Type 0
 IsOneEach [] [] = Unit {0}
 IsOneEach [] (f ∷ fates) = ⊥
 IsOneEach (e ∷ es) [] = ⊥
@@ -58,7 +58,7 @@ front-Ok e es (Err f) rest fates h is = cc
 front-Ok e es (Ok x) (Err f) fates h is = cc
 front-Ok e es (Ok x) (Ok fs) fates h is = let same : x ∷ fs ≡ fates = cc in subst (IsOneEach (e ∷ es)) same (h fs refl)
 
-one_each : (table : Table) (sets : Option (List (List ℕ × Expr))) (condition : Option Expr) (es : List Entry) (fates : List Fate) → fates_of table sets condition es ≡ Ok fates → IsOneEach es fates
+pub one_each : (table : Table) (sets : Option (List (List ℕ × Expr))) (condition : Option Expr) (es : List Entry) (fates : List Fate) → fates_of table sets condition es ≡ Ok fates → IsOneEach es fates
 one_each table sets condition [] [] h = tt
 one_each table sets condition [] (f ∷ fates) h = cc
 one_each table sets condition (e ∷ es) fates h = front-Ok e es (fate_of table sets condition e.1) (fates_of table sets condition es) fates (one_each table sets condition es) h
@@ -105,7 +105,7 @@ put_are table (e ∷ es) (Goes ∷ fates) one = put_are table es fates one
 put_are table (e ∷ es) (Becomes row ∷ fates) one = ap (λ xs. entry_of table row ∷ xs) (put_are table es fates one)
 
 -- as many as are selected
-length_picked : (es : List Entry) (fates : List Fate) → IsOneEach es fates → length (picked es fates) ≡ selections fates
+pub length_picked : (es : List Entry) (fates : List Fate) → IsOneEach es fates → length (picked es fates) ≡ selections fates
 length_picked [] [] one = refl
 length_picked [] (f ∷ fates) one = absurd one
 length_picked (e ∷ es) [] one = absurd one
@@ -129,7 +129,7 @@ module _ (table : Table) (rows : RowMap) (sets : Option (List (List ℕ × Expr)
   abbrev before : List Entry
   before = table_rows rows table.name
 
-  moved_by : (fates : List Fate) → fates_of table sets condition (table_rows rows table.name) ≡ Ok fates → (picks : List Pick) → picked (table_rows rows table.name) fates ≡ picks
+  pub moved_by : (fates : List Fate) → fates_of table sets condition (table_rows rows table.name) ≡ Ok fates → (picks : List Pick) → picked (table_rows rows table.name) fates ≡ picks
       → (ts : List Edited) → IsStrictlySortedBy key_cmp (map (λ (u : Edited). u.0) ts) → AreEdits (λ q. lookup (is_at (key_cmp q)) ts) (taken_of picks) (put_of table picks)
       → followed (fates_of table sets condition (table_rows rows table.name)) (moved table (table_rows rows table.name)) ≡ followed (settled table.name (rows_of_table rows table.name) ts) (counted (length picks))
   moved_by fates is picks same ts sorted edits =

@@ -10,5 +10,6 @@ pub mod Folding
 pub mod Keeping
 pub mod Outcomes
 pub mod Over
+pub mod Placed
 pub mod Putting
 pub mod RowsAre

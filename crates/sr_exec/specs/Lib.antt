@@ -10,3 +10,4 @@ pub mod RowsAfter
 pub mod Sequences
 pub mod Statements
 pub mod Storing
+pub mod Unmoving

@@ -1,11 +1,12 @@
-ghost use Rattle.std.specs.Prelude.{◌≡◌, OnOk, OnErr, IfSome, IsTrue, Some};
+ghost use Rattle.std.specs.Prelude.{◌≡◌, ◌≤◌, length, IfOk, OnOk, OnErr, IfSome, IsTrue, Some};
 ghost use Rattle.std.specs.Option.{option_copied};
 ghost use Rattle.sr_rows.specs.Steps.{GoesOn};
 ghost use Rattle.sr_exec.specs.Applying.{without_row, with_row, applied_in, applied};
-ghost use Rattle.sr_exec.specs.Statements.{key_of};
+ghost use Rattle.sr_exec.specs.Statements.{key_of, table_named};
+ghost use Rattle.sr_schema.specs.Catalogs.{Lists};
 
 use crate::keys::key_of;
-use sr_base::{Copied, NoMemory, Row, Value};
+use sr_base::{Copied, Name, NoMemory, Row, Value};
 use sr_catalog::{Catalog, Table};
 use sr_logform::Change;
 use sr_rows::Rows;
@@ -48,10 +49,34 @@ fn apply_each(
 {
     let mut left = changes;
     'changes: while let Some((change, rest)) = left.split_first() {
-        apply_in(alloc, catalog.table(&change.table), rows, change)?;
-        left = rest;
+        let table = catalog.table(&change.table);
+        apply_in(alloc, table, rows, change)?;
+        left = apply_same(alloc, table, &change.table, rows, rest)?;
     }
     Ok(())
+}
+
+/// Applies the changes at the front that are of one table, which is looked up once, and answers those that are left.
+fn apply_same<'a>(
+    alloc: Global,
+    table: Option<&Table>,
+    name: &Name,
+    rows: &mut Rows,
+    changes: &'a [Change],
+) -> Result<&'a [Change], NoMemory>
+    ensures rows { IfOk result (λ left. (catalog : Lists) → table_named catalog name.now ≡ option_copied table.entry → applied catalog left.now rows.new.rows ≡ applied catalog changes.now rows.old.rows) }
+    ensures shorter { IfOk result (λ left. length left.now ≤ length changes.now) }
+    ensures on { GoesOn rows.old rows.new }
+{
+    let mut left = changes;
+    'changes: while let Some((change, rest)) = left.split_first() {
+        if change.table.bytes() != name.bytes() {
+            return Ok(left);
+        }
+        apply_in(alloc, table, rows, change)?;
+        left = rest;
+    }
+    Ok(left)
 }
 
 /// Applies a change of a table. Nothing changes in a table that is not there.
@@ -103,19 +128,28 @@ fn put_row(
     ensures on { GoesOn rows.old rows.new }
 {
     if has_key_of(table.key.as_slice(), before, after.values()) {
-        return set_row(alloc, table, rows, after);
+        return set_row(alloc, table, rows, before.is_some(), after);
     }
     take_row(alloc, table, rows, before)?;
-    set_row(alloc, table, rows, after)
+    set_row(alloc, table, rows, false, after)
 }
 
-/// Puts a row under its key.
-fn set_row(alloc: Global, table: &Table, rows: &mut Rows, row: &Row) -> Result<(), NoMemory>
+/// Puts a row under its key, where one is awaited or not.
+fn set_row(
+    alloc: Global,
+    table: &Table,
+    rows: &mut Rows,
+    is_held: bool,
+    row: &Row,
+) -> Result<(), NoMemory>
     ensures rows { OnOk result (rows.new.rows ≡ with_row table.now (Some row.now) rows.old.rows) }
     ensures on { GoesOn rows.old rows.new }
 {
     let key = key_of(alloc, table.key.as_slice(), row.values())?;
     let row = row.copy(alloc)?;
+    if is_held {
+        return rows.replace(alloc, &table.name, key, row);
+    }
     rows.set(alloc, &table.name, key, row)
 }
 
@@ -130,7 +164,7 @@ fn has_key_of(places: &[usize], before: &Option<Row>, after: &[Value]) -> bool
 }
 
 /// Whether two rows have one key: their values at each of its places.
-fn is_same_key(places: &[usize], row: &[Value], other: &[Value]) -> bool
+pub(crate) fn is_same_key(places: &[usize], row: &[Value], other: &[Value]) -> bool
     ensures same { IsTrue result → key_of places.now row.now ≡ key_of places.now other.now }
 {
     let mut left = places;

@@ -21,6 +21,7 @@ mod laws;
 mod lists;
 mod moving;
 mod names;
+mod placing;
 mod settling;
 mod storing;
 mod updating;

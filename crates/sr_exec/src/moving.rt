@@ -15,6 +15,7 @@ use crate::edits::edits_of_picks;
 use crate::fate::Fate;
 use crate::fixing::{fixed_key, is_plain};
 use crate::lists::push;
+use crate::placing::unmoved;
 use crate::settling::settle;
 use crate::updating::updated_row;
 use sr_ast::{Expr, Scope};
@@ -39,7 +40,33 @@ pub(crate) fn moved(
     requires sets { IfSome (option_copied sets) (λ s. bad_sets scope.now [] s ≡ None) }
     ensures answer { Answers result (followed (fates_of table.now (option_copied sets.entry) condition.now (table_rows rows.now.rows table.now.name)) (moved_rows table.now (table_rows rows.now.rows table.now.name))) }
 {
-    let picks = picks(alloc, table, rows, scope, sets, condition)?;
+    let key = only_key(alloc, table, condition)?;
+    if key.is_none() {
+        if let Some(changes) = unmoved(alloc, table, rows, scope, sets, condition)? {
+            return Ok(changes);
+        }
+    }
+    moved_picks(alloc, table, rows, scope, sets, condition, &key)
+}
+
+/// The same where rows may get other keys: they are taken, and put under the keys that they get.
+fn moved_picks(
+    alloc: Global,
+    table: &Table,
+    rows: &Rows,
+    scope: &Scope,
+    sets: Option<&[(Name, Expr)]>,
+    condition: &Option<Expr>,
+    key: &Option<Key>,
+) -> Result<Changes, DmlFault>
+    requires scope { scope.now ≡ scope_of table.now }
+    requires rows { TableFits table.now rows.now.rows }
+    requires condition { bad_condition scope.now table.now.name condition.now ≡ None }
+    requires sets { IfSome (option_copied sets) (λ s. bad_sets scope.now [] s ≡ None) }
+    requires key { key.now ≡ only_key table.now condition.now }
+    ensures answer { Answers result (followed (fates_of table.now (option_copied sets.entry) condition.now (table_rows rows.now.rows table.now.name)) (moved_rows table.now (table_rows rows.now.rows table.now.name))) }
+{
+    let picks = picks(alloc, table, rows, scope, sets, condition, key)?;
     let count = picks.len() as u64;
     let edits = edits_of_picks(alloc, table, picks)?;
     let list = settle(alloc, &table.name, rows, edits)?;
@@ -55,17 +82,19 @@ fn picks(
     scope: &Scope,
     sets: Option<&[(Name, Expr)]>,
     condition: &Option<Expr>,
+    key: &Option<Key>,
 ) -> Result<Vec<(Key, Option<Row>)>, DmlFault>
     requires scope { scope.now ≡ scope_of table.now }
     requires rows { TableFits table.now rows.now.rows }
     requires condition { bad_condition scope.now table.now.name condition.now ≡ None }
     requires sets { IfSome (option_copied sets) (λ s. bad_sets scope.now [] s ≡ None) }
+    requires key { key.now ≡ only_key table.now condition.now }
     ensures answer { MatchResult result (λ picks. picks_of table.now (option_copied sets.entry) condition.now (table_rows rows.now.rows table.now.name) ≡ Ok picks.items)
         (λ fault. fault ≢ DmlFault.Memory → picks_of table.now (option_copied sets.entry) condition.now (table_rows rows.now.rows table.now.name) ≡ Err fault) }
 {
     and_holds_where_both_hold();
-    match only_key(alloc, table, condition)? {
-        Some(key) => picks_at(alloc, table, rows, scope, sets, condition, &key),
+    match key {
+        Some(key) => picks_at(alloc, table, rows, scope, sets, condition, key),
         None => picks_along(alloc, table, rows, scope, sets, condition),
     }
 }
@@ -150,7 +179,7 @@ fn note_fate(
 }
 
 /// What becomes of a row.
-fn fate_of(
+pub(crate) fn fate_of(
     alloc: Global,
     table: &Table,
     scope: &Scope,

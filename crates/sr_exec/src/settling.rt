@@ -69,7 +69,7 @@ pub(crate) fn put_row(
 }
 
 /// Adds a change where the rows before and after differ.
-fn note(
+pub(crate) fn note(
     alloc: Global,
     changes: &mut Vec<Change>,
     table: &Name,

@@ -19,9 +19,10 @@ use Rattle.sr_mail.specs.declared.window.Window.{Window}
 use Rattle.sr_mail.proofs.Covered.{assembled_true}
 use Rattle.sr_model.specs.Windows.{window}
 use Rattle.sr_msgform.specs.declared.message.Message.{Message}
-use Rattle.sr_receive.specs.Acts.{Pairs, Stand, CameAgain, IsReadAs}
-use Rattle.sr_receive.specs.Letters.{Letter}
-use Rattle.sr_receive.specs.Windows.{IsRefetched, IsStill, pieces_among}
+use Rattle.sr_receive.specs.Acts.{Stand, CameAgain, IsReadAs}
+use Rattle.sr_gather.specs.Fetches.{Pairs}
+use Rattle.sr_gather.specs.Letters.{Letter}
+use Rattle.sr_gather.specs.Windows.{IsRefetched, IsStill, pieces_among}
 use Rattle.sr_send.specs.TrueLetters.{all_given}
 use Rattle.sr_world.specs.Real.{transaction_at, layers, HasSpelling}
 use Rattle.sr_world.proofs.Keeping.{given_same}

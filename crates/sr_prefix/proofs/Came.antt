@@ -12,13 +12,14 @@ use Rattle.sr_base.specs.Values.{offset_from}
 use Rattle.sr_history.specs.Folds.{sees}
 use Rattle.sr_history.specs.Recorded.{Recorded}
 use Rattle.sr_msgform.specs.Messages.{message_spelling}
-use Rattle.sr_receive.specs.Acts.{Act, dropped, torn, begun, took, Pairs, Stand, AreActs, mail_after, refetch, refetches}
-use Rattle.sr_receive.specs.Bags.{filed_of}
-use Rattle.sr_receive.specs.Gathers.{fetches}
-use Rattle.sr_receive.specs.Greatest.{ask_at, asks, confirm_in, confirms, count_in, has_gap, least_ask, raises}
-use Rattle.sr_receive.specs.Letters.{Came, gone, junk, stranger, letter, IsCame, Letter, fetch_of, letters_from}
-use Rattle.sr_receive.specs.Windows.{IsRefetched}
-use Rattle.sr_receive.specs.declared.bag.Filed.{Filed}
+use Rattle.sr_receive.specs.Acts.{Act, dropped, torn, begun, took, Stand, AreActs, mail_after}
+use Rattle.sr_gather.specs.Fetches.{Pairs, refetch, refetches}
+use Rattle.sr_gather.specs.Bags.{filed_of}
+use Rattle.sr_gather.specs.Gathers.{fetches}
+use Rattle.sr_gather.specs.Greatest.{ask_at, asks, confirm_in, confirms, count_in, has_gap, least_ask, raises}
+use Rattle.sr_gather.specs.Letters.{Came, gone, junk, stranger, letter, IsCame, Letter, fetch_of, letters_from}
+use Rattle.sr_gather.specs.Windows.{IsRefetched}
+use Rattle.sr_gather.specs.declared.bag.Filed.{Filed}
 use Rattle.sr_schema.specs.Catalogs.{Lists}
 use Rattle.sr_site.specs.Happenings.{Happening}
 use Rattle.sr_prefix.specs.Forging.{CameUnforged}

@@ -16,8 +16,8 @@ use Rattle.sr_logform.specs.declared.op.Transaction.{Transaction}
 use Rattle.sr_model.specs.Windows.{past, window}
 use Rattle.sr_model.proofs.Offsets.{le_or_lt, not_past_test, past_test}
 use Rattle.sr_receive.specs.Acts.{Act, dropped, torn, begun, took, Stand, stand_of, AreActs, IsNextTaken, entries_of, rest_of}
-use Rattle.sr_receive.specs.Letters.{Letter}
-use Rattle.sr_receive.specs.Windows.{past as past_of}
+use Rattle.sr_gather.specs.Letters.{Letter}
+use Rattle.sr_gather.specs.Windows.{past as past_of}
 use Rattle.sr_world.specs.Real.{transaction_at, layers}
 use Rattle.sr_prefix.proofs.Along.{Along, along_last, along_more}
 use Rattle.sr_prefix.proofs.Bodies.{IsTruePair, given_in, read_given}

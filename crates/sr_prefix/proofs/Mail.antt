@@ -6,11 +6,12 @@ use Rattle.sr_book.specs.Entries.{Name}
 use Rattle.sr_cut.proofs.Lists.{AllByRecursion-back, AllByRecursion-front}
 use Rattle.sr_history.specs.Folds.{books_of}
 use Rattle.sr_history.specs.Recorded.{Recorded}
-use Rattle.sr_receive.specs.Acts.{Act, dropped, torn, begun, took, Pairs, mail_after, refetch, refetches}
-use Rattle.sr_receive.specs.Gathers.{fetches}
-use Rattle.sr_receive.specs.Letters.{Came, fetch_of}
-use Rattle.sr_receive.specs.Purges.{dead, removals}
-use Rattle.sr_receive.specs.declared.bag.Filed.{Filed}
+use Rattle.sr_receive.specs.Acts.{Act, dropped, torn, begun, took, mail_after}
+use Rattle.sr_gather.specs.Fetches.{Pairs, refetch, refetches}
+use Rattle.sr_gather.specs.Gathers.{fetches}
+use Rattle.sr_gather.specs.Letters.{Came, fetch_of}
+use Rattle.sr_gather.specs.Purges.{dead, removals}
+use Rattle.sr_gather.specs.declared.bag.Filed.{Filed}
 use Rattle.sr_msgform.specs.Messages.{message_spelling}
 use Rattle.sr_site.specs.Happenings.{Happening, attached, wrote, cut_to, synced, listed, fetched, sent, removed, mail_in, Grows}
 use Rattle.sr_site.specs.Growing.{all_of_it, more_than}

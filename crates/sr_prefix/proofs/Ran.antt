@@ -11,8 +11,8 @@ use Rattle.sr_history.specs.Fitting.{Stored}
 use Rattle.sr_history.specs.Folds.{books_of, end_of, state_of}
 use Rattle.sr_history.specs.Recorded.{Recorded}
 use Rattle.sr_msgform.specs.declared.message.Message.{Message}
-use Rattle.sr_receive.specs.Bags.{filed_of}
-use Rattle.sr_receive.specs.Letters.{Came, letters_from}
+use Rattle.sr_gather.specs.Bags.{filed_of}
+use Rattle.sr_gather.specs.Letters.{Came, letters_from}
 use Rattle.sr_send.specs.Letters.{letters, noted_letters, sent_note}
 use Rattle.sr_send.specs.Passes.{sent_end}
 use Rattle.sr_site.specs.Happenings.{Happening, listed}

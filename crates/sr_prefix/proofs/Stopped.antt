@@ -15,13 +15,13 @@ use Rattle.sr_history.specs.Folds.{sees}
 use Rattle.sr_history.specs.Recorded.{Recorded, taken}
 use Rattle.sr_mail.specs.declared.window.Window.{Window}
 use Rattle.sr_receive.specs.Acts.{Act, took, Stand, stand_of, AreActs, entries_of, mail_after}
-use Rattle.sr_receive.specs.Bags.{filed_of}
-use Rattle.sr_receive.specs.Greatest.{raises}
-use Rattle.sr_receive.specs.Letters.{Letter}
+use Rattle.sr_gather.specs.Bags.{filed_of}
+use Rattle.sr_gather.specs.Greatest.{raises}
+use Rattle.sr_gather.specs.Letters.{Letter}
 use Rattle.sr_receive.specs.Passes.{IsMailAt, IsNextEntry, IsOfNext, IsRefused, PassedInPart, StoppedAtEnd, StoppedAtNotes, StoppedAtWindows, begun_by, first_notes, first_of, note_entries}
-use Rattle.sr_receive.specs.declared.fault.ReceiveFault.{ReceiveFault}
-use Rattle.sr_receive.specs.declared.fault.ReceiveFault.TheVariants.{Disk, Mail, Full, Long, Memory}
-use Rattle.sr_receive.specs.declared.report.Report.{Report}
+use Rattle.sr_gather.specs.declared.fault.ReceiveFault.{ReceiveFault}
+use Rattle.sr_gather.specs.declared.fault.ReceiveFault.TheVariants.{Disk, Mail, Full, Long, Memory}
+use Rattle.sr_gather.specs.declared.report.Report.{Report}
 use Rattle.sr_site.specs.Happenings.{Happening, mail_in}
 use Rattle.sr_site.specs.Seen.{Seen}
 use Rattle.sr_standing.specs.Items.{commit}

@@ -13,11 +13,11 @@ use Rattle.sr_history.specs.Folds.{books_of, sees}
 use Rattle.sr_history.specs.Recorded.{Recorded}
 use Rattle.sr_logform.specs.declared.op.Op.{Op}
 use Rattle.sr_receive.specs.Acts.{Act, Stand, AreActs, entries_of}
-use Rattle.sr_receive.specs.Bags.{filed_of}
-use Rattle.sr_receive.specs.Greatest.{asks, confirms, raises}
-use Rattle.sr_receive.specs.Letters.{Came, Letter, letters_from}
+use Rattle.sr_gather.specs.Bags.{filed_of}
+use Rattle.sr_gather.specs.Greatest.{asks, confirms, raises}
+use Rattle.sr_gather.specs.Letters.{Came, Letter, letters_from}
 use Rattle.sr_receive.specs.Passes.{first_notes, note_entries}
-use Rattle.sr_receive.specs.declared.bag.Filed.{Filed}
+use Rattle.sr_gather.specs.declared.bag.Filed.{Filed}
 use Rattle.sr_site.specs.Happenings.{Happening}
 use Rattle.sr_agent.specs.Turns.{Turn, AreTurns, IsTurn, after_turns, beginning, ending, files_of, letters_of, turn_entries, turns_entries, turns_mail}
 use Rattle.sr_prefix.proofs.Along.{Along, along_last, along_more}

@@ -10,12 +10,12 @@ use Rattle.sr_history.specs.Folds.{books_of, state_of}
 use Rattle.sr_history.specs.Recorded.{Recorded}
 use Rattle.sr_msgform.specs.declared.message.Message.{Message}
 use Rattle.sr_receive.specs.Acts.{mail_after}
-use Rattle.sr_receive.specs.Bags.{filed_of}
-use Rattle.sr_receive.specs.Letters.{Came, letters_from}
-use Rattle.sr_receive.specs.Purges.{PurgeCause}
-use Rattle.sr_receive.specs.declared.bag.Filed.{Filed}
-use Rattle.sr_receive.specs.declared.fault.ReceiveFault.{ReceiveFault}
-use Rattle.sr_receive.specs.declared.fault.ReceiveFault.TheVariants as receives
+use Rattle.sr_gather.specs.Bags.{filed_of}
+use Rattle.sr_gather.specs.Letters.{Came, letters_from}
+use Rattle.sr_gather.specs.Purges.{PurgeCause}
+use Rattle.sr_gather.specs.declared.bag.Filed.{Filed}
+use Rattle.sr_gather.specs.declared.fault.ReceiveFault.{ReceiveFault}
+use Rattle.sr_gather.specs.declared.fault.ReceiveFault.TheVariants as receives
 use Rattle.sr_send.specs.Letters.{letters}
 use Rattle.sr_send.specs.Passes.{NoteRefused, SendCause, Unnoted, sent_end}
 use Rattle.sr_send.specs.declared.fault.SendFault.{SendFault}

@@ -3,6 +3,7 @@ ghost use Rattle.std.proofs.Common.{rules};
 ghost use Rattle.std.specs.Cmp.{po, eq_by_cmp_equiv, partial_equiv_from_equiv};
 ghost use Rattle.std.specs.Cmp.Rules.{comparing};
 ghost use Rattle.std.specs.Ordering.{eq_by_cmp, as_partial_cmp};
+ghost use Rattle.sr_base.specs.Order.{value_cmp};
 ghost use Rattle.sr_query.specs.Orders.{rank_of, rank_cmp, rank_cmp_total, listed_cmp, listed_cmp_total};
 
 use sr_base::{Row, Seq, Value};
@@ -75,10 +76,23 @@ impl Ord for Rank {
     ghost matches_eq = { Prim.search (comparing, rules) };
 
     fn cmp(&self, other: &Rank) -> Ordering {
-        match self.rising.cmp(&other.rising) {
-            Ordering::Equal => other.falling.cmp(&self.falling),
-            order => order,
+        match (&self.rising, &other.rising) {
+            (Value::Null, Value::Null) => other.falling.cmp(&self.falling),
+            (value, other_value) => match value.cmp(other_value) {
+                Ordering::Equal => falling_order(&self.falling, &other.falling),
+                order => order,
+            },
         }
+    }
+}
+
+/// How two values under a column that falls compare: the greater one comes first.
+fn falling_order(value: &Value, other: &Value) -> Ordering
+    ensures order { result ≡ value_cmp other.now value.now }
+{
+    match (value, other) {
+        (Value::Null, Value::Null) => Ordering::Equal,
+        (value, other) => other.cmp(value),
     }
 }
 

@@ -13,10 +13,10 @@ use Rattle.sr_replay.proofs.ReplayNexts.{publisher_next}
 use Rattle.sr_site.specs.Happenings.{Happening, fetched, mail_in}
 use Rattle.sr_site.specs.Seen.{Seen}
 use Rattle.sr_standing.specs.Items.{AreQuiet}
-use Rattle.sr_receive.specs.Acts.{Act, Pairs, dropped, torn, begun, took, entries_of, taken_in, refetch, refetches}
+use Rattle.sr_receive.specs.Acts.{Act, dropped, torn, begun, took, entries_of, taken_in}
+use Rattle.sr_gather.specs.Fetches.{Pairs, refetch, refetches, IsFetch, AreFetched}
 use Rattle.sr_receive.specs.Entering.{Reached}
-use Rattle.sr_receive.specs.Fetches.{IsFetch, AreFetched}
-use Rattle.sr_receive.specs.Letters.{longest_fetch}
+use Rattle.sr_gather.specs.Letters.{longest_fetch}
 use Rattle.sr_receive.proofs.Joins.{HasQuiet}
 
 -- ---- the publisher stays

@@ -25,7 +25,7 @@ use Rattle.sr_standing.specs.Standing.{StandsAs}
 use Rattle.sr_standing.specs.Trails.{Went}
 use Rattle.sr_standing.proofs.Going.{nothing}
 use Rattle.sr_receive.specs.Entering.{IsReady, HasRoomAt, Reached, CommitStop, entered_as}
-use Rattle.sr_receive.specs.Faults.{fault_of_store}
+use Rattle.sr_gather.specs.Faults.{fault_of_store}
 
 -- what `commit` says
 pub record CommitSays (old new : View) (before now : Seen) (entry : Entry) (result : Result Offset DatabaseFault) : Type 0 where

@@ -8,14 +8,13 @@ use Rattle.sr_logform.specs.declared.op.Transaction.{Transaction}
 use Rattle.sr_mail.specs.declared.piece.Piece.{Piece}
 use Rattle.sr_site.specs.Causes.{DiskStays, Rose}
 use Rattle.sr_site.specs.Seen.{Seen}
-use Rattle.sr_receive.specs.Acts.{Pairs}
+use Rattle.sr_gather.specs.Fetches.{Pairs, FetchStop, FoundAll}
 use Rattle.sr_receive.specs.Entering.{Reached, CommitStop, NotesStop}
-use Rattle.sr_receive.specs.Fetches.{FetchStop, FoundAll}
 use Rattle.sr_receive.specs.Passes.{AreSteady, IsDeviceFault}
 use Rattle.sr_receive.specs.Takings.{Entered, NotEntered}
-use Rattle.sr_receive.specs.declared.fault.ReceiveFault.{ReceiveFault}
-use Rattle.sr_receive.specs.declared.fault.ReceiveFault.TheVariants.{Disk, Mail, Full, Long, Memory}
-use Rattle.sr_receive.specs.declared.report.Report.{Report}
+use Rattle.sr_gather.specs.declared.fault.ReceiveFault.{ReceiveFault}
+use Rattle.sr_gather.specs.declared.fault.ReceiveFault.TheVariants.{Disk, Mail, Full, Long, Memory}
+use Rattle.sr_gather.specs.declared.report.Report.{Report}
 
 pub steady_same : (seen : Seen) → AreSteady seen seen
 steady_same seen = record { disk = refl; mail = refl }

@@ -13,10 +13,11 @@ use Rattle.sr_mail.specs.Seen.{Cover, same_window, window_of}
 use Rattle.sr_mail.specs.declared.piece.Piece.{Piece}
 use Rattle.sr_mail.specs.declared.window.Window.{Window}
 use Rattle.sr_mail.proofs.Order.{same-is}
-use Rattle.sr_receive.specs.Acts.{Pairs, IsReadAs}
-use Rattle.sr_receive.specs.Bags.{Holds}
-use Rattle.sr_receive.specs.Letters.{Letter}
-use Rattle.sr_receive.specs.Windows.{AreOf, IsDue, IsWholeOf, NoneLeads, Spell, is_lost}
+use Rattle.sr_receive.specs.Acts.{IsReadAs}
+use Rattle.sr_gather.specs.Fetches.{Pairs}
+use Rattle.sr_gather.specs.Bags.{Holds}
+use Rattle.sr_gather.specs.Letters.{Letter}
+use Rattle.sr_gather.specs.Windows.{AreOf, IsDue, IsWholeOf, NoneLeads, Spell, is_lost}
 
 -- ---- whole windows
 

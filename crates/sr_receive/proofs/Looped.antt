@@ -11,12 +11,12 @@ use Rattle.sr_site.specs.Causes.{DiskStays}
 use Rattle.sr_site.specs.Seen.{Seen}
 use Rattle.sr_receive.specs.Acts.{Act, took, Stand, stand_of, rest_of}
 use Rattle.sr_receive.specs.Entering.{IsReady}
-use Rattle.sr_receive.specs.Letters.{Letter}
+use Rattle.sr_gather.specs.Letters.{Letter}
 use Rattle.sr_receive.specs.Takings.{Entered, HasTold, StandsThere, GoesOn, StopsTaking}
-use Rattle.sr_receive.specs.Windows.{past}
-use Rattle.sr_receive.specs.declared.fault.ReceiveFault.{ReceiveFault}
-use Rattle.sr_receive.specs.declared.fault.ReceiveFault.TheVariants.{Memory}
-use Rattle.sr_receive.specs.declared.report.Report.{Report}
+use Rattle.sr_gather.specs.Windows.{past}
+use Rattle.sr_gather.specs.declared.fault.ReceiveFault.{ReceiveFault}
+use Rattle.sr_gather.specs.declared.fault.ReceiveFault.TheVariants.{Memory}
+use Rattle.sr_gather.specs.declared.report.Report.{Report}
 use Rattle.sr_receive.specs.declared.taking.Progress.{Progress}
 use Rattle.sr_receive.proofs.Stands.{stands_took}
 use Rattle.sr_receive.proofs.Stopped.{stops_at_reports}

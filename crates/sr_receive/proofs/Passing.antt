@@ -18,18 +18,18 @@ use Rattle.sr_site.specs.Causes.{DiskStays}
 use Rattle.sr_site.specs.Happenings.{Happening, mail_in}
 use Rattle.sr_site.specs.Seen.{Seen}
 use Rattle.sr_receive.specs.Acts.{Act, Stand, stand_of, AreActs, entries_of, mail_after}
-use Rattle.sr_receive.specs.Bags.{filed_of, Holds, IsShare}
+use Rattle.sr_gather.specs.Bags.{filed_of, Holds, IsShare}
 use Rattle.sr_receive.specs.Entering.{IsReady, Reached, CommitStop, NotesStop}
-use Rattle.sr_receive.specs.Greatest.{asks, confirms, has_gap, raises}
-use Rattle.sr_receive.specs.Letters.{Letter}
+use Rattle.sr_gather.specs.Greatest.{asks, confirms, has_gap, raises}
+use Rattle.sr_gather.specs.Letters.{Letter}
 use Rattle.sr_receive.specs.Passes.{HasRaised, IsDeviceFault, IsMailAt, IsStart, PassedBehind, PassedFrom, PassedShare, StoppedAtEnd, StoppedAtNotes, StoppedAtWindows, StoppedBehind, StoppedFrom, StoppedShare, StopsAmong, act_reports, begun_by, first_notes, first_of, gap_report, note_entries}
 use Rattle.sr_receive.specs.Takings.{StandsThere, StopsWith, TriedAll}
-use Rattle.sr_receive.specs.declared.bag.Filed.{Filed}
-use Rattle.sr_receive.specs.declared.bag.Share.{Share}
-use Rattle.sr_receive.specs.declared.fault.ReceiveFault.{ReceiveFault}
-use Rattle.sr_receive.specs.declared.fault.ReceiveFault.TheVariants.{Disk, Mail, Full, Long, Memory}
+use Rattle.sr_gather.specs.declared.bag.Filed.{Filed}
+use Rattle.sr_gather.specs.declared.bag.Share.{Share}
+use Rattle.sr_gather.specs.declared.fault.ReceiveFault.{ReceiveFault}
+use Rattle.sr_gather.specs.declared.fault.ReceiveFault.TheVariants.{Disk, Mail, Full, Long, Memory}
 use Rattle.sr_receive.specs.declared.receiving.Received.{Received}
-use Rattle.sr_receive.specs.declared.report.Report.{Report}
+use Rattle.sr_gather.specs.declared.report.Report.{Report}
 use Rattle.sr_receive.specs.declared.taking.Progress.{Progress}
 use Rattle.sr_receive.proofs.Committing.{reached_none}
 use Rattle.sr_receive.proofs.Faulting.{fault_on, reached_steady}

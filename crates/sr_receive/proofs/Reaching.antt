@@ -10,8 +10,8 @@ use Rattle.sr_mail.specs.Seen.{same_window}
 use Rattle.sr_mail.specs.declared.window.Window.{Window}
 use Rattle.sr_mail.proofs.Order.{same-is}
 use Rattle.sr_receive.specs.Acts.{Act, AreActs, IsAct, IsAtRest, Stand, begun, dropped, rest_of, stand_of, took, torn}
-use Rattle.sr_receive.specs.Letters.{Letter}
-use Rattle.sr_receive.specs.Windows.{AreOf, IsWholeOf, is_lost, past}
+use Rattle.sr_gather.specs.Letters.{Letter}
+use Rattle.sr_gather.specs.Windows.{AreOf, IsWholeOf, is_lost, past}
 use Rattle.sr_receive.proofs.Far.{none_past}
 
 -- ---- transactions that are left of a window

@@ -9,15 +9,15 @@ use Rattle.sr_exec.proofs.Fixed.{same_name}
 use Rattle.sr_mail.specs.declared.window.Window.{Window}
 use Rattle.sr_site.specs.Seen.{Seen}
 use Rattle.sr_receive.specs.Acts.{Act, dropped, torn, begun, took, Stand, stand_of, AreActs, IsAct}
-use Rattle.sr_receive.specs.Bags.{filed_of, Has, IsPlaceOf, IsShare, IsShareWhere, OthersStay, share_of}
+use Rattle.sr_gather.specs.Bags.{filed_of, Has, IsPlaceOf, IsShare, IsShareWhere, OthersStay, share_of}
 use Rattle.sr_receive.specs.Entering.{IsReady}
-use Rattle.sr_receive.specs.Letters.{Letter}
+use Rattle.sr_gather.specs.Letters.{Letter}
 use Rattle.sr_receive.specs.Passes.{HasReceived, Passed, PassedInPart, PassedShare, ReceiveCause, StoppedShare, first_notes, first_of}
-use Rattle.sr_receive.specs.declared.bag.Share.{Share}
-use Rattle.sr_receive.specs.declared.fault.ReceiveFault.{ReceiveFault}
-use Rattle.sr_receive.specs.declared.fault.ReceiveFault.TheVariants.{Memory}
+use Rattle.sr_gather.specs.declared.bag.Share.{Share}
+use Rattle.sr_gather.specs.declared.fault.ReceiveFault.{ReceiveFault}
+use Rattle.sr_gather.specs.declared.fault.ReceiveFault.TheVariants.{Memory}
 use Rattle.sr_receive.specs.declared.receiving.Received.{Received}
-use Rattle.sr_receive.specs.declared.report.Report.{Report}
+use Rattle.sr_gather.specs.declared.report.Report.{Report}
 use Rattle.sr_receive.proofs.Committing.{reached_none}
 
 -- ---- shares by their users
@@ -104,19 +104,15 @@ there items user at share place got =
     let e : get_or items at share ≡ get_or (place.front ++ place.share ∷ place.behind) (length place.front) share = λ i. get_or (place.parts i) (place.at_is i) share in
     sym (got ∙ e ∙ get_front place.front place.behind place.share share)
 
-pub received_at : (old new : View) (before now : Seen) (user : Name) (bag slice items : List Share) (at : ℕ) (share share' : Share) (reports reports' : List Report) (result : Result Received ReceiveFault) → slice ≡ items → bag ≡ items → IsPlaceOf slice user at
-    → share ≡ get_or items at share → share'.user ≡ share.user → IfOk result (PassedShare old new before now user share share' reports reports') → IfOk result (HasReceived old new before now user bag (set items at share') reports reports')
-received_at old new before now user bag slice items at share share' reports reports' result value view place got same says =
-    let here = subst (λ (l : List Share). IsPlaceOf l user at) value place in
-    subst (λ (b : List Share). IfOk result (HasReceived old new before now user b (set items at share') reports reports')) (sym view)
-    (received_answer old new before now user items (set items at share') at share share' reports reports' result here (there items user at share here got) same refl says)
+pub received_at : (old new : View) (before now : Seen) (user : Name) (bag : List Share) (at : ℕ) (share share' : Share) (reports reports' : List Report) (result : Result Received ReceiveFault) → IsPlaceOf bag user at → share ≡ get_or bag at share → share'.user ≡ share.user
+    → IfOk result (PassedShare old new before now user share share' reports reports') → IfOk result (HasReceived old new before now user bag (set bag at share') reports reports')
+received_at old new before now user bag at share share' reports reports' result place got same says =
+    received_answer old new before now user bag (set bag at share') at share share' reports reports' result place (there bag user at share place got) same refl says
 
-pub stopped_at : (old new : View) (before now : Seen) (user : Name) (bag slice items : List Share) (at : ℕ) (share share' : Share) (reports reports' : List Report) (result : Result Received ReceiveFault) → slice ≡ items → bag ≡ items → IsPlaceOf slice user at
-    → share ≡ get_or items at share → share'.user ≡ share.user → IfErr result (StoppedShare old new before now user share share' reports reports') → IfErr result (ReceiveCause old new before now user bag (set items at share') reports reports')
-stopped_at old new before now user bag slice items at share share' reports reports' result value view place got same says =
-    let here = subst (λ (l : List Share). IsPlaceOf l user at) value place in
-    subst (λ (b : List Share). IfErr result (ReceiveCause old new before now user b (set items at share') reports reports')) (sym view)
-    (cause_answer old new before now user items (set items at share') at share share' reports reports' result here (there items user at share here got) same refl says)
+pub stopped_at : (old new : View) (before now : Seen) (user : Name) (bag : List Share) (at : ℕ) (share share' : Share) (reports reports' : List Report) (result : Result Received ReceiveFault) → IsPlaceOf bag user at → share ≡ get_or bag at share → share'.user ≡ share.user
+    → IfErr result (StoppedShare old new before now user share share' reports reports') → IfErr result (ReceiveCause old new before now user bag (set bag at share') reports reports')
+stopped_at old new before now user bag at share share' reports reports' result place got same says =
+    cause_answer old new before now user bag (set bag at share') at share share' reports reports' result place (there bag user at share place got) same refl says
 
 -- ---- no share
 

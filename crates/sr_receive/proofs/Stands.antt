@@ -14,15 +14,16 @@ use Rattle.sr_resolve.specs.Taking.{is_above}
 use Rattle.sr_site.specs.Causes.{DiskStays}
 use Rattle.sr_site.specs.Happenings.{Happening, mail_in}
 use Rattle.sr_site.specs.Seen.{Seen}
-use Rattle.sr_receive.specs.Acts.{Act, Pairs, dropped, torn, begun, took, Stand, stand_of, entries_of, op_reports, torn_reports, mail_after, refetch, refetches}
+use Rattle.sr_receive.specs.Acts.{Act, dropped, torn, begun, took, Stand, stand_of, entries_of, op_reports, torn_reports, mail_after}
+use Rattle.sr_gather.specs.Fetches.{Pairs, refetch, refetches, LostAmong}
 use Rattle.sr_receive.specs.Entering.{IsReady}
-use Rattle.sr_receive.specs.Fetches.{LostAmong}
-use Rattle.sr_receive.specs.Judged.{AreDone, outcome_reports}
-use Rattle.sr_receive.specs.Letters.{Letter}
+use Rattle.sr_taken.specs.Judged.{AreDone}
+use Rattle.sr_receive.specs.Reports.{outcome_reports}
+use Rattle.sr_gather.specs.Letters.{Letter}
 use Rattle.sr_receive.specs.Takings.{Entered, StandsThere, IsIdle, IsUnderTrial}
-use Rattle.sr_receive.specs.Windows.{IsDue}
-use Rattle.sr_receive.specs.declared.report.Report.{Report}
-use Rattle.sr_receive.specs.declared.report.Report.TheVariants.{Torn}
+use Rattle.sr_gather.specs.Windows.{IsDue}
+use Rattle.sr_gather.specs.declared.report.Report.{Report}
+use Rattle.sr_gather.specs.declared.report.Report.TheVariants.{Torn}
 use Rattle.sr_receive.specs.declared.taking.Progress.{Progress}
 use Rattle.sr_receive.proofs.Acted.{dones_publisher, few_taken, OnlyFetches, fetches_quiet, only_refetches, only_dropped, mail_refetches}
 use Rattle.sr_receive.proofs.Joins.{HasQuiet, reached_on, reached_still, reached_quiet, state_then, told_on}

@@ -13,16 +13,16 @@ use Rattle.sr_resolve.specs.Taking.{is_above}
 use Rattle.sr_site.specs.Causes.{DiskStays, MailStays}
 use Rattle.sr_site.specs.Happenings.{Happening, mail_in}
 use Rattle.sr_site.specs.Seen.{Seen}
-use Rattle.sr_receive.specs.Acts.{Act, Pairs, took, torn, Stand, stand_of, entries_of, op_reports, torn_reports, mail_after}
-use Rattle.sr_receive.specs.Bags.{Holds}
-use Rattle.sr_receive.specs.Fetches.{FetchStop}
-use Rattle.sr_receive.specs.Judged.{AreDone}
-use Rattle.sr_receive.specs.Letters.{Letter}
+use Rattle.sr_receive.specs.Acts.{Act, took, torn, Stand, stand_of, entries_of, op_reports, torn_reports, mail_after}
+use Rattle.sr_gather.specs.Fetches.{Pairs, FetchStop}
+use Rattle.sr_gather.specs.Bags.{Holds}
+use Rattle.sr_taken.specs.Judged.{AreDone}
+use Rattle.sr_gather.specs.Letters.{Letter}
 use Rattle.sr_receive.specs.Passes.{AreShownInPart, HasFetched, IsNextEntry, act_reports}
 use Rattle.sr_receive.specs.Takings.{Entered, EntryRefused, NotEntered, StandsThere, StopsThere, StopsTaking, StopsWith}
-use Rattle.sr_receive.specs.declared.fault.ReceiveFault.{ReceiveFault}
-use Rattle.sr_receive.specs.declared.fault.ReceiveFault.TheVariants.{Disk, Mail, Full, Long, Memory}
-use Rattle.sr_receive.specs.declared.report.Report.{Report}
+use Rattle.sr_gather.specs.declared.fault.ReceiveFault.{ReceiveFault}
+use Rattle.sr_gather.specs.declared.fault.ReceiveFault.TheVariants.{Disk, Mail, Full, Long, Memory}
+use Rattle.sr_gather.specs.declared.report.Report.{Report}
 use Rattle.sr_receive.specs.declared.taking.Progress.{Progress}
 use Rattle.sr_receive.proofs.Acted.{OnlyFetches, fetches_quiet, fetches_mail}
 use Rattle.sr_receive.proofs.Joins.{HasQuiet, reached_on, reached_still, reached_quiet, told_on}

@@ -23,11 +23,12 @@ use Rattle.sr_site.specs.Files.{Files}
 use Rattle.sr_site.specs.Seen.{Seen}
 use Rattle.sr_standing.proofs.Going.{nothing}
 use Rattle.sr_receive.specs.Entering.{IsReady, Reached, CommitStop}
-use Rattle.sr_receive.specs.Judged.{IsAlike, IsEntryOf, entry_reports, outcome_reports}
+use Rattle.sr_taken.specs.Judged.{IsAlike, IsEntryOf}
+use Rattle.sr_receive.specs.Reports.{entry_reports, outcome_reports}
 use Rattle.sr_receive.specs.Takings.{Entered, NotEntered}
-use Rattle.sr_receive.specs.declared.fault.ReceiveFault.{ReceiveFault}
-use Rattle.sr_receive.specs.declared.fault.ReceiveFault.TheVariants.{Disk, Mail, Full, Long, Memory}
-use Rattle.sr_receive.specs.declared.report.Report.{Report}
+use Rattle.sr_gather.specs.declared.fault.ReceiveFault.{ReceiveFault}
+use Rattle.sr_gather.specs.declared.fault.ReceiveFault.TheVariants.{Disk, Mail, Full, Long, Memory}
+use Rattle.sr_gather.specs.declared.report.Report.{Report}
 use Rattle.sr_receive.proofs.Committing.{ready_then, settled_as}
 use Rattle.sr_receive.proofs.Joins.{committed_is, reached_on}
 

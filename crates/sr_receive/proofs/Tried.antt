@@ -15,17 +15,17 @@ use Rattle.sr_mail.specs.declared.piece.Piece.{Piece}
 use Rattle.sr_mail.specs.declared.window.Window.{Window}
 use Rattle.sr_site.specs.Happenings.{Happening}
 use Rattle.sr_site.specs.Seen.{Seen}
-use Rattle.sr_receive.specs.Acts.{Act, Pairs, dropped, torn, begun, Stand, stand_of, refetch, IsReadAs}
-use Rattle.sr_receive.specs.Bags.{Holds}
+use Rattle.sr_receive.specs.Acts.{Act, dropped, torn, begun, Stand, stand_of, IsReadAs}
+use Rattle.sr_gather.specs.Fetches.{Pairs, refetch, FetchStop, FoundAll}
+use Rattle.sr_gather.specs.Bags.{Holds}
 use Rattle.sr_receive.specs.Entering.{IsReady}
-use Rattle.sr_receive.specs.Fetches.{FetchStop, FoundAll}
-use Rattle.sr_receive.specs.Letters.{Letter}
+use Rattle.sr_gather.specs.Letters.{Letter}
 use Rattle.sr_receive.specs.Takings.{GoesOn, IsIdle, IsOnTrial, IsReadOrNot, IsUnderTrial, StandsThere, StopsTaking, StopsWith, TriedAll, TriedOne}
-use Rattle.sr_receive.specs.Windows.{IsDue, NoneLeads, past}
-use Rattle.sr_receive.specs.declared.fault.ReceiveFault.{ReceiveFault}
-use Rattle.sr_receive.specs.declared.fault.ReceiveFault.TheVariants.{Memory}
-use Rattle.sr_receive.specs.declared.report.Report.{Report}
-use Rattle.sr_receive.specs.declared.report.Report.TheVariants.{Torn}
+use Rattle.sr_gather.specs.Windows.{IsDue, NoneLeads, past}
+use Rattle.sr_gather.specs.declared.fault.ReceiveFault.{ReceiveFault}
+use Rattle.sr_gather.specs.declared.fault.ReceiveFault.TheVariants.{Memory}
+use Rattle.sr_gather.specs.declared.report.Report.{Report}
+use Rattle.sr_gather.specs.declared.report.Report.TheVariants.{Torn}
 use Rattle.sr_receive.specs.declared.taking.Progress.{Progress}
 use Rattle.sr_receive.proofs.Acted.{OnlyFetches, fetches_quiet, only_dropped, only_refetches}
 use Rattle.sr_receive.proofs.Leading.{holds_lost, none_leads, pairs_filled, pairs_of_one}

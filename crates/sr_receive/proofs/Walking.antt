@@ -14,15 +14,15 @@ use Rattle.sr_schema.specs.Members.{user_name}
 use Rattle.sr_schema.specs.Names.{named}
 use Rattle.sr_site.specs.Seen.{Seen}
 use Rattle.sr_receive.specs.Acts.{Act, Stand, stand_of}
-use Rattle.sr_receive.specs.Bags.{Holds}
+use Rattle.sr_gather.specs.Bags.{Holds}
 use Rattle.sr_receive.specs.Entering.{IsReady}
-use Rattle.sr_receive.specs.Letters.{Letter}
+use Rattle.sr_gather.specs.Letters.{Letter}
 use Rattle.sr_receive.specs.Passes.{AreSteady}
 use Rattle.sr_receive.specs.Takings.{GoesOn, IsIdle, StandsThere, StopsTaking, StopsWith, TriedAll, TriedOne}
-use Rattle.sr_receive.specs.Windows.{IsDue, past}
-use Rattle.sr_receive.specs.declared.fault.ReceiveFault.{ReceiveFault}
-use Rattle.sr_receive.specs.declared.fault.ReceiveFault.TheVariants.{Memory}
-use Rattle.sr_receive.specs.declared.report.Report.{Report}
+use Rattle.sr_gather.specs.Windows.{IsDue, past}
+use Rattle.sr_gather.specs.declared.fault.ReceiveFault.{ReceiveFault}
+use Rattle.sr_gather.specs.declared.fault.ReceiveFault.TheVariants.{Memory}
+use Rattle.sr_gather.specs.declared.report.Report.{Report}
 use Rattle.sr_receive.specs.declared.taking.Progress.{Progress}
 use Rattle.sr_receive.proofs.Leading.{due_of}
 use Rattle.sr_receive.proofs.Faulting.{steady_on, steady_same}

@@ -1,5 +1,5 @@
 -- What a pass makes of the windows of a user's letters: one thing after the other, the newest first.
-use Rattle.std.specs.Prelude.{◌≡◌, ⊤, ℕ, ◌+◌, List, [], ◌∷◌, ◌++◌, map, Option, Some, Ok}
+use Rattle.std.specs.Prelude.{◌≡◌, ⊤, ℕ, ◌+◌, List, [], ◌∷◌, ◌++◌, map, Option}
 use Rattle.std.specs.List.{AllByRecursion}
 use Rattle.sr_book.specs.Entries.{Name}
 use Rattle.sr_base.specs.Values.{offset_from}
@@ -9,19 +9,15 @@ use Rattle.sr_logform.specs.declared.op.Transaction.{Transaction}
 use Rattle.sr_mail.specs.Assembled.{IsAssembled}
 use Rattle.sr_mail.specs.declared.piece.Piece.{Piece}
 use Rattle.sr_mail.specs.declared.window.Window.{Window}
-use Rattle.sr_msgform.specs.Messages.{message_spelling}
-use Rattle.sr_msgform.specs.declared.message.Message.{Message}
-use Rattle.sr_site.specs.Happenings.{Happening, fetched}
+use Rattle.sr_site.specs.Happenings.{Happening}
 use Rattle.sr_resolve.specs.Taking.{is_above}
-use Rattle.sr_receive.specs.Judged.{AreDone, outcome_reports}
-use Rattle.sr_receive.specs.Letters.{Letter, longest_fetch}
-use Rattle.sr_receive.specs.Windows.{IsDue, IsRefetched, IsUnlike, NoneLeads, Spell, past}
-use Rattle.sr_receive.specs.declared.report.Report.{Report}
-use Rattle.sr_receive.specs.declared.report.Report.TheVariants.{Torn}
-
--- the pieces of the window that was tried, with the messages that their second fetches gave
-abbrev pub Pairs : Type 0
-Pairs = List (Piece × Message)
+use Rattle.sr_gather.specs.Fetches.{Pairs, refetch, refetches}
+use Rattle.sr_taken.specs.Judged.{AreDone}
+use Rattle.sr_receive.specs.Reports.{outcome_reports}
+use Rattle.sr_gather.specs.Letters.{Letter}
+use Rattle.sr_gather.specs.Windows.{IsDue, IsRefetched, IsUnlike, NoneLeads, Spell, past}
+use Rattle.sr_gather.specs.declared.report.Report.{Report}
+use Rattle.sr_gather.specs.declared.report.Report.TheVariants.{Torn}
 
 pub data Act : Type 0 where
   -- a window was tried and dropped: pieces came again, and then what came of one was not its own
@@ -131,15 +127,6 @@ torn_reports user (dropped w pairs piece found ∷ earlier) = torn_reports user 
 torn_reports user (torn w pairs ∷ earlier) = torn_reports user earlier ++ Torn user (offset_from w.prev) (offset_from w.upto) ∷ []
 torn_reports user (begun w pairs txs ∷ earlier) = torn_reports user earlier
 torn_reports user (took t dones ∷ earlier) = torn_reports user earlier
-
--- the second fetch of a piece, from the folder of this address
-abbrev pub refetch : Name → Piece → Option (List ℕ) → Happening
-refetch address piece found = fetched address piece.name longest_fetch (Ok found)
-
--- second fetches that gave messages, the newest first
-abbrev pub refetches : Name → Pairs → List Happening → List Happening
-refetches address [] before = before
-refetches address (p ∷ pairs) before = refetches address pairs (refetch address p.0 (Some (message_spelling p.1)) ∷ before)
 
 -- what happened to the mail
 abbrev pub mail_after : Name → List Act → List Happening → List Happening

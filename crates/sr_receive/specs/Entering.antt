@@ -16,9 +16,9 @@ use Rattle.sr_database.specs.Commits.{framed_size}
 use Rattle.sr_database.specs.Databases.{IsOf, IsOfSome, IsDatabase, HasDatabase}
 use Rattle.sr_database.specs.Views.{View}
 use Rattle.sr_database.specs.declared.fault.DatabaseFault.{DatabaseFault}
-use Rattle.sr_receive.specs.Faults.{fault_of_store}
-use Rattle.sr_receive.specs.declared.fault.ReceiveFault.{ReceiveFault}
-use Rattle.sr_receive.specs.declared.fault.ReceiveFault.TheVariants.{Disk, Mail, Full, Long, Memory}
+use Rattle.sr_gather.specs.Faults.{fault_of_store}
+use Rattle.sr_gather.specs.declared.fault.ReceiveFault.{ReceiveFault}
+use Rattle.sr_gather.specs.declared.fault.ReceiveFault.TheVariants.{Disk, Mail, Full, Long, Memory}
 
 -- the database can be used and has no pending change, it is that of a history, and its files hold it
 pub record IsReady (view : View) (seen : Seen) : Type 0 where

@@ -1,16 +1,5 @@
-pub mod Letters
-pub mod Faults
-pub mod Bags
-pub mod Gathers
-pub mod Greatest
-pub mod OneNote
-pub mod Windows
 pub mod Acts
-pub mod Fetches
 pub mod Entering
-pub mod Judged
-pub mod OneOp
-pub mod Copies
+pub mod Reports
 pub mod Takings
 pub mod Passes
-pub mod Purges

@@ -14,18 +14,18 @@ use Rattle.sr_site.specs.Causes.{Rose}
 use Rattle.sr_site.specs.Happenings.{Happening, mail_in}
 use Rattle.sr_site.specs.Seen.{Seen}
 use Rattle.sr_receive.specs.Acts.{Act, Stand, stand_of, AreActs, IsAtRest, IsNextTaken, entries_of, taken_in, op_reports, torn_reports, mail_after}
-use Rattle.sr_receive.specs.Bags.{filed_of, Has, IsShare, OthersStay}
+use Rattle.sr_gather.specs.Bags.{filed_of, Has, IsShare, OthersStay}
 use Rattle.sr_receive.specs.Entering.{Reached}
-use Rattle.sr_receive.specs.Fetches.{AreFetched}
-use Rattle.sr_receive.specs.Greatest.{confirms, asks, raises, has_gap, upto_in}
-use Rattle.sr_receive.specs.Letters.{Letter}
-use Rattle.sr_receive.specs.declared.bag.Filed.{Filed}
-use Rattle.sr_receive.specs.declared.bag.Share.{Share}
-use Rattle.sr_receive.specs.declared.fault.ReceiveFault.{ReceiveFault}
-use Rattle.sr_receive.specs.declared.fault.ReceiveFault.TheVariants.{Disk, Mail, Full, Long, Memory}
+use Rattle.sr_gather.specs.Fetches.{AreFetched}
+use Rattle.sr_gather.specs.Greatest.{confirms, asks, raises, has_gap, upto_in}
+use Rattle.sr_gather.specs.Letters.{Letter}
+use Rattle.sr_gather.specs.declared.bag.Filed.{Filed}
+use Rattle.sr_gather.specs.declared.bag.Share.{Share}
+use Rattle.sr_gather.specs.declared.fault.ReceiveFault.{ReceiveFault}
+use Rattle.sr_gather.specs.declared.fault.ReceiveFault.TheVariants.{Disk, Mail, Full, Long, Memory}
 use Rattle.sr_receive.specs.declared.receiving.Received.{Received}
-use Rattle.sr_receive.specs.declared.report.Report.{Report}
-use Rattle.sr_receive.specs.declared.report.Report.TheVariants.{Gap}
+use Rattle.sr_gather.specs.declared.report.Report.{Report}
+use Rattle.sr_gather.specs.declared.report.Report.TheVariants.{Gap}
 use Rattle.sr_receive.specs.declared.taking.Progress.{Progress}
 
 -- where a pass begins

@@ -13,17 +13,18 @@ use Rattle.sr_site.specs.Causes.{MailStays}
 use Rattle.sr_site.specs.Happenings.{mail_in}
 use Rattle.sr_site.specs.Seen.{Seen}
 use Rattle.sr_resolve.specs.Taking.{is_above}
-use Rattle.sr_receive.specs.Acts.{Act, Pairs, Stand, stand_of, AreActs, CameAgain, IsAtRest, IsReadAs, entries_of, taken_in, op_reports, torn_reports, mail_after, refetches}
-use Rattle.sr_receive.specs.Bags.{Holds}
+use Rattle.sr_receive.specs.Acts.{Act, Stand, stand_of, AreActs, CameAgain, IsAtRest, IsReadAs, entries_of, taken_in, op_reports, torn_reports, mail_after}
+use Rattle.sr_gather.specs.Fetches.{Pairs, refetches, FoundAll}
+use Rattle.sr_gather.specs.Bags.{Holds}
 use Rattle.sr_receive.specs.Entering.{Reached, CommitStop}
-use Rattle.sr_receive.specs.Fetches.{FoundAll}
-use Rattle.sr_receive.specs.Judged.{AreDone, outcome_reports}
-use Rattle.sr_receive.specs.Letters.{Letter}
+use Rattle.sr_taken.specs.Judged.{AreDone}
+use Rattle.sr_receive.specs.Reports.{outcome_reports}
+use Rattle.sr_gather.specs.Letters.{Letter}
 use Rattle.sr_receive.specs.Passes.{AreShown, IsMailAt, IsOfNext, IsRefused, begun_by}
-use Rattle.sr_receive.specs.Windows.{IsDue}
-use Rattle.sr_receive.specs.declared.fault.ReceiveFault.{ReceiveFault}
-use Rattle.sr_receive.specs.declared.fault.ReceiveFault.TheVariants.{Disk, Mail, Full, Long, Memory}
-use Rattle.sr_receive.specs.declared.report.Report.{Report}
+use Rattle.sr_gather.specs.Windows.{IsDue}
+use Rattle.sr_gather.specs.declared.fault.ReceiveFault.{ReceiveFault}
+use Rattle.sr_gather.specs.declared.fault.ReceiveFault.TheVariants.{Disk, Mail, Full, Long, Memory}
+use Rattle.sr_gather.specs.declared.report.Report.{Report}
 use Rattle.sr_receive.specs.declared.taking.Progress.{Progress}
 
 -- a transaction of a user was taken, and this is to be reported of it

@@ -7,14 +7,14 @@ ghost use Rattle.sr_logform.specs.declared.entry.Entry.TheVariants.{Note as note
 ghost use Rattle.sr_schema.specs.Members.{user_name};
 ghost use Rattle.sr_schema.specs.Names.{named};
 ghost use Rattle.sr_site.specs.Causes.{DiskStays};
-ghost use Rattle.sr_receive.specs.OneNote.{at_most_one};
+ghost use Rattle.sr_gather.specs.OneNote.{at_most_one};
 ghost use Rattle.sr_receive.specs.Entering.{IsReady, Reached, CommitStop, NotesStop, entered_as};
 ghost use Rattle.sr_receive.specs.Passes.{note_entries};
 
-use crate::fault::{ReceiveFault, store_fault};
 use sr_base::{Copied, Name, NoMemory, Offset};
 use sr_book::Note;
 use sr_database::{Database, DatabaseFault};
+use sr_gather::{ReceiveFault, store_fault};
 use sr_logform::Entry;
 use sr_site::Site;
 use std::alloc::Global;

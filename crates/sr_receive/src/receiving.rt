@@ -5,27 +5,25 @@ ghost use Rattle.sr_schema.specs.Members.{user_name};
 ghost use Rattle.sr_schema.specs.Names.{named};
 ghost use Rattle.sr_site.specs.Causes.{DiskStays};
 ghost use Rattle.sr_receive.specs.Entering.{IsReady, NotesStop, Reached};
-ghost use Rattle.sr_receive.specs.Greatest.{asks, confirms, has_gap, raises};
+ghost use Rattle.sr_gather.specs.Greatest.{asks, confirms, has_gap, raises};
 ghost use Rattle.sr_mail.specs.declared.window.Window.{Window as AWindow};
 ghost use Rattle.sr_receive.specs.Acts.{Stand};
-ghost use Rattle.sr_receive.specs.Bags.{IsShare, share_of};
-ghost use Rattle.sr_receive.specs.declared.bag.Share.{Share as AShare};
-ghost use Rattle.sr_receive.specs.Letters.{Letter as ALetter};
+ghost use Rattle.sr_gather.specs.Bags.{IsShare, share_of};
+ghost use Rattle.sr_gather.specs.declared.bag.Share.{Share as AShare};
+ghost use Rattle.sr_gather.specs.Letters.{Letter as ALetter};
 ghost use Rattle.sr_receive.specs.Passes.{HasRaised, HasReceived, IsDeviceFault, IsStart, PassedBehind, PassedShare, ReceiveCause, StoppedBehind, StoppedShare, StopsAmong, first_notes, gap_report, note_entries};
-ghost use Rattle.sr_receive.specs.declared.fault.ReceiveFault.TheVariants.{Memory as memory};
+ghost use Rattle.sr_gather.specs.declared.fault.ReceiveFault.TheVariants.{Memory as memory};
 
-use crate::adding::place_of;
-use crate::asking::greatest_upto;
-use crate::bag::{Bag, Filed, Share};
-use crate::dues::{due_ask, due_confirm, due_raise, report_gap};
-use crate::fault::ReceiveFault;
 use crate::noting::note_where;
-use crate::report::Report;
 use crate::taking::Progress;
 use crate::trying::try_all;
 use sr_base::{Name, Offset};
 use sr_book::Book;
 use sr_database::Database;
+use sr_gather::{
+    Bag, Filed, ReceiveFault, Report, Share, due_ask, due_confirm, due_raise, greatest_upto,
+    report_gap,
+};
 use sr_site::Site;
 use std::alloc::Global;
 
@@ -63,8 +61,8 @@ pub fn receive<S: Site>(
     ensures received { IfOk result (HasReceived db.old db.new (S.seen site.old) (S.seen site.new) user.now bag.old bag.new reports.old.items reports.new.items) }
     ensures cause { IfErr result (ReceiveCause db.old db.new (S.seen site.old) (S.seen site.new) user.now bag.old bag.new reports.old.items reports.new.items) }
 {
-    match place_of(bag.shares.as_slice(), user) {
-        Some(at) => receive_share(alloc, db, site, user, &mut bag.shares[at], reports),
+    match bag.place(user) {
+        Some(at) => receive_share(alloc, db, site, user, bag.share_mut(at), reports),
         None => receive_none(alloc, db, site, user, reports),
     }
 }

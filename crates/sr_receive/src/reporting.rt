@@ -1,11 +1,11 @@
 //! What is reported of ops that were taken.
 
 ghost use Rattle.std.specs.Prelude.{◌≡◌, ◌+◌, ◌++◌, ◌≤◌, List, take, drop, length, IfOk, OnOk};
-ghost use Rattle.sr_receive.specs.Judged.{outcome_report, outcome_reports};
-ghost use Rattle.sr_receive.specs.declared.report.Report.{Report as AReport};
+ghost use Rattle.sr_receive.specs.Reports.{outcome_report, outcome_reports};
+ghost use Rattle.sr_gather.specs.declared.report.Report.{Report as AReport};
 
-use crate::report::Report;
 use sr_base::{Copied, Name, NoMemory, Offset};
+use sr_gather::Report;
 use sr_logform::{Op, Outcome};
 use std::alloc::{AllocError, Global};
 

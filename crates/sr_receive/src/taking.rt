@@ -12,24 +12,23 @@ ghost use Rattle.sr_site.specs.Causes.{DiskStays};
 ghost use Rattle.sr_site.specs.Seen.{Seen as SiteSeen};
 ghost use Rattle.sr_receive.specs.Acts.{Act, Stand, stand_of};
 ghost use Rattle.sr_receive.specs.Entering.{IsReady, Reached, CommitStop};
-ghost use Rattle.sr_receive.specs.Judged.{entry_reports};
-ghost use Rattle.sr_receive.specs.Letters.{Letter as ALetter};
+ghost use Rattle.sr_receive.specs.Reports.{entry_reports};
+ghost use Rattle.sr_gather.specs.Letters.{Letter as ALetter};
 ghost use Rattle.sr_receive.specs.Passes.{AreSteady, IsDeviceFault};
 ghost use Rattle.sr_receive.specs.Takings.{Entered, HasTold, NotEntered, StandsThere, GoesOn, StopsTaking};
-ghost use Rattle.sr_receive.specs.Windows.{past};
-ghost use Rattle.sr_receive.specs.declared.report.Report.{Report as AReport};
+ghost use Rattle.sr_gather.specs.Windows.{past};
+ghost use Rattle.sr_gather.specs.declared.report.Report.{Report as AReport};
 ghost use Rattle.sr_logform.specs.declared.op.Transaction.{Transaction as ATransaction};
-ghost use Rattle.sr_receive.specs.declared.fault.ReceiveFault.TheVariants.{Memory as memory};
+ghost use Rattle.sr_gather.specs.declared.fault.ReceiveFault.TheVariants.{Memory as memory};
 
-use crate::fault::ReceiveFault;
-use crate::judging::entry_of;
 use crate::noting::enter;
-use crate::report::Report;
 use crate::reporting::{insert_all, reports_of};
 use sr_base::{Name, Offset};
 use sr_database::Database;
+use sr_gather::{ReceiveFault, Report};
 use sr_logform::{Entry, Transaction};
 use sr_site::Site;
+use sr_taken::entry_of;
 use std::alloc::Global;
 
 /// How far a pass has come: what was received, how many transactions were taken, and where in the list of reports those of ops end.

@@ -1,5 +1,5 @@
 -- A finite map that is made of a list of entries.
-use Rattle.std.proofs.Common.{◌≡◌, IsSome, is_some, false, cond, List, [], ◌∷◌, Option, Some, None, Result, Ok, Err, OnErr, refl, sym, ap, ◌∙◌}
+use Rattle.std.proofs.Common.{◌≡◌, Bool, IsTrue, IsSome, is_some, false, cond, List, [], ◌∷◌, Option, Some, None, Result, Ok, Err, OnErr, refl, sym, ap, ◌∙◌}
 use Rattle.std.specs.declared.cmp.Ordering.{Ordering}
 use Rattle.std.specs.Cmp.{IsTotalOrder, eq_by_cmp_equiv}
 use Rattle.std.specs.Map.{lookup}
@@ -34,6 +34,11 @@ module _ {K X : Type 0} {R : K → K → Ordering} (o : IsTotalOrder R) where
 pub there_not_none : {X A : Type 0} (o : Option X) → o ≡ None → IsSome o → A
 there_not_none None e h = cc
 there_not_none (Some x) e h = cc
+
+-- nothing stands at a key past all others
+pub none_past : {X : Type 0} (o : Option X) (b : Bool) → (IsSome o → b ≡ false) → IsTrue b → o ≡ None
+none_past None b h past = refl
+none_past (Some x) b h past = let no : b ≡ false = h refl in cc
 
 pub none_of_test : {X : Type 0} (o : Option X) → false ≡ is_some o → None ≡ o
 none_of_test None e = refl

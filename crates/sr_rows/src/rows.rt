@@ -136,6 +136,33 @@ impl Rows {
         Ok(())
     }
 
+    /// Puts a row under a key of a table, as `set` does. Where a row stands there, its place is found at once and the key is not copied.
+    pub fn replace(
+        &mut self,
+        alloc: Global,
+        table: &Name,
+        key: Key,
+        row: Row,
+    ) -> Result<(), NoMemory>
+        ensures rows { OnOk result (self.new.rows ≡ map.insert self.old.rows (table.now, key) row) }
+        ensures on { GoesOn self.old self.new }
+        ensures err { OnErr result (self.new ≡ self.old) }
+    {
+        if !is_place(&self.tables, table, &key) {
+            return self.set(alloc, table, key, row);
+        }
+        let name = shared(alloc, self.changes.as_slice(), table)?;
+        let place = set_at(&mut self.tables, table, &key, Some(row));
+        let change = Undo {
+            table: name,
+            key,
+            place: Some(place),
+            emptied: false,
+        };
+        note_change(&mut self.tables, &mut self.changes, change)?;
+        Ok(())
+    }
+
     /// Takes the row under a key of a table away. The row is kept for the way back, and its place until the next `mark`.
     pub fn unset(&mut self, alloc: Global, table: &Name, key: Key) -> Result<(), NoMemory>
         ensures rows { OnOk result (self.new.rows ≡ map.remove self.old.rows (table.now, key)) }

@@ -1,4 +1,4 @@
-ghost use Rattle.std.specs.Prelude.{◌≡◌, Option, Some, None, IsSome, IfOk, OnOk, OnErr, MatchOption};
+ghost use Rattle.std.specs.Prelude.{◌≡◌, Option, Some, None, IsSome, IsTrue, IfOk, OnOk, OnErr, MatchOption};
 ghost use Rattle.std.specs.Option.{option_copied, option_map};
 ghost use Rattle.std.specs.FinMap as map;
 ghost use Rattle.std.specs.Map.Iter.{deref_pair};
@@ -47,7 +47,20 @@ impl Table {
     pub(crate) fn get(&self, key: &Key) -> Option<&Option<Row>>
         ensures place { option_copied result ≡ map.get self.now key.now }
     {
+        if self.is_past(key) {
+            return None;
+        }
         self.places.get(key)
+    }
+
+    /// Whether a key comes after those of all places, where there are any. Rows that are put in the order of their keys are looked up past all others.
+    fn is_past(&self, key: &Key) -> bool
+        ensures none { IsTrue result → map.get self.now key.now ≡ None }
+    {
+        match self.places.last_key_value() {
+            Some((last, _)) => last.cmp(key).is_lt(),
+            None => false,
+        }
     }
 
     /// Puts a row or nothing at a place, which is made where it is not there.

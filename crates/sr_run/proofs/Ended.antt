@@ -1,5 +1,5 @@
 -- How a run ends, from what its words ask for.
-use Rattle.std.proofs.Common.{◌≡◌, ℕ, Option, Some, None, sym, subst, inl, inr}
+use Rattle.std.proofs.Common.{◌≡◌, ℕ, Option, Some, None, refl, sym, subst, inl, inr}
 use Rattle.sr_database.specs.declared.fault.DatabaseFault.TheVariants.{Memory}
 use Rattle.sr_site.specs.Seen.{Seen}
 use Rattle.sr_site.specs.Streams.{Input, Output}
@@ -8,17 +8,25 @@ use Rattle.sr_command.specs.Outside.{Outside, outside}
 use Rattle.sr_command.specs.Runs.{Told, RanOrder}
 use Rattle.sr_command.specs.declared.fault.Fault.TheVariants.{Words, Database}
 use Rattle.sr_command.specs.declared.order.Order.{Order}
+use Rattle.sr_demo.specs.Demonstrations.{Demonstrated}
 use Rattle.sr_run.specs.Runs.{Ran}
+use Rattle.sr_words.specs.declared.asked.Asked.{Asked}
+use Rattle.sr_words.specs.declared.asked.Asked.TheVariants as asked
 
-pub refused : (order : Option Order) (site : Seen) (input : Input) (old new : Output) (status : ℕ) → order ≡ None → Told Words old new status → Ran order (outside site input old) (outside site input new) status
-refused order site input old new status is told =
-    subst (λ (o : Option Order). Ran o (outside site input old) (outside site input new) status) (sym is) (inl (is_refused Words site input old new status told))
+pub refused : (wanted : Option Asked) (site : Seen) (input : Input) (old new : Output) (status : ℕ) → wanted ≡ None → Told Words old new status → Ran wanted (outside site input old) (outside site input new) status
+refused wanted site input old new status is told =
+    subst (λ (w : Option Asked). Ran w (outside site input old) (outside site input new) status) (sym is) (inl (is_refused Words site input old new status told))
 
-pub ordered : (order : Option Order) (some : Order) (old new : Outside) (status : ℕ) → order ≡ Some some → RanOrder some old new status → Ran order old new status
-ordered order some old new status is ran = subst (λ (o : Option Order). Ran o old new status) (sym is) (inl ran)
+pub ordered : (wanted : Option Asked) (order : Order) (old new : Outside) (status : ℕ) → wanted ≡ Some (asked.Order order) → RanOrder order old new status → Ran wanted old new status
+ordered wanted order old new status is ran = subst (λ (w : Option Asked). Ran w old new status) (sym is) (inl ran)
 
-pub wanting : (order : Option Order) (site : Seen) (input : Input) (old new : Output) (status : ℕ) → Told (Database Memory) old new status → Ran order (outside site input old) (outside site input new) status
+pub demonstrated : (wanted : Option Asked) (seed statements : ℕ) (site : Seen) (input : Input) (old new : Output) (status : ℕ) → wanted ≡ Some (asked.Demo seed statements)
+    → Demonstrated seed statements old new status → Ran wanted (outside site input old) (outside site input new) status
+demonstrated wanted seed statements site input old new status is did =
+    subst (λ (w : Option Asked). Ran w (outside site input old) (outside site input new) status) (sym is) (inl (record { site = refl; input = refl; demonstrated = did }))
+
+pub wanting : (wanted : Option Asked) (site : Seen) (input : Input) (old new : Output) (status : ℕ) → Told (Database Memory) old new status → Ran wanted (outside site input old) (outside site input new) status
 wanting None site input old new status told = inr (is_refused (Database Memory) site input old new status told)
-wanting (Some order) site input old new status told = inr (is_refused (Database Memory) site input old new status told)
+wanting (Some wanted) site input old new status told = inr (is_refused (Database Memory) site input old new status told)
 
-pub ruleset words_done = (refused, ordered, wanting)
+pub ruleset words_done = (refused, ordered, demonstrated, wanting)

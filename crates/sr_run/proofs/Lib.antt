@@ -1,4 +1,5 @@
 mod Completing
+mod Demonstrations
 mod Ended
 mod Partners
 mod Statuses

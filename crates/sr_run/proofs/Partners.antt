@@ -21,7 +21,9 @@ use Rattle.sr_command.specs.declared.fault.Fault.{Fault}
 use Rattle.sr_command.specs.declared.fault.Fault.TheVariants.{Words, Database}
 use Rattle.sr_command.specs.declared.order.Order.{Order}
 use Rattle.sr_command.specs.declared.order.Order.TheVariants.{Init, Sql, Agent, Show}
-use Rattle.sr_run.specs.Runs.{Ran}
+use Rattle.sr_run.specs.Runs.{Ran, RanAsked}
+use Rattle.sr_words.specs.declared.asked.Asked.{Asked}
+use Rattle.sr_words.specs.declared.asked.Asked.TheVariants as asked
 
 -- nothing happened
 still_here : (seen : Seen) → RestsThroughout (IsImage seen) seen seen
@@ -83,12 +85,16 @@ module _ (publisher user : Name) (us : List Recorded) (stored : Stored user us) 
   order_kept (Show name) status ran = left_kept ran.untouched
   order_kept (Agent name mail options) status ran = agent_order_kept name mail options status ran
 
-  some_kept : (order : Option Order) (status : ℕ) → Ran order old new status → Kept
+  asked_kept : (wanted : Asked) (status : ℕ) → RanAsked wanted old new status → Kept
+  asked_kept (asked.Order order) status ran = order_kept order status ran
+  asked_kept (asked.Demo seed statements) status ran = same_kept ran.site
+
+  some_kept : (wanted : Option Asked) (status : ℕ) → Ran wanted old new status → Kept
   some_kept None status (inl refused) = same_kept refused.site
   some_kept None status (inr want) = same_kept want.site
-  some_kept (Some order) status (inl ran) = order_kept order status ran
-  some_kept (Some order) status (inr want) = same_kept want.site
+  some_kept (Some wanted) status (inl ran) = asked_kept wanted status ran
+  some_kept (Some wanted) status (inr want) = same_kept want.site
 
-pub partners_kept : (order : Option Order) (old new : Outside) (status : ℕ) → Ran order old new status → Stays old.site new.site → (publisher user : Name) (us : List Recorded)
+pub partners_kept : (wanted : Option Asked) (old new : Outside) (status : ℕ) → Ran wanted old new status → Stays old.site new.site → (publisher user : Name) (us : List Recorded)
     → IsTrue old.site.told → Stored user us → KeepsPartner publisher user us old.site new.site
-partners_kept order old new status ran stays publisher user us told stored = some_kept publisher user us stored old new told stays order status ran
+partners_kept wanted old new status ran stays publisher user us told stored = some_kept publisher user us stored old new told stays wanted status ran

@@ -2,7 +2,7 @@
 //!
 //! `run` does all of it, over any site, source and sink; its contract is what the program is claimed to do. The program gives it the host's:
 //! files, standard input and standard output. The tests give it devices in memory. It stands on sr_words for what words ask for,
-//! and on sr_command for what each command does.
+//! on sr_command for what each command does, and on sr_demo for the demonstration.
 #![tactic(auto)]
 
 mod whole;

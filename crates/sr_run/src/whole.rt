@@ -5,25 +5,27 @@ ghost use Rattle.sr_history.specs.Recorded.{Recorded};
 ghost use Rattle.sr_prefix.specs.Keeping.{KeepsPartner};
 ghost use Rattle.sr_site.specs.Causes.{Stays, Rose};
 ghost use Rattle.sr_command.specs.Outside.{outside};
-ghost use Rattle.sr_run.specs.Runs.{CatchesUp, HasAlarms, IsComplete, Ran};
-ghost use Rattle.sr_words.specs.Orders.{order_of};
+ghost use Rattle.sr_run.specs.Runs.{CatchesUp, HasAlarms, HasMailFault, IsComplete, Ran};
+ghost use Rattle.sr_words.specs.Orders.{asked_of};
 
 use sr_base::Text;
 use sr_command::{Fault, command, tell};
 use sr_database::DatabaseFault;
+use sr_demo::demo;
 use sr_site::{Sink, Site, Source};
-use sr_words::order_of;
+use sr_words::{Asked, asked_of};
 use std::alloc::Global;
 
 /// Does all that the program does, and answers its exit status.
 ///
 /// The words `init NAME USER` make a database, `sql NAME` runs the script on `input` on one, `agent NAME --mail FOLDER` with any of `-r`, `-s`, `-p`
-/// and `-l N`, which stand anywhere behind `agent`, takes and sends its mail, and `show NAME` prints what one is. All other words are refused.
+/// and `-l N`, which stand anywhere behind `agent`, takes and sends its mail, and `show NAME` prints what one is. `demo SEED COUNT` makes the
+/// demonstration, on four databases of its own in memory: it touches nothing but the output. All other words are refused.
 ///
 /// The status is 0; or 1 where the agent ran to its end and a line told of something amiss; or that of the fault that ended the run: 2 for
 /// other words, 3 for a database that is missing, there or damaged, 4 for a script or a statement that is refused, 5 for the disk, 6 for the
 /// mail, 7 for the source or the sink, 8 for want of memory, 9 for a limit. Where no device fails, and what is there is what the words ask
-/// for, it is 0, 1, 8 or 9. No run asks for the time.
+/// for, it is 0, 1, 8 or 9; the demonstration's is 0, 8, or that of a run inside it. No run asks for the time.
 ///
 /// Whatever files lie in the mail folder, none forged, what the database took from a partner stays a beginning of what the partner's log gives it, in
 /// commit order and each once; so it is at each moment of the run, for whatever a crash leaves then, to its end or to the fault that ended it.
@@ -36,16 +38,16 @@ pub fn run<S: Site, I: Source, O: Sink>(
     output: &mut O,
     now: i64,
 ) -> u8
-    ensures ran { Ran (order_of words.now) (outside (S.seen site.old) (I.seen input.old) (O.seen output.old)) (outside (S.seen site.new) (I.seen input.new) (O.seen output.new)) result }
+    ensures ran { Ran (asked_of words.now) (outside (S.seen site.old) (I.seen input.old) (O.seen output.old)) (outside (S.seen site.new) (I.seen input.new) (O.seen output.new)) result }
     ensures stays { Stays (S.seen site.old) (S.seen site.new) }
-    ensures words { result ≡ 2 → order_of words.now ≡ None }
+    ensures words { result ≡ 2 → asked_of words.now ≡ None }
     ensures disk { result ≡ 5 → Rose (S.seen site.old).disk_faults (S.seen site.new).disk_faults }
     ensures streams { result ≡ 7 → Rose ((I.seen input.old).faults) ((I.seen input.new).faults) ⊎ Rose ((O.seen output.old).faults) ((O.seen output.new).faults) }
-    ensures mail { result ≡ 6 → Rose (S.seen site.old).mail_faults (S.seen site.new).mail_faults }
-    ensures complete { IsComplete (order_of words.now) (outside (S.seen site.old) (I.seen input.old) (O.seen output.old)) (outside (S.seen site.new) (I.seen input.new) (O.seen output.new)) result }
-    ensures caught_up { CatchesUp (order_of words.now) (outside (S.seen site.old) (I.seen input.old) (O.seen output.old)) (outside (S.seen site.new) (I.seen input.new) (O.seen output.new)) result }
+    ensures mail { result ≡ 6 → HasMailFault (asked_of words.now) (outside (S.seen site.old) (I.seen input.old) (O.seen output.old)) (outside (S.seen site.new) (I.seen input.new) (O.seen output.new)) }
+    ensures complete { IsComplete (asked_of words.now) (outside (S.seen site.old) (I.seen input.old) (O.seen output.old)) (outside (S.seen site.new) (I.seen input.new) (O.seen output.new)) result }
+    ensures caught_up { CatchesUp (asked_of words.now) (outside (S.seen site.old) (I.seen input.old) (O.seen output.old)) (outside (S.seen site.new) (I.seen input.new) (O.seen output.new)) result }
     ensures partners { (publisher user : Name) (us : List Recorded) → IsTrue (S.seen site.old).told → Stored user us → KeepsPartner publisher user us (S.seen site.old) (S.seen site.new) }
-    ensures amiss { result ≡ 1 → HasAlarms (order_of words.now) (outside (S.seen site.old) (I.seen input.old) (O.seen output.old)) (outside (S.seen site.new) (I.seen input.new) (O.seen output.new)) }
+    ensures amiss { result ≡ 1 → HasAlarms (asked_of words.now) (outside (S.seen site.old) (I.seen input.old) (O.seen output.old)) (outside (S.seen site.new) (I.seen input.new) (O.seen output.new)) }
 {
     done(alloc, words, site, input, output, now)
 }
@@ -60,15 +62,16 @@ fn done<S: Site, I: Source, O: Sink>(
     output: &mut O,
     now: i64,
 ) -> u8
-    ensures ran { Ran (order_of words.now) (outside (S.seen site.old) (I.seen input.old) (O.seen output.old)) (outside (S.seen site.new) (I.seen input.new) (O.seen output.new)) result }
+    ensures ran { Ran (asked_of words.now) (outside (S.seen site.old) (I.seen input.old) (O.seen output.old)) (outside (S.seen site.new) (I.seen input.new) (O.seen output.new)) result }
     ensures stays { Stays (S.seen site.old) (S.seen site.new) }
 {
-    match order_of(alloc, words) {
-        Ok(Some(order)) => {
+    match asked_of(alloc, words) {
+        Ok(Some(Asked::Order(order))) => {
             let status = command(alloc, &order, site, input, output, now);
             drop(order);
             status
         }
+        Ok(Some(Asked::Demo { seed, count })) => demo(alloc, seed, count, output, now),
         Ok(None) => tell(alloc, output, Fault::Words),
         Err(_) => tell(alloc, output, Fault::Database(DatabaseFault::Memory)),
     }

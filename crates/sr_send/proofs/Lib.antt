@@ -3,9 +3,11 @@ pub mod Heads
 pub mod Posts
 pub mod Numbers
 pub mod Cutting
+pub mod Still
 pub mod Pushes
 pub mod Histories
 pub mod Loops
+pub mod Starts
 pub mod Endings
 pub mod NoteEnds
 pub mod PassEnds

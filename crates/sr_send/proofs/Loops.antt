@@ -66,7 +66,7 @@ step_on db aim scan scan' old new after end entry before middle now behind read 
   behind = behind_fed aim.prev.0 after end old.end new.end behind within.0 fed.end;
 }
 
-fault_from : (before middle now : Seen) (added : List Transaction) (fault : SendFault) → IsSteady before middle → StopFault middle now added fault → StopFault before now added fault
+pub fault_from : (before middle now : Seen) (added : List Transaction) (fault : SendFault) → IsSteady before middle → StopFault middle now added fault → StopFault before now added fault
 fault_from before middle now added Disk steady cause = rose_from before.disk_faults middle.disk_faults now.disk_faults steady.disk cause
 fault_from before middle now added Mail steady cause = rose_from before.mail_faults middle.mail_faults now.mail_faults steady.mail cause
 fault_from before middle now added (Full end need) steady cause = cause
@@ -99,7 +99,7 @@ step_stopped db aim scan old after end entry before middle now fault read steady
   stop = stop_from aim old before middle now stop.added fault read steady stop.stop;
 }
 
-next_fault : (before now : Seen) (fault : SendFault) → NextFault before now fault → StopFault before now [] fault
+pub next_fault : (before now : Seen) (fault : SendFault) → NextFault before now fault → StopFault before now [] fault
 next_fault before now Disk cause = cause
 next_fault before now Mail cause = absurd cause
 next_fault before now (Full end need) cause = absurd cause

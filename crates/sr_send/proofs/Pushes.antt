@@ -14,11 +14,13 @@ use Rattle.sr_logform.specs.declared.entry.Entry.{Entry}
 use Rattle.sr_logform.specs.declared.op.Op.{Op}
 use Rattle.sr_logform.specs.declared.op.Transaction.{Transaction}
 use Rattle.sr_msgform.specs.declared.message.Message.{Message}
+use Rattle.sr_scan.specs.Images.{told}
 use Rattle.sr_scan.specs.Scanners.{Scan, IsFed, transaction_of}
 use Rattle.sr_site.specs.Seen.{Seen}
 use Rattle.sr_send.specs.Aims.{IsAim, HasMade, HasMadeSome, IsCutFront}
 use Rattle.sr_send.specs.Faults.{fault_of_cut}
 use Rattle.sr_send.specs.Letters.{letters}
+use Rattle.sr_send.specs.Passing.{IsPassed}
 use Rattle.sr_send.specs.Posting.{Posted, IsSteady, PutFault}
 use Rattle.sr_send.specs.Steps.{newer, EndsAt, Pushed, Fed}
 use Rattle.sr_send.specs.Stops.{IsPartSent, StopFault, PushStop, FeedStop}
@@ -164,6 +166,23 @@ fed_some aim scan scan' old new at entry t before now fed pushed end = record {
   scanned = record { found = Some t; fed = fed; added_is = refl };
   pushed = pushed;
   end = subst (λ (o : Offset). EndsAt old.end o new.end) (found_at scan scan' at entry t fed) end;
+}
+
+-- an entry that ends no later than what was sent gives nothing newer
+none_newer : (sent : ℕ) (at : Offset) (ops : List Op) → nat_lt sent at.0 ≡ false → newer sent (transaction_of at ops) ≡ []
+none_newer sent at [] before = refl
+none_newer sent at (op ∷ ops) before = not_newer sent (record { at = at; ops = op ∷ ops }) before
+
+pub fed_old : (aim : Aim) (scan scan' : Scan) (post : Post) (at : Offset) (entry : Entry) (seen : Seen) → nat_lt aim.prev.0 at.0 ≡ false → IsPassed scan entry scan' → Fed aim scan scan' post post at entry seen seen
+fed_old aim scan scan' post at entry seen before passed = record {
+  added = [];
+  scanned = record {
+    found = transaction_of at (told scan.catalog entry passed.meant scan.user);
+    fed = record { meant = passed.meant; are = passed.are; gives = refl; catalog = passed.catalog; user = passed.user };
+    added_is = sym (none_newer aim.prev.0 at (told scan.catalog entry passed.meant scan.user) before);
+  };
+  pushed = pushed_nothing aim post seen;
+  end = inl refl;
 }
 
 pub feed_short : (aim : Aim) (scan : Scan) (old : Post) (at : Offset) (entry : Entry) (seen : Seen) → IsAim aim → FeedStop aim scan old at entry seen seen Memory

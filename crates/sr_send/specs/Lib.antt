@@ -4,8 +4,10 @@ pub mod Letters
 pub mod Faults
 pub mod Posting
 pub mod Aims
+pub mod Passing
 pub mod Steps
 pub mod Stops
+pub mod Starts
 pub mod Notes
 pub mod Passes
 pub mod TrueLetters

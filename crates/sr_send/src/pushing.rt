@@ -8,6 +8,7 @@ ghost use Rattle.sr_send.specs.Stops.{PushStop, FeedStop};
 
 use crate::aim::Aim;
 use crate::fault::SendFault;
+use crate::passing::pass_over;
 use crate::post::Post;
 use crate::posting::put_all;
 use crate::writable::can_write;
@@ -79,8 +80,33 @@ fn lies_past(at: Offset, prev: Offset) -> bool
     prev.0 < at.0
 }
 
-/// Scans an entry that ends at `at`, and pushes what it gives.
+/// Scans an entry that ends at `at`, and pushes what it gives. One that ends no later than what the partner was sent before gives nothing that is to
+/// be sent: it is passed over.
+#[tactic(auto, using(crate::proofs::Pushes::fed_old, crate::proofs::Pushes::feed_short))]
 pub(crate) fn feed_one<S: Site>(
+    alloc: Global,
+    site: &mut S,
+    aim: &Aim,
+    scanner: &mut Scanner,
+    post: &mut Post,
+    at: Offset,
+    entry: &Entry,
+) -> Result<(), SendFault>
+    requires aim { IsAim aim.now }
+    requires made { HasMadeSome aim.now post.old }
+    requires later { aim.now.prev.0 < at.0 → post.old.end.0 < at.0 }
+    ensures fed { OnOk result (Fed aim.now scanner.old scanner.new post.old post.new at entry.now (S.seen site.old) (S.seen site.new)) }
+    ensures cause { IfErr result (FeedStop aim.now scanner.old post.old at entry.now (S.seen site.old) (S.seen site.new)) }
+{
+    if !lies_past(at, aim.prev) {
+        pass_over(alloc, scanner, entry)?;
+        return Ok(());
+    }
+    feed_new(alloc, site, aim, scanner, post, at, entry)
+}
+
+/// Scans an entry, and pushes what it gives.
+fn feed_new<S: Site>(
     alloc: Global,
     site: &mut S,
     aim: &Aim,

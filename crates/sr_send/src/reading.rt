@@ -15,7 +15,8 @@ use crate::aim::Aim;
 use crate::fault::{SendFault, store_fault};
 use crate::post::Post;
 use crate::pushing::feed_one;
-use sr_base::Offset;
+use crate::starting::begin_at;
+use sr_base::{Name, Offset};
 use sr_database::Database;
 use sr_logform::Entry;
 use sr_scan::Scanner;
@@ -24,7 +25,7 @@ use std::alloc::Global;
 
 /// The entry behind an offset, with its end. That a record is damaged, which only a disk can say that does not give what was written to it, is taken
 /// for want of memory.
-fn next_entry<S: Site>(
+pub(crate) fn next_entry<S: Site>(
     alloc: Global,
     db: &Database,
     site: &mut S,
@@ -84,25 +85,25 @@ fn step<S: Site>(
     }
 }
 
-/// Reads a log from its base to its end, and puts what it gives.
+/// Reads a log on to its end, from where it has to be read, and puts what it gives.
 pub(crate) fn put_given<S: Site>(
     alloc: Global,
     db: &Database,
     site: &mut S,
     aim: &Aim,
     scanner: &mut Scanner,
+    user: &Name,
     post: &mut Post,
 ) -> Result<(), SendFault>
     requires usable { db.now.log.usable ≡ true }
     requires aim { IsAim aim.now }
     requires made { HasMade aim.now post.old [] [] }
+    requires user { scanner.old.user ≡ user.now }
     requires catalog { scanner.old.catalog ≡ db.now.base_catalog }
     ensures read { OnOk result (AllRead db.now aim.now scanner.old.user post.new (S.seen site.old) (S.seen site.new)) }
     ensures cause { IfErr result (ReadStop db.now aim.now scanner.old.user (S.seen site.old) (S.seen site.new)) }
 {
-    let usable_here = db.usable();
-    prove!(usable_here);
-    let mut after = db.base();
+    let mut after = begin_at(alloc, db, site, aim, scanner, user)?;
     'entries: while let Some(end) = step(alloc, db, site, aim, scanner, post, after)? {
         after = end;
     }

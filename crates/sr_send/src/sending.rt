@@ -37,7 +37,8 @@ pub struct Sent {
 /// Messages are put where a transaction lies past what he was sent, where an ask is due, and where more was taken from him than was
 /// confirmed; where there is no transaction it is one without a body. Each confirms what was taken from him, and where `ask` is true asks for what
 /// lies past it. They are put in order into the folder of his address, each as soon as it is filled, and the note follows the last. Where none is due
-/// nothing is done. The log is read once from its base, and of the mail nothing is listed, fetched or removed.
+/// nothing is done. Of the mail nothing is listed, fetched or removed.
+/// The log is read from what he was sent on, twice; where a statement ran there, once from its base.
 ///
 /// `Disk` and `Mail` come only where that device's count of faults rose; `Full` exactly where the note has no room in the log; `Long` where the encoding
 /// of a transaction is longer than 64 MiB, with that of the first such. After a fault the messages that were put are the first of those of the pass,
@@ -119,7 +120,7 @@ fn put_scanned<S: Site>(
     ensures cause { IfErr result (PutStop db.now aim.now book.now ask user.now (S.seen site.old) (S.seen site.new)) }
 {
     let mut scanner = Scanner::new(alloc, db.base_catalog(), user)?;
-    let outcome = put_cut(alloc, db, site, aim, &mut scanner, book, ask);
+    let outcome = put_cut(alloc, db, site, aim, &mut scanner, user, book, ask);
     drop(scanner);
     outcome
 }
@@ -131,18 +132,20 @@ fn put_cut<S: Site>(
     site: &mut S,
     aim: &Aim,
     scanner: &mut Scanner,
+    user: &Name,
     book: &Book,
     ask: bool,
 ) -> Result<Sent, SendFault>
     requires usable { db.now.log.usable ≡ true }
     requires aim { IsAim aim.now }
     requires prev { aim.now.prev ≡ offset_from book.now.log_sent }
+    requires user { scanner.old.user ≡ user.now }
     requires catalog { scanner.old.catalog ≡ db.now.base_catalog }
     ensures put { IfOk result (PutAll db.now aim.now book.now ask scanner.old.user (S.seen site.old) (S.seen site.new)) }
     ensures cause { IfErr result (PutStop db.now aim.now book.now ask scanner.old.user (S.seen site.old) (S.seen site.new)) }
 {
     let mut post = begin(alloc, aim)?;
-    let outcome = put_pass(alloc, db, site, aim, scanner, &mut post, book, ask);
+    let outcome = put_pass(alloc, db, site, aim, scanner, user, &mut post, book, ask);
     drop(post);
     outcome
 }
@@ -154,6 +157,7 @@ fn put_pass<S: Site>(
     site: &mut S,
     aim: &Aim,
     scanner: &mut Scanner,
+    user: &Name,
     post: &mut Post,
     book: &Book,
     ask: bool,
@@ -162,11 +166,12 @@ fn put_pass<S: Site>(
     requires aim { IsAim aim.now }
     requires made { HasMade aim.now post.old [] [] }
     requires prev { aim.now.prev ≡ offset_from book.now.log_sent }
+    requires user { scanner.old.user ≡ user.now }
     requires catalog { scanner.old.catalog ≡ db.now.base_catalog }
     ensures put { IfOk result (PutAll db.now aim.now book.now ask scanner.old.user (S.seen site.old) (S.seen site.new)) }
     ensures cause { IfErr result (PutStop db.now aim.now book.now ask scanner.old.user (S.seen site.old) (S.seen site.new)) }
 {
-    put_given(alloc, db, site, aim, scanner, post)?;
+    put_given(alloc, db, site, aim, scanner, user, post)?;
     put_rest(alloc, site, aim, post, book, ask)?;
     Ok(Sent {
         put: post.put,

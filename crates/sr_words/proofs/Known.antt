@@ -2,7 +2,7 @@
 use Rattle.std.proofs.Common.{◌≡◌, true, ap}
 use Rattle.clap.specs.Words.{App}
 use Rattle.sr_words.specs.Words.{is_known}
-use Rattle.sr_words.specs.Commands.{agent_command, init_command, show_command, sql_command}
+use Rattle.sr_words.specs.Commands.{agent_command, demo_command, init_command, show_command, sql_command}
 
 pub init_known : (command : App) → command ≡ init_command → is_known command ≡ true
 unfolding is_known init_command
@@ -19,3 +19,7 @@ agent_known command is = ap is_known is
 pub show_known : (command : App) → command ≡ show_command → is_known command ≡ true
 unfolding is_known show_command
 show_known command is = ap is_known is
+
+pub demo_known : (command : App) → command ≡ demo_command → is_known command ≡ true
+unfolding is_known demo_command
+demo_known command is = ap is_known is

@@ -41,3 +41,7 @@ agent_command = command_of (codes "agent") (needed (codes "NAME") ∷ folder ∷
 -- `show NAME`
 unfoldable pub show_command : App
 show_command = command_of (codes "show") (needed (codes "NAME") ∷ [])
+
+-- `demo SEED COUNT`
+unfoldable pub demo_command : App
+demo_command = command_of (codes "demo") (needed (codes "SEED") ∷ needed (codes "COUNT") ∷ [])

@@ -4,7 +4,7 @@ use Rattle.std.specs.Option.{option_and_then, option_map_or}
 use Rattle.std.specs.Str.{bytes_eq}
 use Rattle.clap.specs.Words.{Row, Text, first_of}
 use Rattle.sr_base.specs.Names.{is_name, lowered}
-use Rattle.sr_words.specs.Numbers.{length_in}
+use Rattle.sr_words.specs.Numbers.{number_within}
 
 -- a flag is given: clap reads `true` for it
 abbrev pub is_set : Text → List Row → Bool
@@ -30,7 +30,15 @@ given_user rows = option_and_then user (first_of (codes "USER") rows)
 -- the length of a message file, 50,000 bytes where none is given
 abbrev pub length_or_usual : Option Text → Option ℕ
 length_or_usual None = Some 50000
-length_or_usual (Some number) = length_in number
+length_or_usual (Some number) = number_within 10000 1048576 number
 
 abbrev pub given_length : List Row → Option ℕ
 given_length rows = length_or_usual (first_of (codes "N") rows)
+
+-- the seed of a demonstration, a number of 64 bits
+abbrev pub given_seed : List Row → Option ℕ
+given_seed rows = option_and_then (number_within 0 18446744073709551615) (first_of (codes "SEED") rows)
+
+-- how many statements a demonstration has
+abbrev pub given_count : List Row → Option ℕ
+given_count rows = option_and_then (number_within 0 100000) (first_of (codes "COUNT") rows)

@@ -1,5 +1,5 @@
--- The number behind `-l`.
-use Rattle.std.specs.Prelude.{◌+◌, ◌-◌, ◌*◌, ℕ, Bool, List, [], ◌∷◌, length, ◌&&◌, nat_le, if◌then◌else◌, Option, Some, None}
+-- Numbers among the words: decimal digits, without a sign and without a leading zero, 0 itself aside.
+use Rattle.std.specs.Prelude.{◌+◌, ◌-◌, ◌*◌, ◌==◌, ℕ, Bool, List, [], ◌∷◌, length, ◌&&◌, nat_le, nat_lt, if◌then◌else◌, Option, Some, None}
 use Rattle.std.specs.Option.{option_and_then}
 
 abbrev pub is_digit : ℕ → Bool
@@ -10,14 +10,18 @@ abbrev pub digits_behind : ℕ → List ℕ → Option ℕ
 digits_behind number [] = Some number
 digits_behind number (byte ∷ bytes) = if is_digit byte then digits_behind (number * 10 + (byte - 48)) bytes else None
 
--- a number above 0 in decimal digits, without a sign or a leading zero, of at most seven digits
+-- what a word comes to: a zero (48) stands at its front only alone
 abbrev pub number_in : List ℕ → Option ℕ
 number_in [] = None
-number_in (first ∷ bytes) = if nat_le 49 first && nat_le first 57 && nat_le (length bytes) 6 then digits_behind (first - 48) bytes else None
+number_in (first ∷ bytes) = if first == 48 && nat_lt 0 (length bytes) then None else digits_behind 0 (first ∷ bytes)
 
--- the longest message file, where it may be that long
-abbrev pub in_range : ℕ → Option ℕ
-in_range number = if nat_le 10000 number && nat_le number 1048576 then Some number else None
+-- a number, where it is from the least to the most
+abbrev pub within : ℕ → ℕ → ℕ → Option ℕ
+within least most number = if nat_le least number && nat_le number most then Some number else None
 
-abbrev pub length_in : List ℕ → Option ℕ
-length_in word = option_and_then in_range (number_in word)
+abbrev pub number_within : ℕ → ℕ → List ℕ → Option ℕ
+number_within least most word = option_and_then (within least most) (number_in word)
+
+-- a number with one more digit, where it is no more than the most
+abbrev pub with_digit : ℕ → ℕ → ℕ → Option ℕ
+with_digit most number byte = if is_digit byte && nat_le (number * 10 + (byte - 48)) most then Some (number * 10 + (byte - 48)) else None

@@ -1,12 +1,15 @@
 -- What words ask for.
-use Rattle.std.specs.Prelude.{ℕ, Bool, false, not, List, [], ◌∷◌, ◌||◌, codes, if◌then◌else◌, Option, None, option_map}
+use Rattle.std.specs.Prelude.{◌≤◌, ℕ, Bool, false, not, List, [], ◌∷◌, ◌||◌, codes, if◌then◌else◌, Option, None, option_map}
 use Rattle.std.specs.Option.{option_and_then}
 use Rattle.std.specs.Str.{bytes_eq}
 use Rattle.clap.specs.Words.{App, Row, Text}
-use Rattle.sr_words.specs.Commands.{agent_command, init_command, show_command, sql_command}
-use Rattle.sr_words.specs.Given.{given_length, given_place, given_user, is_set}
+use Rattle.sr_words.specs.Commands.{agent_command, demo_command, init_command, show_command, sql_command}
+use Rattle.sr_words.specs.Given.{given_count, given_length, given_place, given_seed, given_user, is_set}
 use Rattle.sr_words.specs.Words.{found}
+use Rattle.sr_words.specs.declared.asked.Asked.{Asked}
+use Rattle.sr_words.specs.declared.asked.Asked.TheVariants as asked
 use Rattle.sr_agent.specs.declared.options.Options.{Options}
+use Rattle.sr_command.specs.Orders.{MayOrder}
 use Rattle.sr_command.specs.declared.order.Order.{Order}
 use Rattle.sr_command.specs.declared.order.Order.TheVariants.{Init, Sql, Agent, Show}
 
@@ -36,18 +39,32 @@ abbrev pub agent_from : List Row → Option Order
 agent_from rows = option_and_then (λ name. option_and_then (λ mail. option_map (λ options. Agent name mail options) (options_from rows)) (given_place (codes "FOLDER") rows)) (given_place (codes "NAME") rows)
 
 -- what is asked for by what a command finds in the words
-abbrev pub asked : (List Row → Option Order) → App → List Text → Option Order
-asked from command words = option_and_then from (found command words)
+abbrev pub ordered : (List Row → Option Order) → App → List Text → Option Order
+ordered from command words = option_and_then from (found command words)
 
 -- the first word names the command
 abbrev pub order_by : Text → List Text → Option Order
 order_by first words =
-    if bytes_eq first (codes "init") then asked init_from init_command words
-    else (if bytes_eq first (codes "sql") then asked sql_from sql_command words
-    else (if bytes_eq first (codes "agent") then asked agent_from agent_command words
-    else (if bytes_eq first (codes "show") then asked show_from show_command words else None)))
+    if bytes_eq first (codes "init") then ordered init_from init_command words
+    else (if bytes_eq first (codes "sql") then ordered sql_from sql_command words
+    else (if bytes_eq first (codes "agent") then ordered agent_from agent_command words
+    else (if bytes_eq first (codes "show") then ordered show_from show_command words else None)))
+
+abbrev pub demo_from : List Row → Option Asked
+demo_from rows = option_and_then (λ seed. option_map (λ count. asked.Demo seed count) (given_count rows)) (given_seed rows)
+
+-- `demo` is no order on a database
+abbrev pub asked_by : Text → List Text → Option Asked
+asked_by first words =
+    if bytes_eq first (codes "demo") then option_and_then demo_from (found demo_command words)
+    else option_map (λ order. asked.Order order) (order_by first words)
 
 -- what words ask for; none where they are refused
-abbrev pub order_of : List Text → Option Order
-order_of [] = None
-order_of (first ∷ words) = order_by first (first ∷ words)
+abbrev pub asked_of : List Text → Option Asked
+asked_of [] = None
+asked_of (first ∷ words) = asked_by first (first ∷ words)
+
+-- what is asked for may be done
+abbrev pub MayAsk : Asked → Type 0
+MayAsk (asked.Order order) = MayOrder order
+MayAsk (asked.Demo seed count) = count ≤ 100000

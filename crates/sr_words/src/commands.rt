@@ -2,7 +2,7 @@
 
 ghost use Rattle.std.specs.Prelude.{◌≡◌, [], IfOk, false};
 ghost use Rattle.clap.specs.Words.{app_of, rule_of};
-ghost use Rattle.sr_words.specs.Commands.{agent_command, command_of, flag, folder, init_command, length, needed, show_command, sql_command};
+ghost use Rattle.sr_words.specs.Commands.{agent_command, command_of, demo_command, flag, folder, init_command, length, needed, show_command, sql_command};
 
 use clap::{Arg, ArgAction, Command};
 use sr_base::NoMemory;
@@ -17,7 +17,7 @@ fn bare<'a>(alloc: Global, name: &'a str) -> Command<'a>
         .disable_version_flag(true)
 }
 
-/// An argument that must be there, at its place: `NAME` or `USER`.
+/// An argument that must be there, at its place: `NAME`, `USER`, `SEED` or `COUNT`.
 fn needed<'a>(alloc: Global, id: &'a str) -> Arg<'a>
     ensures rule { rule_of result ≡ needed id.entry.now }
     ensures own { result.global ≡ false }
@@ -84,5 +84,14 @@ pub(crate) fn show_command<'a>(alloc: Global) -> Result<Command<'a>, NoMemory>
     ensures app { IfOk result (λ command. app_of command ≡ show_command) }
 {
     let command = bare(alloc, "show").arg(needed(alloc, "NAME"))?;
+    Ok(command)
+}
+
+/// `demo SEED COUNT`.
+pub(crate) fn demo_command<'a>(alloc: Global) -> Result<Command<'a>, NoMemory>
+    ensures app { IfOk result (λ command. app_of command ≡ demo_command) }
+{
+    let command = bare(alloc, "demo").arg(needed(alloc, "SEED"))?;
+    let command = command.arg(needed(alloc, "COUNT"))?;
     Ok(command)
 }

@@ -2,10 +2,10 @@
 
 ghost use Rattle.std.specs.Prelude.{◌≡◌, IfOk, option_map};
 ghost use Rattle.clap.specs.Words.{first_of};
-ghost use Rattle.sr_words.specs.Given.{given_length, given_place, given_user, is_place, is_set};
+ghost use Rattle.sr_words.specs.Given.{given_count, given_length, given_place, given_seed, given_user, is_place, is_set};
 ghost use Rattle.sr_words.specs.Words.{rows_in};
 
-use crate::numbers::length_in;
+use crate::numbers::number_within;
 use clap::ArgMatches;
 use sr_base::{BadName, Name, NoMemory, Text, name_of};
 use std::alloc::{AllocError, Global};
@@ -71,7 +71,33 @@ pub(crate) fn given_length(matches: &ArgMatches<'_>) -> Option<u32>
     ensures length { result ≡ given_length (rows_in matches.now) }
 {
     match given(matches, "N") {
-        Some(number) => length_in(number.as_bytes()),
+        Some(number) => match number_within(10000, 1048576, number.as_bytes()) {
+            Some(length) => Some(length as u32),
+            None => None,
+        },
         None => Some(USUAL_LENGTH),
+    }
+}
+
+/// The seed that is given.
+pub(crate) fn given_seed(matches: &ArgMatches<'_>) -> Option<u64>
+    ensures seed { result ≡ given_seed (rows_in matches.now) }
+{
+    match given(matches, "SEED") {
+        Some(number) => number_within(0, u64::MAX, number.as_bytes()),
+        None => None,
+    }
+}
+
+/// How many statements are given: 0 to 100,000.
+pub(crate) fn given_count(matches: &ArgMatches<'_>) -> Option<u32>
+    ensures count { result ≡ given_count (rows_in matches.now) }
+{
+    match given(matches, "COUNT") {
+        Some(number) => match number_within(0, 100000, number.as_bytes()) {
+            Some(count) => Some(count as u32),
+            None => None,
+        },
+        None => None,
     }
 }

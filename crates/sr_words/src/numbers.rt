@@ -1,7 +1,7 @@
-//! The number behind `-l`.
+//! A number among the words.
 
-ghost use Rattle.std.specs.Prelude.{◌≡◌};
-ghost use Rattle.sr_words.specs.Numbers.{in_range, is_digit, length_in, number_in};
+ghost use Rattle.std.specs.Prelude.{◌≡◌, ◌≤◌};
+ghost use Rattle.sr_words.specs.Numbers.{is_digit, number_within, with_digit};
 
 /// Whether a byte is a decimal digit.
 fn is_digit(byte: u8) -> bool
@@ -10,45 +10,44 @@ fn is_digit(byte: u8) -> bool
     b'0' <= byte && byte <= b'9'
 }
 
-/// A number above 0 in decimal digits, of at most seven, without a sign or a leading zero.
+/// A number with one more digit, where it is no more than `most`.
+fn with_digit(most: u64, number: u64, byte: u8) -> Option<u64>
+    requires within { number ≤ most }
+    ensures more { result ≡ with_digit most number byte }
+{
+    if !is_digit(byte) || number > most / 10 {
+        return None;
+    }
+    let tens = number * 10;
+    let digit = u64::from(byte - b'0');
+    if digit > most - tens {
+        return None;
+    }
+    Some(tens + digit)
+}
+
+/// The number that a word is in decimal digits, without a sign and without a leading zero, 0 itself aside, where it is from `least` to `most`.
 #[tactic(auto, using(crate::proofs::Digits::of_digits))]
-fn number_in(word: &[u8]) -> Option<u32>
-    ensures number { result ≡ number_in word.now }
+pub(crate) fn number_within(least: u64, most: u64, word: &[u8]) -> Option<u64>
+    ensures number { result ≡ number_within least most word.now }
 {
     let Some((first, rest)) = word.split_first() else {
         return None;
     };
-    if *first < b'1' || *first > b'9' || rest.len() > 6 {
+    if *first == b'0' && rest.len() > 0 {
         return None;
     }
-    let mut number = u32::from(*first - b'0');
-    let mut left = rest;
+    let mut number = 0;
+    let mut left = word;
     'digits: while let Some((byte, more)) = left.split_first() {
-        if !is_digit(*byte) {
+        let Some(next) = with_digit(most, number, *byte) else {
             return None;
-        }
-        number = number * 10 + u32::from(*byte - b'0');
+        };
+        number = next;
         left = more;
     }
-    Some(number)
-}
-
-/// The longest message file, in bytes, where it may be that long: 10,000 to 1,048,576.
-fn in_range(number: u32) -> Option<u32>
-    ensures { result ≡ in_range number }
-{
-    if number < 10000 || number > 1048576 {
+    if number < least {
         return None;
     }
     Some(number)
-}
-
-/// The length that a word gives behind `-l`.
-pub(crate) fn length_in(word: &[u8]) -> Option<u32>
-    ensures length { result ≡ length_in word.now }
-{
-    match number_in(word) {
-        Some(number) => in_range(number),
-        None => None,
-    }
 }

@@ -1,10 +1,11 @@
 //! What is asked for by the arguments that a command found.
 
 ghost use Rattle.std.specs.Prelude.{◌≡◌, IfOk};
-ghost use Rattle.sr_words.specs.Orders.{agent_from, init_from, options_from, show_from, sql_from};
+ghost use Rattle.sr_words.specs.Orders.{agent_from, demo_from, init_from, options_from, show_from, sql_from};
 ghost use Rattle.sr_words.specs.Words.{rows_in};
 
-use crate::given::{given_length, given_place, given_user, is_set};
+use crate::asked::Asked;
+use crate::given::{given_count, given_length, given_place, given_seed, given_user, is_set};
 use clap::ArgMatches;
 use sr_agent::Options;
 use sr_base::NoMemory;
@@ -79,4 +80,13 @@ pub(crate) fn agent_from(alloc: Global, matches: &ArgMatches<'_>) -> Result<Opti
         mail,
         options,
     }))
+}
+
+/// What `demo SEED COUNT` asks for.
+pub(crate) fn demo_from(matches: &ArgMatches<'_>) -> Option<Asked>
+    ensures asked { result ≡ demo_from (rows_in matches.now) }
+{
+    let seed = given_seed(matches)?;
+    let count = given_count(matches)?;
+    Some(Asked::Demo { seed, count })
 }

@@ -13,7 +13,7 @@ returns-in-Some c =
     let table = c.args.table.now in
     let rows = c.args.rows.now.rows in
     let key = c.in-Some.key in
-    let fixed : only_key table c.args.condition.now ≡ Some key = sym c.in_ok-key.ensures.key ∙ c.in-Some.is in
+    let fixed : only_key table c.args.condition.now ≡ Some key = sym c.requires.key ∙ c.in-Some.is in
     let whole : picks_of table (option_copied c.args.sets) c.args.condition.now (table_rows rows table.name) ≡ one_pick table (option_copied c.args.sets) c.args.condition.now key (rows_of_table rows table.name key) =
     only_picks table rows (option_copied c.args.sets) c.args.condition.now key c.and_holds_where_both_hold.ensures.held c.requires.rows fixed in
     record { answer = subst (λ (x : Picks). MatchResult c.picks_at.result (λ picks. x ≡ Ok picks.items) (λ fault. fault ≢ Memory → x ≡ Err fault)) (sym whole) c.picks_at.ensures.answer }

@@ -1,23 +1,18 @@
-use Rattle.std.proofs.Common.{sym}
 use Rattle.sr_receive.proofs.Shared.{received_at, stopped_at}
 use Rattle.sr_receive.proofs.receiving.receive.Goals as goal
 
 pub returns-in-Some-clause-received : goal.returns-in-Some-clause-received
 returns-in-Some-clause-received g c =
-    received_at c.args.db.now c.receive_share.new.db (g.S.Held.seen c.args.site.now) (g.S.Held.seen c.receive_share.new.site) c.args.user.now c.args.bag.now c.as_slice.result.now c.bag.inside.shares.items c.in-Some.at c.index_mut.result.now
-    c.receive_share.new.share c.args.reports.now.items c.receive_share.new.reports.items c.receive_share.result c.as_slice.ensures.value (sym c.bag.view_is) c.in-Some.ensures.found c.index_mut.ensures.value c.receive_share.ensures.user
-    c.receive_share.ensures.received
+    received_at c.args.db.now c.receive_share.new.db (g.S.Held.seen c.args.site.now) (g.S.Held.seen c.receive_share.new.site) c.args.user.now c.args.bag.now c.in-Some.at c.share_mut.result.now c.receive_share.new.share c.args.reports.now.items
+    c.receive_share.new.reports.items c.receive_share.result c.in-Some.ensures.found c.share_mut.ensures.value c.receive_share.ensures.user c.receive_share.ensures.received
 
 pub returns-in-Some-clause-cause : goal.returns-in-Some-clause-cause
 returns-in-Some-clause-cause g c =
-    stopped_at c.args.db.now c.receive_share.new.db (g.S.Held.seen c.args.site.now) (g.S.Held.seen c.receive_share.new.site) c.args.user.now c.args.bag.now c.as_slice.result.now c.bag.inside.shares.items c.in-Some.at c.index_mut.result.now
-    c.receive_share.new.share c.args.reports.now.items c.receive_share.new.reports.items c.receive_share.result c.as_slice.ensures.value (sym c.bag.view_is) c.in-Some.ensures.found c.index_mut.ensures.value c.receive_share.ensures.user
-    c.receive_share.ensures.cause
+    stopped_at c.args.db.now c.receive_share.new.db (g.S.Held.seen c.args.site.now) (g.S.Held.seen c.receive_share.new.site) c.args.user.now c.args.bag.now c.in-Some.at c.share_mut.result.now c.receive_share.new.share c.args.reports.now.items
+    c.receive_share.new.reports.items c.receive_share.result c.in-Some.ensures.found c.share_mut.ensures.value c.receive_share.ensures.user c.receive_share.ensures.cause
 
 pub returns-in-None-clause-received : goal.returns-in-None-clause-received
-returns-in-None-clause-received g c =
-    c.receive_none.ensures.received c.args.bag.now (rw (← c.bag.view_is) (rw c.as_slice.ensures.value at c.in-None.ensures.none))
+returns-in-None-clause-received g c = c.receive_none.ensures.received c.args.bag.now c.in-None.ensures.none
 
 pub returns-in-None-clause-cause : goal.returns-in-None-clause-cause
-returns-in-None-clause-cause g c =
-    c.receive_none.ensures.cause c.args.bag.now (rw (← c.bag.view_is) (rw c.as_slice.ensures.value at c.in-None.ensures.none))
+returns-in-None-clause-cause g c = c.receive_none.ensures.cause c.args.bag.now c.in-None.ensures.none

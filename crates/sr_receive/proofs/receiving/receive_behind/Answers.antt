@@ -1,5 +1,5 @@
 use Rattle.std.proofs.Common.{List, [], length, refl, sym, ap, ◌∙◌}
-use Rattle.sr_receive.specs.declared.report.Report.{Report}
+use Rattle.sr_gather.specs.declared.report.Report.{Report}
 use Rattle.sr_receive.proofs.Faulting.{fault_then}
 use Rattle.sr_receive.proofs.Passing.{holds_first, raised_answer, stands_first, stopped_answer, windows_stopped}
 use Rattle.sr_receive.proofs.receiving.receive_behind.Goals as goal

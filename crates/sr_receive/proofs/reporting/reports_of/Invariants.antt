@@ -1,5 +1,5 @@
 use Rattle.std.proofs.Common.{◌≡◌, ◌++◌, length}
-use Rattle.sr_receive.specs.Judged.{outcome_reports}
+use Rattle.sr_receive.specs.Reports.{outcome_reports}
 use Rattle.sr_receive.proofs.reporting.reports_of.Given as goal
 
 -- the reports so far and those of the ops that are left are all

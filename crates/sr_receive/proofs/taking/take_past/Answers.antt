@@ -1,5 +1,5 @@
 use Rattle.std.proofs.Common.{◌∙◌}
-use Rattle.sr_receive.specs.Windows.{past}
+use Rattle.sr_gather.specs.Windows.{past}
 use Rattle.sr_receive.proofs.Faulting.{steady_same}
 use Rattle.sr_receive.proofs.Looped.{goes_nowhere, past_left, past_taken}
 use Rattle.sr_receive.proofs.taking.take_past.Goals as goal

@@ -1,5 +1,5 @@
 use Rattle.sr_receive.specs.Takings.{StopsWith}
-use Rattle.sr_receive.specs.declared.fault.ReceiveFault.TheVariants.{Memory}
+use Rattle.sr_gather.specs.declared.fault.ReceiveFault.TheVariants.{Memory}
 use Rattle.sr_receive.proofs.Leading.{firsts}
 use Rattle.sr_receive.proofs.Looped.{if_fault}
 use Rattle.sr_receive.proofs.Walking.{none_holds, trying_end, trying_more, trying_short, trying_stops}

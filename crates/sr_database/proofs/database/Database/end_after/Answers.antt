@@ -1,0 +1,34 @@
+use Rattle.std.proofs.Common.{◌≡◌, ◌≤◌, sym, ap, subst}
+use Rattle.sr_logfile.specs.Log.{Log}
+use Rattle.sr_database.specs.Views.{View}
+use Rattle.sr_database.proofs.Behind.{parts_of, behind_refused, stays_database}
+use Rattle.sr_database.proofs.database.Database.end_after.Goals as goal
+
+pub end_behind-requires : goal.end_behind-requires
+end_behind-requires g c =
+    let log_is : c.args.self.now.log ≡ c.self.inside.log = sym (ap (λ (v : View). v.log) c.self.view_is) in
+    record { after = subst (λ (l : Log). (l.base ≤ c.args.after.0) × (c.args.after.0 ≤ l.end)) log_is c.requires.after }
+
+pub returns-clause-end : goal.returns-clause-end
+returns-clause-end g c told publisher done left database is =
+    let log_is : c.args.self.now.log ≡ c.self.inside.log = sym (ap (λ (v : View). v.log) c.self.view_is) in
+    c.end_behind.ensures.end told publisher done left (parts_of c.args.self.now c.self.inside.log log_is c.args.after (g.S.Held.seen c.args.site.now) (g.S.Held.seen c.end_behind.new.site) publisher done left database is)
+
+pub returns-clause-files : goal.returns-clause-files
+returns-clause-files g c = c.end_behind.ensures.read.files
+
+pub returns-clause-happened : goal.returns-clause-happened
+returns-clause-happened g c = c.end_behind.ensures.read.happened
+
+pub returns-clause-stays : goal.returns-clause-stays
+returns-clause-stays g c = c.end_behind.ensures.read.stays
+
+pub returns-clause-database : goal.returns-clause-database
+returns-clause-database g c told publisher es database =
+    let read = c.end_behind.ensures.read in
+    stays_database c.args.self.now publisher es _ _ read.stays.first (read.files told) (read.happened told) database
+
+pub returns-clause-cause : goal.returns-clause-cause
+returns-clause-cause g c =
+    let log_is : c.args.self.now.log ≡ c.self.inside.log = sym (ap (λ (v : View). v.log) c.self.view_is) in
+    behind_refused c.args.self.now c.self.inside.log log_is c.args.after (g.S.Held.seen c.args.site.now) (g.S.Held.seen c.end_behind.new.site) _ c.end_behind.ensures.cause

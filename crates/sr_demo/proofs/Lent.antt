@@ -1,0 +1,60 @@
+-- A run on the files of one database.
+use Rattle.std.proofs.Common.{◌≡◌, ◌∙◌, ℕ, List, [], sym, ap, subst, refl}
+use Rattle.sr_command.specs.Outside.{Outside, outside}
+use Rattle.sr_command.specs.Runs.{RanOrder}
+use Rattle.sr_command.specs.declared.order.Order.{Order}
+use Rattle.sr_drawn.specs.declared.office.Office.{Office}
+use Rattle.sr_drawn.specs.declared.office.Office.TheVariants.{Cons, R1, R2, R3}
+use Rattle.sr_memmail.specs.Folders.{Folders}
+use Rattle.sr_demo.specs.Runs.{Ran, Task, having, holding}
+use Rattle.sr_memsite.specs.Disks.{Disk}
+use Rattle.sr_memsite.specs.Meaning.{begun}
+use Rattle.sr_site.specs.Causes.{Stays}
+use Rattle.sr_site.specs.Seen.{Seen}
+use Rattle.sr_site.specs.Streams.{Input, Output}
+use Rattle.sr_tally.specs.Places.{disk_at, with_disk}
+use Rattle.sr_tally.specs.declared.offices.Offices.{Offices}
+
+-- what a run began with is equal to this
+pub begun_so : (order : Order) (site site' : Seen) (input input' : Input) (output output' : Output) (new : Outside) (status : ℕ) → site ≡ site' → input ≡ input' → output ≡ output'
+    → RanOrder order (outside site input output) new status → RanOrder order (outside site' input' output') new status
+begun_so order site site' input input' output output' new status s i o ran =
+    subst (λ (x : Seen). RanOrder order (outside x input' output') new status) s
+    (subst (λ (x : Input). RanOrder order (outside site x output') new status) i (subst (λ (x : Output). RanOrder order (outside site input x) new status) o ran))
+
+swapped : (office : Office) (old : Offices) (empty disk : Disk) (none mail : Folders)
+    → record (with_disk office disk (record (with_disk office empty old) { mail = none })) { mail = mail } ≡ with_disk office disk (record old { mail = mail })
+swapped Cons old empty disk none mail = refl
+swapped R1 old empty disk none mail = refl
+swapped R2 old empty disk none mail = refl
+swapped R3 old empty disk none mail = refl
+
+mail_in : (office : Office) (old : Offices) (disk : Disk) → (with_disk office disk old).mail ≡ old.mail
+mail_in Cons old disk = refl
+mail_in R1 old disk = refl
+mail_in R2 old disk = refl
+mail_in R3 old disk = refl
+
+-- the files and the mail were lent to a site, and came back
+pub files_back : (office : Office) (old one two three new : Offices) (empty disk : Disk) (none mail : Folders) → one ≡ with_disk office empty old → two ≡ record one { mail = none }
+    → three ≡ with_disk office disk two → new ≡ record three { mail = mail } → new ≡ with_disk office disk (record old { mail = new.mail })
+files_back office old one two three new empty disk none mail a b c d =
+    let whole = d ∙ (ap (λ (o : Offices). record o { mail = mail }) (c ∙ ap (λ (o : Offices). with_disk office disk o) (b ∙ ap (λ (o : Offices). record o { mail = none }) a))
+    ∙ swapped office old empty disk none mail) in
+    let mails = ap (λ (o : Offices). o.mail) whole ∙ mail_in office (record old { mail = mail }) disk in
+    whole ∙ ap (λ (m : Folders). with_disk office disk (record old { mail = m })) (sym mails)
+
+-- what the command did on the site is what is done
+pub ran_so : (task : Task) (old one two three new : Offices) (empty : Disk) (none mail : Folders) (site site' : Seen) (input input' : Input) (output : Output)
+    → (lines : List ℕ) (faults status : ℕ) → site ≡ begun (disk_at task.office old) → input ≡ holding task.script → output ≡ having [] 0
+    → RanOrder task.order (outside site input output) (outside site' input' (having lines faults)) status → Stays site site' → one ≡ with_disk task.office empty old
+    → two ≡ record one { mail = none } → three ≡ with_disk task.office (record { first = site'.first; happened = site'.happened }) two → new ≡ record three { mail = mail }
+    → Ran task old new status lines
+ran_so task old one two three new empty none mail site site' input input' output lines faults status s i o ran stays a b c d = record {
+  site = site';
+  input = input';
+  faults = faults;
+  ran = begun_so task.order site (begun (disk_at task.office old)) input (holding task.script) output (having [] 0) (outside site' input' (having lines faults)) status s i o ran;
+  stays = subst (λ (x : Seen). Stays x site') s stays;
+  files = files_back task.office old one two three new empty (record { first = site'.first; happened = site'.happened }) none mail a b c d;
+}

@@ -1,0 +1,6 @@
+mod Chains
+mod Counted
+mod Endings
+mod Lent
+mod Lines
+mod Telling

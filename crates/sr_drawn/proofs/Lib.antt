@@ -1,0 +1,3 @@
+mod KeySets
+mod Texts
+mod UnderWay

@@ -1,0 +1,10 @@
+pub mod Letters
+pub mod Faults
+pub mod Bags
+pub mod Gathers
+pub mod Greatest
+pub mod OneNote
+pub mod Windows
+pub mod Fetches
+pub mod Purges
+pub mod Lending

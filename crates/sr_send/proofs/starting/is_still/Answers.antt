@@ -1,0 +1,43 @@
+use Rattle.std.proofs.Common.{Option, ◌<◌, ◌≤◌, subst, ◌∙◌, eqb-true}
+use Rattle.std.specs.Prelude.{IfSome}
+use Rattle.sr_base.specs.declared.offset.Offset.{Offset}
+use Rattle.sr_send.specs.Starts.{IsStillEnd, BeginStop}
+use Rattle.sr_send.proofs.Results.{if_fault}
+use Rattle.sr_send.proofs.Starts.{look_start, look_on, look_end, begin_stopped, read_on}
+use Rattle.sr_send.proofs.Posts.{steady_on}
+use Rattle.sr_send.proofs.starting.is_still.Goals as goal
+
+pub entries-init : goal.entries-init
+entries-init g c = look_start c.args.db.now c.args.from (g.S.Held.seen c.args.site.now) c.requires.from
+
+pub still_end-requires-clause-after : goal.still_end-requires-clause-after
+still_end-requires-clause-after g c = (c.entries.invariant.from_base, c.entries.invariant.within)
+
+pub returns-in_err-end-clause-cause : goal.returns-in_err-end-clause-cause
+returns-in_err-end-clause-cause g c =
+    let first = g.S.Held.seen c.args.site.now in
+    let before = g.S.Held.seen c.entries.site in
+    let now = g.S.Held.seen c.still_end.new.site in
+    if_fault (BeginStop first now) c.in_err-end.field-0.0 c.from_residual.result c.from_residual.ensures.1
+    (begin_stopped first before now c.in_err-end.field-0.0 c.entries.invariant.posted c.entries.invariant.steady c.still_end.ensures.posted c.in_err-end.ensures.cause)
+
+pub entries-preserved : goal.entries-preserved
+entries-preserved g c =
+    let first = g.S.Held.seen c.args.site.now in
+    let before = g.S.Held.seen c.entries.site in
+    let now = g.S.Held.seen c.still_end.new.site in
+    let within = subst (λ (found : Option Offset). IfSome found (λ end. (c.entries.at.0 < end.0) × (end.0 ≤ c.args.db.now.log.end))) c.in-Some.is c.in_ok-end.ensures.within in
+    look_on c.args.db.now c.args.from c.entries.at c.in-Some.end first before now c.entries.invariant c.still_end.ensures.posted c.in_ok-end.ensures.steady within
+    (λ told publisher done left database at. subst (λ (found : Option Offset). IfSome found (IsStillEnd done left)) c.in-Some.is (c.in_ok-end.ensures.end told publisher done left database at))
+
+pub returns-clause-still : goal.returns-clause-still
+returns-clause-still g c = λ is.
+    look_end c.args.db.now c.args.from c.entries.at (g.S.Held.seen c.args.site.now) (g.S.Held.seen c.entries.site) c.entries.invariant (eqb-true _ _ is ∙ c.end.ensures.end)
+
+pub returns-clause-posted : goal.returns-clause-posted
+returns-clause-posted g c =
+    read_on (g.S.Held.seen c.args.site.now) (g.S.Held.seen c.entries.site) (g.S.Held.seen c.still_end.new.site) c.entries.invariant.posted c.still_end.ensures.posted
+
+pub returns-clause-steady : goal.returns-clause-steady
+returns-clause-steady g c =
+    steady_on (g.S.Held.seen c.args.site.now) (g.S.Held.seen c.entries.site) (g.S.Held.seen c.still_end.new.site) c.entries.invariant.steady c.in_ok-end.ensures.steady

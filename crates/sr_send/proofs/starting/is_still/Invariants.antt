@@ -1,0 +1,10 @@
+use Rattle.std.proofs.Common.{◌-◌}
+use Rattle.sr_send.specs.Starts.{Looked}
+use Rattle.sr_send.proofs.starting.is_still.Given as goal
+
+-- no statement ran up to here
+abbrev pub invariant-entries : goal.invariant-entries
+invariant-entries g l = Looked l.db l.fn.from l.at (g.S.Held.seen l.fn.site) (g.S.Held.seen l.site)
+
+abbrev pub decreases-entries : goal.decreases-entries
+decreases-entries g l = l.db.log.end - l.at.0

@@ -1,0 +1,2 @@
+mod EntriesRead
+mod Parting
