@@ -168,7 +168,7 @@ def main():
         for past in (0, 1):
             right &= at_limit(
                 words, folder, NOTES, past, notes, ["agent", "c1", "--mail", "mail", "-s"], b"",
-                lambda offset, gate: (0, [f"to r1 put 1 up to {offset}"]),
+                lambda offset, gate: (0, [f"to r1 put 1 up to {offset}", f"to r2 put 0 up to {offset}"]),
             )
     sys.exit(0 if right else 1)
 
