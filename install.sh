@@ -1,7 +1,8 @@
 #!/bin/sh
 # Puts dbremote, its man page and the completion of its words for bash into place, or takes them away.
 #
-# Usage: ./install.sh PREFIX             PREFIX/bin/dbremote and PREFIX/share/...; the program is proved and built first where it is missing
+# Usage: ./install.sh PREFIX             PREFIX/bin/dbremote and PREFIX/share/...; the program is proved and built first where neither release/ has the
+#                                        tree's nor one was built
 #        ./install.sh --remove PREFIX
 #
 # It prints each file that it places or takes away. The status is 0, 2 where the words are others, or 1 where something could not be done.
@@ -56,9 +57,7 @@ if [ -n "$remove" ]; then
     take share/bash-completion/completions/dbremote
     exit 0
 fi
-# The launcher builds the program where it is missing, and the program refuses to have no words with status 2.
-"$top/dbremote" >/dev/null
-[ $? -eq 2 ] || fail 'the program could not be built'
-place 755 "$top/crates/dbremote/out/dbremote" bin/dbremote
+program=$("$top/release/program.sh") || fail 'the program could not be built'
+place 755 "$program" bin/dbremote
 place 644 "$top/docs/dbremote.1" share/man/man1/dbremote.1
 place 644 "$top/docs/dbremote.bash" share/bash-completion/completions/dbremote

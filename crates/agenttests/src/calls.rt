@@ -1,10 +1,10 @@
 //! What becomes of files on their way.
 
 use crate::offices::Offices;
-use sr_answers::{say, say_bytes, say_number, word};
-use sr_base::{Name, NoMemory, Text, name_of};
+use sr_answers::{named, say, say_bytes, say_number, word};
+use sr_base::{Name, NoMemory, Text};
 use sr_memsite::SharedMail;
-use std::alloc::{AllocError, Global};
+use std::alloc::Global;
 
 /// Does with the files of the mail what a step asks for, and appends what it is to say.
 pub fn say_mail(
@@ -39,9 +39,7 @@ fn say_addressed(
     step: &str,
     out: &mut Vec<u8>,
 ) -> Result<(), NoMemory> {
-    let Ok(address) = name_of(alloc, word(step, 1).as_bytes()) else {
-        return Err(AllocError);
-    };
+    let address = named(alloc, word(step, 1))?;
     let said = say_named(alloc, mail, &address, step, out);
     drop(address);
     said

@@ -17,7 +17,7 @@ type Column = (Option<Name>, Name, Kind);
 /// Says what an expression gives as the condition of a DELETE.
 pub fn say_given(alloc: Global, condition: &str, out: &mut Vec<u8>) -> Result<(), NoMemory> {
     let script = format!(in alloc; "DELETE FROM t WHERE {condition}")?;
-    say_in(alloc, Text::from_string(script), out)
+    say_in(alloc, Text::from_string(script)?, out)
 }
 
 fn say_in(alloc: Global, script: Text, out: &mut Vec<u8>) -> Result<(), NoMemory> {

@@ -1,8 +1,7 @@
 //! Steps on the folders alone: what becomes of message files on their way.
 
-use crate::mail::address_of;
 use crate::saying::{Devices, say_ok, say_steps, say_written};
-use sr_answers::{number, say, say_number, word};
+use sr_answers::{named, number, say, say_number, word};
 use sr_base::{Name, NoMemory, Text};
 use sr_memsite::SharedMail;
 use std::alloc::Global;
@@ -44,7 +43,7 @@ fn say_named(
     step: &str,
     out: &mut Vec<u8>,
 ) -> Result<(), NoMemory> {
-    let address = address_of(alloc, step)?;
+    let address = named(alloc, word(step, 1))?;
     let said = say_addressed(alloc, mail, &address, step, out);
     drop(address);
     said

@@ -1,18 +1,10 @@
 //! Calls of the mail of a site.
 
 use crate::saying::say_written;
-use sr_answers::{number, say, say_number, word};
-use sr_base::{Name, NoMemory, Text, name_of};
+use sr_answers::{named, number, say, say_number, word};
+use sr_base::{Name, NoMemory, Text};
 use sr_site::{MailFault, Site};
 use std::alloc::{AllocError, Global};
-
-/// The address that a step names.
-pub fn address_of(alloc: Global, step: &str) -> Result<Name, NoMemory> {
-    match name_of(alloc, word(step, 1).as_bytes()) {
-        Ok(address) => Ok(address),
-        Err(_) => Err(AllocError),
-    }
-}
 
 /// Makes a call of the mail.
 pub fn say_mail<S: Site>(
@@ -34,7 +26,7 @@ fn say_named<S: Site>(
     step: &str,
     out: &mut Vec<u8>,
 ) -> Result<(), NoMemory> {
-    let address = address_of(alloc, step)?;
+    let address = named(alloc, word(step, 1))?;
     let said = match word(step, 0) {
         "put" => say_end(
             out,

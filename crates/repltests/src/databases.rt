@@ -3,7 +3,7 @@
 ghost use Rattle.std.specs.Prelude.{OnOk};
 ghost use Rattle.sr_exec.specs.Conditions.{RowsFit};
 
-use crate::parts::named;
+use sr_answers::named;
 use sr_ast::{Dml, Script, Stmt};
 use sr_base::{NoMemory, Text};
 use sr_catalog::Catalog;

@@ -2,8 +2,8 @@
 
 use crate::databases::new_catalog;
 use crate::ops::are_ops;
-use crate::parts::{body_of, entry_of, named};
-use sr_answers::{number_of, word};
+use crate::parts::{body_of, entry_of};
+use sr_answers::{named, number_of, word};
 use sr_base::{Name, NoMemory, Offset};
 use sr_catalog::Catalog;
 use sr_logform::{Entry, Op, Transaction};

@@ -1,4 +1,4 @@
-//! Names, rows, entries and transactions from what a row has. Bytes that are no row or entry are nothing.
+//! Rows, entries and transactions from what a row has. Bytes that are no row or entry are nothing.
 
 ghost use Rattle.std.specs.Prelude.{IfOk};
 ghost use Rattle.std.specs.List.{AllByRecursion};
@@ -6,18 +6,10 @@ ghost use Rattle.sr_cut.specs.Bodies.{AreRising};
 ghost use Rattle.sr_logform.specs.Ops.{IsShortTransaction};
 
 use sr_answers::push_hex;
-use sr_base::{Name, NoMemory, Row, name_of, read_row};
+use sr_base::{NoMemory, Row, read_row};
 use sr_cut::read_body;
 use sr_logform::{Entry, Transaction, read_entry};
 use std::alloc::{AllocError, Global};
-
-/// A name. Letters that are none count as want of memory.
-pub(crate) fn named(alloc: Global, name: &str) -> Result<Name, NoMemory> {
-    match name_of(alloc, name.as_bytes()) {
-        Ok(name) => Ok(name),
-        Err(_) => Err(AllocError),
-    }
-}
 
 fn bytes_of(alloc: Global, hex: &str) -> Result<Vec<u8>, NoMemory> {
     let mut bytes = Vec::new(alloc);

@@ -3,7 +3,7 @@
 ghost use Rattle.std.specs.List.{AllByRecursion};
 ghost use Rattle.sr_logform.specs.Ops.{IsShortTransaction};
 
-use crate::parts::named;
+use sr_answers::named;
 use sr_base::{NoMemory, Offset, Seq};
 use sr_cut::{Head, TooLong, cut, file_name};
 use sr_logform::Transaction;

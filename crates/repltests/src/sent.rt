@@ -1,7 +1,7 @@
 //! Ops, written as what stands behind INSERT INTO: a table, columns and values. What is written otherwise counts as want of memory.
 
 use crate::databases::script_of;
-use crate::parts::named;
+use sr_answers::named;
 use sr_ast::{Dml, Expr, Insert, Stmt};
 use sr_base::{Copied, Name, NoMemory, Seq, Text, Value};
 use sr_logform::Op;

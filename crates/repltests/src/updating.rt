@@ -4,8 +4,7 @@ ghost use Rattle.sr_exec.specs.Conditions.{RowsFit};
 
 use crate::databases::{follow, new_catalog, no_rows, script_of};
 use crate::loading::{TABLE, load};
-use crate::parts::named;
-use sr_answers::{say, say_number};
+use sr_answers::{named, say, say_number};
 use sr_base::{Name, NoMemory, Seq, Value};
 use sr_catalog::Catalog;
 use sr_logform::{Op, Outcome};

@@ -1,7 +1,8 @@
 //! What users see of rows.
 
 use crate::databases::{follow, script_of};
-use crate::parts::{named, row_of};
+use crate::parts::row_of;
+use sr_answers::named;
 use sr_base::{Name, NoMemory, Row};
 use sr_catalog::Catalog;
 use sr_publish::sees;

@@ -52,7 +52,7 @@ fn main(rt: HostRuntime) -> ExitCode {
 fn input(rt: HostRuntime) -> Option<Text> {
     let mut text = String::new(rt.alloc());
     match rt.reader().read_to_string(&mut text) {
-        Ok(_) => Some(Text::from_string(text)),
+        Ok(_) => Text::from_string(text).ok(),
         Err(_) => None,
     }
 }

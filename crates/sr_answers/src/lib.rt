@@ -4,8 +4,10 @@
 //! given, and then how many are answered as they stand.
 #![tactic(auto)]
 
+mod naming;
 mod saying;
 mod telling;
 
+pub use naming::named;
 pub use saying::{count_of, number, number_of, push_hex, say, say_bytes, say_number, word};
 pub use telling::{Answerer, print, run};

@@ -1,4 +1,4 @@
-ghost use Rattle.std.specs.Prelude.{◌≡◌, ◌∷◌, [], Bool, List, ℕ, true, false, OnOk};
+ghost use Rattle.std.specs.Prelude.{◌≡◌, ◌∷◌, [], Bool, List, ℕ, true, false, OnOk, IfOk};
 ghost use Rattle.sr_ast.specs.Pages.{
   Print,
   blank,
@@ -70,8 +70,8 @@ impl Page {
     }
 
     /// What is printed.
-    pub fn into_text(self) -> Text
-        ensures text { result ≡ self.text }
+    pub fn into_text(self) -> Result<Text, NoMemory>
+        ensures text { IfOk result (λ text. text ≡ self.text) }
     {
         Text::from_string(self.text)
     }

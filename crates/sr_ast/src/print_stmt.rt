@@ -279,5 +279,5 @@ pub fn print(alloc: Global, stmt: &Stmt) -> Result<Text, NoMemory>
 {
     let mut page = Page::new(alloc);
     stmt.print(&mut page)?;
-    Ok(page.into_text())
+    page.into_text()
 }

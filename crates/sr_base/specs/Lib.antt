@@ -2,6 +2,7 @@ pub mod Codes
 pub mod Days
 pub mod Fields
 pub mod Fitting
+pub mod Held
 pub mod Laws
 pub mod ListLaws
 pub mod Names

@@ -1,6 +1,6 @@
 //! Lists as fields: a u32 count, then the items.
 
-ghost use Rattle.std.specs.Prelude.{◌≡◌, ◌<◌, ◌^◌, length};
+ghost use Rattle.std.specs.Prelude.{◌≡◌, ◌++◌, ◌<◌, ◌^◌, length, OnOk, OnErr};
 ghost use Rattle.sr_base.specs.Fields.{list_spelling, list_at, items_at, IsListOf};
 ghost use Rattle.sr_base.specs.ListLaws.{list_format};
 ghost use Rattle.sr_base.specs.Reading.{Gives};
@@ -47,15 +47,24 @@ impl<T: Field> Field for Seq<T> {
     }
 
     fn write(&self, out: &mut Vec<u8>) -> Result<(), NoMemory> {
-        let before = out.len();
-        let items = self.as_slice();
-        (items.len() as u32).write(out)?;
-        for item in items {
-            if let Err(refused) = item.write(out) {
-                out.truncate(before);
-                return Err(refused);
-            }
-        }
-        Ok(())
+        write_items(self.as_slice(), out)
     }
+}
+
+/// Adds the spelling of a list of these items at the end. For want of memory `out` stays as it was.
+pub(crate) fn write_items<T: Field>(items: &[T], out: &mut Vec<u8>) -> Result<(), NoMemory>
+    requires { IsListOf T.can_write items.now }
+    ensures ok { OnOk result (out.new.items ≡ out.old.items ++ list_spelling T.spelling items.now) }
+    ensures err { OnErr result (out.new.items ≡ out.old.items) }
+    ensures kept { OnOk result (IsListOf T.fits items.now) }
+{
+    let before = out.len();
+    (items.len() as u32).write(out)?;
+    for item in items {
+        if let Err(refused) = item.write(out) {
+            out.truncate(before);
+            return Err(refused);
+        }
+    }
+    Ok(())
 }

@@ -12,9 +12,11 @@ use crate::broken::Broken;
 use crate::copied::NoMemory;
 use crate::day::Day;
 use crate::field::Field;
+use crate::field_lists::write_items;
 use crate::field_parts::write_pair;
+use crate::key::Key;
 use crate::offset::Offset;
-use crate::row::{Key, Row};
+use crate::row::Row;
 use crate::seq::Seq;
 use crate::text::Text;
 use crate::value::Value;
@@ -131,7 +133,7 @@ impl Field for Row {
     }
 
     fn write(&self, out: &mut Vec<u8>) -> Result<(), NoMemory> {
-        self.as_seq().write(out)
+        write_items(self.values(), out)
     }
 }
 
@@ -152,6 +154,6 @@ impl Field for Key {
     }
 
     fn write(&self, out: &mut Vec<u8>) -> Result<(), NoMemory> {
-        self.as_seq().write(out)
+        write_items(self.values(), out)
     }
 }

@@ -32,7 +32,6 @@ pub fn text_of(alloc: Global, bytes: &[u8]) -> Result<Text, NotUtf8>
 
 /// The name of these bytes, its letters in lower case: 1 to 64 bytes, a letter or `_`, then letters, digits and `_`.
 /// `BadName::NotAName` comes exactly where the bytes are none.
-#[tactic(auto, using(crate::proofs::NameCase::lower_names))]
 pub fn name_of(alloc: Global, bytes: &[u8]) -> Result<Name, BadName>
     ensures name { IfOk result (λ name. name ≡ lowered bytes.now) }
     ensures is_one { OnOk result (IsTrue (is_name bytes.now)) }
@@ -41,8 +40,17 @@ pub fn name_of(alloc: Global, bytes: &[u8]) -> Result<Name, BadName>
     if !is_name(bytes) {
         return Err(BadName::NotAName);
     }
-    match lowered(alloc, bytes) {
-        Ok(lower) => Ok(Name::from_vec(lower)),
+    match name_in_lower(alloc, bytes) {
+        Ok(name) => Ok(name),
         Err(_) => Err(BadName::Memory),
     }
+}
+
+/// The name of bytes that are one in any case.
+#[tactic(auto, using(crate::proofs::NameCase::lower_names))]
+fn name_in_lower(alloc: Global, bytes: &[u8]) -> Result<Name, NoMemory>
+    requires { IsTrue (is_name bytes.now) }
+    ensures { IfOk result (λ name. name ≡ lowered bytes.now) }
+{
+    Name::from_letters(alloc, lowered(bytes)?)
 }

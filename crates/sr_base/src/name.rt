@@ -2,14 +2,16 @@ ghost use Rattle.std.specs.Prelude.{◌≡◌, ◌≤◌, length, IfOk, IsTrue};
 ghost use Rattle.sr_base.specs.Names.{is_lower_name};
 
 use crate::copied::{Copied, NoMemory};
-use std::alloc::Global;
+use crate::name_bytes::Letters;
+use std::alloc::{AllocError, Global};
 use std::marker::Model;
+use std::rc::Rc;
 
 /// The name of a table, column, publication, trigger, user or database: 1 to 64 bytes, a letter or `_`, then letters, digits
-/// and `_`, kept in lower case. Contracts see its bytes.
+/// and `_`, kept in lower case. Contracts see its bytes. The copies of a name share its memory.
 #[derive(Drop)]
 pub struct Name {
-    bytes: Vec<u8>,
+    shared: Rc<Letters>,
 }
 
 impl Model for Name {
@@ -18,9 +20,9 @@ impl Model for Name {
 
     ghost Value = { List ℕ };
 
-    ghost view = { λ n. n.bytes.items };
+    ghost view = { λ n. n.shared.value.items };
 
-    ghost invariant = { λ n. IsTrue (is_lower_name n.bytes.items) };
+    ghost invariant = { λ n. IsTrue (is_lower_name n.shared.value.items) };
 }
 
 impl Name {
@@ -30,7 +32,7 @@ impl Name {
         ensures name { IsTrue (is_lower_name result.now) }
         ensures short { length result.now ≤ 64 }
     {
-        self.bytes.as_slice()
+        self.shared.as_ref().as_slice()
     }
 }
 
@@ -40,24 +42,29 @@ impl Name {
         requires { IsTrue (is_lower_name bytes.now) }
         ensures { IfOk result (λ name. name ≡ bytes.now) }
     {
-        Ok(Name {
-            bytes: Vec::from_slice(alloc, bytes)?,
-        })
+        let mut letters = Letters::new();
+        if letters.try_extend_from_slice(bytes).is_err() {
+            return Err(AllocError);
+        }
+        Name::from_letters(alloc, letters)
     }
 
-    /// The name that keeps these bytes.
-    pub(crate) fn from_vec(bytes: Vec<u8>) -> Name
-        requires { IsTrue (is_lower_name bytes.items) }
-        ensures { result ≡ bytes.items }
+    /// The name of these letters.
+    pub(crate) fn from_letters(alloc: Global, letters: Letters) -> Result<Name, NoMemory>
+        requires { IsTrue (is_lower_name letters.items) }
+        ensures { IfOk result (λ name. name ≡ letters.items) }
     {
-        Name { bytes }
+        match Rc::new(alloc, letters) {
+            Ok(shared) => Ok(Name { shared }),
+            Err(_) => Err(AllocError),
+        }
     }
 }
 
 impl Copied for Name {
-    fn copy(&self, alloc: Global) -> Result<Name, NoMemory> {
+    fn copy(&self, _alloc: Global) -> Result<Name, NoMemory> {
         Ok(Name {
-            bytes: Vec::from_slice(alloc, self.bytes.as_slice())?,
+            shared: self.shared.clone()?,
         })
     }
 }

@@ -6,9 +6,13 @@ ghost use Rattle.sr_base.specs.Fields.{is_name_size as fits_name};
 ghost use Rattle.sr_base.specs.Names.{is_lower_letter, is_digit, is_first, is_later, is_lower_name, is_letter, is_any_first, is_any_later, is_name, lowered};
 
 use crate::copied::NoMemory;
-use std::alloc::Global;
+use arrayvec::ArrayVec;
+use std::alloc::AllocError;
 
 const LONGEST: usize = 64;
+
+/// The bytes of a name, in their place.
+pub(crate) type Letters = ArrayVec<u8, 64>;
 
 fn is_first(byte: u8) -> bool
     ensures { result ≡ is_first byte }
@@ -73,13 +77,15 @@ pub(crate) fn is_name(bytes: &[u8]) -> bool
     is_any_first(*first) && are_any_later(later) && later.len() <= LONGEST - 1
 }
 
-/// The bytes with their letters in lower case.
-pub(crate) fn lowered(alloc: Global, bytes: &[u8]) -> Result<Vec<u8>, NoMemory>
+/// The bytes with their letters in lower case. More than 64 count as want of memory.
+pub(crate) fn lowered(bytes: &[u8]) -> Result<Letters, NoMemory>
     ensures { IfOk result (λ lower. lower.items ≡ lowered bytes.now) }
 {
-    let mut lower = Vec::new(alloc);
+    let mut lower = Letters::new();
     for byte in bytes {
-        lower.push(byte.to_ascii_lowercase())?;
+        if lower.try_push(byte.to_ascii_lowercase()).is_err() {
+            return Err(AllocError);
+        }
     }
     Ok(lower)
 }

@@ -29,12 +29,6 @@ impl Row {
         Row { values }
     }
 
-    pub(crate) fn as_seq(&self) -> &Seq<Value>
-        ensures values { result.now ≡ self.now }
-    {
-        &self.values
-    }
-
     /// The values, in table order.
     pub fn values(&self) -> &[Value]
         ensures values { result.now ≡ self.now }
@@ -46,51 +40,6 @@ impl Row {
 impl Copied for Row {
     fn copy(&self, alloc: Global) -> Result<Row, NoMemory> {
         Ok(Row {
-            values: self.values.copy(alloc)?,
-        })
-    }
-}
-
-/// The values of a key, in key order.
-#[derive(Drop)]
-pub struct Key {
-    values: Seq<Value>,
-}
-
-impl Model for Key {
-    ghost use Rattle.std.specs.Prelude.{List};
-    ghost use Rattle.sr_base.specs.declared.value.Value.{Value as Cell};
-
-    ghost Value = { List Cell };
-
-    ghost view = { λ k. k.values };
-}
-
-impl Key {
-    /// The key of these values.
-    pub fn new(values: Seq<Value>) -> Key
-        ensures values { result ≡ values }
-    {
-        Key { values }
-    }
-
-    pub(crate) fn as_seq(&self) -> &Seq<Value>
-        ensures values { result.now ≡ self.now }
-    {
-        &self.values
-    }
-
-    /// The values, in key order.
-    pub fn values(&self) -> &[Value]
-        ensures values { result.now ≡ self.now }
-    {
-        self.values.as_slice()
-    }
-}
-
-impl Copied for Key {
-    fn copy(&self, alloc: Global) -> Result<Key, NoMemory> {
-        Ok(Key {
             values: self.values.copy(alloc)?,
         })
     }

@@ -33,6 +33,12 @@ impl<T> Seq<T> {
         }
     }
 
+    pub(crate) fn into_vec(self) -> Vec<T>
+        ensures items { result.items ≡ self }
+    {
+        self.items
+    }
+
     /// The items in order.
     pub fn as_slice(&self) -> &[T]
         ensures items { result.now ≡ self.now }

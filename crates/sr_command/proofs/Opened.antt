@@ -197,5 +197,8 @@ pub ruleset attaching = (tried_refused, tried_still)
 
 -- ---- without mail
 
+pub attaches_alone : (name mail : List ℕ) (done : Bool) (before now : Seen) → mail ≡ [] → Attaches name mail done before now → Attaches name [] done before now
+attaches_alone name mail done before now is attaches = subst (λ (m : List ℕ). Attaches name m done before now) is attaches
+
 pub tried_alone : (name mail : List ℕ) (before now : Seen) → mail ≡ [] → IsAttachTried name mail before now → IsAttachTried name [] before now
 tried_alone name mail before now is tried = subst (λ (m : List ℕ). IsAttachTried name m before now) is tried

@@ -24,14 +24,17 @@ pub fn attach<S: Site>(
     }
 }
 
-/// Names the database's files, for a command without mail.
-pub fn attach_alone<S: Site>(alloc: Global, name: &Text, site: &mut S) -> Result<(), DatabaseFault>
+/// Names the database's files, for a command without mail: `no_mail` is the empty text.
+pub fn attach_alone<S: Site>(
+    alloc: Global,
+    name: &Text,
+    no_mail: &Text,
+    site: &mut S,
+) -> Result<(), DatabaseFault>
+    requires no_mail { no_mail.now ≡ [] }
     ensures attaches { Attaches name.now [] (is_ok result) (S.seen site.old) (S.seen site.new) }
     ensures steady { OnOk result ((S.seen site.new).disk_faults ≡ (S.seen site.old).disk_faults) }
     ensures cause { IfErr result (AttachCause (S.seen site.old) (S.seen site.new)) }
 {
-    let mail = Text::empty(alloc);
-    let attached = attach(alloc, name, &mail, site);
-    drop(mail);
-    attached
+    attach(alloc, name, no_mail, site)
 }

@@ -1,4 +1,4 @@
-ghost use Rattle.std.specs.Prelude.{◌≡◌, ◌≤◌, ◌||◌, false, IsTrue};
+ghost use Rattle.std.specs.Prelude.{◌≡◌, ◌≤◌, ◌||◌, [], false, IsTrue};
 ghost use Rattle.sr_site.specs.Causes.{DiskStays, Stays};
 ghost use Rattle.sr_site.specs.Streams.{Input};
 ghost use Rattle.sr_command.specs.CaughtUp.{CatchesUp};
@@ -19,7 +19,8 @@ use sr_base::{Name, Text};
 use sr_site::{Sink, Site, Source};
 use std::alloc::Global;
 
-/// Does what an order asks for, to its last line or to that of the fault that ended it. Answers the exit status.
+/// Does what an order asks for, to its last line or to that of the fault that ended it. Answers the exit status. `no_mail`, the empty text, stands for the
+/// mail folder of an order that has none.
 ///
 /// Where no device fails, and what is there is what the order asks for, it is done: the status is 0, 1 with what the agent reports, 9 at a
 /// limit, or 8.
@@ -27,18 +28,20 @@ use std::alloc::Global;
 pub fn command<S: Site, I: Source, O: Sink>(
     alloc: Global,
     order: &Order,
+    no_mail: &Text,
     site: &mut S,
     input: &mut I,
     output: &mut O,
     now: i64,
 ) -> u8
     requires may { MayOrder order.now }
+    requires no_mail { no_mail.now ≡ [] }
     ensures ran { RanOrder order.now (outside (S.seen site.old) (I.seen input.old) (O.seen output.old)) (outside (S.seen site.new) (I.seen input.new) (O.seen output.new)) result }
     ensures stays { Stays (S.seen site.old) (S.seen site.new) }
     ensures complete { IsComplete order.now (outside (S.seen site.old) (I.seen input.old) (O.seen output.old)) (outside (S.seen site.new) (I.seen input.new) (O.seen output.new)) result }
     ensures caught_up { CatchesUp order.now (outside (S.seen site.old) (I.seen input.old) (O.seen output.old)) (outside (S.seen site.new) (I.seen input.new) (O.seen output.new)) result }
 {
-    ordered(alloc, order, site, input, output, now)
+    ordered(alloc, order, no_mail, site, input, output, now)
 }
 
 /// Does what an order asks for.
@@ -46,19 +49,21 @@ pub fn command<S: Site, I: Source, O: Sink>(
 fn ordered<S: Site, I: Source, O: Sink>(
     alloc: Global,
     order: &Order,
+    no_mail: &Text,
     site: &mut S,
     input: &mut I,
     output: &mut O,
     now: i64,
 ) -> u8
     requires may { MayOrder order.now }
+    requires no_mail { no_mail.now ≡ [] }
     ensures ran { RanOrder order.now (outside (S.seen site.old) (I.seen input.old) (O.seen output.old)) (outside (S.seen site.new) (I.seen input.new) (O.seen output.new)) result }
     ensures stays { Stays (S.seen site.old) (S.seen site.new) }
 {
     match order {
-        Order::Init { name, user } => command_init(alloc, name, user, site, output),
-        Order::Sql { name } => command_sql(alloc, name, site, input, output),
-        Order::Show { name } => command_show(alloc, name, site, output),
+        Order::Init { name, user } => command_init(alloc, name, no_mail, user, site, output),
+        Order::Sql { name } => command_sql(alloc, name, no_mail, site, input, output),
+        Order::Show { name } => command_show(alloc, name, no_mail, site, output),
         Order::Agent {
             name,
             mail,
@@ -79,14 +84,16 @@ pub fn tell<O: Sink>(alloc: Global, output: &mut O, fault: Fault) -> u8
 fn command_init<S: Site, O: Sink>(
     alloc: Global,
     name: &Text,
+    no_mail: &Text,
     user: &Name,
     site: &mut S,
     output: &mut O,
 ) -> u8
+    requires no_mail { no_mail.now ≡ [] }
     ensures ran { (input : Input) → RanInit name.now user.now (outside (S.seen site.old) input (O.seen output.old)) (outside (S.seen site.new) input (O.seen output.new)) result }
     ensures stays { DiskStays (S.seen site.old) (S.seen site.new) }
 {
-    match make(alloc, name, user, site, output) {
+    match make(alloc, name, no_mail, user, site, output) {
         Ok(()) => 0,
         Err(fault) => tell(alloc, output, fault),
     }
@@ -95,24 +102,33 @@ fn command_init<S: Site, O: Sink>(
 fn command_sql<S: Site, I: Source, O: Sink>(
     alloc: Global,
     name: &Text,
+    no_mail: &Text,
     site: &mut S,
     input: &mut I,
     output: &mut O,
 ) -> u8
+    requires no_mail { no_mail.now ≡ [] }
     ensures ran { RanSql name.now (outside (S.seen site.old) (I.seen input.old) (O.seen output.old)) (outside (S.seen site.new) (I.seen input.new) (O.seen output.new)) result }
     ensures stays { DiskStays (S.seen site.old) (S.seen site.new) }
 {
-    match run_sql(alloc, name, site, input, output) {
+    match run_sql(alloc, name, no_mail, site, input, output) {
         Ok(()) => 0,
         Err(fault) => tell(alloc, output, fault),
     }
 }
 
-fn command_show<S: Site, O: Sink>(alloc: Global, name: &Text, site: &mut S, output: &mut O) -> u8
+fn command_show<S: Site, O: Sink>(
+    alloc: Global,
+    name: &Text,
+    no_mail: &Text,
+    site: &mut S,
+    output: &mut O,
+) -> u8
+    requires no_mail { no_mail.now ≡ [] }
     ensures ran { (input : Input) → RanShow name.now (outside (S.seen site.old) input (O.seen output.old)) (outside (S.seen site.new) input (O.seen output.new)) result }
     ensures stays { DiskStays (S.seen site.old) (S.seen site.new) }
 {
-    match show(alloc, name, site, output) {
+    match show(alloc, name, no_mail, site, output) {
         Ok(()) => 0,
         Err(fault) => tell(alloc, output, fault),
     }

@@ -26,9 +26,11 @@ fn created_line(alloc: Global, user: &Name) -> Result<Vec<u8>, NoMemory>
 fn make_files<S: Site>(
     alloc: Global,
     name: &Text,
+    no_mail: &Text,
     user: &Name,
     site: &mut S,
 ) -> Result<Vec<u8>, DatabaseFault>
+    requires no_mail { no_mail.now ≡ [] }
     ensures line { IfOk result (λ line. line.items ≡ created_line user.now) }
     ensures tried { IsAttachTried name.now [] (S.seen site.old) (S.seen site.new) }
     ensures guarded { IsGuarded user.now (S.seen site.old) (S.seen site.new) }
@@ -36,7 +38,7 @@ fn make_files<S: Site>(
     ensures stays { DiskStays (S.seen site.old) (S.seen site.new) }
     ensures cause { IfErr result (StoreCause (S.seen site.old) (S.seen site.new)) }
 {
-    attach_alone(alloc, name, site)?;
+    attach_alone(alloc, name, no_mail, site)?;
     let line = created_line(alloc, user)?;
     Database::create(alloc, site, user)?;
     Ok(line)
@@ -46,10 +48,12 @@ fn make_files<S: Site>(
 pub fn make<S: Site, O: Sink>(
     alloc: Global,
     name: &Text,
+    no_mail: &Text,
     user: &Name,
     site: &mut S,
     output: &mut O,
 ) -> Result<(), Fault>
+    requires no_mail { no_mail.now ≡ [] }
     ensures tried { IsAttachTried name.now [] (S.seen site.old) (S.seen site.new) }
     ensures guarded { IsGuarded user.now (S.seen site.old) (S.seen site.new) }
     ensures made { OnOk result (IsMade name.now user.now (S.seen site.old) (S.seen site.new)) }
@@ -58,6 +62,6 @@ pub fn make<S: Site, O: Sink>(
     ensures stays { DiskStays (S.seen site.old) (S.seen site.new) }
     ensures cause { IfErr result (MakeCause name.now user.now (S.seen site.old) (S.seen site.new) (O.seen output.old) (O.seen output.new)) }
 {
-    let line = make_files(alloc, name, user, site)?;
+    let line = make_files(alloc, name, no_mail, user, site)?;
     say_lines(output, line.as_slice())
 }

@@ -42,12 +42,14 @@ pub(crate) fn open<S: Site>(
     Ok(database)
 }
 
-/// Attaches the files of a name and opens the database, for a command without mail.
+/// Attaches the files of a name and opens the database, for a command without mail: `no_mail` is the empty text.
 pub(crate) fn open_alone<S: Site>(
     alloc: Global,
     name: &Text,
+    no_mail: &Text,
     site: &mut S,
 ) -> Result<Database, DatabaseFault>
+    requires no_mail { no_mail.now ≡ [] }
     ensures opened { IfOk result (λ db. IsOpened name.now [] db (S.seen site.old) (S.seen site.new)) }
     ensures ready { IfOk result (λ db. (db.log.usable ≡ true) × (db.pending ≡ [])) }
     ensures stands { IsTrue (S.seen site.new).told → IfOk result (λ db. HasDatabase db (S.seen site.new)) }
@@ -56,10 +58,7 @@ pub(crate) fn open_alone<S: Site>(
     ensures stays { DiskStays (S.seen site.old) (S.seen site.new) }
     ensures cause { IfErr result (OpenedCause (S.seen site.old) (S.seen site.new)) }
 {
-    let mail = Text::empty(alloc);
-    let opened = open(alloc, name, &mail, site);
-    drop(mail);
-    opened
+    open(alloc, name, no_mail, site)
 }
 
 /// Runs a script on a database that was opened.
@@ -117,16 +116,18 @@ fn read_and_run<S: Site, I: Source, O: Sink>(
 pub fn run_sql<S: Site, I: Source, O: Sink>(
     alloc: Global,
     name: &Text,
+    no_mail: &Text,
     site: &mut S,
     input: &mut I,
     output: &mut O,
 ) -> Result<(), Fault>
+    requires no_mail { no_mail.now ≡ [] }
     ensures done { OnOk result (RanWhole name.now (outside (S.seen site.old) (I.seen input.old) (O.seen output.old)) (outside (S.seen site.new) (I.seen input.new) (O.seen output.new))) }
     ensures stopped { IfErr result (Stopped name.now (outside (S.seen site.old) (I.seen input.old) (O.seen output.old)) (outside (S.seen site.new) (I.seen input.new) (O.seen output.new))) }
     ensures tried { IsAttachTried name.now [] (S.seen site.old) (S.seen site.new) }
     ensures stays { DiskStays (S.seen site.old) (S.seen site.new) }
 {
-    match open_alone(alloc, name, site) {
+    match open_alone(alloc, name, no_mail, site) {
         Ok(mut database) => {
             let ran = read_and_run(alloc, &mut database, site, input, output);
             drop(database);

@@ -31,16 +31,18 @@ fn tell_of<O: Sink>(alloc: Global, database: &Database, output: &mut O) -> Resul
 pub fn show<S: Site, O: Sink>(
     alloc: Global,
     name: &Text,
+    no_mail: &Text,
     site: &mut S,
     output: &mut O,
 ) -> Result<(), Fault>
+    requires no_mail { no_mail.now ≡ [] }
     ensures shown { OnOk result (HasShown name.now (S.seen site.old) (S.seen site.new) (O.seen output.old) (O.seen output.new)) }
     ensures tried { IsAttachTried name.now [] (S.seen site.old) (S.seen site.new) }
     ensures untouched { IsUntouched (S.seen site.old) (S.seen site.new) }
     ensures stays { DiskStays (S.seen site.old) (S.seen site.new) }
     ensures cause { IfErr result (ShowCause name.now (S.seen site.old) (S.seen site.new) (O.seen output.old) (O.seen output.new)) }
 {
-    match open_alone(alloc, name, site) {
+    match open_alone(alloc, name, no_mail, site) {
         Ok(database) => {
             let told = tell_of(alloc, &database, output);
             drop(database);

@@ -15,6 +15,9 @@ use std::mem::replace;
 /// that it need not grow.
 const LONGEST_PART: usize = 65;
 
+/// So many bytes are made room for at first: most transactions take no more, and then the room need not grow.
+const FIRST_ROOM: usize = 256;
+
 /// Bytes in parts: full fragments, and what is left behind them. Contracts see the bytes, and how many of them a fragment takes.
 ///
 /// So an encoding never stands as a whole beside the messages that carry it: a fragment is moved to its message.
@@ -39,16 +42,16 @@ impl Model for Encoded {
 }
 
 impl Encoded {
-    /// No bytes yet. It takes no memory.
-    pub(crate) fn new(alloc: Global, room: u32) -> Encoded
+    /// No bytes yet.
+    pub(crate) fn new(alloc: Global, room: u32) -> Result<Encoded, NoMemory>
         requires { 0 < room }
-        ensures { result ≡ record { room = room; bytes = [] } }
+        ensures { IfOk result (λ encoded. encoded ≡ record { room = room; bytes = [] }) }
     {
-        Encoded {
+        Ok(Encoded {
             room,
             full: Vec::new(alloc),
-            left: Vec::new(alloc),
-        }
+            left: Vec::with_capacity(alloc, FIRST_ROOM)?,
+        })
     }
 
     /// Adds the spelling of a part. What of it has no room in a fragment is copied once more.

@@ -26,7 +26,7 @@ pub(crate) fn encoded_of(
     ensures room { IfOk result (λ encoded. encoded.room ≡ room) }
     ensures bytes { IfOk result (λ encoded. encoded.bytes ≡ transaction_spelling transaction.now) }
 {
-    let mut encoded = Encoded::new(alloc, room);
+    let mut encoded = Encoded::new(alloc, room)?;
     encoded.add(alloc, &transaction.at)?;
     add_ops(alloc, &mut encoded, transaction.ops.as_slice())?;
     Ok(encoded)

@@ -21,6 +21,7 @@ use Rattle.sr_logfile.specs.declared.fault.RecordFault.TheVariants as records
 use Rattle.sr_logform.specs.Entries.{entry_spelling, IsEntry}
 use Rattle.sr_logform.specs.EntryLaws.{entry_format}
 use Rattle.sr_logform.specs.declared.entry.Entry.{Entry}
+use Rattle.sr_logform.specs.declared.entry.Entry.TheVariants.{Own, From, Ddl, Sync, Pass, Note}
 use Rattle.sr_logform.proofs.Once.{spells_once}
 use Rattle.sr_site.specs.Files.{Files}
 use Rattle.sr_site.specs.Images.{MayLeave}
@@ -30,7 +31,7 @@ use Rattle.sr_standing.specs.Standing.{body, bodies}
 use Rattle.sr_standing.proofs.Standing.{ends_are, size_is}
 use Rattle.sr_database.specs.Causes.{EntryCause, IsRecordFault}
 use Rattle.sr_database.specs.Databases.{IsHeld, IsDatabase}
-use Rattle.sr_database.specs.Entries.{IsNext, IsNextEnd, Parts, BehindCause}
+use Rattle.sr_database.specs.Entries.{IsNext, IsNextEnd, IsNextKind, BeginWith, Parts, BehindCause}
 use Rattle.sr_database.specs.Openings.{IsLogFault}
 use Rattle.sr_database.specs.Replays.{SpellingCause}
 use Rattle.sr_database.specs.Views.{View}
@@ -50,6 +51,16 @@ is_at view publisher done left seen after database is =
 pub none_left : (left : List Recorded) → bodies left ≡ [] → left ≡ []
 none_left [] is = refl
 none_left (r ∷ rs) is = cc
+
+-- an entry has a byte
+never_empty : (entry : Entry) → entry_spelling entry ≢ []
+unfolding entry_spelling
+never_empty (Own changes) is = absurd cc
+never_empty (From user at ops) is = absurd cc
+never_empty (Ddl text) is = absurd cc
+never_empty (Sync user tables) is = absurd cc
+never_empty (Pass users only text changes) is = absurd cc
+never_empty (Note user note) is = absurd cc
 
 -- the entry of the next body
 module _ (log : Log) (publisher : Name) (done : List Recorded) (after : ℕ) (at : after ≡ end_of done) where
@@ -87,6 +98,21 @@ module _ (log : Log) (publisher : Name) (done : List Recorded) (after : ℕ) (at
   pub record_end : (left : List Recorded) (files : Files) (buffer : List ℕ) (end : Offset) (count : ℕ) → IsNextBody log after (bodies done) (bodies left) files buffer end.0 count → IsNextEnd done left end
   record_end left files buffer end count n = end_of_next left n.body n.rest end n.left_is (omega (arith, n.end_is, n.count_is))
 
+  -- its kind
+  pub next_kind : (left : List Recorded) (files : Files) (buffer : List ℕ) (end : Offset) (count kind : ℕ) → IsNextBody log after (bodies done) (bodies left) files buffer end.0 count → BeginWith (take count buffer) kind
+      → IsNextKind done left end kind
+  next_kind [] files buffer end count kind n begins = let is = n.left_is in absurd cc
+  next_kind (r ∷ rs) files buffer end count kind n begins =
+      let heads : body r ≡ n.body = let is = n.left_is in cc in
+      record {
+        r = r;
+        rest = rs;
+        left_is = refl;
+        end_is = omega (arith, n.end_is, n.count_is, at, end_from-more 0 done r, size_is r, ap length heads);
+        more = begins.0;
+        kind_is = heads ∙ sym n.front ∙ begins.1;
+      }
+
   -- what is read there is spelled
   pub always_spelled : (left : List Recorded) (files : Files) (buffer : List ℕ) (end count : ℕ) → Stored publisher (done ++ left) → IsNextBody log after (bodies done) (bodies left) files buffer end count
       → ((entry : Entry) → IsEntry entry → take count buffer ≢ entry_spelling entry) → ⊥
@@ -94,6 +120,16 @@ module _ (log : Log) (publisher : Name) (done : List Recorded) (after : ℕ) (at
   always_spelled (r ∷ rs) files buffer end count stored n none =
       let heads : body r ≡ n.body = let left = n.left_is in cc in
       none (entry_of r) (first_fits r rs stored) (n.front ∙ sym heads)
+
+  -- no body is without a byte
+  pub always_begins : (left : List Recorded) (files : Files) (buffer : List ℕ) (end count : ℕ) → Stored publisher (done ++ left) → IsNextBody log after (bodies done) (bodies left) files buffer end count → take count buffer ≡ [] → ⊥
+  always_begins left files buffer end count stored n none = always_spelled left files buffer end count stored n (λ entry spelled same. never_empty entry (sym same ∙ none))
+
+-- a log is never refused for want of memory
+pub not_memory : (file : File) (fault : LogFault) (answer : DatabaseFault) → IsLogFault file fault answer → answer ≢ Memory
+not_memory file logs.Disk answer is same = absurd cc
+not_memory file (logs.Full end need) answer is same = absurd cc
+not_memory file (logs.Damaged at) answer is same = absurd cc
 
 -- what the log tells of the record behind a position
 abbrev StepOf : Log → ℕ → Seen → Files → List ℕ → Option (Offset × ℕ) → Type 0
@@ -113,6 +149,17 @@ module _ (log : Log) (after : ℕ) (before now : Seen) where
     read_behind step entry spelled read publisher done left parts =
         next_is log publisher done after parts.after_is left files buffer end count entry parts.stored
         (subst (λ (o : Option (Offset × ℕ)). StepOf log after before files buffer o) found_is step (bodies done) (bodies left) parts.at) spelled (sym body_is ∙ read)
+
+    pub kind_read : StepOf log after before files buffer found → (kind : ℕ) → BeginWith body kind → (publisher : Name) (done left : List Recorded) → Parts log after publisher done left before → IsNextKind done left end kind
+    kind_read step kind begins publisher done left parts =
+        next_kind log publisher done after parts.after_is left files buffer end count kind
+        (subst (λ (o : Option (Offset × ℕ)). StepOf log after before files buffer o) found_is step (bodies done) (bodies left) parts.at) (begins.0, sym body_is ∙ begins.1)
+
+    pub unkind_behind : (IsTrue before.told → StepOf log after before files buffer found) → (file : File) (place : ℕ) (fault : DatabaseFault) → (fault ≡ Damaged file place) × (body ≡ []) → BehindCause log after before now fault
+    unkind_behind step file place fault cause =
+        subst (λ (f : DatabaseFault). BehindCause log after before now f) (sym cause.0) (λ told publisher done left parts.
+        always_begins log publisher done after parts.after_is left files buffer end.0 count parts.stored
+        (subst (λ (o : Option (Offset × ℕ)). StepOf log after before files buffer o) found_is (step told) (bodies done) (bodies left) parts.at) (sym body_is ∙ cause.1))
 
     pub spelling_behind : (IsTrue before.told → StepOf log after before files buffer found) → (file : File) (place : ℕ) (fault : DatabaseFault) → SpellingCause file place body fault → BehindCause log after before now fault
     spelling_behind step file place Missing cause = absurd cause

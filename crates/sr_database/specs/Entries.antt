@@ -6,6 +6,7 @@ use Rattle.sr_history.specs.Folds.{end_of}
 use Rattle.sr_history.specs.Recorded.{Recorded, entry_of}
 use Rattle.sr_logfile.specs.Log.{Log}
 use Rattle.sr_logfile.specs.Logs.{IsAt}
+use Rattle.sr_logform.specs.Entries.{entry_spelling}
 use Rattle.sr_logform.specs.declared.entry.Entry.{Entry}
 use Rattle.sr_book.specs.Entries.{Name}
 use Rattle.sr_site.specs.Causes.{Rose}
@@ -40,6 +41,24 @@ pub record IsNextEnd (done left : List Recorded) (end : Offset) : Type 0 where
 abbrev pub IsEndAfter : List Recorded → List Recorded → Option Offset → Type 0
 IsEndAfter done left None = left ≡ []
 IsEndAfter done left (Some end) = IsNextEnd done left end
+
+-- the first of those that are left ends here, and its bytes begin with this one, which tells its kind
+pub record IsNextKind (done left : List Recorded) (end : Offset) (kind : ℕ) : Type 0 where
+  pub r : Recorded
+  pub rest : List Recorded
+  pub left_is : left ≡ r ∷ rest
+  pub end_is : end.0 ≡ end_of (done ++ r ∷ [])
+  pub more : List ℕ
+  pub kind_is : entry_spelling (entry_of r) ≡ kind ∷ more
+
+-- none exactly where none is left
+abbrev pub IsKindAfter : List Recorded → List Recorded → Option (Offset × ℕ) → Type 0
+IsKindAfter done left None = left ≡ []
+IsKindAfter done left (Some found) = IsNextKind done left found.0 found.1
+
+-- bytes begin with this one
+abbrev pub BeginWith : List ℕ → ℕ → Type 0
+BeginWith bytes kind = (more : List ℕ) × (bytes ≡ kind ∷ more)
 
 -- the offset is the beginning of the database's history, or the end of one of its entries
 pub record IsEnd (view : View) (after : Offset) (seen : Seen) : Type 0 where

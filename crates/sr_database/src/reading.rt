@@ -1,11 +1,12 @@
-ghost use Rattle.std.specs.Prelude.{◌≡◌, ◌+◌, ◌-◌, ◌≤◌, ◌<◌, ◌++◌, true, List, IsTrue, IfOk, IfErr, IfSome, OnOk};
+ghost use Rattle.std.specs.Prelude.{◌≡◌, ◌≢◌, ◌+◌, ◌-◌, ◌≤◌, ◌<◌, ◌++◌, [], true, List, IsTrue, IfOk, IfErr, IfSome, OnOk};
 ghost use Rattle.sr_book.specs.Entries.{Name as AName};
 ghost use Rattle.sr_history.specs.Folds.{end_of};
 ghost use Rattle.sr_history.specs.Recorded.{Recorded};
 ghost use Rattle.sr_site.specs.Causes.{DiskStays};
 ghost use Rattle.sr_database.specs.Causes.{EntryCause, IsRecordFault};
 ghost use Rattle.sr_database.specs.Databases.{IsDatabase};
-ghost use Rattle.sr_database.specs.Entries.{IsEntryAfter, IsEndAfter, Parts, BehindCause};
+ghost use Rattle.sr_database.specs.Entries.{IsEntryAfter, IsEndAfter, IsKindAfter, BeginWith, Parts, BehindCause};
+ghost use Rattle.sr_database.specs.declared.fault.DatabaseFault.TheVariants.{Damaged, Memory};
 ghost use Rattle.sr_database.specs.Openings.{ReadAlone, IsLogFault};
 
 use crate::database::Database;
@@ -39,7 +40,58 @@ impl Database {
         ensures steady { OnOk result ((S.seen site.new).disk_faults ≡ (S.seen site.old).disk_faults) }
         ensures cause { IfErr result (EntryCause self.now after (S.seen site.old) (S.seen site.new)) }
     {
-        entry_behind(alloc, &self.log, site, after)
+        let mut buffer = Vec::new(alloc);
+        entry_behind(alloc, &self.log, site, after, &mut buffer)
+    }
+
+    /// As `entry_after`, in a buffer that is lent, and grows where it is shorter than the record: who goes along the log and lends the same one for each
+    /// entry takes no memory for their bytes.
+    pub fn entry_read<S: Site>(
+        &self,
+        alloc: Global,
+        site: &mut S,
+        after: Offset,
+        buffer: &mut Vec<u8>,
+    ) -> Result<Option<(Offset, Entry)>, DatabaseFault>
+        requires usable { self.now.log.usable ≡ true }
+        requires after { (self.now.log.base ≤ after.0) × (after.0 ≤ self.now.log.end) }
+        ensures entry { IsTrue (S.seen site.old).told → (publisher : AName) (done left : List Recorded) → IsDatabase self.now publisher (done ++ left) (S.seen site.old) → after.0 ≡ end_of done
+            → IfOk result (IsEntryAfter done left) }
+        ensures within { IfOk result (λ found. IfSome found (λ x. (after.0 < x.0.0) × (x.0.0 ≤ self.now.log.end))) }
+        ensures files { IsTrue (S.seen site.old).told → (S.seen site.new).files ≡ (S.seen site.old).files }
+        ensures happened { IsTrue (S.seen site.old).told → (S.seen site.new).happened ≡ (S.seen site.old).happened }
+        ensures database { IsTrue (S.seen site.old).told → (publisher : AName) (es : List Recorded) → IsDatabase self.now publisher es (S.seen site.old) → IsDatabase self.now publisher es (S.seen site.new) }
+        ensures stays { DiskStays (S.seen site.old) (S.seen site.new) }
+        ensures steady { OnOk result ((S.seen site.new).disk_faults ≡ (S.seen site.old).disk_faults) }
+        ensures cause { IfErr result (EntryCause self.now after (S.seen site.old) (S.seen site.new)) }
+    {
+        entry_behind(alloc, &self.log, site, after, buffer)
+    }
+
+    /// The end of the entry that follows the offset `after`, the base or the end of an entry, with the byte that its bytes begin with: that tells its kind.
+    /// `None` comes exactly where none follows.
+    ///
+    /// It reads the record into `buffer`, which grows where it is shorter, and makes no entry of it. Where the disk tells what it holds, it is never
+    /// `Damaged`.
+    pub fn kind_after<S: Site>(
+        &self,
+        site: &mut S,
+        after: Offset,
+        buffer: &mut Vec<u8>,
+    ) -> Result<Option<(Offset, u8)>, DatabaseFault>
+        requires usable { self.now.log.usable ≡ true }
+        requires after { (self.now.log.base ≤ after.0) × (after.0 ≤ self.now.log.end) }
+        ensures kind { IsTrue (S.seen site.old).told → (publisher : AName) (done left : List Recorded) → IsDatabase self.now publisher (done ++ left) (S.seen site.old) → after.0 ≡ end_of done
+            → IfOk result (IsKindAfter done left) }
+        ensures within { IfOk result (λ found. IfSome found (λ x. (after.0 < x.0.0) × (x.0.0 ≤ self.now.log.end))) }
+        ensures files { IsTrue (S.seen site.old).told → (S.seen site.new).files ≡ (S.seen site.old).files }
+        ensures happened { IsTrue (S.seen site.old).told → (S.seen site.new).happened ≡ (S.seen site.old).happened }
+        ensures database { IsTrue (S.seen site.old).told → (publisher : AName) (es : List Recorded) → IsDatabase self.now publisher es (S.seen site.old) → IsDatabase self.now publisher es (S.seen site.new) }
+        ensures stays { DiskStays (S.seen site.old) (S.seen site.new) }
+        ensures steady { OnOk result ((S.seen site.new).disk_faults ≡ (S.seen site.old).disk_faults) }
+        ensures cause { IfErr result (EntryCause self.now after (S.seen site.old) (S.seen site.new)) }
+    {
+        kind_behind(&self.log, site, after, buffer)
     }
 
     /// The end of the entry that follows the offset `after`, the base or the end of an entry. `None` comes exactly where none follows.
@@ -61,6 +113,7 @@ impl Database {
         ensures stays { DiskStays (S.seen site.old) (S.seen site.new) }
         ensures steady { OnOk result ((S.seen site.new).disk_faults ≡ (S.seen site.old).disk_faults) }
         ensures cause { IfErr result (EntryCause self.now after (S.seen site.old) (S.seen site.new)) }
+        ensures memory { IfErr result (λ fault. fault ≢ Memory) }
     {
         end_behind(&self.log, site, after)
     }
@@ -78,6 +131,7 @@ fn end_behind<S: Site>(
     ensures read { ReadAlone (S.seen site.old) (S.seen site.new) }
     ensures steady { OnOk result ((S.seen site.new).disk_faults ≡ (S.seen site.old).disk_faults) }
     ensures cause { IfErr result (BehindCause log.now after.0 (S.seen site.old) (S.seen site.new)) }
+    ensures memory { IfErr result (λ fault. fault ≢ Memory) }
 {
     let _end = log.end();
     let mut front = [0];
@@ -95,6 +149,7 @@ fn entry_behind<S: Site>(
     log: &LogFile,
     site: &mut S,
     after: Offset,
+    buffer: &mut Vec<u8>,
 ) -> Result<Option<(Offset, Entry)>, DatabaseFault>
     requires after { (log.now.base ≤ after.0) × (after.0 ≤ log.now.end) }
     ensures entry { IsTrue (S.seen site.old).told → (publisher : AName) (done left : List Recorded) → Parts log.now after.0 publisher done left (S.seen site.old) → IfOk result (IsEntryAfter done left) }
@@ -103,8 +158,7 @@ fn entry_behind<S: Site>(
     ensures steady { OnOk result ((S.seen site.new).disk_faults ≡ (S.seen site.old).disk_faults) }
     ensures cause { IfErr result (BehindCause log.now after.0 (S.seen site.old) (S.seen site.new)) }
 {
-    let mut buffer = Vec::new(alloc);
-    match log.record_after(site, after, &mut buffer) {
+    match log.record_after(site, after, buffer) {
         Ok(None) => Ok(None),
         Ok(Some((end, length))) => {
             let (body, _) = buffer.as_slice().split_at(length);
@@ -112,6 +166,45 @@ fn entry_behind<S: Site>(
             Ok(Some((end, entry)))
         }
         Err(fault) => Err(record_fault(log.file(), fault)),
+    }
+}
+
+/// The end of the entry that follows an offset of a log, with the byte that its bytes begin with.
+fn kind_behind<S: Site>(
+    log: &LogFile,
+    site: &mut S,
+    after: Offset,
+    room: &mut Vec<u8>,
+) -> Result<Option<(Offset, u8)>, DatabaseFault>
+    requires after { (log.now.base ≤ after.0) × (after.0 ≤ log.now.end) }
+    ensures kind { IsTrue (S.seen site.old).told → (publisher : AName) (done left : List Recorded) → Parts log.now after.0 publisher done left (S.seen site.old) → IfOk result (IsKindAfter done left) }
+    ensures within { IfOk result (λ found. IfSome found (λ x. (after.0 < x.0.0) × (x.0.0 ≤ log.now.end))) }
+    ensures read { ReadAlone (S.seen site.old) (S.seen site.new) }
+    ensures steady { OnOk result ((S.seen site.new).disk_faults ≡ (S.seen site.old).disk_faults) }
+    ensures cause { IfErr result (BehindCause log.now after.0 (S.seen site.old) (S.seen site.new)) }
+{
+    match log.record_after(site, after, room) {
+        Ok(None) => Ok(None),
+        Ok(Some((end, length))) => {
+            let (body, _) = room.as_slice().split_at(length);
+            let kind = kind_in(log.file(), place_of(log, after), body)?;
+            Ok(Some((end, kind)))
+        }
+        Err(fault) => Err(record_fault(log.file(), fault)),
+    }
+}
+
+/// The byte that a record's body begins with; damage at the record's gate where it has none.
+fn kind_in(log: File, place: u64, body: &[u8]) -> Result<u8, DatabaseFault>
+    ensures kind { IfOk result (BeginWith body.now) }
+    ensures cause { IfErr result (λ fault. (fault ≡ Damaged log place) × (body.now ≡ [])) }
+{
+    match body.split_first() {
+        Some((kind, _)) => Ok(*kind),
+        None => Err(DatabaseFault::Damaged {
+            file: log,
+            at: place,
+        }),
     }
 }
 

@@ -25,16 +25,18 @@ struct Answer {
     output: MemorySink,
 }
 
-/// Does an order on a database: the script is what the source has.
+/// Does an order on a database: the script is what the source has, and `no_mail` the empty text.
 fn do_order(
     alloc: Global,
     offices: &mut Offices,
     office: Office,
     order: &Order,
+    no_mail: &Text,
     script: Vec<u8>,
     now: i64,
 ) -> Answer
     requires may { MayOrder order.now }
+    requires no_mail { no_mail.now ≡ [] }
     ensures ran { Ran (record { office = office; order = order.now; script = script.items }) offices.old offices.new result.status (taken_of result.output) }
 {
     let disk = offices.swap_disk(office, MemoryDisk::new(alloc));
@@ -42,7 +44,15 @@ fn do_order(
     let mut site = MemorySite::with(disk, mail);
     let mut input = MemorySource::new(script);
     let mut output = MemorySink::new(alloc);
-    let status = command(alloc, order, &mut site, &mut input, &mut output, now);
+    let status = command(
+        alloc,
+        order,
+        no_mail,
+        &mut site,
+        &mut input,
+        &mut output,
+        now,
+    );
     drop(input);
     let (disk, mail) = site.apart();
     let _nothing = offices.swap_disk(office, disk);
@@ -64,7 +74,9 @@ fn run_order(
     ensures ok { OnOk result (RanWell (record { office = office; order = order.now; script = script.items }) offices.old offices.new) }
     ensures err { IfErr result (StopCause (Stopped (record { office = office; order = order.now; script = script.items }) offices.old)) }
 {
-    let answer = do_order(alloc, offices, office, order, script, now);
+    let no_mail = Text::from_str(alloc, "")?;
+    let answer = do_order(alloc, offices, office, order, &no_mail, script, now);
+    drop(no_mail);
     let ended = ended(alloc, answer.status, answer.output.bytes());
     drop(answer);
     ended?;

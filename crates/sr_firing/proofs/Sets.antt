@@ -32,6 +32,14 @@ pub column_set : (base : Ground) (variables : List (List ℕ × Kind)) (scene : 
 column_set base variables scene place c v w fits at held =
     record { new = set_fits base.table.columns scene.new place c w fits.new at (held_stands c v w held); variables = fits.variables }
 
+-- SET of a variable that is not there
+pub no_variable : (base : Ground) (trigger : CreateTrigger) (name : List ℕ) (v : Option Cell) (scene : Scene) → place_of variable_name name trigger.variables ≡ None → after_set base trigger None name v scene ≡ None
+unfolding after_set
+no_variable base trigger name v scene at =
+    ap
+    (λ o. option_map (λ (xs : List Cell). record scene { variables = xs })
+    (set_where o (λ p. option_and_then (λ x. held_in x v) (slice_get trigger.variables p)) scene.variables)) at
+
 -- SET of a variable that is there, by what it holds
 module _ (base : Ground) (trigger : CreateTrigger) (name : List ℕ) (v : Option Cell) (scene : Scene) (place : ℕ) (variable : List ℕ × Kind)
     (at : place_of variable_name name trigger.variables ≡ Some place) (is : slice_get trigger.variables place ≡ Some variable) where

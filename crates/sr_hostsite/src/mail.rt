@@ -92,7 +92,7 @@ impl<R: Runtime + Files<File = fs::File>> HostSite<R> {
         let found = folder::list(&self.rt, alloc, inbox.as_str())?;
         let mut names = Vec::new(alloc);
         for name in found.first {
-            names.push(Text::from_string(name))?;
+            names.push(Text::from_string(name)?)?;
         }
         listing_of(names, found.more)
     }

@@ -57,12 +57,12 @@ fn number_at(bytes: &[u8]) -> Option<(TokenKind, usize)>
 }
 
 /// The bytes as a text, where they are UTF-8.
-fn utf8_text(bytes: Vec<u8>) -> Option<Text>
-    ensures { result ≡ utf8_text bytes.items }
+fn utf8_text(bytes: Vec<u8>) -> Result<Option<Text>, NoMemory>
+    ensures { IfOk result (λ text. text ≡ utf8_text bytes.items) }
 {
     match String::from_utf8(bytes) {
-        Ok(text) => Some(Text::from_string(text)),
-        Err(_) => None,
+        Ok(text) => Ok(Some(Text::from_string(text)?)),
+        Err(_) => Ok(None),
     }
 }
 
@@ -73,7 +73,7 @@ fn text_at(alloc: Global, after: &[u8]) -> Result<Option<(TokenKind, usize)>, No
     let Some((content, left)) = text_rest(alloc, after)? else {
         return Ok(None);
     };
-    match utf8_text(content) {
+    match utf8_text(content)? {
         Some(text) => Ok(Some((TokenKind::Str(text), 1 + (after.len() - left)))),
         None => Ok(None),
     }

@@ -145,7 +145,7 @@ impl SharedMail {
         ensures err { OnErr result (self.new ≡ self.old) }
     {
         let at = Place::of(alloc, address, name)?;
-        let note = (address.copy(alloc)?, name.copy(alloc)?);
+        let note = noted(alloc, address, name)?;
         let bytes = Vec::from_slice(alloc, bytes)?;
         self.puts.push(note)?;
         match self.files.insert(at, MailFile::of(bytes)) {
@@ -213,4 +213,11 @@ fn is_listed(place: &Place, file: &MailFile, address: &Name) -> bool
     ensures listed { result ≡ is_in address.now (place.now, file.now) }
 {
     place.address.bytes().cmp(address.bytes()).is_eq() && !file.held()
+}
+
+/// The note of a put.
+fn noted(alloc: Global, address: &Name, name: &Text) -> Result<(Name, Text), NoMemory>
+    ensures note { IfOk result (λ note. note ≡ (address.now, name.now)) }
+{
+    Ok((address.copy(alloc)?, name.copy(alloc)?))
 }

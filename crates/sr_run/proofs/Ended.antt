@@ -1,11 +1,11 @@
 -- How a run ends, from what its words ask for.
-use Rattle.std.proofs.Common.{◌≡◌, ℕ, Option, Some, None, refl, sym, subst, inl, inr}
+use Rattle.std.proofs.Common.{◌≡◌, ◌⊎◌, ℕ, Option, Some, None, refl, sym, subst, inl, inr}
 use Rattle.sr_database.specs.declared.fault.DatabaseFault.TheVariants.{Memory}
 use Rattle.sr_site.specs.Seen.{Seen}
 use Rattle.sr_site.specs.Streams.{Input, Output}
 use Rattle.sr_command.proofs.Ended.{is_refused}
 use Rattle.sr_command.specs.Outside.{Outside, outside}
-use Rattle.sr_command.specs.Runs.{Told, RanOrder}
+use Rattle.sr_command.specs.Runs.{IsRefused, Told, RanOrder}
 use Rattle.sr_command.specs.declared.fault.Fault.TheVariants.{Words, Database}
 use Rattle.sr_command.specs.declared.order.Order.{Order}
 use Rattle.sr_demo.specs.Demonstrations.{Demonstrated}
@@ -17,8 +17,8 @@ pub refused : (wanted : Option Asked) (site : Seen) (input : Input) (old new : O
 refused wanted site input old new status is told =
     subst (λ (w : Option Asked). Ran w (outside site input old) (outside site input new) status) (sym is) (inl (is_refused Words site input old new status told))
 
-pub ordered : (wanted : Option Asked) (order : Order) (old new : Outside) (status : ℕ) → wanted ≡ Some (asked.Order order) → RanOrder order old new status → Ran wanted old new status
-ordered wanted order old new status is ran = subst (λ (w : Option Asked). Ran w old new status) (sym is) (inl ran)
+pub ordered : (wanted : Option Asked) (order : Order) (old new : Outside) (status : ℕ) → wanted ≡ Some (asked.Order order) → RanOrder order old new status ⊎ IsRefused (Database Memory) old new status → Ran wanted old new status
+ordered wanted order old new status is ran = subst (λ (w : Option Asked). Ran w old new status) (sym is) ran
 
 pub demonstrated : (wanted : Option Asked) (seed statements : ℕ) (site : Seen) (input : Input) (old new : Output) (status : ℕ) → wanted ≡ Some (asked.Demo seed statements)
     → Demonstrated seed statements old new status → Ran wanted (outside site input old) (outside site input new) status
@@ -28,5 +28,14 @@ demonstrated wanted seed statements site input old new status is did =
 pub wanting : (wanted : Option Asked) (site : Seen) (input : Input) (old new : Output) (status : ℕ) → Told (Database Memory) old new status → Ran wanted (outside site input old) (outside site input new) status
 wanting None site input old new status told = inr (is_refused (Database Memory) site input old new status told)
 wanting (Some wanted) site input old new status told = inr (is_refused (Database Memory) site input old new status told)
+
+pub unordered : (order : Order) (site : Seen) (input : Input) (old new : Output) (status : ℕ) → Told (Database Memory) old new status
+    → RanOrder order (outside site input old) (outside site input new) status ⊎ IsRefused (Database Memory) (outside site input old) (outside site input new) status
+unordered order site input old new status told = inr (is_refused (Database Memory) site input old new status told)
+
+pub order_ran : (order : Order) (old new : Outside) (status : ℕ) → RanOrder order old new status → RanOrder order old new status ⊎ IsRefused (Database Memory) old new status
+order_ran order old new status ran = inl ran
+
+pub ruleset order_done = (unordered, order_ran)
 
 pub ruleset words_done = (refused, ordered, demonstrated, wanting)

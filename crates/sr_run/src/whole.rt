@@ -1,15 +1,19 @@
 ghost use Rattle.std.specs.Prelude.{◌≡◌, ◌⊎◌, IsTrue, List, None};
+ghost use Rattle.sr_database.specs.declared.fault.DatabaseFault.TheVariants.{Memory};
 ghost use Rattle.sr_book.specs.Entries.{Name};
 ghost use Rattle.sr_history.specs.Fitting.{Stored};
 ghost use Rattle.sr_history.specs.Recorded.{Recorded};
 ghost use Rattle.sr_prefix.specs.Keeping.{KeepsPartner};
 ghost use Rattle.sr_site.specs.Causes.{Stays, Rose};
+ghost use Rattle.sr_command.specs.Orders.{MayOrder};
 ghost use Rattle.sr_command.specs.Outside.{outside};
+ghost use Rattle.sr_command.specs.Runs.{IsRefused, RanOrder};
+ghost use Rattle.sr_command.specs.declared.fault.Fault.TheVariants.{Database};
 ghost use Rattle.sr_run.specs.Runs.{CatchesUp, HasAlarms, HasMailFault, IsComplete, Ran};
 ghost use Rattle.sr_words.specs.Orders.{asked_of};
 
 use sr_base::Text;
-use sr_command::{Fault, command, tell};
+use sr_command::{Fault, Order, command, tell};
 use sr_database::DatabaseFault;
 use sr_demo::demo;
 use sr_site::{Sink, Site, Source};
@@ -67,12 +71,37 @@ fn done<S: Site, I: Source, O: Sink>(
 {
     match asked_of(alloc, words) {
         Ok(Some(Asked::Order(order))) => {
-            let status = command(alloc, &order, site, input, output, now);
+            let status = do_order(alloc, &order, site, input, output, now);
             drop(order);
             status
         }
         Ok(Some(Asked::Demo { seed, count })) => demo(alloc, seed, count, output, now),
         Ok(None) => tell(alloc, output, Fault::Words),
+        Err(_) => tell(alloc, output, Fault::Database(DatabaseFault::Memory)),
+    }
+}
+
+/// Does what an order asks for, where there is memory for the name of the mail folder that it may not have.
+#[tactic(auto, using(crate::proofs::Ended::order_done))]
+fn do_order<S: Site, I: Source, O: Sink>(
+    alloc: Global,
+    order: &Order,
+    site: &mut S,
+    input: &mut I,
+    output: &mut O,
+    now: i64,
+) -> u8
+    requires may { MayOrder order.now }
+    ensures ran { RanOrder order.now (outside (S.seen site.old) (I.seen input.old) (O.seen output.old)) (outside (S.seen site.new) (I.seen input.new) (O.seen output.new)) result
+        ⊎ IsRefused (Database Memory) (outside (S.seen site.old) (I.seen input.old) (O.seen output.old)) (outside (S.seen site.new) (I.seen input.new) (O.seen output.new)) result }
+    ensures stays { Stays (S.seen site.old) (S.seen site.new) }
+{
+    match Text::from_str(alloc, "") {
+        Ok(no_mail) => {
+            let status = command(alloc, order, &no_mail, site, input, output, now);
+            drop(no_mail);
+            status
+        }
         Err(_) => tell(alloc, output, Fault::Database(DatabaseFault::Memory)),
     }
 }

@@ -1,17 +1,20 @@
 -- Where a log is read on from.
-use Rattle.std.proofs.Common.{◌≡◌, ℕ, ◌+◌, ◌≤◌, ◌<◌, List, [], ◌∷◌, ◌++◌, Option, Some, None, refl, sym, ap, subst, ◌∙◌, arith, append_assoc, le-ltb}
-use Rattle.std.specs.Prelude.{IsTrue, nat_lt, false, IfSome}
+use Rattle.std.proofs.Common.{◌≡◌, ℕ, ◌+◌, ◌≤◌, ◌<◌, List, [], ◌∷◌, ◌++◌, ◌⊎◌, inl, inr, Option, Some, None, refl, sym, ap, subst, ◌∙◌, arith, append_assoc, le-ltb}
+use Rattle.std.specs.Prelude.{IsTrue, nat_lt, false, IfErr, IfSome, Result, Ok, Err}
 use Rattle.std.proofs.lemmas.List.{append-nil}
 use Rattle.sr_base.specs.declared.offset.Offset.{Offset}
 use Rattle.sr_book.specs.Entries.{Name}
 use Rattle.sr_database.specs.Databases.{IsOfSome, IsDatabase}
-use Rattle.sr_database.specs.Entries.{IsNextEnd, IsNext}
+use Rattle.sr_database.specs.Entries.{IsNextEnd, IsNextKind, IsNext}
 use Rattle.sr_database.specs.Views.{View}
 use Rattle.sr_history.specs.Fitting.{Stored}
 use Rattle.sr_history.specs.Folds.{State, fresh, next, size, state_of, end_of, end_from}
 use Rattle.sr_history.specs.Recorded.{Recorded, entry_of}
 use Rattle.sr_history.proofs.Joined.{state_from-more, end_from-append, le-end_from}
 use Rattle.sr_history.proofs.Kept.{stored_holds}
+use Rattle.sr_logform.specs.Entries.{entry_spelling}
+use Rattle.sr_logform.specs.declared.entry.Entry.{Entry}
+use Rattle.sr_logform.specs.declared.entry.Entry.TheVariants.{Own, From, Ddl, Sync, Pass, Note}
 use Rattle.sr_logform.specs.declared.op.Op.{Op}
 use Rattle.sr_logform.specs.declared.op.Transaction.{Transaction}
 use Rattle.sr_scan.specs.Given.{given_of, given_from, gives, with_transaction}
@@ -21,16 +24,17 @@ use Rattle.sr_scan.proofs.Agreeing.{fed_same}
 use Rattle.sr_schema.specs.Catalogs.{Lists}
 use Rattle.sr_site.specs.Seen.{Seen}
 use Rattle.sr_send.specs.Aims.{IsAim, HasMade}
+use Rattle.sr_send.specs.Passing.{RunsNothing}
 use Rattle.sr_send.specs.Posting.{Posted, IsSteady}
-use Rattle.sr_send.specs.Starts.{IsPartAt, Walked, IsStillEnd, IsStillTo, Looked, IsStill, Begun, BeginStop}
+use Rattle.sr_send.specs.Starts.{IsPartAt, Walked, IsStillEnd, IsStillKind, IsStillTo, Looked, IsStill, Begun, BeginStop}
 use Rattle.sr_send.specs.Steps.{HasRead, UnderWay}
 use Rattle.sr_send.specs.Stops.{NextFault, ReadStop}
 use Rattle.sr_send.specs.Unsent.{past, unsent}
 use Rattle.sr_send.specs.declared.aim.Aim.{Aim}
 use Rattle.sr_send.specs.declared.fault.SendFault.{SendFault}
-use Rattle.sr_send.specs.declared.fault.SendFault.TheVariants.{Memory}
+use Rattle.sr_send.specs.declared.fault.SendFault.TheVariants.{Disk, Full, Long, Mail, Memory}
 use Rattle.sr_send.specs.declared.post.Post.{Post}
-use Rattle.sr_send.proofs.Posts.{told_then, posted_none, posted_on, posted_database, same_counts, steady_on, ends_none, ends_on, ends_steady}
+use Rattle.sr_send.proofs.Posts.{told_then, posted_none, posted_on, posted_database, same_counts, steady_on, ends_none, ends_on, ends_steady, rose_from}
 use Rattle.sr_send.proofs.Still.{passed_still}
 use Rattle.sr_send.proofs.Cutting.{made_front}
 use Rattle.sr_send.proofs.Histories.{fits_next, read_none}
@@ -122,6 +126,52 @@ still_next publisher done left end stored still =
     let found : Option Transaction = transaction_of end (told scan.catalog (entry_of r) passed.meant scan.user) in
     let fed : IsFed scan end (entry_of r) found scan = record { meant = passed.meant; are = passed.are; gives = refl; catalog = passed.catalog; user = refl } in
     ap (λ (x : State). x.catalog) (state_from-more (fresh publisher) done r) ∙ sym (fed_same s (end_of done) r scan scan end found (stored_holds publisher done fits.0) fits.1 refl fed).1
+
+-- by its kind
+still_by : (e : Entry) (kind : ℕ) (more : List ℕ) → entry_spelling e ≡ kind ∷ more → IsStillKind kind → RunsNothing e
+unfolding entry_spelling
+still_by (Own changes) kind more is still = tt
+still_by (From user at ops) kind more is still = absurd (cases still)
+  where
+    cases : IsStillKind kind → ⊥
+    cases (inl one) = let two : 2 ≡ kind = cc in absurd (omega (arith, two, one))
+    cases (inr (inl four)) = let two : 2 ≡ kind = cc in absurd (omega (arith, two, four))
+    cases (inr (inr six)) = let two : 2 ≡ kind = cc in absurd (omega (arith, two, six))
+still_by (Ddl text) kind more is still = absurd (cases still)
+  where
+    cases : IsStillKind kind → ⊥
+    cases (inl one) = let three : 3 ≡ kind = cc in absurd (omega (arith, three, one))
+    cases (inr (inl four)) = let three : 3 ≡ kind = cc in absurd (omega (arith, three, four))
+    cases (inr (inr six)) = let three : 3 ≡ kind = cc in absurd (omega (arith, three, six))
+still_by (Sync user tables) kind more is still = tt
+still_by (Pass users only text changes) kind more is still = absurd (cases still)
+  where
+    cases : IsStillKind kind → ⊥
+    cases (inl one) = let five : 5 ≡ kind = cc in absurd (omega (arith, five, one))
+    cases (inr (inl four)) = let five : 5 ≡ kind = cc in absurd (omega (arith, five, four))
+    cases (inr (inr six)) = let five : 5 ≡ kind = cc in absurd (omega (arith, five, six))
+still_by (Note user note) kind more is still = tt
+
+pub kind_still : (done left : List Recorded) (end : Offset) (kind : ℕ) → IsNextKind done left end kind → IsStillKind kind → IsStillEnd done left end
+kind_still done left end kind n still = record {
+  r = n.r;
+  rest = n.rest;
+  left_is = n.left_is;
+  end_is = n.end_is;
+  nothing = still_by (entry_of n.r) kind n.more n.kind_is still;
+}
+
+-- a fault of a later read
+next_from : (before middle now : Seen) (fault : SendFault) → IsSteady before middle → NextFault middle now fault → NextFault before now fault
+next_from before middle now Disk steady cause = rose_from before.disk_faults middle.disk_faults now.disk_faults steady.disk cause
+next_from before middle now Mail steady cause = absurd cause
+next_from before middle now (Full end need) steady cause = absurd cause
+next_from before middle now (Long size limit) steady cause = absurd cause
+next_from before middle now Memory steady cause = tt
+
+pub later_next : {T : Type 0} (before middle now : Seen) (result : Result T SendFault) → IsSteady before middle → IfErr result (NextFault middle now) → IfErr result (NextFault before now)
+later_next before middle now (Ok x) steady cause = tt
+later_next before middle now (Err fault) steady cause = next_from before middle now fault steady cause
 
 pub look_start : (db : View) (from : Offset) (seen : Seen) → (db.log.base ≤ from.0) × (from.0 ≤ db.log.end) → Looked db from from seen seen
 look_start db from seen within = record {

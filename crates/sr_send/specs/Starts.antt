@@ -1,5 +1,5 @@
 -- Where a log is read on from: at the catalog that it comes to, behind what need not be read, if no statement ran from there on.
-use Rattle.std.specs.Prelude.{◌≡◌, ◌≤◌, ℕ, List, [], ◌∷◌, ◌++◌, IsTrue}
+use Rattle.std.specs.Prelude.{◌≡◌, ◌⊎◌, ◌≤◌, ℕ, List, [], ◌∷◌, ◌++◌, IsTrue}
 use Rattle.sr_base.specs.declared.offset.Offset.{Offset}
 use Rattle.sr_book.specs.Entries.{Name}
 use Rattle.sr_database.specs.Databases.{IsDatabase}
@@ -38,6 +38,10 @@ pub record IsStillEnd (done left : List Recorded) (end : Offset) : Type 0 where
   pub left_is : left ≡ r ∷ rest
   pub end_is : end.0 ≡ end_of (done ++ r ∷ [])
   pub nothing : RunsNothing (entry_of r)
+
+-- no statement of an entry of this kind runs: an Own, a Sync or a Note
+abbrev pub IsStillKind : ℕ → Type 0
+IsStillKind kind = (kind ≡ 1) ⊎ (kind ≡ 4) ⊎ (kind ≡ 6)
 
 -- of the entries that are left those up to an offset leave the catalog as it is
 pub record IsStillTo (publisher : Name) (done left : List Recorded) (at : Offset) : Type 0 where

@@ -23,13 +23,14 @@ use sr_scan::Scanner;
 use sr_site::Site;
 use std::alloc::Global;
 
-/// The entry behind an offset, with its end. That a record is damaged, which only a disk can say that does not give what was written to it, is taken
-/// for want of memory.
+/// The entry behind an offset, with its end, read into a buffer that is lent. That a record is damaged, which only a disk can say that does not give what
+/// was written to it, is taken for want of memory.
 pub(crate) fn next_entry<S: Site>(
     alloc: Global,
     db: &Database,
     site: &mut S,
     after: Offset,
+    buffer: &mut Vec<u8>,
 ) -> Result<Option<(Offset, Entry)>, SendFault>
     requires usable { db.now.log.usable ≡ true }
     requires after { (db.now.log.base ≤ after.0) × (after.0 ≤ db.now.log.end) }
@@ -41,7 +42,7 @@ pub(crate) fn next_entry<S: Site>(
     ensures mail { (S.seen site.new).mail_faults ≡ (S.seen site.old).mail_faults }
     ensures cause { IfErr result (NextFault (S.seen site.old) (S.seen site.new)) }
 {
-    match db.entry_after(alloc, site, after) {
+    match db.entry_read(alloc, site, after, buffer) {
         Ok(found) => Ok(found),
         Err(fault) => Err(store_fault(fault)),
     }
@@ -66,6 +67,7 @@ fn step<S: Site>(
     scanner: &mut Scanner,
     post: &mut Post,
     after: Offset,
+    buffer: &mut Vec<u8>,
 ) -> Result<Option<Offset>, SendFault>
     requires usable { db.now.log.usable ≡ true }
     requires after { (db.now.log.base ≤ after.0) × (after.0 ≤ db.now.log.end) }
@@ -75,7 +77,7 @@ fn step<S: Site>(
     ensures done { IfOk result (DoneStep db.now aim.now scanner.old scanner.new post.old post.new after (S.seen site.old) (S.seen site.new)) }
     ensures cause { IfErr result (StepStop db.now aim.now scanner.old post.old after (S.seen site.old) (S.seen site.new)) }
 {
-    match next_entry(alloc, db, site, after)? {
+    match next_entry(alloc, db, site, after, buffer)? {
         None => Ok(None),
         Some((end, entry)) => {
             let outcome = feed_one(alloc, site, aim, scanner, post, end, &entry);
@@ -103,8 +105,9 @@ pub(crate) fn put_given<S: Site>(
     ensures read { OnOk result (AllRead db.now aim.now scanner.old.user post.new (S.seen site.old) (S.seen site.new)) }
     ensures cause { IfErr result (ReadStop db.now aim.now scanner.old.user (S.seen site.old) (S.seen site.new)) }
 {
-    let mut after = begin_at(alloc, db, site, aim, scanner, user)?;
-    'entries: while let Some(end) = step(alloc, db, site, aim, scanner, post, after)? {
+    let mut buffer = Vec::new(alloc);
+    let mut after = begin_at(alloc, db, site, aim, scanner, user, &mut buffer)?;
+    'entries: while let Some(end) = step(alloc, db, site, aim, scanner, post, after, &mut buffer)? {
         after = end;
     }
     Ok(())

@@ -38,7 +38,7 @@ pub struct Sent {
 /// confirmed; where there is no transaction it is one without a body. Each confirms what was taken from him, and where `ask` is true asks for what
 /// lies past it. They are put in order into the folder of his address, each as soon as it is filled, and the note follows the last. Where none is due
 /// nothing is done. Of the mail nothing is listed, fetched or removed.
-/// The log is read from what he was sent on, twice; where a statement ran there, once from its base.
+/// The log is read from what he was sent on, where no statement ran there, which the kinds of its entries tell; else from its base.
 ///
 /// `Disk` and `Mail` come only where that device's count of faults rose; `Full` exactly where the note has no room in the log; `Long` where the encoding
 /// of a transaction is longer than 64 MiB, with that of the first such. After a fault the messages that were put are the first of those of the pass,

@@ -2,16 +2,16 @@
 //!
 //! What ends no later than the offset up to which the log was sent need not be read, where the catalog behind it is known: it is that of the database,
 //! if no statement ran in the entries that follow. So the ends of the entries are read, five bytes each, up to that offset, for it need be no end itself;
-//! and then the entries behind it.
+//! and then the kinds of the entries behind it, and those entries whose kind does not tell that no statement ran.
 
 ghost use Rattle.std.specs.Prelude.{◌≡◌, ◌≤◌, ◌<◌, ◌++◌, true, [], List, IsTrue, IfOk, IfErr, IfSome, OnOk};
 ghost use Rattle.sr_book.specs.Entries.{Name as AName};
 ghost use Rattle.sr_history.specs.Folds.{end_of};
 ghost use Rattle.sr_history.specs.Recorded.{Recorded};
 ghost use Rattle.sr_database.specs.Databases.{IsDatabase};
-ghost use Rattle.sr_database.specs.Entries.{IsNextEnd};
+ghost use Rattle.sr_database.specs.Entries.{IsKindAfter, IsNextEnd};
 ghost use Rattle.sr_send.specs.Posting.{Posted, IsSteady};
-ghost use Rattle.sr_send.specs.Starts.{Walked, IsStillEnd, Looked, IsStill, Begun, BeginStop};
+ghost use Rattle.sr_send.specs.Starts.{Walked, IsStillEnd, IsStillKind, Looked, IsStill, Begun, BeginStop};
 ghost use Rattle.sr_send.specs.Stops.{NextFault};
 
 use crate::aim::Aim;
@@ -82,12 +82,43 @@ fn kept(end: Offset, is_kept: bool) -> Option<Offset>
     if is_kept { Some(end) } else { None }
 }
 
+/// The end of the entry behind an offset, with the byte that tells its kind.
+fn next_kind<S: Site>(
+    db: &Database,
+    site: &mut S,
+    after: Offset,
+    buffer: &mut Vec<u8>,
+) -> Result<Option<(Offset, u8)>, SendFault>
+    requires usable { db.now.log.usable ≡ true }
+    requires after { (db.now.log.base ≤ after.0) × (after.0 ≤ db.now.log.end) }
+    ensures kind { IsTrue (S.seen site.old).told → (publisher : AName) (done left : List Recorded) → IsDatabase db.now publisher (done ++ left) (S.seen site.old) → after.0 ≡ end_of done
+        → IfOk result (IsKindAfter done left) }
+    ensures within { IfOk result (λ found. IfSome found (λ x. (after.0 < x.0.0) × (x.0.0 ≤ db.now.log.end))) }
+    ensures posted { Posted (S.seen site.old) (S.seen site.new) [] }
+    ensures steady { OnOk result (IsSteady (S.seen site.old) (S.seen site.new)) }
+    ensures mail { (S.seen site.new).mail_faults ≡ (S.seen site.old).mail_faults }
+    ensures cause { IfErr result (NextFault (S.seen site.old) (S.seen site.new)) }
+{
+    match db.kind_after(site, after, buffer) {
+        Ok(found) => Ok(found),
+        Err(fault) => Err(store_fault(fault)),
+    }
+}
+
+/// Whether entries of a kind run no statement: an Own, a Sync and a Note.
+fn is_still_kind(kind: u8) -> bool
+    ensures still { IsTrue result → IsStillKind kind }
+{
+    kind == 1 || kind == 4 || kind == 6
+}
+
 /// The end of the entry behind an offset, where no statement of it ran.
 fn still_end<S: Site>(
     alloc: Global,
     db: &Database,
     site: &mut S,
     after: Offset,
+    buffer: &mut Vec<u8>,
 ) -> Result<Option<Offset>, SendFault>
     requires usable { db.now.log.usable ≡ true }
     requires after { (db.now.log.base ≤ after.0) × (after.0 ≤ db.now.log.end) }
@@ -99,7 +130,36 @@ fn still_end<S: Site>(
     ensures mail { (S.seen site.new).mail_faults ≡ (S.seen site.old).mail_faults }
     ensures cause { IfErr result (NextFault (S.seen site.old) (S.seen site.new)) }
 {
-    match next_entry(alloc, db, site, after)? {
+    match next_kind(db, site, after, buffer)? {
+        None => Ok(None),
+        Some((end, kind)) => {
+            if is_still_kind(kind) {
+                return Ok(Some(end));
+            }
+            read_still(alloc, db, site, after, buffer)
+        }
+    }
+}
+
+/// The end of the entry behind an offset, which is read whole, where no statement of it ran.
+fn read_still<S: Site>(
+    alloc: Global,
+    db: &Database,
+    site: &mut S,
+    after: Offset,
+    buffer: &mut Vec<u8>,
+) -> Result<Option<Offset>, SendFault>
+    requires usable { db.now.log.usable ≡ true }
+    requires after { (db.now.log.base ≤ after.0) × (after.0 ≤ db.now.log.end) }
+    ensures end { IsTrue (S.seen site.old).told → (publisher : AName) (done left : List Recorded) → IsDatabase db.now publisher (done ++ left) (S.seen site.old) → after.0 ≡ end_of done
+        → IfOk result (λ found. IfSome found (IsStillEnd done left)) }
+    ensures within { IfOk result (λ found. IfSome found (λ end. (after.0 < end.0) × (end.0 ≤ db.now.log.end))) }
+    ensures posted { Posted (S.seen site.old) (S.seen site.new) [] }
+    ensures steady { OnOk result (IsSteady (S.seen site.old) (S.seen site.new)) }
+    ensures mail { (S.seen site.new).mail_faults ≡ (S.seen site.old).mail_faults }
+    ensures cause { IfErr result (NextFault (S.seen site.old) (S.seen site.new)) }
+{
+    match next_entry(alloc, db, site, after, buffer)? {
         None => Ok(None),
         Some((end, entry)) => {
             let is_still = runs_nothing(&entry);
@@ -115,6 +175,7 @@ fn is_still<S: Site>(
     db: &Database,
     site: &mut S,
     from: Offset,
+    buffer: &mut Vec<u8>,
 ) -> Result<bool, SendFault>
     requires usable { db.now.log.usable ≡ true }
     requires from { (db.now.log.base ≤ from.0) × (from.0 ≤ db.now.log.end) }
@@ -124,7 +185,7 @@ fn is_still<S: Site>(
     ensures cause { IfErr result (BeginStop (S.seen site.old) (S.seen site.new)) }
 {
     let mut at = from;
-    'entries: while let Some(end) = still_end(alloc, db, site, at)? {
+    'entries: while let Some(end) = still_end(alloc, db, site, at, buffer)? {
         at = end;
     }
     Ok(at.0 == db.end().0)
@@ -139,6 +200,7 @@ pub(crate) fn begin_at<S: Site>(
     aim: &Aim,
     scanner: &mut Scanner,
     user: &Name,
+    buffer: &mut Vec<u8>,
 ) -> Result<Offset, SendFault>
     requires usable { db.now.log.usable ≡ true }
     requires user { scanner.old.user ≡ user.now }
@@ -150,7 +212,7 @@ pub(crate) fn begin_at<S: Site>(
     let usable_here = db.usable();
     prove!(usable_here);
     let from = end_before(db, site, aim.prev)?;
-    if !is_still(alloc, db, site, from)? {
+    if !is_still(alloc, db, site, from, buffer)? {
         return Ok(db.base());
     }
     go_on_with(alloc, scanner, db.catalog(), user)?;

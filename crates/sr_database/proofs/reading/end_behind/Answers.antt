@@ -1,6 +1,6 @@
 use Rattle.std.proofs.Common.{refl, subst}
 use Rattle.sr_logfile.specs.declared.reading.Step.{Step}
-use Rattle.sr_database.proofs.Behind.{StepsTo, no_end, end_short, end_whole}
+use Rattle.sr_database.proofs.Behind.{StepsTo, no_end, end_short, end_whole, not_memory}
 use Rattle.sr_database.proofs.reading.end_behind.Goals as goal
 
 pub returns-in-Ok-End-clause-end : goal.returns-in-Ok-End-clause-end
@@ -23,3 +23,6 @@ returns-in-Ok-Record-clause-end g c told =
     let now = g.S.Held.seen c.next.new.site in
     end_whole c.args.log.now c.args.after.0 before now now.files c.next.new.buffer c.in-Ok-Record.end c.in-Ok-Record.field-0-1
     (subst (λ (step : Step). StepsTo c.args.log.now c.args.after.0 before now.files c.next.new.buffer step) c.in-Ok-Record.field-0-is (c.in-Ok-Record.ensures.step told))
+
+pub returns-in-Err-clause-memory : goal.returns-in-Err-clause-memory
+returns-in-Err-clause-memory g c = not_memory c.file.result c.in-Err.fault c.log_fault.result c.log_fault.ensures

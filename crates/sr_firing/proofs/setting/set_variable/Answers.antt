@@ -5,8 +5,15 @@ use Rattle.sr_trigger.specs.Triggers.{variable_name}
 use Rattle.sr_firing.specs.Holding.{held_in}
 use Rattle.sr_firing.specs.Running.{ground_of}
 use Rattle.sr_firing.specs.Scenes.{SceneFits}
-use Rattle.sr_firing.proofs.Sets.{item_is, variable_set, variable_fails, variable_goes}
+use Rattle.sr_firing.proofs.Sets.{item_is, no_variable, variable_set, variable_fails, variable_goes}
 use Rattle.sr_firing.proofs.setting.set_variable.Goals as goal
+
+pub returns-in_default-clause-set : goal.returns-in_default-clause-set
+returns-in_default-clause-set c =
+    let base = ground_of c.args.running.now.conflict in
+    let trigger = c.args.running.now.trigger.now in
+    let at : place_of variable_name c.args.name.now trigger.variables ≡ None = search rules in
+    no_variable base trigger c.args.name.now c.args.value c.args.scene.now at
 
 pub returns-in_default-held_in-clause-set : goal.returns-in_default-held_in-clause-set
 returns-in_default-held_in-clause-set c =

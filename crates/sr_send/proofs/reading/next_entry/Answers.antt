@@ -7,18 +7,18 @@ use Rattle.sr_send.proofs.reading.next_entry.Goals as goal
 
 pub returns-in-Ok-clause-posted : goal.returns-in-Ok-clause-posted
 returns-in-Ok-clause-posted g c =
-    posted_read (g.S.Held.seen c.args.site.now) (g.S.Held.seen c.entry_after.new.site) c.entry_after.ensures.stays c.entry_after.ensures.files c.entry_after.ensures.happened
+    posted_read (g.S.Held.seen c.args.site.now) (g.S.Held.seen c.entry_read.new.site) c.entry_read.ensures.stays c.entry_read.ensures.files c.entry_read.ensures.happened
 
 pub returns-in-Ok-clause-steady : goal.returns-in-Ok-clause-steady
 returns-in-Ok-clause-steady g c =
-    steady_read (g.S.Held.seen c.args.site.now) (g.S.Held.seen c.entry_after.new.site) c.entry_after.ensures.stays c.in-Ok.ensures.steady
+    steady_read (g.S.Held.seen c.args.site.now) (g.S.Held.seen c.entry_read.new.site) c.entry_read.ensures.stays c.in-Ok.ensures.steady
 
 pub returns-in-Err-clause-posted : goal.returns-in-Err-clause-posted
 returns-in-Err-clause-posted g c =
-    posted_read (g.S.Held.seen c.args.site.now) (g.S.Held.seen c.entry_after.new.site) c.entry_after.ensures.stays c.entry_after.ensures.files c.entry_after.ensures.happened
+    posted_read (g.S.Held.seen c.args.site.now) (g.S.Held.seen c.entry_read.new.site) c.entry_read.ensures.stays c.entry_read.ensures.files c.entry_read.ensures.happened
 
 pub returns-in-Err-clause-cause : goal.returns-in-Err-clause-cause
 returns-in-Err-clause-cause g c =
     let before = g.S.Held.seen c.args.site.now in
-    let now = g.S.Held.seen c.entry_after.new.site in
+    let now = g.S.Held.seen c.entry_read.new.site in
     subst (λ (f : SendFault). NextFault before now f) (sym c.store_fault.ensures.fault) (next_cause c.args.db.now c.args.after before now c.in-Err.fault c.in-Err.ensures.cause)

@@ -1,7 +1,7 @@
 use Rattle.std.proofs.Common.{◌≡◌, ◌++◌, length, take}
 use Rattle.std.specs.Int.{w32, to_be_bytes}
 use Rattle.std.specs.List.{flat_map, AllByRecursion}
-use Rattle.sr_base.proofs.field_lists.SeqField.write.Given as goal
+use Rattle.sr_base.proofs.field_lists.write_items.Given as goal
 
 -- The items so far are spelled, and each of them had a spelling.
 abbrev pub invariant-loop-item : goal.invariant-loop-item
