@@ -2,7 +2,8 @@
 
 A commit is four calls: the record behind the gate, a sync, one byte over the gate, a sync. The first sync of a file in a run is followed by
 one of its folder, and a line is printed only behind the syncs of its commit. A put writes a file whose name begins with a dot, syncs it,
-renames it, and then syncs the folder of the message, the folder that holds that one, and the folder that holds each folder that it made.
+renames it, and then syncs the folder of the message. Before the first put into a folder the folder that holds it is synced, and the folder
+that holds each folder that was made.
 """
 
 import os
@@ -73,7 +74,7 @@ def commits(program, folder):
 
 def puts(tests, folder):
     """The steps of the puts of a row, one after the other, and those that are wanted of each."""
-    made, drafts, found, wanted = [], set(), [], []
+    made, drafts, inboxes, found, wanted = [], set(), set(), [], []
     for name, rest in traced([tests], folder, PUTS):
         if name == "mkdir":
             made.append(os.path.join(folder, rest.split('"')[1]))
@@ -82,10 +83,11 @@ def puts(tests, folder):
             inbox, draft = os.path.split(path)
             # the folder of the row itself, the first, is not made by a put
             holding = [os.path.dirname(each) for each in made if os.path.dirname(each) != folder]
-            entries = dict.fromkeys([*holding, os.path.dirname(inbox)])
-            wanted += [f"write {path}", f"fsync {path}", f"rename {os.path.join(inbox, draft[1:])}"]
-            wanted += [f"fsync {each}" for each in (inbox, *entries)]
+            if inbox not in inboxes:
+                wanted += [f"fsync {each}" for each in dict.fromkeys([*holding, os.path.dirname(inbox)])]
+            wanted += [f"write {path}", f"fsync {path}", f"rename {os.path.join(inbox, draft[1:])}", f"fsync {inbox}"]
             drafts.add(path)
+            inboxes.add(inbox)
             made = []
         elif name == "rename":
             found.append("rename " + os.path.join(folder, rest.split('"')[3]))

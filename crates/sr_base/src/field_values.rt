@@ -129,7 +129,7 @@ impl Field for Row {
 
     fn read(alloc: Global, bytes: &[u8]) -> Result<(Row, &[u8]), Broken> {
         let (values, rest) = Seq::<Value>::read(alloc, bytes)?;
-        Ok((Row::new(values), rest))
+        Ok((Row::new(alloc, values)?, rest))
     }
 
     fn write(&self, out: &mut Vec<u8>) -> Result<(), NoMemory> {

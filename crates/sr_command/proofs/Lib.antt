@@ -3,6 +3,7 @@ mod Catching
 pub mod Caught
 pub mod Completing
 pub mod Ended
+pub mod Keeping
 pub mod Opened
 pub mod Statuses
 pub mod Scripts

@@ -50,9 +50,11 @@ pub tried_on : (name mail : List ℕ) (before middle now : Seen) → Attaches na
 tried_on name mail before middle now attaches stays same = inl (attached_on name mail before middle now attaches stays same)
 
 -- it was attached, and nothing happened since
+pub attached_still : (name mail : List ℕ) (before now : Seen) → Attaches name mail true before now → IsAttached name mail before now
+attached_still name mail before now attaches told = record { first = attached_at name mail before.happened now.happened (attaches.happened told); once = ap attaches_in (attaches.happened told) }
+
 pub tried_still : (name mail : List ℕ) (before now : Seen) → Attaches name mail true before now → IsAttachTried name mail before now
-tried_still name mail before now attaches =
-    inl (λ told. record { first = attached_at name mail before.happened now.happened (attaches.happened told); once = ap attaches_in (attaches.happened told) })
+tried_still name mail before now attaches = inl (attached_still name mail before now attaches)
 
 -- an attached site has the images that it had
 image_same : (first : Files) (name mail : List ℕ) (done : Bool) (before now : List Happening) (image : Files) → now ≡ attached name mail done ∷ before → MayLeave first now image → MayLeave first before image
@@ -129,11 +131,15 @@ made name user before middle now attaches steady stays same still stands settled
 
 -- ---- a database is opened
 
-pub untouched_refused : (name mail : List ℕ) (before now : Seen) → Attaches name mail false before now → IsUntouched before now
-untouched_refused name mail before now attaches = record {
+-- attached or refused, and no more
+pub untouched_still : (name mail : List ℕ) (done : Bool) (before now : Seen) → Attaches name mail done before now → IsUntouched before now
+untouched_still name mail done before now attaches = record {
   files = attaches.files;
-  moments = λ told. rests_on (IsImage before) name mail false before now now told attaches (λ image is. is) (nothing_more (IsImage before) now (images_before name mail false before now told attaches));
+  moments = λ told. rests_on (IsImage before) name mail done before now now told attaches (λ image is. is) (nothing_more (IsImage before) now (images_before name mail done before now told attaches));
 }
+
+pub untouched_refused : (name mail : List ℕ) (before now : Seen) → Attaches name mail false before now → IsUntouched before now
+untouched_refused name mail before now attaches = untouched_still name mail false before now attaches
 
 pub untouched_on : (name mail : List ℕ) (before middle now : Seen) → Attaches name mail true before middle → (IsTrue middle.told → now.files ≡ middle.files)
     → (IsTrue middle.told → RestsThroughout (IsImage middle) middle now) → IsUntouched before now

@@ -1,6 +1,6 @@
 -- How `show` ends, from how its steps do.
 use Rattle.std.proofs.Common.{◌≡◌, ℕ, List, [], ◌++◌, sym, subst}
-use Rattle.std.specs.Prelude.{IsTrue, Result, Ok, Err, OnOk, IfErr}
+use Rattle.std.specs.Prelude.{IsTrue}
 use Rattle.sr_database.specs.Views.{View}
 use Rattle.sr_database.specs.declared.fault.DatabaseFault.{DatabaseFault}
 use Rattle.sr_database.specs.declared.fault.DatabaseFault.TheVariants as store
@@ -15,7 +15,7 @@ use Rattle.sr_command.specs.declared.fault.Fault.TheVariants.{Words, Database, S
 wanting : (before now : Seen) (fault : DatabaseFault) → fault ≡ store.Memory → OpenedCause before now fault
 wanting before now fault is = subst (OpenedCause before now) (sym is) tt
 
-show_cause : (name : List ℕ) (before now : Seen) (old new : Output) (view : View) (fault : Fault) → IsOpened name [] view before now → view.pending ≡ []
+pub show_cause : (name : List ℕ) (before now : Seen) (old new : Output) (view : View) (fault : Fault) → IsOpened name [] view before now → view.pending ≡ []
     → TellCause (shown view) old new fault → ShowCause name before now old new fault
 show_cause name before now old new view Words opened still cause = cause
 show_cause name before now old new view (Database fault) opened still cause = (wanting before now fault cause.0, cause.1)
@@ -27,10 +27,5 @@ show_cause name before now old new view Mail opened still cause = cause
 show_cause name before now old new view Sink opened still cause = record { view = view; is = opened; still = still; part = cause }
 
 module _ (name : List ℕ) (before now : Seen) (old new : Output) (view : View) (opened : IsOpened name [] view before now) (still : view.pending ≡ []) where
-  pub has_shown : (r : Result (Unit {0}) Fault) → (IsTrue old.told → OnOk r (new.taken ≡ old.taken ++ shown view)) → OnOk r (new.faults ≡ old.faults) → OnOk r (HasShown name before now old new)
-  has_shown (Ok done) said steady = record { view = view; is = opened; still = still; said = said; steady = steady }
-  has_shown (Err fault) said steady = tt
-
-  pub why_not : (r : Result (Unit {0}) Fault) → IfErr r (TellCause (shown view) old new) → IfErr r (ShowCause name before now old new)
-  why_not (Ok done) cause = tt
-  why_not (Err fault) cause = show_cause name before now old new view fault opened still cause
+  pub has_shown : (IsTrue old.told → new.taken ≡ old.taken ++ shown view) → new.faults ≡ old.faults → HasShown name before now old new
+  has_shown said steady = record { view = view; is = opened; still = still; said = said; steady = steady }

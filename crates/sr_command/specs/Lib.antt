@@ -3,6 +3,7 @@ pub mod Attaching
 pub mod CaughtUp
 pub mod Complete
 pub mod Faults
+pub mod Kept
 pub mod Limits
 pub mod Making
 pub mod Orders

@@ -36,25 +36,24 @@ mail_in R2 old disk = refl
 mail_in R3 old disk = refl
 
 -- the files and the mail were lent to a site, and came back
-pub files_back : (office : Office) (old one two three new : Offices) (empty disk : Disk) (none mail : Folders) → one ≡ with_disk office empty old → two ≡ record one { mail = none }
-    → three ≡ with_disk office disk two → new ≡ record three { mail = mail } → new ≡ with_disk office disk (record old { mail = new.mail })
-files_back office old one two three new empty disk none mail a b c d =
-    let whole = d ∙ (ap (λ (o : Offices). record o { mail = mail }) (c ∙ ap (λ (o : Offices). with_disk office disk o) (b ∙ ap (λ (o : Offices). record o { mail = none }) a))
-    ∙ swapped office old empty disk none mail) in
+pub files_back : (office : Office) (old one new : Offices) (empty disk : Disk) (none mail : Folders) → one ≡ record (with_disk office empty old) { mail = none }
+    → new ≡ record (with_disk office disk one) { mail = mail } → new ≡ with_disk office disk (record old { mail = new.mail })
+files_back office old one new empty disk none mail a b =
+    let whole = b ∙ (ap (λ (o : Offices). record (with_disk office disk o) { mail = mail }) a ∙ swapped office old empty disk none mail) in
     let mails = ap (λ (o : Offices). o.mail) whole ∙ mail_in office (record old { mail = mail }) disk in
     whole ∙ ap (λ (m : Folders). with_disk office disk (record old { mail = m })) (sym mails)
 
 -- what the command did on the site is what is done
-pub ran_so : (task : Task) (old one two three new : Offices) (empty : Disk) (none mail : Folders) (site site' : Seen) (input input' : Input) (output : Output)
+pub ran_so : (task : Task) (old one new : Offices) (empty : Disk) (none mail : Folders) (site site' : Seen) (input input' : Input) (output : Output)
     → (lines : List ℕ) (faults status : ℕ) → site ≡ begun (disk_at task.office old) → input ≡ holding task.script → output ≡ having [] 0
-    → RanOrder task.order (outside site input output) (outside site' input' (having lines faults)) status → Stays site site' → one ≡ with_disk task.office empty old
-    → two ≡ record one { mail = none } → three ≡ with_disk task.office (record { first = site'.first; happened = site'.happened }) two → new ≡ record three { mail = mail }
-    → Ran task old new status lines
-ran_so task old one two three new empty none mail site site' input input' output lines faults status s i o ran stays a b c d = record {
+    → RanOrder task.order (outside site input output) (outside site' input' (having lines faults)) status → Stays site site'
+    → one ≡ record (with_disk task.office empty old) { mail = none }
+    → new ≡ record (with_disk task.office (record { first = site'.first; happened = site'.happened }) one) { mail = mail } → Ran task old new status lines
+ran_so task old one new empty none mail site site' input input' output lines faults status s i o ran stays a b = record {
   site = site';
   input = input';
   faults = faults;
   ran = begun_so task.order site (begun (disk_at task.office old)) input (holding task.script) output (having [] 0) (outside site' input' (having lines faults)) status s i o ran;
   stays = subst (λ (x : Seen). Stays x site') s stays;
-  files = files_back task.office old one two three new empty (record { first = site'.first; happened = site'.happened }) none mail a b c d;
+  files = files_back task.office old one new empty (record { first = site'.first; happened = site'.happened }) none mail a b;
 }

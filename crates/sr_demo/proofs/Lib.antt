@@ -1,6 +1,7 @@
 mod Chains
 mod Counted
 mod Endings
+mod Keeping
 mod Lent
 mod Lines
 mod Telling

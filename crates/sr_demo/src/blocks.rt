@@ -5,17 +5,17 @@ ghost use Rattle.sr_demo.specs.Courses.{AgentRan, AgentStops, AgentsRan, AllRan,
 ghost use Rattle.sr_demo.specs.Runs.{StopCause, Stopped, agent_of};
 ghost use Rattle.sr_drawn.specs.declared.office.Office.TheVariants.{Cons, R1, R2, R3};
 
+use crate::branches::Branches;
 use crate::inner::{run_agent, run_sql};
 use crate::stop::Stop;
-use sr_drawn::{Draws, Office, Scripts, lose_some, scripts_of, sum, sum_of_four};
-use sr_tally::Offices;
+use sr_drawn::{Draws, Office, Scripts, scripts_of, sum, sum_of_four};
 use std::alloc::Global;
 
 /// Runs so many drawn statements, in blocks of 100; the last one may be short. Answers how many messages were lost.
 #[tactic(auto, using(crate::proofs::Counted::none_run, crate::proofs::Counted::one_more, crate::proofs::Counted::all_run, crate::proofs::Counted::block_stops))]
 pub(crate) fn run_blocks(
     alloc: Global,
-    offices: &mut Offices,
+    offices: &mut Branches,
     draws: &mut Draws,
     count: u32,
     now: i64,
@@ -39,7 +39,7 @@ pub(crate) fn run_blocks(
 #[tactic(auto, using(crate::proofs::Counted::scripts_ran, crate::proofs::Counted::scripts_stop, crate::proofs::Counted::agents_stop))]
 fn run_block(
     alloc: Global,
-    offices: &mut Offices,
+    offices: &mut Branches,
     draws: &mut Draws,
     first: u32,
     end: u32,
@@ -58,7 +58,12 @@ fn run_block(
 
 /// Runs the scripts of a block, in the order of the databases.
 #[tactic(auto, using(crate::proofs::Chains::joined, crate::proofs::Chains::front_stops, crate::proofs::Chains::rest_stops))]
-fn run_scripts(alloc: Global, offices: &mut Offices, scripts: Scripts, now: i64) -> Result<(), Stop>
+fn run_scripts(
+    alloc: Global,
+    offices: &mut Branches,
+    scripts: Scripts,
+    now: i64,
+) -> Result<(), Stop>
     ensures ok { OnOk result (AllRan (task_at Cons scripts.cons.items ++ task_at R1 scripts.r1.items ++ task_at R2 scripts.r2.items ++ task_at R3 scripts.r3.items) offices.old offices.new) }
     ensures err { IfErr result (StopCause (StopsAmong (task_at Cons scripts.cons.items ++ task_at R1 scripts.r1.items ++ task_at R2 scripts.r2.items ++ task_at R3 scripts.r3.items) offices.old)) }
 {
@@ -74,7 +79,7 @@ fn run_scripts(alloc: Global, offices: &mut Offices, scripts: Scripts, now: i64)
 #[tactic(auto, using(crate::proofs::Chains::nothing_ran, crate::proofs::Chains::task_ran, crate::proofs::Chains::task_stops))]
 fn run_script(
     alloc: Global,
-    offices: &mut Offices,
+    offices: &mut Branches,
     office: Office,
     script: Vec<u8>,
     now: i64,
@@ -93,7 +98,7 @@ fn run_script(
 #[tactic(auto, using(crate::proofs::Endings::agent_stops, crate::proofs::Endings::behind_agent))]
 fn run_agents(
     alloc: Global,
-    offices: &mut Offices,
+    offices: &mut Branches,
     draws: &mut Draws,
     now: i64,
 ) -> Result<u64, Stop>
@@ -110,7 +115,7 @@ fn run_agents(
 /// Runs the agent on a database, and loses some of the messages that it put. Answers how many.
 fn run_and_lose(
     alloc: Global,
-    offices: &mut Offices,
+    offices: &mut Branches,
     office: Office,
     draws: &mut Draws,
     now: i64,
@@ -118,7 +123,7 @@ fn run_and_lose(
     ensures ran { IfOk result (AgentRan office draws.old offices.old draws.new offices.new) }
     ensures err { IfErr result (StopCause (Stopped (agent_of office) offices.old)) }
 {
-    let before = offices.mail.puts().len();
+    let before = offices.puts();
     run_agent(alloc, offices, office, now)?;
-    Ok(lose_some(alloc, &mut offices.mail, before, draws)?)
+    Ok(offices.lose(alloc, before, draws)?)
 }

@@ -4,16 +4,16 @@ ghost use Rattle.std.specs.Prelude.{IfErr, OnOk};
 ghost use Rattle.sr_demo.specs.Courses.{AllRan, StopsAmong, last_at, lasts, round, settling};
 ghost use Rattle.sr_demo.specs.Runs.{RanWell, StopCause, Stopped};
 
+use crate::branches::Branches;
 use crate::inner::{run_agent, run_sql};
 use crate::scripts::last_script;
 use crate::stop::Stop;
 use sr_drawn::Office;
-use sr_tally::Offices;
 use std::alloc::Global;
 
 /// Inserts the last rows, and runs all agents four times. Nothing is lost.
 #[tactic(auto, using(crate::proofs::Chains::joined, crate::proofs::Chains::front_stops, crate::proofs::Chains::rest_stops))]
-pub(crate) fn settle(alloc: Global, offices: &mut Offices, now: i64) -> Result<(), Stop>
+pub(crate) fn settle(alloc: Global, offices: &mut Branches, now: i64) -> Result<(), Stop>
     ensures ok { OnOk result (AllRan settling offices.old offices.new) }
     ensures err { IfErr result (StopCause (StopsAmong settling offices.old)) }
 {
@@ -27,7 +27,7 @@ pub(crate) fn settle(alloc: Global, offices: &mut Offices, now: i64) -> Result<(
 
 /// Inserts the last rows of each.
 #[tactic(auto, using(crate::proofs::Chains::four_ran, crate::proofs::Chains::first_stops, crate::proofs::Chains::later_stops), unfolding(crate::specs::Courses::lasts))]
-fn insert_all(alloc: Global, offices: &mut Offices, now: i64) -> Result<(), Stop>
+fn insert_all(alloc: Global, offices: &mut Branches, now: i64) -> Result<(), Stop>
     ensures ok { OnOk result (AllRan lasts offices.old offices.new) }
     ensures err { IfErr result (StopCause (StopsAmong lasts offices.old)) }
 {
@@ -39,7 +39,7 @@ fn insert_all(alloc: Global, offices: &mut Offices, now: i64) -> Result<(), Stop
 }
 
 /// The last rows of a database.
-fn insert_last(alloc: Global, offices: &mut Offices, office: Office, now: i64) -> Result<(), Stop>
+fn insert_last(alloc: Global, offices: &mut Branches, office: Office, now: i64) -> Result<(), Stop>
     ensures ok { OnOk result (RanWell (last_at office) offices.old offices.new) }
     ensures err { IfErr result (StopCause (Stopped (last_at office) offices.old)) }
 {
@@ -50,7 +50,7 @@ fn insert_last(alloc: Global, offices: &mut Offices, office: Office, now: i64) -
 
 /// Runs each agent once.
 #[tactic(auto, using(crate::proofs::Chains::four_ran, crate::proofs::Chains::first_stops, crate::proofs::Chains::later_stops), unfolding(crate::specs::Courses::round))]
-fn run_round(alloc: Global, offices: &mut Offices, now: i64) -> Result<(), Stop>
+fn run_round(alloc: Global, offices: &mut Branches, now: i64) -> Result<(), Stop>
     ensures ok { OnOk result (AllRan round offices.old offices.new) }
     ensures err { IfErr result (StopCause (StopsAmong round offices.old)) }
 {

@@ -5,14 +5,14 @@ ghost use Rattle.sr_command.specs.Orders.{MayOrder};
 ghost use Rattle.sr_demo.specs.Runs.{Ran, RanWell, StopCause, Stopped, agent_of, making_of, script_of};
 ghost use Rattle.sr_memsite.specs.Streams.{taken_of};
 
+use crate::branches::{Branches, Lent};
 use crate::ending::ended;
 use crate::stop::Stop;
 use sr_agent::Options;
 use sr_base::Text;
 use sr_command::{Order, command};
 use sr_drawn::Office;
-use sr_memsite::{MemoryDisk, MemorySink, MemorySite, MemorySource, SharedMail};
-use sr_tally::Offices;
+use sr_memsite::{MemorySink, MemorySite, MemorySource};
 use std::alloc::Global;
 
 /// The longest message file, in bytes.
@@ -28,7 +28,7 @@ struct Answer {
 /// Does an order on a database: the script is what the source has, and `no_mail` the empty text.
 fn do_order(
     alloc: Global,
-    offices: &mut Offices,
+    offices: &mut Branches,
     office: Office,
     order: &Order,
     no_mail: &Text,
@@ -39,8 +39,11 @@ fn do_order(
     requires no_mail { no_mail.now ≡ [] }
     ensures ran { Ran (record { office = office; order = order.now; script = script.items }) offices.old offices.new result.status (taken_of result.output) }
 {
-    let disk = offices.swap_disk(office, MemoryDisk::new(alloc));
-    let mail = offices.swap_mail(SharedMail::new(alloc));
+    let Lent {
+        disk,
+        mail,
+        mut kept,
+    } = offices.lend(alloc, office);
     let mut site = MemorySite::with(disk, mail);
     let mut input = MemorySource::new(script);
     let mut output = MemorySink::new(alloc);
@@ -48,6 +51,7 @@ fn do_order(
         alloc,
         order,
         no_mail,
+        &mut kept,
         &mut site,
         &mut input,
         &mut output,
@@ -55,8 +59,7 @@ fn do_order(
     );
     drop(input);
     let (disk, mail) = site.apart();
-    let _nothing = offices.swap_disk(office, disk);
-    let _none = offices.swap_mail(mail);
+    offices.take_back(office, Lent { disk, mail, kept });
     Answer { status, output }
 }
 
@@ -64,7 +67,7 @@ fn do_order(
 #[tactic(auto, using(crate::proofs::Endings::stop_of))]
 fn run_order(
     alloc: Global,
-    offices: &mut Offices,
+    offices: &mut Branches,
     office: Office,
     order: &Order,
     script: Vec<u8>,
@@ -86,7 +89,7 @@ fn run_order(
 /// Makes a database.
 pub(crate) fn run_init(
     alloc: Global,
-    offices: &mut Offices,
+    offices: &mut Branches,
     office: Office,
     now: i64,
 ) -> Result<(), Stop>
@@ -106,7 +109,7 @@ pub(crate) fn run_init(
 /// Runs a script on a database.
 pub(crate) fn run_sql(
     alloc: Global,
-    offices: &mut Offices,
+    offices: &mut Branches,
     office: Office,
     script: Vec<u8>,
     now: i64,
@@ -126,7 +129,7 @@ pub(crate) fn run_sql(
 /// Runs the agent on a database.
 pub(crate) fn run_agent(
     alloc: Global,
-    offices: &mut Offices,
+    offices: &mut Branches,
     office: Office,
     now: i64,
 ) -> Result<(), Stop>

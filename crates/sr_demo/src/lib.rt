@@ -6,9 +6,11 @@
 #![tactic(auto)]
 
 mod blocks;
+mod branches;
 mod closing;
 mod ending;
 mod inner;
+mod kept;
 mod making;
 mod scripts;
 mod stop;

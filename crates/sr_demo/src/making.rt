@@ -4,16 +4,16 @@ ghost use Rattle.std.specs.Prelude.{IfErr, OnOk};
 ghost use Rattle.sr_demo.specs.Courses.{AllRan, StopsAmong, first_script, made_at, making};
 ghost use Rattle.sr_demo.specs.Runs.{RanWell, StopCause, Stopped, script_of};
 
+use crate::branches::Branches;
 use crate::inner::{run_init, run_sql};
 use crate::scripts::first_script;
 use crate::stop::Stop;
 use sr_drawn::Office;
-use sr_tally::Offices;
 use std::alloc::Global;
 
 /// Makes each database, and runs its first script.
 #[tactic(auto, using(crate::proofs::Chains::joined, crate::proofs::Chains::front_stops, crate::proofs::Chains::rest_stops))]
-pub(crate) fn make_all(alloc: Global, offices: &mut Offices, now: i64) -> Result<(), Stop>
+pub(crate) fn make_all(alloc: Global, offices: &mut Branches, now: i64) -> Result<(), Stop>
     ensures ok { OnOk result (AllRan making offices.old offices.new) }
     ensures err { IfErr result (StopCause (StopsAmong making offices.old)) }
 {
@@ -26,7 +26,7 @@ pub(crate) fn make_all(alloc: Global, offices: &mut Offices, now: i64) -> Result
 
 /// Makes a database, and runs its first script.
 #[tactic(auto, using(crate::proofs::Chains::two_ran, crate::proofs::Chains::first_stops, crate::proofs::Chains::later_stops), unfolding(crate::specs::Courses::made_at))]
-fn make(alloc: Global, offices: &mut Offices, office: Office, now: i64) -> Result<(), Stop>
+fn make(alloc: Global, offices: &mut Branches, office: Office, now: i64) -> Result<(), Stop>
     ensures ok { OnOk result (AllRan (made_at office) offices.old offices.new) }
     ensures err { IfErr result (StopCause (StopsAmong (made_at office) offices.old)) }
 {
@@ -36,7 +36,7 @@ fn make(alloc: Global, offices: &mut Offices, office: Office, now: i64) -> Resul
 }
 
 /// Runs a database's first script.
-fn run_first(alloc: Global, offices: &mut Offices, office: Office, now: i64) -> Result<(), Stop>
+fn run_first(alloc: Global, offices: &mut Branches, office: Office, now: i64) -> Result<(), Stop>
     ensures ok { OnOk result (RanWell (script_of office (first_script office)) offices.old offices.new) }
     ensures err { IfErr result (StopCause (Stopped (script_of office (first_script office)) offices.old)) }
 {

@@ -6,6 +6,7 @@ ghost use Rattle.sr_demo.specs.Runs.{StopCause};
 ghost use Rattle.sr_tally.specs.Places.{nothing_made};
 
 use crate::blocks::run_blocks;
+use crate::branches::Branches;
 use crate::closing::settle;
 use crate::making::make_all;
 use crate::stop::Stop;
@@ -14,7 +15,7 @@ use sr_database::DatabaseFault;
 use sr_drawn::{Draws, lines_of};
 use sr_session::say;
 use sr_site::Sink;
-use sr_tally::{Offices, summed};
+use sr_tally::summed;
 use std::alloc::Global;
 
 /// Runs the demonstration of a seed with so many statements, and prints its summary. Answers the exit status.
@@ -64,14 +65,15 @@ fn lines(alloc: Global, seed: u64, count: u32, now: i64) -> Result<Vec<u8>, Stop
     ensures came { IfOk result (λ lines. CameTo seed count lines.items) }
     ensures stop { IfErr result (StopCause (CourseStops seed count)) }
 {
-    let mut offices = Offices::new(alloc);
-    match run_all(alloc, &mut offices, seed, count, now) {
+    let mut branches = Branches::new(alloc);
+    match run_all(alloc, &mut branches, seed, count, now) {
         Ok(lost) => {
+            let offices = branches.closed();
             let summary = summed(alloc, offices, count, lost)?;
             Ok(lines_of(alloc, &summary)?)
         }
         Err(stop) => {
-            drop(offices);
+            drop(branches);
             Err(stop)
         }
     }
@@ -81,7 +83,7 @@ fn lines(alloc: Global, seed: u64, count: u32, now: i64) -> Result<Vec<u8>, Stop
 #[tactic(auto, using(crate::proofs::Endings::making_stops, crate::proofs::Endings::working_stops, crate::proofs::Endings::settling_stops, crate::proofs::Endings::course_so))]
 fn run_all(
     alloc: Global,
-    offices: &mut Offices,
+    offices: &mut Branches,
     seed: u64,
     count: u32,
     now: i64,

@@ -129,7 +129,7 @@ fn inserted_row(
         push(&mut values, inserted_value(alloc, constants, column, expr)?)?;
         left = rest;
     }
-    Ok(Row::new(Seq::from_vec(values)))
+    Ok(Row::new(alloc, Seq::from_vec(values))?)
 }
 
 /// What a column takes of a constant, or of NULL where no value is given.

@@ -99,7 +99,7 @@ pub(crate) fn updated_row(
     let mut olds = row;
     'columns: while let Some((column, rest)) = left.split_first() {
         let Some((old, olds_rest)) = olds.split_first() else {
-            return Ok(Row::new(Seq::from_vec(values)));
+            return Ok(Row::new(alloc, Seq::from_vec(values))?);
         };
         let expr = set_for(sets, &column.name);
         push(
@@ -109,7 +109,7 @@ pub(crate) fn updated_row(
         left = rest;
         olds = olds_rest;
     }
-    Ok(Row::new(Seq::from_vec(values)))
+    Ok(Row::new(alloc, Seq::from_vec(values))?)
 }
 
 /// What a column takes in an UPDATE: an expression's value over the old row, or the value that it has.

@@ -46,7 +46,7 @@ pub fn fire(
         }
         left = rest;
     }
-    Ok(Some(scene.into_fired()))
+    Ok(Some(scene.into_fired(alloc)?))
 }
 
 /// A trigger's statement, where it stands on the table and fires.

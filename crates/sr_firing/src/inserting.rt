@@ -90,7 +90,7 @@ fn row_made(
         values.push(held)?;
         left = rest;
     }
-    Ok(Some(Row::new(Seq::from_vec(values))))
+    Ok(Some(Row::new(alloc, Seq::from_vec(values))?))
 }
 
 /// The value of the expression that stands for a column; NULL where none does.

@@ -122,14 +122,15 @@ impl Scene {
         Ok(())
     }
 
-    /// What it leaves. It takes no memory.
-    pub(crate) fn into_fired(self) -> Fired
-        ensures left { result ≡ left self }
+    /// What it leaves.
+    pub(crate) fn into_fired(self, alloc: Global) -> Result<Fired, NoMemory>
+        ensures left { IfOk result (λ fired. fired ≡ left self) }
     {
-        Fired {
+        let new = Row::new(alloc, Seq::from_vec(self.row))?;
+        Ok(Fired {
             inserts: Seq::from_vec(self.inserts),
-            new: Row::new(Seq::from_vec(self.row)),
-        }
+            new,
+        })
     }
 }
 

@@ -15,13 +15,29 @@ use std::{fs, io};
 pub struct DatabaseFiles {
     /// The folder that they lie in.
     folder: String,
+    five: FiveFiles,
+    window: Window,
+}
+
+#[derive(Drop)]
+struct FiveFiles {
     root: DiskFile,
     log0: DiskFile,
     log1: DiskFile,
     snap0: DiskFile,
     snap1: DiskFile,
-    /// Let out only while it reads.
-    window: Option<Window>,
+}
+
+impl FiveFiles {
+    fn of(&mut self, file: File) -> &mut DiskFile {
+        match file {
+            File::Root => &mut self.root,
+            File::Log0 => &mut self.log0,
+            File::Log1 => &mut self.log1,
+            File::Snap0 => &mut self.snap0,
+            File::Snap1 => &mut self.snap1,
+        }
+    }
 }
 
 /// The file `NAME.SUFFIX`.
@@ -34,29 +50,21 @@ impl DatabaseFiles {
     pub fn new(alloc: Global, name: &str) -> Result<DatabaseFiles, NoMemory> {
         Ok(DatabaseFiles {
             folder: String::from_str(alloc, folder_of(name))?,
-            root: named(alloc, name, "root")?,
-            log0: named(alloc, name, "log0")?,
-            log1: named(alloc, name, "log1")?,
-            snap0: named(alloc, name, "snap0")?,
-            snap1: named(alloc, name, "snap1")?,
-            window: Some(Window::new(alloc)?),
+            five: FiveFiles {
+                root: named(alloc, name, "root")?,
+                log0: named(alloc, name, "log0")?,
+                log1: named(alloc, name, "log1")?,
+                snap0: named(alloc, name, "snap0")?,
+                snap1: named(alloc, name, "snap1")?,
+            },
+            window: Window::new(alloc)?,
         })
     }
 
     /// Takes the lock on `NAME.root`, which is made without a byte where it is not there. It is held until the files are let go.
     pub fn lock<R: Runtime + Files<File = fs::File>>(&mut self, rt: &R) -> io::Result<()> {
-        self.root.make(rt)?.try_lock()?;
+        self.five.root.make(rt)?.try_lock()?;
         Ok(())
-    }
-
-    fn of(&mut self, file: File) -> &mut DiskFile {
-        match file {
-            File::Root => &mut self.root,
-            File::Log0 => &mut self.log0,
-            File::Log1 => &mut self.log1,
-            File::Snap0 => &mut self.snap0,
-            File::Snap1 => &mut self.snap1,
-        }
     }
 
     /// The length of `file` in bytes.
@@ -65,7 +73,7 @@ impl DatabaseFiles {
         rt: &R,
         file: File,
     ) -> io::Result<u64> {
-        self.of(file).length(rt)
+        self.five.of(file).length(rt)
     }
 
     /// Fills the front of `buffer` from the place `at` of `file` on, and answers how many bytes it gave.
@@ -78,19 +86,8 @@ impl DatabaseFiles {
     ) -> io::Result<usize>
         ensures within { IfOk result (λ n. n ≤ length buffer.old) }
     {
-        let Some(mut window) = self.window.take() else {
-            return self.of(file).read(rt, at, buffer);
-        };
-        let answer = window.read(rt, file, self.of(file), at, buffer);
-        self.window = Some(window);
-        answer
-    }
-
-    /// Reads nothing of `file` from memory from now on.
-    fn forget(&mut self, file: File) {
-        if let Some(window) = &mut self.window {
-            window.forget(file);
-        }
+        let from = self.five.of(file);
+        self.window.read(rt, file, from, at, buffer)
     }
 
     /// Puts `bytes` at the place `at` of `file`.
@@ -101,8 +98,8 @@ impl DatabaseFiles {
         at: u64,
         bytes: &[u8],
     ) -> io::Result<()> {
-        self.forget(file);
-        self.of(file).write(rt, at, bytes)
+        self.window.forget(file);
+        self.five.of(file).write(rt, at, bytes)
     }
 
     /// Cuts `file` to `to` bytes.
@@ -112,8 +109,8 @@ impl DatabaseFiles {
         file: File,
         to: u64,
     ) -> io::Result<()> {
-        self.forget(file);
-        self.of(file).cut(rt, to)
+        self.window.forget(file);
+        self.five.of(file).cut(rt, to)
     }
 
     /// Makes the bytes, the length and the name of `file` durable.
@@ -122,9 +119,9 @@ impl DatabaseFiles {
         rt: &R,
         file: File,
     ) -> io::Result<()> {
-        if self.of(file).sync(rt)? {
+        if self.five.of(file).sync(rt)? {
             sync_folder(rt, self.folder.as_str())?;
-            self.of(file).settle();
+            self.five.of(file).settle();
         }
         Ok(())
     }

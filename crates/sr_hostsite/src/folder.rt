@@ -156,21 +156,32 @@ fn if_there<T: Drop>(answer: io::Result<T>) -> io::Result<Option<T>> {
     }
 }
 
-/// Writes a file whose name begins with a dot, whole and durable. One that a cut-off run left is replaced.
+/// Makes an empty file and opens it for writing. One that a cut-off run left there is removed first.
+fn new_file<R: Runtime + Files<File = fs::File>>(rt: &R, path: &str) -> io::Result<fs::File> {
+    match created(rt, path) {
+        Err(fault) if fault.kind() == ErrorKind::AlreadyExists => {
+            fs::remove_file(rt, path)?;
+            created(rt, path)
+        }
+        answer => answer,
+    }
+}
+
+/// Makes a file that is not there and opens it for writing.
+fn created<R: Runtime + Files<File = fs::File>>(rt: &R, path: &str) -> io::Result<fs::File> {
+    OpenOptions::new()
+        .write(true)
+        .create_new(true)
+        .open(rt, path)
+}
+
+/// Writes a new file, whole and durable.
 fn write_whole<R: Runtime + Files<File = fs::File>>(
     rt: &R,
     path: &str,
     bytes: &[u8],
 ) -> io::Result<()> {
-    match fs::remove_file(rt, path) {
-        Ok(()) => {}
-        Err(fault) if fault.kind() == ErrorKind::NotFound => {}
-        Err(fault) => return Err(fault),
-    }
-    let mut file = OpenOptions::new()
-        .write(true)
-        .create_new(true)
-        .open(rt, path)?;
+    let mut file = new_file(rt, path)?;
     file.write_all(bytes)?;
     file.sync_all()
 }
@@ -226,8 +237,14 @@ fn sync_entries<R: Runtime + Files<File = fs::File>>(
     Ok(())
 }
 
-/// Puts a file of these bytes at FOLDER/ADDRESS/NAME: it is written under another name, synced, and then renamed. Then the names are synced:
-/// its own, that of `inbox`, and that of each folder that was made.
+/// Makes the folders of a path that are not there, and syncs the name of the last one and of each that was made.
+pub fn make<R: Runtime + Files<File = fs::File>>(rt: &R, path: &str) -> io::Result<()> {
+    let first = make_folders(rt, path)?;
+    sync_entries(rt, path, first)
+}
+
+/// Puts a file of these bytes at FOLDER/ADDRESS/NAME, where `inbox`, FOLDER/ADDRESS, is there: it is written under another name, synced, and
+/// then renamed. Then its name is synced.
 pub fn put<R: Runtime + Files<File = fs::File>>(
     rt: &R,
     alloc: Global,
@@ -235,13 +252,11 @@ pub fn put<R: Runtime + Files<File = fs::File>>(
     name: &str,
     bytes: &[u8],
 ) -> io::Result<()> {
-    let first = make_folders(rt, inbox)?;
     let draft = format!(in alloc; "{inbox}/.{name}")?;
     let path = format!(in alloc; "{inbox}/{name}")?;
     write_whole(rt, draft.as_str(), bytes)?;
     fs::rename(rt, draft.as_str(), path.as_str())?;
-    sync_folder(rt, inbox)?;
-    sync_entries(rt, inbox, first)
+    sync_folder(rt, inbox)
 }
 
 /// Removes the file. That it is not there is no fault.

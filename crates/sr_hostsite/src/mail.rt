@@ -110,9 +110,31 @@ impl<R: Runtime + Files<File = fs::File>> HostSite<R> {
         folder::fetch(&self.rt, alloc, path.as_str(), limit)
     }
 
-    fn sent(&self, alloc: Global, address: &Name, name: &Text, bytes: &[u8]) -> io::Result<()> {
+    /// Puts a message. Its folder is made where it is not there; the folders above it are looked at and synced once for as long as the
+    /// messages go to the same address.
+    fn sent(&mut self, alloc: Global, address: &Name, name: &Text, bytes: &[u8]) -> io::Result<()>
+        ensures mail { self.new.mail_faults ≡ self.old.mail_faults }
+        ensures disk { self.new.disk_faults ≡ self.old.disk_faults }
+    {
         let inbox = self.inbox(alloc, address)?;
-        folder::put(&self.rt, alloc, inbox.as_str(), name.as_str(), bytes)
+        if self.is_settled(inbox.as_str()) {
+            match folder::put(&self.rt, alloc, inbox.as_str(), name.as_str(), bytes) {
+                Err(fault) if fault.kind() == ErrorKind::NotFound => {}
+                answer => return answer,
+            }
+        }
+        folder::make(&self.rt, inbox.as_str())?;
+        folder::put(&self.rt, alloc, inbox.as_str(), name.as_str(), bytes)?;
+        self.settled = Some(inbox);
+        Ok(())
+    }
+
+    /// Whether the folder was put into last, so that its own name stands after a crash.
+    fn is_settled(&self, inbox: &str) -> bool {
+        match &self.settled {
+            Some(settled) => settled.as_str() == inbox,
+            None => false,
+        }
     }
 
     fn removed(&self, alloc: Global, address: &Name, name: &Text) -> io::Result<()> {

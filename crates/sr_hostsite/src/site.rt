@@ -18,6 +18,8 @@ pub struct HostSite<R: Runtime + Files<File = fs::File>> {
     pub(super) files: Option<DatabaseFiles>,
     /// The mail folder; none before a site is attached to one.
     pub(super) folder: Option<String>,
+    /// FOLDER/ADDRESS of the last message that was put: the folder was there then, and its name stands after a crash.
+    pub(super) settled: Option<String>,
     /// How many calls of the disk have failed; it stands still at its end.
     pub(super) disk_faults: u64,
     /// Likewise of the mail.
@@ -31,6 +33,7 @@ impl<R: Runtime + Files<File = fs::File>> HostSite<R> {
             rt,
             files: None,
             folder: None,
+            settled: None,
             disk_faults: 0,
             mail_faults: 0,
         }
@@ -87,6 +90,7 @@ fn attached<R: Runtime + Files<File = fs::File>>(
 impl<R: Runtime + Files<File = fs::File>> Site for HostSite<R> {
     fn attach(&mut self, alloc: Global, name: &Text, mail: &Text) -> Result<(), MailFault> {
         self.files = None;
+        self.settled = None;
         let Ok(folder) = String::from_str(alloc, mail.as_str()) else {
             return Err(MailFault::Memory);
         };

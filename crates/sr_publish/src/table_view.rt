@@ -148,7 +148,7 @@ impl TableView {
             return Ok(None);
         }
         let values = values_at(alloc, self.places(), row.values())?;
-        Ok(Some(Row::new(values)))
+        Ok(Some(Row::new(alloc, values)?))
     }
 
     /// Whether a row that fits the table meets the article's WHERE.

@@ -1,7 +1,9 @@
 pub mod Checks
 pub mod Combinations
+pub mod Held
 pub mod Lookups
 pub mod Orders
+pub mod Plain
 pub mod Rows
 pub mod Selecting
 pub mod Sources

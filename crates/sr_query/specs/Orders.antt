@@ -1,5 +1,6 @@
 -- The order of a SELECT's rows.
-use Rattle.std.specs.Prelude.{Bool, true, false, List, map, IsPermutation, IsSorted}
+use Rattle.std.specs.Prelude.{ℕ, Bool, true, false, List, map, Option, unwrap_or, slice_get, IsPermutation, IsSorted}
+use Rattle.std.specs.Option.{option_and_then}
 use Rattle.std.specs.declared.cmp.Ordering.{Ordering}
 use Rattle.std.specs.Ordering.{on, then_cmp, flip_args}
 use Rattle.std.specs.Cmp.{IsTotalOrder, then_total, on_total, back_total}
@@ -11,6 +12,8 @@ use Rattle.sr_base.specs.Order.{value_cmp, value_cmp_total}
 use Rattle.sr_ast.specs.declared.query.OrderBy.{OrderBy}
 use Rattle.sr_eval.specs.Meanings.{value_at}
 use Rattle.sr_exec.specs.Checks.{Scope}
+use Rattle.sr_query.specs.Lookups.{place_of}
+use Rattle.sr_query.specs.declared.placing.Placed.{Placed}
 use Rattle.sr_query.specs.declared.rank.Rank.{Rank}
 use Rattle.sr_query.specs.declared.rank.Listed.{Listed}
 
@@ -22,6 +25,16 @@ rank_of true v = record { rising = Null; falling = v }
 -- the ranks of a combination: its values of the columns of ORDER BY
 abbrev pub ranks_of : Scope → List OrderBy → List Cell → List Rank
 ranks_of scope order values = map (λ (o : OrderBy). rank_of o.descending (value_at scope values o.table o.column)) order
+
+-- the same by places: a column of ORDER BY has one among all columns, and there its value stands, or else it is NULL
+abbrev pub placed_in : Scope → OrderBy → Placed
+placed_in scope o = record { descending = o.descending; place = place_of scope o.table o.column }
+
+abbrev pub at_place : List Cell → Option ℕ → Cell
+at_place values place = unwrap_or (option_and_then (slice_get values) place) Null
+
+abbrev pub ranks_at : List Placed → List Cell → List Rank
+ranks_at places values = map (λ (p : Placed). rank_of p.descending (at_place values p.place)) places
 
 -- ascending by value, NULL first; descending the other way round, NULL last
 abbrev pub rank_cmp : Rank → Rank → Ordering

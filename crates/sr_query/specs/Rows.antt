@@ -20,7 +20,8 @@ use Rattle.sr_schema.specs.declared.fault.DmlFault.TheVariants.{Overflow}
 use Rattle.sr_exec.specs.Checks.{Scope}
 use Rattle.sr_exec.specs.Sequences.{each, followed}
 use Rattle.sr_query.specs.Checks.{is_aggregate, all_pass, is_good_item}
-use Rattle.sr_query.specs.Orders.{ranks_of}
+use Rattle.sr_query.specs.Orders.{ranks_of, ranks_at}
+use Rattle.sr_query.specs.declared.placing.Placed.{Placed}
 use Rattle.sr_query.specs.declared.rank.Rank.{Rank}
 use Rattle.sr_query.specs.declared.rank.Listed.{Listed}
 
@@ -53,6 +54,10 @@ with_ranks ranks (Ok row) = Ok (record { ranks = ranks; row = row })
 
 abbrev pub listed_row : Scope → Items → List OrderBy → List Cell → Result Listed DmlFault
 listed_row scope items order values = with_ranks (ranks_of scope order values) (row_of scope items values)
+
+-- the same by the places of ORDER BY's columns
+abbrev pub placed_row : Scope → Items → List Placed → List Cell → Result Listed DmlFault
+placed_row scope items places values = with_ranks (ranks_at places values) (row_of scope items values)
 
 -- a BIGINT, or Overflow where the number passes its end
 abbrev pub bounded : Option Cell → Result Cell DmlFault

@@ -2,12 +2,14 @@
 use Rattle.std.specs.Prelude.{◌≡◌, ℕ, List, [], ◌∷◌, ◌++◌, map}
 use Rattle.sr_base.specs.declared.value.Value.{Value as Cell}
 use Rattle.sr_eval.specs.Bounds.{AreRows, columns_of, values_of}
+use Rattle.sr_eval.specs.declared.bound.Bound.{Bound}
 use Rattle.sr_rows.specs.Marks.{RowMap}
 use Rattle.sr_exec.specs.Checks.{Scope}
 use Rattle.sr_exec.specs.Conditions.{TableFits}
 use Rattle.sr_query.specs.Sources.{Origin, scope_under, rows_by_key}
 use Rattle.sr_query.specs.declared.joined.Joined.{Joined}
 use Rattle.sr_query.specs.declared.joined.Combination.{Combination}
+use Rattle.sr_query.specs.declared.joined.Combination.TheVariants.{One, Many}
 
 -- a source with the rows of its table
 abbrev pub seen : RowMap → Joined → Origin
@@ -28,10 +30,15 @@ abbrev pub columns_left : List Joined → Scope
 columns_left [] = []
 columns_left (joined ∷ left) = joined.scope ++ columns_left left
 
+-- the rows of a combination, in the order of their sources
+abbrev pub bounds_of : Combination → List Bound
+bounds_of (One bound) = bound ∷ []
+bounds_of (Many bounds) = bounds.items
+
 -- a combination has a row of each source
 pub record IsCombination (scope : Scope) (c : Combination) : Type 0 where
-  pub columns : columns_of c.rows.items ≡ scope
-  pub fit : AreRows c.rows.items
+  pub columns : columns_of (bounds_of c) ≡ scope
+  pub fit : AreRows (bounds_of c)
 
 abbrev pub AreCombinations : Scope → List Combination → Type 0
 AreCombinations scope [] = Unit {0}
@@ -39,4 +46,4 @@ AreCombinations scope (c ∷ combinations) = IsCombination scope c × AreCombina
 
 -- the values of combinations
 abbrev pub found : List Combination → List (List Cell)
-found combinations = map (λ (c : Combination). values_of c.rows.items) combinations
+found combinations = map (λ (c : Combination). values_of (bounds_of c)) combinations

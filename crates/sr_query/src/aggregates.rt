@@ -4,17 +4,18 @@ ghost use Rattle.sr_ast.specs.Classes.{class_in};
 ghost use Rattle.sr_base.specs.declared.value.Value.TheVariants.{Null};
 ghost use Rattle.sr_eval.specs.Uses.{gives_value};
 ghost use Rattle.sr_exec.specs.Conditions.{Answers};
-ghost use Rattle.sr_exec.specs.Sequences.{each, first_in};
-ghost use Rattle.sr_query.specs.Checks.{all_pass, is_good_item, unknown_in_order};
+ghost use Rattle.sr_exec.specs.Sequences.{each};
+ghost use Rattle.sr_query.specs.Checks.{all_pass, is_good_item};
 ghost use Rattle.sr_query.specs.Rows.{value_in, aggregate, listed, AreItemsGood, as_big, as_sum, sum_from, plus, number_in, is_better, best_from};
 ghost use Rattle.sr_query.specs.Rows.{is_less, is_greater, IsBounded};
 ghost use Rattle.sr_query.specs.Walks.{AreCombinations, found};
 
 use crate::checks::has_aggregate;
-use crate::items::{listed_rows, value_in};
+use crate::items::{listed_rows, value_by};
 use crate::joined::Combination;
 use crate::lists::push;
-use crate::rank::Listed;
+use crate::plain::plain_expr;
+use crate::rank::{Listed, Ranks};
 use sr_ast::{Expr, Item, Items, OrderBy, Scope};
 use sr_base::{Copied, NoMemory, Row, Seq, Value};
 use sr_catalog::DmlFault;
@@ -30,7 +31,6 @@ pub(crate) fn listed(
 ) -> Result<Vec<Listed>, DmlFault>
     requires whole { AreCombinations scope.now kept.now }
     requires good { AreItemsGood scope.now items.now }
-    requires known { first_in (unknown_in_order scope.now) order.now ≡ None }
     ensures answer { MatchResult result (λ rows. listed scope.now items.now order.now (found kept.now) ≡ Ok rows.items)
         (λ fault. fault ≢ DmlFault.Memory → listed scope.now items.now order.now (found kept.now) ≡ Err fault) }
 {
@@ -42,7 +42,7 @@ pub(crate) fn listed(
     }
     let row = aggregates(alloc, scope, list.as_slice(), kept)?;
     let mut rows = Vec::new(alloc);
-    let ranks = Seq::empty(alloc);
+    let ranks = Ranks::many(Seq::empty(alloc));
     push(&mut rows, Listed { ranks, row })?;
     Ok(rows)
 }
@@ -65,7 +65,7 @@ fn aggregates(
         push(&mut values, value)?;
         left = rest;
     }
-    Ok(Row::new(Seq::from_vec(values)))
+    Ok(Row::new(alloc, Seq::from_vec(values))?)
 }
 
 fn aggregate(
@@ -96,7 +96,7 @@ fn aggregate(
     }
 }
 
-/// The values of an expression on all combinations.
+/// The values of an expression on all combinations. A plain column is looked for by its name once, and not on each of them.
 fn values_over(
     alloc: Global,
     scope: &Scope,
@@ -108,9 +108,10 @@ fn values_over(
     ensures answer { MatchResult result (λ values. each (value_in scope.now expr.now) (found kept.now) ≡ Ok values.items)
         (λ fault. fault ≢ DmlFault.Memory → each (value_in scope.now expr.now) (found kept.now) ≡ Err fault) }
 {
+    let place = plain_expr(scope, expr);
     let mut values = Vec::new(alloc);
     'kept: for combination in kept {
-        let value = value_in(alloc, scope, expr, combination)?;
+        let value = value_by(alloc, scope, expr, place, combination)?;
         push(&mut values, value)?;
     }
     Ok(values)

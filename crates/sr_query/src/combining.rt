@@ -183,7 +183,7 @@ fn walk_row<'a>(
     Ok(())
 }
 
-/// Keeps a combination where it meets the conditions.
+/// Keeps a combination where it meets the conditions. That of one source takes no memory of its own.
 #[tactic(auto, using(crate::proofs::Combined::with_one))]
 fn keep<'a>(
     alloc: Global,
@@ -200,8 +200,7 @@ fn keep<'a>(
     ensures kept { Keeps result scope.now (conditions_of select.now) (found kept.old.items) (values_of combination.now ∷ []) (found kept.new.items) }
 {
     if meets(select, scope, combination)? {
-        let rows = Vec::from_slice(alloc, combination)?;
-        push(kept, Combination { rows })?;
+        push(kept, Combination::of(alloc, combination)?)?;
     }
     Ok(())
 }

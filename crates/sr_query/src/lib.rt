@@ -15,6 +15,8 @@ mod joining;
 mod lists;
 mod names;
 mod ordering;
+mod placing;
+mod plain;
 mod rank;
 mod referring;
 mod selecting;

@@ -1,4 +1,4 @@
-ghost use Rattle.std.specs.Prelude.{◌≡◌, refl};
+ghost use Rattle.std.specs.Prelude.{◌≡◌, ◌∷◌, [], refl};
 ghost use Rattle.std.proofs.Common.{rules};
 ghost use Rattle.std.specs.Cmp.{po, eq_by_cmp_equiv, partial_equiv_from_equiv};
 ghost use Rattle.std.specs.Cmp.Rules.{comparing};
@@ -8,6 +8,8 @@ ghost use Rattle.sr_query.specs.Orders.{rank_of, rank_cmp, rank_cmp_total, liste
 
 use sr_base::{Row, Seq, Value};
 use std::cmp::Ordering;
+use std::marker::Model;
+use std::slice;
 
 /// A value under a column of ORDER BY: rising where the column is ascending, falling where it is descending. The other one is NULL.
 #[derive(Drop)]
@@ -16,11 +18,64 @@ pub(crate) struct Rank {
     pub falling: Value,
 }
 
+/// The ranks of a row, one for each column of ORDER BY: contracts see their list.
+#[derive(Drop)]
+pub(crate) struct Ranks {
+    held: Held,
+}
+
+/// One rank, as most statements have, lies where the row lies, so that two rows are compared where they lie. Others have a list.
+#[derive(Drop)]
+enum Held {
+    One(Rank),
+    Many(Seq<Rank>),
+}
+
+impl Model for Ranks {
+    ghost use Rattle.std.specs.Prelude.{List};
+    ghost use Rattle.sr_query.specs.declared.rank.Rank.{Rank as OneRank};
+    ghost use Rattle.sr_query.specs.Held.{held_ranks};
+
+    ghost Value = { List OneRank };
+
+    ghost view = { λ r. held_ranks r.held };
+}
+
 /// A row with the ranks of its combination, by which it is put in order.
 #[derive(Drop)]
 pub(crate) struct Listed {
-    pub ranks: Seq<Rank>,
+    pub ranks: Ranks,
     pub row: Row,
+}
+
+impl Ranks {
+    /// One rank. It takes no memory.
+    pub(crate) fn one(rank: Rank) -> Ranks
+        ensures ranks { result ≡ rank ∷ [] }
+    {
+        Ranks {
+            held: Held::One(rank),
+        }
+    }
+
+    /// The ranks of a list.
+    pub(crate) fn many(ranks: Seq<Rank>) -> Ranks
+        ensures ranks { result ≡ ranks }
+    {
+        Ranks {
+            held: Held::Many(ranks),
+        }
+    }
+
+    /// The ranks, in order.
+    pub(crate) fn as_slice(&self) -> &[Rank]
+        ensures ranks { result.now ≡ self.now }
+    {
+        match &self.held {
+            Held::One(rank) => slice::from_ref(rank),
+            Held::Many(ranks) => ranks.as_slice(),
+        }
+    }
 }
 
 impl Rank {
@@ -130,6 +185,9 @@ impl Ord for Listed {
     ghost matches_eq = { Prim.search (comparing, rules) };
 
     fn cmp(&self, other: &Listed) -> Ordering {
-        self.ranks.as_slice().cmp(other.ranks.as_slice())
+        match (self.ranks.as_slice(), other.ranks.as_slice()) {
+            ([rank], [other_rank]) => rank.cmp(other_rank),
+            (ranks, other_ranks) => ranks.cmp(other_ranks),
+        }
     }
 }

@@ -36,6 +36,21 @@ fn value_in<'a>(source: &Bound<'a>, table: &Option<Name>, name: &Name) -> Option
     value_at(source.values, place)
 }
 
+/// The value at a place among the values of several sources, one source after the other. It passes over the sources before.
+#[tactic(auto, using(crate::proofs::Places::place_rules))]
+pub(crate) fn value_at_place<'a>(sources: &[Bound<'a>], place: usize) -> Option<&'a Value>
+    ensures { option_copied result ≡ slice_get (values_of sources.now) place }
+{
+    let Some((source, after)) = sources.split_first() else {
+        return None;
+    };
+    let count = source.values.len();
+    if place < count {
+        return value_at(source.values, place);
+    }
+    value_at_place(after, place - count)
+}
+
 /// The value at a place, if there is one.
 fn value_at<'a>(values: &'a [Value], place: usize) -> Option<&'a Value>
     ensures { option_copied result ≡ slice_get values.now place }

@@ -152,7 +152,7 @@ pub(crate) fn filled_row(
         row.push(value)?;
         left = rest;
     }
-    Ok(Some(Row::new(Seq::from_vec(row))))
+    Ok(Some(Row::new(alloc, Seq::from_vec(row))?))
 }
 
 /// The value that is named for a column, with the name.

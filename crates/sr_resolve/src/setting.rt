@@ -162,7 +162,8 @@ fn replace(
     ensures changed { IfOk result (λ o. o ≡ changed table.now.name stored.now (with_news news.now stored.now)) }
 {
     let new = with_news(alloc, news, stored.values())?;
-    changed(alloc, &table.name, stored, Row::new(Seq::from_vec(new)))
+    let row = Row::new(alloc, Seq::from_vec(new))?;
+    changed(alloc, &table.name, stored, row)
 }
 
 /// An update of a row from below, of which the values in these columns differ from the old ones: it is made where there are none, and else

@@ -224,7 +224,7 @@ pub(crate) fn old_row(
         values.push(old_value(alloc, column, update_of(updates, column))?)?;
         left = rest;
     }
-    Ok(Row::new(Seq::from_vec(values)))
+    Ok(Row::new(alloc, Seq::from_vec(values))?)
 }
 
 fn old_value(

@@ -19,6 +19,7 @@ use sr_demo::demo;
 use sr_site::{Sink, Site, Source};
 use sr_words::{Asked, asked_of};
 use std::alloc::Global;
+use std::mem::forget;
 
 /// Does all that the program does, and answers its exit status.
 ///
@@ -81,7 +82,8 @@ fn done<S: Site, I: Source, O: Sink>(
     }
 }
 
-/// Does what an order asks for, where there is memory for the name of the mail folder that it may not have.
+/// Does what an order asks for, where there is memory for the name of the mail folder that it may not have. No database is open at first. One that is
+/// open at the end is not freed row by row: the program ends next, and what it holds then is left to the system.
 #[tactic(auto, using(crate::proofs::Ended::order_done))]
 fn do_order<S: Site, I: Source, O: Sink>(
     alloc: Global,
@@ -98,7 +100,9 @@ fn do_order<S: Site, I: Source, O: Sink>(
 {
     match Text::from_str(alloc, "") {
         Ok(no_mail) => {
-            let status = command(alloc, order, &no_mail, site, input, output, now);
+            let mut kept = None;
+            let status = command(alloc, order, &no_mail, &mut kept, site, input, output, now);
+            forget(kept);
             drop(no_mail);
             status
         }

@@ -3,14 +3,17 @@ use Rattle.sr_command.proofs.Opened.{tried_more}
 use Rattle.sr_command.proofs.Scripts.{stopped_open}
 use Rattle.sr_command.proofs.running.run_sql.Goals as goal
 
-pub returns-in-Ok-clause-done : goal.returns-in-Ok-clause-done
-returns-in-Ok-clause-done g c = c.read_and_run-ran.ensures.done c.args.name.now (g.S.Held.seen c.args.site.now) c.in-Ok.ensures.opened
+pub returns-in-Ok-ran-clause-done : goal.returns-in-Ok-ran-clause-done
+returns-in-Ok-ran-clause-done g c = c.in-Ok-ran.ensures.done c.args.name.now (g.S.Held.seen c.args.site.now) c.in-Ok.ensures.opened
 
-pub returns-in-Ok-clause-stopped : goal.returns-in-Ok-clause-stopped
-returns-in-Ok-clause-stopped g c = c.read_and_run-ran.ensures.stopped c.args.name.now (g.S.Held.seen c.args.site.now) c.in-Ok.ensures.opened
+pub returns-in-Ok-ran-clause-tried : goal.returns-in-Ok-ran-clause-tried
+returns-in-Ok-ran-clause-tried g c = tried_more c.args.name.now [] (g.S.Held.seen c.args.site.now) (g.S.Held.seen c.open_alone.new.site) (g.S.Held.seen c.read_and_run-ran.new.site) c.open_alone.ensures.stays c.in-Ok.ensures.opened.attached c.read_and_run-ran.ensures.stays.grows c.read_and_run-ran.ensures.attached
 
-pub returns-in-Ok-clause-tried : goal.returns-in-Ok-clause-tried
-returns-in-Ok-clause-tried g c = tried_more c.args.name.now [] (g.S.Held.seen c.args.site.now) (g.S.Held.seen c.open_alone.new.site) (g.S.Held.seen c.read_and_run-ran.new.site) c.open_alone.ensures.stays c.in-Ok.ensures.opened.attached c.read_and_run-ran.ensures.stays.grows c.read_and_run-ran.ensures.attached
+pub returns-in-Err-ran-clause-stopped : goal.returns-in-Err-ran-clause-stopped
+returns-in-Err-ran-clause-stopped g c = c.in-Err-ran.ensures.stopped c.args.name.now (g.S.Held.seen c.args.site.now) c.in-Ok.ensures.opened
+
+pub returns-in-Err-ran-clause-tried : goal.returns-in-Err-ran-clause-tried
+returns-in-Err-ran-clause-tried g c = tried_more c.args.name.now [] (g.S.Held.seen c.args.site.now) (g.S.Held.seen c.open_alone.new.site) (g.S.Held.seen c.read_and_run-ran.new.site) c.open_alone.ensures.stays c.in-Ok.ensures.opened.attached c.read_and_run-ran.ensures.stays.grows c.read_and_run-ran.ensures.attached
 
 pub returns-in-Err-clause-stopped : goal.returns-in-Err-clause-stopped
 returns-in-Err-clause-stopped g c = stopped_open c.args.name.now (g.S.Held.seen c.args.site.now) (g.S.Held.seen c.open_alone.new.site) (g.I.Source.seen c.args.input.now) (g.O.Sink.seen c.args.output.now) c.in-Err.fault c.open_alone.ensures.untouched c.in-Err.ensures.cause

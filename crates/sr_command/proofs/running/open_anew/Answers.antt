@@ -1,5 +1,5 @@
 use Rattle.sr_command.proofs.Opened.{tried_on, untouched_refused, untouched_on, opened}
-use Rattle.sr_command.proofs.running.open.Goals as goal
+use Rattle.sr_command.proofs.running.open_anew.Goals as goal
 
 pub returns-in_err-attach-clause-untouched : goal.returns-in_err-attach-clause-untouched
 returns-in_err-attach-clause-untouched g c = untouched_refused c.args.name.now c.args.mail.now (g.S.Held.seen c.args.site.now) (g.S.Held.seen c.attach.new.site) c.in_err-attach.ensures.attaches
