@@ -1,6 +1,6 @@
 //! The texts of reports.
 
-ghost use Rattle.std.specs.Prelude.{◌≡◌, ◌++◌, IfOk, OnOk};
+ghost use Rattle.std.specs.Prelude.{◌≡◌, ◌++◌, ◌∷◌, codes, IfOk, OnOk};
 ghost use Rattle.std.specs.Fmt.{decimal};
 ghost use Rattle.sr_agent.specs.Lines.{alarms, clash_name, is_alarm, line_text, lines_text, numbers_behind, report as report_line, report_lines, report_text, shown, shown_byte};
 
@@ -15,8 +15,23 @@ pub(crate) fn push_number(out: &mut Vec<u8>, number: u64) -> Result<(), NoMemory
     ensures ok { OnOk result (out.new.items ≡ out.old.items ++ decimal number) }
 {
     let mut buffer = Buffer::new();
-    out.extend_from_slice(buffer.format(number).as_bytes())?;
-    Ok(())
+    out.extend_from_slice(buffer.format(number).as_bytes())
+}
+
+/// Appends words, and what stands behind them.
+pub(crate) fn push_both(out: &mut Vec<u8>, words: &[u8], behind: &[u8]) -> Result<(), NoMemory>
+    ensures ok { OnOk result (out.new.items ≡ out.old.items ++ words.now ++ behind.now) }
+{
+    out.extend_from_slice(words)?;
+    out.extend_from_slice(behind)
+}
+
+/// Appends words, and a number behind them.
+pub(crate) fn push_numbered(out: &mut Vec<u8>, words: &[u8], number: u64) -> Result<(), NoMemory>
+    ensures ok { OnOk result (out.new.items ≡ out.old.items ++ words.now ++ decimal number) }
+{
+    out.extend_from_slice(words)?;
+    push_number(out, number)
 }
 
 /// Appends a partner's name and two numbers, each behind a blank.
@@ -29,11 +44,22 @@ fn push_numbers_behind(
     ensures ok { OnOk result (out.new.items ≡ out.old.items ++ numbers_behind user.now first second) }
 {
     out.extend_from_slice(user.bytes())?;
-    out.extend_from_slice(b" ")?;
-    push_number(out, first)?;
-    out.extend_from_slice(b" ")?;
-    push_number(out, second)?;
-    Ok(())
+    push_numbered(out, b" ", first)?;
+    push_numbered(out, b" ", second)
+}
+
+/// Appends words, and a partner's name and two numbers behind them.
+fn push_place(
+    out: &mut Vec<u8>,
+    words: &[u8],
+    user: &Name,
+    first: u64,
+    second: u64,
+) -> Result<(), NoMemory>
+    ensures ok { OnOk result (out.new.items ≡ out.old.items ++ words.now ++ numbers_behind user.now first second) }
+{
+    out.extend_from_slice(words)?;
+    push_numbers_behind(out, user, first, second)
 }
 
 /// A byte of a file's name as a line shows it.
@@ -55,6 +81,14 @@ fn push_shown(out: &mut Vec<u8>, name: &Text) -> Result<(), NoMemory>
     Ok(())
 }
 
+/// Appends words, and a file's name behind them.
+fn push_file(out: &mut Vec<u8>, words: &[u8], name: &Text) -> Result<(), NoMemory>
+    ensures ok { OnOk result (out.new.items ≡ out.old.items ++ words.now ++ shown name.now) }
+{
+    out.extend_from_slice(words)?;
+    push_shown(out, name)
+}
+
 /// Why an op was skipped.
 fn clash_name(clash: Clash) -> &'static [u8]
     ensures { result.now ≡ clash_name clash }
@@ -71,47 +105,43 @@ fn clash_name(clash: Clash) -> &'static [u8]
     }
 }
 
+/// Appends that an op was skipped, and why.
+fn push_clash(
+    out: &mut Vec<u8>,
+    user: &Name,
+    at: u64,
+    op: u64,
+    clash: Clash,
+) -> Result<(), NoMemory>
+    ensures ok { OnOk result (out.new.items ≡ out.old.items ++ codes "clash " ++ numbers_behind user.now at op ++ 32 ∷ clash_name clash) }
+{
+    push_place(out, b"clash ", user, at, op)?;
+    push_both(out, b" ", clash_name(clash))
+}
+
 /// Appends what a report says.
 fn push_report_text(out: &mut Vec<u8>, report: &Report) -> Result<(), NoMemory>
     ensures ok { OnOk result (out.new.items ≡ out.old.items ++ report_text report.now) }
 {
     match report {
         Report::More => out.extend_from_slice(b"more"),
-        Report::Junk { name } => {
-            out.extend_from_slice(b"junk ")?;
-            push_shown(out, name)
-        }
-        Report::Stranger { name } => {
-            out.extend_from_slice(b"stranger ")?;
-            push_shown(out, name)
-        }
+        Report::Junk { name } => push_file(out, b"junk ", name),
+        Report::Stranger { name } => push_file(out, b"stranger ", name),
         Report::Conflict { user, at, op } => {
-            out.extend_from_slice(b"conflict ")?;
-            push_numbers_behind(out, user, at.0, u64::from(*op))
+            push_place(out, b"conflict ", user, at.0, u64::from(*op))
         }
         Report::Clash {
             user,
             at,
             op,
             clash,
-        } => {
-            out.extend_from_slice(b"clash ")?;
-            push_numbers_behind(out, user, at.0, u64::from(*op))?;
-            out.extend_from_slice(b" ")?;
-            out.extend_from_slice(clash_name(*clash))
-        }
-        Report::Torn { user, prev, upto } => {
-            out.extend_from_slice(b"torn ")?;
-            push_numbers_behind(out, user, prev.0, upto.0)
-        }
+        } => push_clash(out, user, at.0, u64::from(*op), *clash),
+        Report::Torn { user, prev, upto } => push_place(out, b"torn ", user, prev.0, upto.0),
         Report::Gap {
             user,
             received,
             upto,
-        } => {
-            out.extend_from_slice(b"gap ")?;
-            push_numbers_behind(out, user, received.0, upto.0)
-        }
+        } => push_place(out, b"gap ", user, received.0, upto.0),
     }
 }
 
@@ -120,8 +150,7 @@ fn push_report(out: &mut Vec<u8>, report: &Report) -> Result<(), NoMemory>
     ensures ok { OnOk result (out.new.items ≡ out.old.items ++ line_text (report_line report.now)) }
 {
     push_report_text(out, report)?;
-    out.extend_from_slice(b"\n")?;
-    Ok(())
+    out.extend_from_slice(b"\n")
 }
 
 /// Appends the lines of reports.

@@ -6,7 +6,7 @@ ghost use Rattle.sr_agent.specs.Steps.{IsParted, TellCause, Told};
 ghost use Rattle.sr_gather.specs.declared.report.Report.{Report as AReport};
 
 use crate::fault::AgentFault;
-use crate::reporting::{count_alarms, push_number, push_reports};
+use crate::reporting::{count_alarms, push_both, push_numbered, push_reports};
 use sr_base::{Name, NoMemory};
 use sr_gather::Report;
 use sr_receive::Received;
@@ -67,14 +67,25 @@ fn parted(reports: &[Report], ask: bool) -> (&[Report], &[Report])
 fn push_received(out: &mut Vec<u8>, user: &Name, received: Received) -> Result<(), NoMemory>
     ensures ok { OnOk result (out.new.items ≡ out.old.items ++ line_text (received_line user.now received.took received.end.0)) }
 {
-    out.extend_from_slice(b"from ")?;
-    out.extend_from_slice(user.bytes())?;
-    out.extend_from_slice(b" took ")?;
-    push_number(out, received.took)?;
-    out.extend_from_slice(b" up to ")?;
-    push_number(out, received.end.0)?;
-    out.extend_from_slice(b"\n")?;
-    Ok(())
+    push_both(out, b"from ", user.bytes())?;
+    push_numbered(out, b" took ", received.took)?;
+    push_numbered(out, b" up to ", received.end.0)?;
+    out.extend_from_slice(b"\n")
+}
+
+/// Appends the lines of a turn, whose reports stand in two parts.
+fn push_turn(
+    out: &mut Vec<u8>,
+    user: &Name,
+    received: Received,
+    front: &[Report],
+    behind: &[Report],
+) -> Result<(), NoMemory>
+    ensures ok { OnOk result (out.new.items ≡ out.old.items ++ lines_text (report_lines front.now ++ received_line user.now received.took received.end.0 ∷ report_lines behind.now)) }
+{
+    push_reports(out, front)?;
+    push_received(out, user, received)?;
+    push_reports(out, behind)
 }
 
 /// The lines of a turn.
@@ -89,9 +100,7 @@ fn lines_of_turn(
 {
     let (front, behind) = parted(reports, received.ask);
     let mut lines = Vec::new(alloc);
-    push_reports(&mut lines, front)?;
-    push_received(&mut lines, user, received)?;
-    push_reports(&mut lines, behind)?;
+    push_turn(&mut lines, user, received, front, behind)?;
     Ok(lines)
 }
 
@@ -120,17 +129,22 @@ pub(crate) fn tell_turn<O: Sink>(
     }
 }
 
-/// The line of what was put for a partner: `to USER put K up to OFFSET`.
+/// Appends what was put for a partner: `to USER put K up to OFFSET`.
+fn push_delivery(out: &mut Vec<u8>, user: &Name, sent: Sent) -> Result<(), NoMemory>
+    ensures ok { OnOk result (out.new.items ≡ out.old.items ++ line_text (sent_line user.now sent.put sent.end.0)) }
+{
+    push_both(out, b"to ", user.bytes())?;
+    push_numbered(out, b" put ", u64::from(sent.put))?;
+    push_numbered(out, b" up to ", sent.end.0)?;
+    out.extend_from_slice(b"\n")
+}
+
+/// The line of what was put for a partner.
 fn line_of_delivery(alloc: Global, user: &Name, sent: Sent) -> Result<Vec<u8>, NoMemory>
     ensures line { IfOk result (λ line. line.items ≡ lines_text (sent_line user.now sent.put sent.end.0 ∷ [])) }
 {
-    let mut line = Vec::from_slice(alloc, b"to ")?;
-    line.extend_from_slice(user.bytes())?;
-    line.extend_from_slice(b" put ")?;
-    push_number(&mut line, u64::from(sent.put))?;
-    line.extend_from_slice(b" up to ")?;
-    push_number(&mut line, sent.end.0)?;
-    line.extend_from_slice(b"\n")?;
+    let mut line = Vec::new(alloc);
+    push_delivery(&mut line, user, sent)?;
     Ok(line)
 }
 

@@ -1,6 +1,7 @@
 ghost use Rattle.std.specs.Prelude.{◌≡◌, IfOk};
 ghost use Rattle.sr_ast.specs.Actions.{chain_of};
 
+use crate::copying::copy_three;
 use crate::expr::Expr;
 use sr_base::{Copied, Name, NoMemory, Seq};
 use std::alloc::Global;
@@ -78,26 +79,57 @@ fn copy_action(action: &Action, alloc: Global) -> Result<Action, NoMemory>
     ensures equal { IfOk result (λ copy. copy ≡ action.now) }
 {
     match action {
-        Action::Set(alias, name, value) => Ok(Action::Set(
-            alias.copy(alloc)?,
-            name.copy(alloc)?,
-            value.copy(alloc)?,
-        )),
-        Action::Insert(table, columns, values) => Ok(Action::Insert(
-            table.copy(alloc)?,
-            columns.copy(alloc)?,
-            values.copy(alloc)?,
-        )),
-        Action::If(condition, taken) => Ok(Action::If(
-            condition.copy(alloc)?,
-            copy_actions(taken, alloc)?,
-        )),
-        Action::IfElse(condition, taken, other) => Ok(Action::IfElse(
-            condition.copy(alloc)?,
-            copy_actions(taken, alloc)?,
-            copy_actions(other, alloc)?,
-        )),
+        Action::Set(alias, name, value) => copy_set(alias, name, value, alloc),
+        Action::Insert(table, columns, values) => copy_insert(table, columns, values, alloc),
+        Action::If(condition, taken) => copy_if(condition, copy_actions(taken, alloc)?, alloc),
+        Action::IfElse(condition, taken, other) => {
+            let taken = copy_actions(taken, alloc)?;
+            copy_if_else(condition, taken, copy_actions(other, alloc)?, alloc)
+        }
     }
+}
+
+fn copy_set(
+    alias: &Option<Name>,
+    name: &Name,
+    value: &Expr,
+    alloc: Global,
+) -> Result<Action, NoMemory>
+    ensures equal { IfOk result (λ copy. copy ≡ Action.Set alias.now name.now value.now) }
+{
+    let (alias, name, value) = copy_three(alias, name, value, alloc)?;
+    Ok(Action::Set(alias, name, value))
+}
+
+fn copy_insert(
+    table: &Name,
+    columns: &Seq<Name>,
+    values: &Seq<Expr>,
+    alloc: Global,
+) -> Result<Action, NoMemory>
+    ensures equal { IfOk result (λ copy. copy ≡ Action.Insert table.now columns.now values.now) }
+{
+    let (table, columns, values) = copy_three(table, columns, values, alloc)?;
+    Ok(Action::Insert(table, columns, values))
+}
+
+/// An IF with a copy of this condition.
+fn copy_if(condition: &Expr, taken: Actions, alloc: Global) -> Result<Action, NoMemory>
+    ensures equal { IfOk result (λ copy. copy ≡ Action.If condition.now taken) }
+{
+    Ok(Action::If(condition.copy(alloc)?, taken))
+}
+
+/// An IF with an ELSE, with a copy of this condition.
+fn copy_if_else(
+    condition: &Expr,
+    taken: Actions,
+    other: Actions,
+    alloc: Global,
+) -> Result<Action, NoMemory>
+    ensures equal { IfOk result (λ copy. copy ≡ Action.IfElse condition.now taken other) }
+{
+    Ok(Action::IfElse(condition.copy(alloc)?, taken, other))
 }
 
 #[cycle(copying_actions)]

@@ -1,4 +1,5 @@
 use crate::action::Actions;
+use crate::copying::{copy_three, copy_two};
 use crate::expr::Expr;
 use sr_base::{Copied, Kind, Name, NoMemory, Seq, Text, Value};
 use std::alloc::Global;
@@ -72,11 +73,8 @@ pub struct CreateTrigger {
 
 impl Copied for CreateTable {
     fn copy(&self, alloc: Global) -> Result<CreateTable, NoMemory> {
-        Ok(CreateTable {
-            name: self.name.copy(alloc)?,
-            columns: self.columns.copy(alloc)?,
-            key: self.key.copy(alloc)?,
-        })
+        let (name, columns, key) = copy_three(&self.name, &self.columns, &self.key, alloc)?;
+        Ok(CreateTable { name, columns, key })
     }
 }
 
@@ -92,39 +90,43 @@ impl Copied for ColumnRule {
 
 impl Copied for CreatePublication {
     fn copy(&self, alloc: Global) -> Result<CreatePublication, NoMemory> {
-        Ok(CreatePublication {
-            name: self.name.copy(alloc)?,
-            articles: self.articles.copy(alloc)?,
-        })
+        let (name, articles) = copy_two(&self.name, &self.articles, alloc)?;
+        Ok(CreatePublication { name, articles })
     }
 }
 
 impl Copied for ArticleRule {
     fn copy(&self, alloc: Global) -> Result<ArticleRule, NoMemory> {
+        let (table, columns) = copy_two(&self.table, &self.columns, alloc)?;
+        let (condition, by) = copy_two(&self.condition, &self.by, alloc)?;
         Ok(ArticleRule {
-            table: self.table.copy(alloc)?,
-            columns: self.columns.copy(alloc)?,
-            condition: self.condition.copy(alloc)?,
-            by: self.by.copy(alloc)?,
+            table,
+            columns,
+            condition,
+            by,
         })
     }
 }
 
 impl Copied for Grant {
     fn copy(&self, alloc: Global) -> Result<Grant, NoMemory> {
-        Ok(Grant {
-            user: self.user.copy(alloc)?,
-            address: self.address.copy(alloc)?,
-        })
+        let (user, address) = copy_two(&self.user, &self.address, alloc)?;
+        Ok(Grant { user, address })
     }
 }
 
 impl Copied for SubscriptionRule {
     fn copy(&self, alloc: Global) -> Result<SubscriptionRule, NoMemory> {
+        let (publication, value, user) = copy_three(
+            &self.publication,
+            &self.value,
+            &self.user,
+            alloc,
+        )?;
         Ok(SubscriptionRule {
-            publication: self.publication.copy(alloc)?,
-            value: self.value.copy(alloc)?,
-            user: self.user.copy(alloc)?,
+            publication,
+            value,
+            user,
         })
     }
 }
@@ -137,13 +139,20 @@ impl Copied for Image {
 
 impl Copied for CreateTrigger {
     fn copy(&self, alloc: Global) -> Result<CreateTrigger, NoMemory> {
+        let (name, columns, table) = copy_three(&self.name, &self.columns, &self.table, alloc)?;
+        let (aliases, variables, actions) = copy_three(
+            &self.aliases,
+            &self.variables,
+            &self.actions,
+            alloc,
+        )?;
         Ok(CreateTrigger {
-            name: self.name.copy(alloc)?,
-            columns: self.columns.copy(alloc)?,
-            table: self.table.copy(alloc)?,
-            aliases: self.aliases.copy(alloc)?,
-            variables: self.variables.copy(alloc)?,
-            actions: self.actions.copy(alloc)?,
+            name,
+            columns,
+            table,
+            aliases,
+            variables,
+            actions,
         })
     }
 }

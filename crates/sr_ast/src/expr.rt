@@ -1,6 +1,7 @@
 ghost use Rattle.std.specs.Prelude.{◌≡◌, IfOk};
 ghost use Rattle.sr_ast.specs.Exprs.{term_of};
 
+use crate::copying::copy_two;
 use crate::operator::{Binary, Unary};
 use sr_base::{Copied, Name, NoMemory, Value};
 use std::alloc::Global;
@@ -81,7 +82,10 @@ fn copy_expr(expr: &Expr, alloc: Global) -> Result<Expr, NoMemory>
 {
     match expr {
         Expr::Literal(value) => Ok(Expr::Literal(value.copy(alloc)?)),
-        Expr::Column(table, name) => Ok(Expr::Column(table.copy(alloc)?, name.copy(alloc)?)),
+        Expr::Column(table, name) => {
+            let (table, name) = copy_two(table, name, alloc)?;
+            Ok(Expr::Column(table, name))
+        }
         Expr::Unary(operator, operand) => Ok(Expr::Unary(*operator, copy_operand(operand, alloc)?)),
         Expr::Binary(operator, left, right) => Ok(Expr::Binary(
             *operator,

@@ -6,6 +6,7 @@
 
 mod action;
 mod classes;
+mod copying;
 mod create;
 mod expr;
 mod operator;

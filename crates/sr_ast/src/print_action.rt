@@ -2,13 +2,13 @@ ghost use Rattle.std.specs.Prelude.{◌≡◌, ◌∷◌, ◌++◌, [], map, cod
 ghost use Rattle.sr_ast.specs.Actions.{chain_of};
 ghost use Rattle.sr_ast.specs.Exprs.{term_of};
 ghost use Rattle.sr_ast.specs.Pages.{put_all, word, semicolon, in_parentheses, listed};
-ghost use Rattle.sr_ast.specs.Printing.{names_pieces, row_pieces, chain_pieces};
+ghost use Rattle.sr_ast.specs.Printing.{names_pieces, row_pieces, expr_pieces, chain_pieces};
 
 use crate::action::{Action, Actions};
 use crate::expr::Expr;
 use crate::page::Page;
 use crate::print_expr::print_column;
-use crate::printing::{Printed, print_list};
+use crate::printing::{Printed, print_behind, print_list};
 use sr_base::{Name, NoMemory};
 
 /// Prints names in parentheses, or nothing where there are none.
@@ -54,26 +54,39 @@ fn print_action(action: &Action, page: &mut Page) -> Result<(), NoMemory>
             print_insert(table, columns.as_slice(), values.as_slice(), page)
         }
         Action::If(condition, taken) => {
-            page.word("IF")?;
-            condition.print(page)?;
-            page.word("THEN")?;
+            print_condition(condition, page)?;
             print_actions(taken, page)?;
-            page.word("END IF")?;
-            page.semicolon()?;
+            print_end(page)?;
             Ok(())
         }
         Action::IfElse(condition, taken, other) => {
-            page.word("IF")?;
-            condition.print(page)?;
-            page.word("THEN")?;
+            print_condition(condition, page)?;
             print_actions(taken, page)?;
             page.word("ELSE")?;
             print_actions(other, page)?;
-            page.word("END IF")?;
-            page.semicolon()?;
+            print_end(page)?;
             Ok(())
         }
     }
+}
+
+/// Prints the head of an IF.
+#[tactic(auto, using(crate::proofs::Prints::steps))]
+fn print_condition(condition: &Expr, page: &mut Page) -> Result<(), NoMemory>
+    ensures ok { OnOk result (page.new ≡ put_all page.old (word (codes "IF") ∷ (expr_pieces condition.now ++ word (codes "THEN") ∷ []))) }
+{
+    print_behind("IF", condition, page)?;
+    page.word("THEN")?;
+    Ok(())
+}
+
+/// Prints the end of an IF, and its `;`.
+fn print_end(page: &mut Page) -> Result<(), NoMemory>
+    ensures ok { OnOk result (page.new ≡ put_all page.old (word (codes "END IF") ∷ semicolon ∷ [])) }
+{
+    page.word("END IF")?;
+    page.semicolon()?;
+    Ok(())
 }
 
 #[tactic(auto, using(crate::proofs::Prints::steps))]
@@ -87,8 +100,7 @@ fn print_set(
 {
     page.word("SET")?;
     print_column(alias, name, page)?;
-    page.word("=")?;
-    value.print(page)?;
+    print_behind("=", value, page)?;
     page.semicolon()?;
     Ok(())
 }
@@ -102,8 +114,7 @@ fn print_insert(
 ) -> Result<(), NoMemory>
     ensures ok { OnOk result (page.new ≡ put_all page.old (chain_pieces (chain_of (Action.Insert table.now columns.now values.now ∷ [])))) }
 {
-    page.word("INSERT INTO")?;
-    page.name(table)?;
+    print_behind("INSERT INTO", table, page)?;
     print_inserted(columns, values, page)?;
     Ok(())
 }

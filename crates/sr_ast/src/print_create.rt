@@ -28,7 +28,7 @@ use crate::create::{
 use crate::page::Page;
 use crate::print_action::{print_actions, print_names, print_parenthesized};
 use crate::print_expr::print_text;
-use crate::printing::{Printed, print_led, print_list, print_row};
+use crate::printing::{Printed, print_behind, print_led, print_list, print_row};
 use sr_base::{Kind, Name, NoMemory, Text, Value};
 
 /// Prints words where they are wanted.
@@ -88,8 +88,7 @@ impl Printed for CreateTable {
 
     #[tactic(auto, using(crate::proofs::Prints::steps), unfolding(crate::specs::Layout::create_table_pieces))]
     fn print(&self, page: &mut Page) -> Result<(), NoMemory> {
-        page.word("CREATE TABLE")?;
-        page.name(&self.name)?;
+        print_behind("CREATE TABLE", &self.name, page)?;
         print_columns(self.columns.as_slice(), self.key.as_slice(), page)?;
         Ok(())
     }
@@ -100,8 +99,7 @@ impl Printed for ArticleRule {
 
     #[tactic(auto, using(crate::proofs::Prints::steps), unfolding(crate::specs::Layout::article_pieces))]
     fn print(&self, page: &mut Page) -> Result<(), NoMemory> {
-        page.word("TABLE")?;
-        page.name(&self.table)?;
+        print_behind("TABLE", &self.table, page)?;
         print_names(self.columns.as_slice(), page)?;
         print_led("WHERE", &self.condition, page)?;
         print_led("SUBSCRIBE BY", &self.by, page)?;
@@ -114,8 +112,7 @@ impl Printed for CreatePublication {
 
     #[tactic(auto, using(crate::proofs::Prints::steps), unfolding(crate::specs::Layout::create_publication_pieces))]
     fn print(&self, page: &mut Page) -> Result<(), NoMemory> {
-        page.word("CREATE PUBLICATION")?;
-        page.name(&self.name)?;
+        print_behind("CREATE PUBLICATION", &self.name, page)?;
         print_parenthesized(self.articles.as_slice(), page)?;
         Ok(())
     }
@@ -154,8 +151,7 @@ impl Printed for SubscriptionRule {
     fn print(&self, page: &mut Page) -> Result<(), NoMemory> {
         page.name(&self.publication)?;
         print_given(&self.value, page)?;
-        page.word("FOR")?;
-        page.name(&self.user)?;
+        print_behind("FOR", &self.user, page)?;
         Ok(())
     }
 }
@@ -176,8 +172,7 @@ impl Printed for (Image, Name) {
     #[tactic(auto, using(crate::proofs::Prints::steps), unfolding(crate::specs::Layout::alias_pieces))]
     fn print(&self, page: &mut Page) -> Result<(), NoMemory> {
         page.word(image_word(self.0))?;
-        page.word("AS")?;
-        page.name(&self.1)?;
+        print_behind("AS", &self.1, page)?;
         Ok(())
     }
 }
@@ -187,8 +182,7 @@ impl Printed for (Name, Kind) {
 
     #[tactic(auto, using(crate::proofs::Prints::steps), unfolding(crate::specs::Layout::variable_pieces))]
     fn print(&self, page: &mut Page) -> Result<(), NoMemory> {
-        page.word("DECLARE")?;
-        page.name(&self.0)?;
+        print_behind("DECLARE", &self.0, page)?;
         self.1.print(page)?;
         page.semicolon()?;
         Ok(())
@@ -212,8 +206,7 @@ impl Printed for CreateTrigger {
 
     #[tactic(auto, using(crate::proofs::Prints::steps), unfolding(crate::specs::Layout::create_trigger_pieces))]
     fn print(&self, page: &mut Page) -> Result<(), NoMemory> {
-        page.word("CREATE TRIGGER")?;
-        page.name(&self.name)?;
+        print_behind("CREATE TRIGGER", &self.name, page)?;
         page.word("RESOLVE UPDATE")?;
         print_fired(self, page)?;
         Ok(())
@@ -235,8 +228,7 @@ fn print_fired(trigger: &CreateTrigger, page: &mut Page) -> Result<(), NoMemory>
 fn print_on(trigger: &CreateTrigger, page: &mut Page) -> Result<(), NoMemory>
     ensures ok { OnOk result (page.new ≡ put_all page.old (on_pieces trigger.now)) }
 {
-    page.word("ON")?;
-    page.name(&trigger.table)?;
+    print_behind("ON", &trigger.table, page)?;
     page.word("REFERENCING")?;
     print_row(trigger.aliases.as_slice(), page)?;
     print_body(trigger, page)?;

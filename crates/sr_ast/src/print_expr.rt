@@ -2,7 +2,7 @@ ghost use Rattle.std.specs.Prelude.{◌≡◌, ◌∷◌, ◌++◌, [], codes, L
 ghost use Rattle.std.specs.Fmt.{signed_decimal};
 ghost use Rattle.sr_dates.specs.Calendar.{date_text};
 ghost use Rattle.sr_ast.specs.Exprs.{term_of};
-ghost use Rattle.sr_ast.specs.Pages.{put_all, word};
+ghost use Rattle.sr_ast.specs.Pages.{put_all, word, call_parenthesis, close_parenthesis};
 ghost use Rattle.sr_ast.specs.Printing.{
   name_pieces,
   value_pieces,
@@ -80,15 +80,22 @@ impl Printed for Kind {
             Kind::Big => page.word("BIGINT"),
             Kind::Varchar(length) => {
                 let digits = length.to_string(page.alloc())?;
-                page.word("VARCHAR")?;
-                page.call()?;
-                page.word(digits.as_str())?;
-                page.close()?;
-                Ok(())
+                print_called("VARCHAR", digits.as_str(), page)
             }
             Kind::Date => page.word("DATE"),
         }
     }
+}
+
+/// Prints a word, and another in parentheses right behind it.
+pub fn print_called(called: &str, inside: &str, page: &mut Page) -> Result<(), NoMemory>
+    ensures ok { OnOk result (page.new ≡ put_all page.old (word called.now ∷ call_parenthesis ∷ word inside.now ∷ close_parenthesis ∷ [])) }
+{
+    page.word(called)?;
+    page.call()?;
+    page.word(inside)?;
+    page.close()?;
+    Ok(())
 }
 
 /// Prints a column, with the name before its dot.

@@ -26,8 +26,8 @@ use crate::expr::Expr;
 use crate::page::Page;
 use crate::print_action::{print_names, print_parenthesized};
 use crate::print_create::print_if;
-use crate::print_expr::print_column;
-use crate::printing::{Printed, print_led, print_list, print_row};
+use crate::print_expr::{print_called, print_column};
+use crate::printing::{Printed, print_behind, print_led, print_list, print_row};
 use crate::query::{Delete, Dml, Insert, Item, Items, Join, OrderBy, Select, Source, Update};
 use crate::stmt::{Passthrough, Stmt};
 use sr_base::{Name, NoMemory, Seq, Text};
@@ -57,8 +57,7 @@ impl Printed for Insert {
 
     #[tactic(auto, using(crate::proofs::Prints::steps), unfolding(crate::specs::Layout::insert_pieces))]
     fn print(&self, page: &mut Page) -> Result<(), NoMemory> {
-        page.word("INSERT INTO")?;
-        page.name(&self.table)?;
+        print_behind("INSERT INTO", &self.table, page)?;
         print_rows(self.columns.as_slice(), self.rows.as_slice(), page)?;
         Ok(())
     }
@@ -70,8 +69,7 @@ impl Printed for (Name, Expr) {
     #[tactic(auto, using(crate::proofs::Prints::steps), unfolding(crate::specs::Layout::set_pieces))]
     fn print(&self, page: &mut Page) -> Result<(), NoMemory> {
         page.name(&self.0)?;
-        page.word("=")?;
-        self.1.print(page)?;
+        print_behind("=", &self.1, page)?;
         Ok(())
     }
 }
@@ -81,8 +79,7 @@ impl Printed for Update {
 
     #[tactic(auto, using(crate::proofs::Prints::steps), unfolding(crate::specs::Layout::update_pieces))]
     fn print(&self, page: &mut Page) -> Result<(), NoMemory> {
-        page.word("UPDATE")?;
-        page.name(&self.table)?;
+        print_behind("UPDATE", &self.table, page)?;
         page.word("SET")?;
         print_list(self.sets.as_slice(), page)?;
         print_led("WHERE", &self.condition, page)?;
@@ -95,8 +92,7 @@ impl Printed for Delete {
 
     #[tactic(auto, using(crate::proofs::Prints::steps), unfolding(crate::specs::Layout::delete_pieces))]
     fn print(&self, page: &mut Page) -> Result<(), NoMemory> {
-        page.word("DELETE FROM")?;
-        page.name(&self.table)?;
+        print_behind("DELETE FROM", &self.table, page)?;
         print_led("WHERE", &self.condition, page)?;
         Ok(())
     }
@@ -133,13 +129,7 @@ impl Printed for Item {
     fn print(&self, page: &mut Page) -> Result<(), NoMemory> {
         match self {
             Item::Value(expr) => expr.print(page),
-            Item::Count => {
-                page.word("COUNT")?;
-                page.call()?;
-                page.word("*")?;
-                page.close()?;
-                Ok(())
-            }
+            Item::Count => print_called("COUNT", "*", page),
             Item::Sum(of) => print_aggregate("SUM", of, page),
             Item::Min(of) => print_aggregate("MIN", of, page),
             Item::Max(of) => print_aggregate("MAX", of, page),
@@ -172,10 +162,8 @@ impl Printed for Join {
 
     #[tactic(auto, using(crate::proofs::Prints::steps), unfolding(crate::specs::Layout::join_pieces))]
     fn print(&self, page: &mut Page) -> Result<(), NoMemory> {
-        page.word("JOIN")?;
-        self.source.print(page)?;
-        page.word("ON")?;
-        self.condition.print(page)?;
+        print_behind("JOIN", &self.source, page)?;
+        print_behind("ON", &self.condition, page)?;
         Ok(())
     }
 }
@@ -210,8 +198,7 @@ impl Printed for Select {
     fn print(&self, page: &mut Page) -> Result<(), NoMemory> {
         page.word("SELECT")?;
         print_items(&self.items, page)?;
-        page.word("FROM")?;
-        self.source.print(page)?;
+        print_behind("FROM", &self.source, page)?;
         print_row(self.joins.as_slice(), page)?;
         print_led("WHERE", &self.condition, page)?;
         print_order(self.order.as_slice(), page)?;
@@ -230,15 +217,6 @@ impl Printed for Passthrough {
         print_list(self.users.as_slice(), page)?;
         Ok(())
     }
-}
-
-/// Prints words, and then a part.
-fn print_behind<T: Printed>(words: &str, part: &T, page: &mut Page) -> Result<(), NoMemory>
-    ensures ok { OnOk result (page.new ≡ put_all page.old (word words.now ∷ T.pieces part.now)) }
-{
-    page.word(words)?;
-    part.print(page)?;
-    Ok(())
 }
 
 impl Printed for Stmt {

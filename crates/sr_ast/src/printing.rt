@@ -1,5 +1,5 @@
 ghost use Rattle.std.specs.Prelude.{◌≡◌, ◌∷◌, [], List, ℕ, Option, OnOk};
-ghost use Rattle.sr_ast.specs.Pages.{Piece, put_all, listed, more_listed, in_row, led};
+ghost use Rattle.sr_ast.specs.Pages.{Piece, put_all, word, listed, more_listed, in_row, led};
 
 use crate::page::Page;
 use sr_base::NoMemory;
@@ -11,6 +11,15 @@ pub trait Printed: Drop {
     /// Prints the value behind what stands on the page.
     fn print(&self, page: &mut Page) -> Result<(), NoMemory>
         ensures ok { OnOk result (page.new ≡ put_all page.old (pieces self.now)) };
+}
+
+/// Prints words, and then a part.
+pub fn print_behind<T: Printed>(words: &str, part: &T, page: &mut Page) -> Result<(), NoMemory>
+    ensures ok { OnOk result (page.new ≡ put_all page.old (word words.now ∷ T.pieces part.now)) }
+{
+    page.word(words)?;
+    part.print(page)?;
+    Ok(())
 }
 
 /// Prints one or more, with commas between them.

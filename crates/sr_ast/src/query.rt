@@ -1,3 +1,4 @@
+use crate::copying::{copy_three, copy_two};
 use crate::expr::Expr;
 use sr_base::{Copied, Name, NoMemory, Seq};
 use std::alloc::Global;
@@ -94,41 +95,43 @@ impl Copied for Dml {
 
 impl Copied for Insert {
     fn copy(&self, alloc: Global) -> Result<Insert, NoMemory> {
+        let (table, columns, rows) = copy_three(&self.table, &self.columns, &self.rows, alloc)?;
         Ok(Insert {
-            table: self.table.copy(alloc)?,
-            columns: self.columns.copy(alloc)?,
-            rows: self.rows.copy(alloc)?,
+            table,
+            columns,
+            rows,
         })
     }
 }
 
 impl Copied for Update {
     fn copy(&self, alloc: Global) -> Result<Update, NoMemory> {
+        let (table, sets, condition) = copy_three(&self.table, &self.sets, &self.condition, alloc)?;
         Ok(Update {
-            table: self.table.copy(alloc)?,
-            sets: self.sets.copy(alloc)?,
-            condition: self.condition.copy(alloc)?,
+            table,
+            sets,
+            condition,
         })
     }
 }
 
 impl Copied for Delete {
     fn copy(&self, alloc: Global) -> Result<Delete, NoMemory> {
-        Ok(Delete {
-            table: self.table.copy(alloc)?,
-            condition: self.condition.copy(alloc)?,
-        })
+        let (table, condition) = copy_two(&self.table, &self.condition, alloc)?;
+        Ok(Delete { table, condition })
     }
 }
 
 impl Copied for Select {
     fn copy(&self, alloc: Global) -> Result<Select, NoMemory> {
+        let (items, source, joins) = copy_three(&self.items, &self.source, &self.joins, alloc)?;
+        let (condition, order) = copy_two(&self.condition, &self.order, alloc)?;
         Ok(Select {
-            items: self.items.copy(alloc)?,
-            source: self.source.copy(alloc)?,
-            joins: self.joins.copy(alloc)?,
-            condition: self.condition.copy(alloc)?,
-            order: self.order.copy(alloc)?,
+            items,
+            source,
+            joins,
+            condition,
+            order,
         })
     }
 }
@@ -156,27 +159,24 @@ impl Copied for Item {
 
 impl Copied for Source {
     fn copy(&self, alloc: Global) -> Result<Source, NoMemory> {
-        Ok(Source {
-            table: self.table.copy(alloc)?,
-            alias: self.alias.copy(alloc)?,
-        })
+        let (table, alias) = copy_two(&self.table, &self.alias, alloc)?;
+        Ok(Source { table, alias })
     }
 }
 
 impl Copied for Join {
     fn copy(&self, alloc: Global) -> Result<Join, NoMemory> {
-        Ok(Join {
-            source: self.source.copy(alloc)?,
-            condition: self.condition.copy(alloc)?,
-        })
+        let (source, condition) = copy_two(&self.source, &self.condition, alloc)?;
+        Ok(Join { source, condition })
     }
 }
 
 impl Copied for OrderBy {
     fn copy(&self, alloc: Global) -> Result<OrderBy, NoMemory> {
+        let (table, column) = copy_two(&self.table, &self.column, alloc)?;
         Ok(OrderBy {
-            table: self.table.copy(alloc)?,
-            column: self.column.copy(alloc)?,
+            table,
+            column,
             descending: self.descending,
         })
     }

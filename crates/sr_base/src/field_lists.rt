@@ -15,7 +15,11 @@ use std::alloc::Global;
 const FIRST_ROOM: usize = 16;
 
 /// So many items.
-fn items_of<T: Field>(alloc: Global, count: u32, bytes: &[u8]) -> Result<(Vec<T>, &[u8]), Broken>
+pub(crate) fn items_of<T: Field>(
+    alloc: Global,
+    count: u32,
+    bytes: &[u8],
+) -> Result<(Vec<T>, &[u8]), Broken>
     ensures { Gives (λ x. (x.0.items, x.1.now)) result (items_at T.reading count bytes.now) }
 {
     let mut items = Vec::with_capacity(alloc, FIRST_ROOM.min(count as usize))?;

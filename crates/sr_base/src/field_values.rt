@@ -12,7 +12,7 @@ use crate::broken::Broken;
 use crate::copied::NoMemory;
 use crate::day::Day;
 use crate::field::Field;
-use crate::field_lists::write_items;
+use crate::field_lists::{items_of, write_items};
 use crate::field_parts::write_pair;
 use crate::key::Key;
 use crate::offset::Offset;
@@ -127,9 +127,16 @@ impl Field for Row {
 
     ghost format = { list_format value_format };
 
+    #[tactic(auto, unfolding(crate::specs::Fields::list_at, crate::specs::Fields::items_at))]
     fn read(alloc: Global, bytes: &[u8]) -> Result<(Row, &[u8]), Broken> {
-        let (values, rest) = Seq::<Value>::read(alloc, bytes)?;
-        Ok((Row::new(alloc, values)?, rest))
+        let (count, rest) = u32::read(alloc, bytes)?;
+        if count == 2 {
+            let (first, rest) = Value::read(alloc, rest)?;
+            let (second, rest) = Value::read(alloc, rest)?;
+            return Ok((Row::two(alloc, [first, second])?, rest));
+        }
+        let (values, rest) = items_of::<Value>(alloc, count, rest)?;
+        Ok((Row::new(alloc, Seq::from_vec(values))?, rest))
     }
 
     fn write(&self, out: &mut Vec<u8>) -> Result<(), NoMemory> {

@@ -1,4 +1,4 @@
-ghost use Rattle.std.specs.Prelude.{◌≡◌, IfOk};
+ghost use Rattle.std.specs.Prelude.{◌≡◌, ◌∷◌, [], IfOk};
 ghost use Rattle.sr_base.specs.Held.{values_of};
 
 use crate::copied::{Copied, NoMemory};
@@ -37,6 +37,15 @@ impl Key {
         ensures values { result ≡ values }
     {
         Key { held: hold(values) }
+    }
+
+    /// The key of one value. It takes no memory.
+    pub fn one(value: Value) -> Key
+        ensures values { result ≡ value ∷ [] }
+    {
+        Key {
+            held: Held::One(value),
+        }
     }
 
     /// The values, in key order.

@@ -41,6 +41,15 @@ impl Row {
         })
     }
 
+    /// The row of two values. It takes one block of memory.
+    pub fn two(alloc: Global, values: [Value; 2]) -> Result<Row, NoMemory>
+        ensures values { IfOk result (λ r. r ≡ values) }
+    {
+        Ok(Row {
+            shared: Rc::new(alloc, Cells::Two(values))?,
+        })
+    }
+
     /// The values, in table order.
     pub fn values(&self) -> &[Value]
         ensures values { result.now ≡ self.now }

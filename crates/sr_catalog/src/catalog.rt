@@ -59,11 +59,7 @@ impl Catalog {
         if let Some(fault) = refusal(&self.schema, alloc, stmt)? {
             return Err(fault);
         }
-        let mut schema = self.schema.copy(alloc)?;
-        match apply(&mut schema, alloc, stmt) {
-            Ok(()) => Ok(Catalog { schema }),
-            Err(_) => Err(DdlFault::Memory),
-        }
+        Ok(changed(&self.schema, alloc, stmt)?)
     }
 
     /// The fault that refuses a statement, where one does: the one with which `change` answers.
@@ -151,6 +147,20 @@ impl Catalog {
         ensures started { IfOk result (λ started. started ≡ is_started self.now rule.now) }
     {
         self.schema.has_started(alloc, rule)
+    }
+}
+
+/// The catalog after a statement that is not refused.
+fn changed(schema: &Schema, alloc: Global, stmt: &Stmt) -> Result<Catalog, NoMemory>
+    ensures { IfOk result (λ after. after ≡ next schema.now stmt.now) }
+{
+    let mut after = schema.copy(alloc)?;
+    match apply(&mut after, alloc, stmt) {
+        Ok(()) => Ok(Catalog { schema: after }),
+        Err(fault) => {
+            drop(after);
+            Err(fault)
+        }
     }
 }
 

@@ -39,14 +39,26 @@ impl Catalog {
         ensures makes { IsMade self.now → replayed (nothing_but self.now.publisher) (statements self.now) ≡ Some self.now }
     {
         let mut texts = Vec::new(alloc);
-        add_all(alloc, self.users(), &mut texts)?;
-        add_all(alloc, self.tables(), &mut texts)?;
-        add_all(alloc, self.publications(), &mut texts)?;
-        add_all(alloc, self.triggers(), &mut texts)?;
-        add_all(alloc, self.subscriptions(), &mut texts)?;
-        add_starts(alloc, self.subscriptions(), &mut texts)?;
-        Ok(texts)
+        match add_script(alloc, self, &mut texts) {
+            Ok(()) => Ok(texts),
+            Err(fault) => {
+                drop(texts);
+                Err(fault)
+            }
+        }
     }
+}
+
+#[tactic(auto, using(crate::proofs::Printings::joined))]
+fn add_script(alloc: Global, catalog: &Catalog, texts: &mut Vec<Text>) -> Result<(), NoMemory>
+    ensures { OnOk result (texts.new.items ≡ texts.old.items ++ map printed (statements catalog.now)) }
+{
+    add_all(alloc, catalog.users(), texts)?;
+    add_all(alloc, catalog.tables(), texts)?;
+    add_all(alloc, catalog.publications(), texts)?;
+    add_all(alloc, catalog.triggers(), texts)?;
+    add_all(alloc, catalog.subscriptions(), texts)?;
+    add_starts(alloc, catalog.subscriptions(), texts)
 }
 
 /// What a statement makes.
@@ -61,8 +73,16 @@ trait Made: Drop {
 fn printed<T: Made>(alloc: Global, item: &T) -> Result<Text, NoMemory>
     ensures { IfOk result (λ text. text ≡ printed (T.stmt_of item.now)) }
 {
-    let stmt = item.stmt(alloc)?;
-    print(alloc, &stmt)
+    text_once(alloc, item.stmt(alloc)?)
+}
+
+/// What a statement prints, which is needed no more.
+fn text_once(alloc: Global, stmt: Stmt) -> Result<Text, NoMemory>
+    ensures { IfOk result (λ text. text ≡ printed stmt) }
+{
+    let text = print(alloc, &stmt);
+    drop(stmt);
+    text
 }
 
 fn add_all<T: Made>(alloc: Global, items: &[T], texts: &mut Vec<Text>) -> Result<(), NoMemory>
@@ -97,8 +117,8 @@ fn add_starts(
 fn start_text(alloc: Global, subscription: &Subscription) -> Result<Text, NoMemory>
     ensures { IfOk result (λ text. text ≡ printed (start_of subscription.now)) }
 {
-    let stmt = Stmt::StartSubscription(subscription_rule(alloc, subscription)?);
-    print(alloc, &stmt)
+    let rule = subscription_rule(alloc, subscription)?;
+    text_once(alloc, Stmt::StartSubscription(rule))
 }
 
 fn subscription_rule(
@@ -109,8 +129,8 @@ fn subscription_rule(
 {
     Ok(SubscriptionRule {
         publication: subscription.publication.copy(alloc)?,
-        value: subscription.value.copy(alloc)?,
         user: subscription.user.copy(alloc)?,
+        value: subscription.value.copy(alloc)?,
     })
 }
 
@@ -172,12 +192,10 @@ impl Made for Table {
 
     #[tactic(auto, unfolding(sr_replay::specs::Scripts::create_table_of))]
     fn stmt(&self, alloc: Global) -> Result<Stmt, NoMemory> {
-        let columns = column_rules(alloc, self.columns.as_slice())?;
-        let key = key_names(alloc, self)?;
         Ok(Stmt::CreateTable(CreateTable {
             name: self.name.copy(alloc)?,
-            columns,
-            key: Seq::from_vec(key),
+            key: Seq::from_vec(key_names(alloc, self)?),
+            columns: column_rules(alloc, self.columns.as_slice())?,
         }))
     }
 }
@@ -203,10 +221,9 @@ impl Made for Publication {
 
     #[tactic(auto, unfolding(sr_replay::specs::Scripts::create_publication_of))]
     fn stmt(&self, alloc: Global) -> Result<Stmt, NoMemory> {
-        let articles = article_rules(alloc, self.articles.as_slice())?;
         Ok(Stmt::CreatePublication(CreatePublication {
             name: self.name.copy(alloc)?,
-            articles,
+            articles: article_rules(alloc, self.articles.as_slice())?,
         }))
     }
 }
@@ -226,10 +243,19 @@ fn article_rules(alloc: Global, articles: &[Article]) -> Result<Seq<ArticleRule>
 fn article_rule(alloc: Global, article: &Article) -> Result<ArticleRule, NoMemory>
     ensures { IfOk result (λ rule. rule ≡ article_rule article.now) }
 {
-    Ok(ArticleRule {
-        table: article.table.copy(alloc)?,
-        columns: article.columns.copy(alloc)?,
-        condition: article.condition.copy(alloc)?,
-        by: article.by.copy(alloc)?,
-    })
+    let table = article.table.copy(alloc)?;
+    let columns = article.columns.copy(alloc)?;
+    let condition = article.condition.copy(alloc)?;
+    match article.by.copy(alloc) {
+        Ok(by) => Ok(ArticleRule {
+            table,
+            columns,
+            condition,
+            by,
+        }),
+        Err(fault) => {
+            drop(condition);
+            Err(fault)
+        }
+    }
 }

@@ -6,6 +6,7 @@ use Rattle.sr_agent.specs.Runs.{after_run}
 use Rattle.sr_agent.specs.declared.options.Options.{Options}
 use Rattle.sr_ast.specs.declared.stmt.Stmt.{Stmt}
 use Rattle.sr_book.specs.Entries.{Name}
+use Rattle.sr_database.specs.Causes.{OpenCause}
 use Rattle.sr_database.specs.Databases.{IsDatabase, IsHeld, HasDatabase}
 use Rattle.sr_database.specs.Views.{View}
 use Rattle.sr_database.specs.declared.fault.DatabaseFault.{DatabaseFault}
@@ -14,13 +15,15 @@ use Rattle.sr_history.specs.Recorded.{Recorded}
 use Rattle.sr_script.specs.Acts.{entries_of}
 use Rattle.sr_session.specs.Reached.{IsBroken}
 use Rattle.sr_session.specs.Runs.{RanScript}
+use Rattle.sr_site.specs.Causes.{Rose}
 use Rattle.sr_site.specs.Files.{Files}
 use Rattle.sr_site.specs.Seen.{Seen}
 use Rattle.sr_site.specs.Streams.{Output}
+use Rattle.sr_standing.specs.Damage.{IsMissing, IsDamagedAt}
 use Rattle.sr_command.specs.Attaching.{AttachCause, Attaches}
 use Rattle.sr_command.specs.Kept.{IsKept}
 use Rattle.sr_command.specs.Running.{IsOpened, OpenedCause}
-use Rattle.sr_command.proofs.Opened.{attached_still, settled_on, untouched_still}
+use Rattle.sr_command.proofs.Opened.{attached_still, settled_on, told_on, untouched_still}
 
 -- ---- the attached site
 
@@ -33,6 +36,16 @@ not_attached before now store.Disk cause = cause
 not_attached before now (store.Full end need) cause = cause
 not_attached before now (store.Long size limit) cause = cause
 not_attached before now store.Memory cause = cause
+
+-- why no database is opened on the attached site is why it is not from before
+pub not_opened : (name mail : List ℕ) (before middle now : Seen) (fault : DatabaseFault) → Attaches name mail true before middle → middle.disk_faults ≡ before.disk_faults → OpenCause middle now fault → OpenedCause before now fault
+not_opened name mail before middle now store.Missing attaches steady cause = λ told. subst IsMissing (attaches.files told) (cause (told_on before middle attaches.stays told))
+not_opened name mail before middle now store.Exists attaches steady cause = cause
+not_opened name mail before middle now (store.Damaged file at) attaches steady cause = λ told. subst (λ (f : Files). IsDamagedAt file at f) (attaches.files told) (cause (told_on before middle attaches.stays told))
+not_opened name mail before middle now store.Disk attaches steady cause = subst (λ n. Rose n now.disk_faults) steady cause
+not_opened name mail before middle now (store.Full end need) attaches steady cause = cause
+not_opened name mail before middle now (store.Long size limit) attaches steady cause = cause
+not_opened name mail before middle now store.Memory attaches steady cause = cause
 
 module _ (name mail : List ℕ) (before now : Seen) (view : View) (attaches : Attaches name mail true before now) where
   database_still : (publisher : Name) (es : List Recorded) → IsTrue before.told → IsDatabase view publisher es before → IsDatabase view publisher es now

@@ -89,7 +89,9 @@ pub fn tell<O: Sink>(alloc: Global, output: &mut O, fault: Fault) -> u8
     ensures told { Told fault (O.seen output.old) (O.seen output.new) result }
 {
     let told = report(alloc, output, fault);
-    told.status()
+    let status = told.status();
+    drop(told);
+    status
 }
 
 /// `init NAME USER`. No database is kept.

@@ -55,8 +55,7 @@ fn push_numbers(out: &mut Vec<u8>, first: u64, second: u64) -> Result<(), NoMemo
     let mut buffer = Buffer::new();
     out.extend_from_slice(buffer.format(first).as_bytes())?;
     out.extend_from_slice(b" ")?;
-    out.extend_from_slice(buffer.format(second).as_bytes())?;
-    Ok(())
+    out.extend_from_slice(buffer.format(second).as_bytes())
 }
 
 /// Appends what a database's fault says.
@@ -87,8 +86,7 @@ fn push_damage(out: &mut Vec<u8>, file: File, at: u64) -> Result<(), NoMemory>
     out.extend_from_slice(b"database damaged ")?;
     out.extend_from_slice(file_text(file))?;
     out.extend_from_slice(b" ")?;
-    out.extend_from_slice(buffer.format(at).as_bytes())?;
-    Ok(())
+    out.extend_from_slice(buffer.format(at).as_bytes())
 }
 
 fn script_line(alloc: Global, at: usize) -> Result<Vec<u8>, NoMemory>
@@ -144,6 +142,7 @@ pub fn report<O: Sink>(alloc: Global, output: &mut O, fault: Fault) -> Fault
         }
         Err(_) => {
             say_once(output, b"out of memory\n");
+            drop(fault);
             Fault::Database(DatabaseFault::Memory)
         }
     }

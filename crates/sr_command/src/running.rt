@@ -71,7 +71,7 @@ fn go_on<S: Site>(
 }
 
 /// Attaches the files of a name and opens the database that they hold.
-#[tactic(auto, using(sr_site::specs::Growing::disk_stays_on, crate::proofs::Opened::attaching))]
+#[tactic(auto, using(crate::proofs::Opened::attaching))]
 fn open_anew<S: Site>(
     alloc: Global,
     name: &Text,
@@ -86,11 +86,20 @@ fn open_anew<S: Site>(
     ensures stays { DiskStays (S.seen site.old) (S.seen site.new) }
     ensures cause { IfErr result (OpenedCause (S.seen site.old) (S.seen site.new)) }
 {
-    attach(alloc, name, mail, site)?;
-    let database = Database::open(alloc, site)?;
-    let usable = database.usable();
-    prove!(usable);
-    Ok(database)
+    match attach(alloc, name, mail, site) {
+        Ok(()) => {
+            let opened = Database::open(alloc, site);
+            match opened {
+                Ok(database) => {
+                    let usable = database.usable();
+                    prove!(usable);
+                    Ok(database)
+                }
+                Err(fault) => Err(fault),
+            }
+        }
+        Err(fault) => Err(fault),
+    }
 }
 
 /// Keeps a database open for the next command.

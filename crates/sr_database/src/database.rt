@@ -1,4 +1,4 @@
-ghost use Rattle.std.specs.Prelude.{◌≡◌, [], ◌++◌, true, List, IfOk, OnOk, OnErr, option_map};
+ghost use Rattle.std.specs.Prelude.{◌≡◌, [], ◌∷◌, ◌++◌, true, List, IfOk, OnOk, OnErr, option_map};
 ghost use Rattle.std.specs.List.{AllByRecursion};
 ghost use Rattle.sr_book.specs.Entries.{Name as AName};
 ghost use Rattle.sr_exec.specs.Applying.{applied};
@@ -182,7 +182,9 @@ fn put_in(
 {
     let mut copies = copies_of(alloc, changes)?;
     let before = pending.as_slice().len();
-    pending.append(&mut copies)?;
+    let added = pending.append(&mut copies);
+    drop(copies);
+    added?;
     match apply(alloc, catalog, rows, changes) {
         Ok(()) => Ok(()),
         Err(refused) => {
@@ -199,8 +201,21 @@ fn copies_of(alloc: Global, changes: &[Change]) -> Result<Vec<Change>, NoMemory>
     let mut copies = Vec::new(alloc);
     let mut left = changes;
     'changes: while let Some((change, rest)) = left.split_first() {
-        copies.push(change.copy(alloc)?)?;
-        left = rest;
+        match push_copy(alloc, &mut copies, change) {
+            Ok(()) => left = rest,
+            Err(refused) => {
+                drop(copies);
+                return Err(refused);
+            }
+        }
     }
     Ok(copies)
+}
+
+/// A copy of a change behind others.
+fn push_copy(alloc: Global, copies: &mut Vec<Change>, change: &Change) -> Result<(), NoMemory>
+    ensures { OnOk result (copies.new.items ≡ copies.old.items ++ change.now ∷ []) }
+{
+    copies.push(change.copy(alloc)?)?;
+    Ok(())
 }

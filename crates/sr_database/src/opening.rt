@@ -211,9 +211,16 @@ fn read_entries<S: Site>(
 {
     let size = site.length(log)?;
     let mut replay = Replay::new(alloc, &publisher)?;
-    let end = replay_all(alloc, site, log, &publisher, &mut replay, size)?;
-    let base_catalog = Catalog::new(alloc, publisher);
-    Ok(database_of(alloc, replay, base_catalog, log, end))
+    match replay_all(alloc, site, log, &publisher, &mut replay, size) {
+        Ok(end) => {
+            let base_catalog = Catalog::new(alloc, publisher);
+            Ok(database_of(alloc, replay, base_catalog, log, end))
+        }
+        Err(fault) => {
+            drop(replay);
+            Err(fault)
+        }
+    }
 }
 
 /// Reads all entries, and answers the position behind the last. It reads front to back, once.

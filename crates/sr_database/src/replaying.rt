@@ -107,14 +107,16 @@ fn read_record<S: Site>(
         });
     };
     let entry = read_body(alloc, site, log, &mut replay.buffer, place, count)?;
-    let may = follow(
+    let followed = follow(
         alloc,
         &mut replay.catalog,
         &mut replay.rows,
         &mut replay.books,
         &entry,
         count,
-    )?;
+    );
+    drop(entry);
+    let may = followed?;
     if may {
         Ok(())
     } else {

@@ -26,9 +26,13 @@ pub fn grant_causes(
     let bad_type = bad_address(alloc, grant)?;
     Ok(Causes {
         exists,
+        missing: None,
         bad_type,
+        no_key: None,
+        key_outside: None,
+        twice: None,
+        in_use: None,
         too_many: too_many(schema),
-        ..Causes::none()
     })
 }
 

@@ -49,9 +49,11 @@ pub fn create_publication_causes(
         exists,
         missing,
         bad_type,
+        no_key: None,
         key_outside,
+        twice: None,
+        in_use: None,
         too_many: too_many(schema, rule),
-        ..Causes::none()
     })
 }
 
@@ -82,6 +84,19 @@ fn twice_in_articles(alloc: Global, articles: &[ArticleRule]) -> Result<Option<&
     ensures { IfOk result (λ found. option_copied found ≡ twice_in_articles [] articles.now) }
 {
     let mut seen = Seen::new(alloc);
+    let found = twice_after(alloc, &mut seen, articles);
+    drop(seen);
+    found
+}
+
+/// The same after the tables that have been seen.
+fn twice_after<'a>(
+    alloc: Global,
+    seen: &mut Seen,
+    articles: &'a [ArticleRule],
+) -> Result<Option<&'a Name>, NoMemory>
+    ensures { IfOk result (λ found. option_copied found ≡ twice_in_articles seen.old articles.now) }
+{
     let mut rest = articles;
     'articles: while let Some((article, after)) = rest.split_first() {
         if seen.again(alloc, &article.table)? {
@@ -122,7 +137,7 @@ fn absent_in(
     ensures { IfOk result (λ found. found ≡ absent_in article.now (option_copied table.entry)) }
 {
     match table {
-        None => Ok(Some(article.table.copy(alloc)?)),
+        None => owned(alloc, Some(&article.table)),
         Some(table) => absent_in_table(alloc, article, table),
     }
 }
@@ -166,7 +181,7 @@ fn first_bad_article(
     let mut rest = rule.articles.as_slice();
     'articles: while let Some((article, after)) = rest.split_first() {
         if is_bad_article(alloc, article, schema.table(&article.table))? {
-            return Ok(Some(article.table.copy(alloc)?));
+            return owned(alloc, Some(&article.table));
         }
         rest = after;
     }
@@ -293,12 +308,21 @@ pub fn publication_of(
 fn article_of(schema: &Schema, alloc: Global, rule: &ArticleRule) -> Result<Article, NoMemory>
     ensures { IfOk result (λ article. article ≡ article_of schema.now rule.now) }
 {
-    Ok(Article {
-        table: rule.table.copy(alloc)?,
-        columns: columns_of(alloc, rule, schema.table(&rule.table))?,
-        condition: rule.condition.copy(alloc)?,
-        by: rule.by.copy(alloc)?,
-    })
+    let table = rule.table.copy(alloc)?;
+    let columns = columns_of(alloc, rule, schema.table(&rule.table))?;
+    let condition = rule.condition.copy(alloc)?;
+    match rule.by.copy(alloc) {
+        Ok(by) => Ok(Article {
+            table,
+            columns,
+            condition,
+            by,
+        }),
+        Err(fault) => {
+            drop(condition);
+            Err(fault)
+        }
+    }
 }
 
 /// The columns of an article: as written, or all that its table has.
@@ -330,9 +354,14 @@ pub fn drop_publication_causes(
     let subscribed = is_subscribed(schema.subscriptions(), name);
     let in_use = owned(alloc, where_true(subscribed, name))?;
     Ok(Causes {
+        exists: None,
         missing,
+        bad_type: None,
+        no_key: None,
+        key_outside: None,
+        twice: None,
         in_use,
-        ..Causes::none()
+        too_many: None,
     })
 }
 

@@ -83,8 +83,11 @@ pub fn create_subscription_causes(
         exists,
         missing,
         bad_type,
+        no_key: None,
+        key_outside: None,
+        twice: None,
+        in_use: None,
         too_many: too_many(schema.subscriptions()),
-        ..Causes::none()
     })
 }
 
@@ -220,8 +223,7 @@ fn is_started_there(
     if !is_other_with(rule, table, publication) {
         return Ok(false);
     }
-    let started = schema.has_starts(alloc, &rule.user, &publication.name)?;
-    Ok(started)
+    schema.has_starts(alloc, &rule.user, &publication.name)
 }
 
 /// Whether the user has a started subscription of another publication that has the table. It looks at the publications, and not at
@@ -276,9 +278,14 @@ pub fn start_causes(
     let table = twice_subscribed(schema, alloc, rule)?;
     let twice = paired(alloc, &rule.user, table)?;
     Ok(Causes {
+        exists: None,
         missing,
+        bad_type: None,
+        no_key: None,
+        key_outside: None,
         twice,
-        ..Causes::none()
+        in_use: None,
+        too_many: None,
     })
 }
 
@@ -329,8 +336,8 @@ pub fn subscription_of(alloc: Global, rule: &SubscriptionRule) -> Result<Subscri
 {
     Ok(Subscription {
         publication: rule.publication.copy(alloc)?,
-        value: rule.value.copy(alloc)?,
         user: rule.user.copy(alloc)?,
+        value: rule.value.copy(alloc)?,
         started: false,
     })
 }

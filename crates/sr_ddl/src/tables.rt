@@ -28,9 +28,12 @@ pub fn create_table_causes(
     Ok(Causes {
         exists,
         missing,
+        bad_type: None,
         no_key,
+        key_outside: None,
+        twice: None,
+        in_use: None,
         too_many: limit_where(many, 256),
-        ..Causes::none()
     })
 }
 
@@ -70,12 +73,10 @@ fn is_too_many(tables: usize, columns: usize) -> bool
 pub fn table_of(alloc: Global, rule: &CreateTable) -> Result<Table, NoMemory>
     ensures { IfOk result (λ table. table ≡ table_of rule.now) }
 {
-    let columns = columns_of(alloc, rule.columns.as_slice())?;
-    let key = places_of(alloc, rule.columns.as_slice(), rule.key.as_slice())?;
     Ok(Table {
         name: rule.name.copy(alloc)?,
-        columns,
-        key,
+        key: places_of(alloc, rule.columns.as_slice(), rule.key.as_slice())?,
+        columns: columns_of(alloc, rule.columns.as_slice())?,
     })
 }
 

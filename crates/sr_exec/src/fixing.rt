@@ -22,8 +22,26 @@ pub(crate) fn fixed_key(
 ) -> Result<Option<Key>, NoMemory>
     ensures key { IfOk result (λ found. found ≡ fixed_key table.now (term_of condition.now) table.now.key) }
 {
+    match table.key.as_slice() {
+        [place] => match fixed_column(alloc, table, *place, condition)? {
+            Some(value) => Ok(Some(Key::one(value))),
+            None => Ok(None),
+        },
+        places => fixed_columns(alloc, table, places, condition),
+    }
+}
+
+/// The key of several columns that a condition fixes.
+fn fixed_columns(
+    alloc: Global,
+    table: &Table,
+    places: &[usize],
+    condition: &Expr,
+) -> Result<Option<Key>, NoMemory>
+    ensures key { IfOk result (λ found. found ≡ fixed_key table.now (term_of condition.now) places.now) }
+{
     let mut values = Vec::new(alloc);
-    let mut left = table.key.as_slice();
+    let mut left = places;
     'places: while let Some((place, rest)) = left.split_first() {
         let Some(value) = fixed_column(alloc, table, *place, condition)? else {
             return Ok(None);

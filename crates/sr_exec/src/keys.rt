@@ -10,6 +10,16 @@ use std::alloc::Global;
 pub(crate) fn key_of(alloc: Global, places: &[usize], row: &[Value]) -> Result<Key, NoMemory>
     ensures key { IfOk result (λ key. key ≡ key_of places.now row.now) }
 {
+    match places {
+        [place] => Ok(Key::one(value_at(alloc, row, *place)?)),
+        _ => key_of_several(alloc, places, row),
+    }
+}
+
+/// The key of several columns.
+fn key_of_several(alloc: Global, places: &[usize], row: &[Value]) -> Result<Key, NoMemory>
+    ensures key { IfOk result (λ key. key ≡ key_of places.now row.now) }
+{
     let mut values = Vec::with_capacity(alloc, places.len())?;
     let mut left = places;
     'places: while let Some((place, rest)) = left.split_first() {

@@ -1,17 +1,18 @@
-ghost use Rattle.std.specs.Prelude.{◌≡◌, ◌++◌, ◌∷◌, [], IfOk, OnOk, List};
+ghost use Rattle.std.specs.Prelude.{◌≡◌, ◌≢◌, ◌++◌, ◌∷◌, [], Err, None, Some, IfOk, OnOk, List, MatchResult, Result};
 ghost use Rattle.std.specs.Option.{option_copied};
 ghost use Rattle.sr_logform.specs.declared.change.Change.{Change as AChange};
 ghost use Rattle.sr_exec.specs.Conditions.{Answers};
-ghost use Rattle.sr_exec.specs.Edits.{settled};
+ghost use Rattle.sr_exec.specs.Edits.{prefixed, settled, with_edit};
 ghost use Rattle.sr_exec.specs.Holding.{is_same_row, with_change};
 ghost use Rattle.sr_exec.specs.Statements.{key_of};
+ghost use Rattle.sr_schema.specs.declared.fault.DmlFault.{DmlFault as AFault};
 ghost use Rattle.sr_exec.specs.declared.edit.Edit.TheVariants.{New};
 ghost use Rattle.sr_rows.specs.Marks.{rows_of_table};
 
 use crate::edit::{Edit, Edits};
 use crate::keys::key_of;
 use crate::lists::push;
-use sr_base::{Copied, Name, NoMemory, Row, Seq};
+use sr_base::{Copied, Key, Name, NoMemory, Row, Seq};
 use sr_catalog::{DmlFault, Table};
 use sr_logform::Change;
 use sr_rows::Rows;
@@ -29,20 +30,36 @@ pub(crate) fn settle(
     let mut left = edits;
     let mut changes = Vec::with_capacity(alloc, left.len())?;
     'edits: while let Some((key, edit)) = left.pop_first() {
-        let held = rows.get(table, &key);
-        match edit {
-            Edit::Gone => note(alloc, &mut changes, table, held, None)?,
-            Edit::Moved(row) => note(alloc, &mut changes, table, held, Some(row))?,
-            Edit::New(row) => {
-                if held.is_some() {
-                    return Err(DmlFault::Duplicate { key });
-                }
-                note(alloc, &mut changes, table, None, Some(row))?
-            }
-            Edit::Twice => return Err(DmlFault::Duplicate { key }),
-        }
+        settle_one(alloc, table, rows, key, edit, &mut changes)?;
     }
     Ok(Seq::from_vec(changes))
+}
+
+/// Adds what one edit comes to, by the row that stands at its key.
+fn settle_one(
+    alloc: Global,
+    table: &Name,
+    rows: &Rows,
+    key: Key,
+    edit: Edit,
+    changes: &mut Vec<Change>,
+) -> Result<(), DmlFault>
+    ensures noted { MatchResult result (λ _. (rest : Result (List AChange) AFault) → prefixed changes.old.items (with_edit table.now key (rows_of_table rows.now.rows table.now key) edit rest) ≡ prefixed changes.new.items rest)
+        (λ fault. fault ≢ DmlFault.Memory → (rest : Result (List AChange) AFault) → with_edit table.now key (rows_of_table rows.now.rows table.now key) edit rest ≡ Err fault) }
+{
+    let held = rows.get(table, &key);
+    match edit {
+        Edit::Gone => note(alloc, changes, table, held, None)?,
+        Edit::Moved(row) => note(alloc, changes, table, held, Some(row))?,
+        Edit::New(row) => {
+            if held.is_some() {
+                return Err(DmlFault::Duplicate { key });
+            }
+            note(alloc, changes, table, None, Some(row))?
+        }
+        Edit::Twice => return Err(DmlFault::Duplicate { key }),
+    }
+    Ok(())
 }
 
 /// The change where one row is put, which takes logarithmic time; a key that is held is named.
@@ -58,8 +75,16 @@ pub(crate) fn put_row(
     if rows.get(&table.name, &key).is_some() {
         return Err(DmlFault::Duplicate { key });
     }
+    drop(key);
+    Ok(only_change(alloc, &table.name, row)?)
+}
+
+/// The change where a row is put, alone.
+fn only_change(alloc: Global, table: &Name, row: Row) -> Result<Seq<Change>, NoMemory>
+    ensures put { IfOk result (λ changes. changes ≡ record { table = table.now; before = None; after = Some row } ∷ []) }
+{
     let change = Change {
-        table: table.name.copy(alloc)?,
+        table: table.copy(alloc)?,
         before: None,
         after: Some(row),
     };

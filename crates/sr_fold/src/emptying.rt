@@ -25,7 +25,9 @@ pub(crate) fn empty(
     ensures on { GoesOn rows.old rows.new }
 {
     let statement = delete_all(alloc, table)?;
-    execute(alloc, catalog, rows, &statement)?;
+    let done = execute(alloc, catalog, rows, &statement);
+    drop(statement);
+    done?;
     Ok(())
 }
 
@@ -54,6 +56,8 @@ fn execute(
     let Ok(changes) = exec(alloc, catalog, rows, statement) else {
         return Err(AllocError);
     };
-    apply(alloc, catalog, rows, changes.list.as_slice())?;
+    let done = apply(alloc, catalog, rows, changes.list.as_slice());
+    drop(changes);
+    done?;
     Ok(())
 }

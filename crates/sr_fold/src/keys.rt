@@ -18,6 +18,16 @@ pub fn key_of(alloc: Global, table: &Table, row: &Row) -> Result<Key, NoMemory>
 fn key_at(alloc: Global, places: &[usize], row: &[Value]) -> Result<Key, NoMemory>
     ensures key { IfOk result (λ key. key ≡ key_of places.now row.now) }
 {
+    match places {
+        [place] => Ok(Key::one(value_at(alloc, row, *place)?)),
+        _ => key_at_several(alloc, places, row),
+    }
+}
+
+/// The key of several columns.
+fn key_at_several(alloc: Global, places: &[usize], row: &[Value]) -> Result<Key, NoMemory>
+    ensures key { IfOk result (λ key. key ≡ key_of places.now row.now) }
+{
     let mut values = Vec::with_capacity(alloc, places.len())?;
     let mut left = places;
     'places: while let Some((place, rest)) = left.split_first() {

@@ -156,7 +156,6 @@ pub(crate) fn go_on_run(
 }
 
 /// Whether a statement is accepted and changes fit, and if so the state behind both.
-#[tactic(auto, using(crate::proofs::Told::ran_here, crate::proofs::Told::changes_unfit))]
 fn go_on_both(
     alloc: Global,
     catalog: &mut Catalog,

@@ -115,9 +115,14 @@ fn has_changes(alloc: Global, catalog: &Catalog, rows: &Rows, dml: &Dml) -> Resu
     ensures found { IfOk result (λ found. IsTrue found ↔ HasChanges (done catalog.now rows.now.rows dml.now)) }
 {
     match exec(alloc, catalog, rows, dml) {
-        Ok(_) => Ok(true),
+        Ok(changes) => {
+            drop(changes);
+            Ok(true)
+        }
         Err(fault) => {
-            refuses(&fault)?;
+            let refused = refuses(&fault);
+            drop(fault);
+            refused?;
             Ok(false)
         }
     }

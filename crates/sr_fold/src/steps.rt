@@ -24,6 +24,7 @@ use sr_exec::apply;
 use sr_logform::{Change, Op, Outcome};
 use sr_rows::Rows;
 use std::alloc::Global;
+use std::mem::replace;
 use std::slice;
 
 /// Ops by steps, of which a single one needs no copy of the catalog to lead back to.
@@ -77,12 +78,22 @@ fn do_many(
     }
     let before = catalog.copy(alloc)?;
     match do_each(alloc, catalog, rows, ops) {
-        Ok(()) => Ok(()),
+        Ok(()) => {
+            drop(before);
+            Ok(())
+        }
         Err(refused) => {
-            *catalog = before;
+            put_back(catalog, before);
             Err(refused)
         }
     }
+}
+
+/// Puts a catalog back in the place of what became of it.
+fn put_back(catalog: &mut Catalog, before: Catalog)
+    ensures back { catalog.new ≡ before }
+{
+    drop(replace(catalog, before));
 }
 
 /// Whether no op runs a statement.

@@ -1,6 +1,6 @@
 //! The article by which a user has a table, and its columns.
 
-ghost use Rattle.std.specs.Prelude.{◌≡◌, ◌&&◌, IfOk, bytes_eq, filter_map, find, option_map};
+ghost use Rattle.std.specs.Prelude.{◌≡◌, ◌&&◌, ◌++◌, ◌∷◌, [], IfOk, OnOk, bytes_eq, filter_map, find, option_map};
 ghost use Rattle.std.specs.Option.{option_copied};
 ghost use Rattle.sr_schema.specs.Members.{column_name};
 ghost use Rattle.sr_schema.specs.Names.{named, place_of};
@@ -79,11 +79,18 @@ pub(crate) fn columns_of(
     let mut rest = names;
     'names: while let Some((name, after)) = rest.split_first() {
         if let Some(column) = item_named(name, table.columns.as_slice()) {
-            columns.push(column.copy(alloc)?)?;
+            add_copy(alloc, column, &mut columns)?;
         }
         rest = after;
     }
     Ok(Seq::from_vec(columns))
+}
+
+fn add_copy(alloc: Global, column: &Column, columns: &mut Vec<Column>) -> Result<(), NoMemory>
+    ensures added { OnOk result (columns.new.items ≡ columns.old.items ++ column.now ∷ []) }
+{
+    columns.push(column.copy(alloc)?)?;
+    Ok(())
 }
 
 /// The places of the columns of these names.

@@ -27,6 +27,10 @@ pub fn sees(
 {
     match TableView::of(alloc, catalog, user, table)? {
         None => Ok(None),
-        Some(view) => view.sees(alloc, row),
+        Some(view) => {
+            let seen = view.sees(alloc, row);
+            drop(view);
+            seen
+        }
     }
 }

@@ -1,6 +1,6 @@
 //! The values of a user's started subscriptions to a publication.
 
-ghost use Rattle.std.specs.Prelude.{◌≡◌, IfOk, filter_map};
+ghost use Rattle.std.specs.Prelude.{◌≡◌, ◌++◌, ◌∷◌, [], IfOk, OnOk, filter_map};
 ghost use Rattle.std.specs.Option.{option_copied};
 ghost use Rattle.std.specs.List.{list_any};
 ghost use Rattle.sr_publish.specs.Numbers.{widened};
@@ -46,8 +46,13 @@ impl Subscribed {
         ensures values { IfOk result (λ s. s ≡ filter_map (value_in user.now publication.now) subscriptions.now) }
     {
         let values = values_of(alloc, user, publication, subscriptions)?;
-        let set = set_of(alloc, values.as_slice())?;
-        Ok(Subscribed { values, set })
+        match set_of(alloc, values.as_slice()) {
+            Ok(set) => Ok(Subscribed { values, set }),
+            Err(lack) => {
+                drop(values);
+                Err(lack)
+            }
+        }
     }
 
     /// Whether one of the values is equal to this one, as a comparison says. It takes logarithmic time, and no memory.
@@ -76,11 +81,18 @@ fn values_of(
     let mut rest = subscriptions;
     'subscriptions: while let Some((subscription, after)) = rest.split_first() {
         if let Some(value) = value_in(user, publication, subscription) {
-            values.push(value.copy(alloc)?)?;
+            add_copy(alloc, value, &mut values)?;
         }
         rest = after;
     }
     Ok(Seq::from_vec(values))
+}
+
+fn add_copy(alloc: Global, value: &Value, values: &mut Vec<Value>) -> Result<(), NoMemory>
+    ensures added { OnOk result (values.new.items ≡ values.old.items ++ value.now ∷ []) }
+{
+    values.push(value.copy(alloc)?)?;
+    Ok(())
 }
 
 /// The value of a started subscription of the user to the publication.

@@ -1,6 +1,6 @@
 //! What a user has of a table.
 
-ghost use Rattle.std.specs.Prelude.{◌≡◌, true, Some, IfOk};
+ghost use Rattle.std.specs.Prelude.{◌≡◌, true, Some, IfOk, filter_map};
 ghost use Rattle.std.specs.Option.{option_copied};
 ghost use Rattle.sr_ast.specs.Classes.{is_meant};
 ghost use Rattle.sr_ast.specs.Exprs.{term_of};
@@ -8,6 +8,8 @@ ghost use Rattle.sr_eval.specs.Meanings.{found_at};
 ghost use Rattle.sr_publish.specs.Fits.{is_row};
 ghost use Rattle.sr_publish.specs.Shares.{share_of, share_by};
 ghost use Rattle.sr_publish.specs.Views.{meets, by_value, goes_to, is_in, shown_in};
+ghost use Rattle.sr_schema.specs.Members.{column_name, scope_of};
+ghost use Rattle.sr_schema.specs.Names.{named, place_of};
 
 use crate::articles::{columns_of, places_of, source_of};
 use crate::fits::is_row;
@@ -95,17 +97,22 @@ impl TableView {
     ) -> Result<TableView, NoMemory>
         ensures share { IfOk result (λ view. view ≡ share_by catalog.now user.now table.now (publication.now, article.now)) }
     {
-        let scope = scope_of(alloc, table)?;
         let values = Subscribed::of(alloc, user, publication, catalog.subscriptions())?;
-        Ok(TableView {
-            table: table.copy(alloc)?,
-            columns: columns_of(alloc, table, article.columns.as_slice())?,
-            places: places_of(alloc, table, article.columns.as_slice())?,
-            condition: article.condition.copy(alloc)?,
-            by: article.by.copy(alloc)?,
-            values,
-            scope,
-        })
+        match parts_of(alloc, table, article) {
+            Ok(((table, scope), (columns, places), (condition, by))) => Ok(TableView {
+                table,
+                columns,
+                places,
+                condition,
+                by,
+                values,
+                scope,
+            }),
+            Err(lack) => {
+                drop(values);
+                Err(lack)
+            }
+        }
     }
 
     /// The table.
@@ -190,6 +197,95 @@ impl TableView {
             Expr::Literal(value) => Some(value),
             Expr::Column(alias, name) => found_at(&self.scope, row, alias, name),
             Expr::Unary(_, _) | Expr::Binary(_, _, _) => None,
+        }
+    }
+}
+
+type Parts = (
+    (Table, Scope),
+    (Seq<Column>, Seq<usize>),
+    (Option<Expr>, Option<Expr>),
+);
+
+/// What is kept of a table and of its article.
+fn parts_of(alloc: Global, table: &Table, article: &Article) -> Result<Parts, NoMemory>
+    ensures parts { IfOk result (λ parts. parts ≡ (
+      (table.now, scope_of table.now),
+      (filter_map (λ n. named column_name n table.now.columns) article.now.columns, filter_map (λ n. place_of column_name n table.now.columns) article.now.columns),
+      (article.now.condition, article.now.by),
+    )) }
+{
+    let kept = table_with_scope(alloc, table)?;
+    match shown_parts_of(alloc, table, article) {
+        Ok((columns, conditions)) => Ok((kept, columns, conditions)),
+        Err(lack) => {
+            drop(kept);
+            Err(lack)
+        }
+    }
+}
+
+fn table_with_scope(alloc: Global, table: &Table) -> Result<(Table, Scope), NoMemory>
+    ensures kept { IfOk result (λ kept. kept ≡ (table.now, scope_of table.now)) }
+{
+    let scope = scope_of(alloc, table)?;
+    match table.copy(alloc) {
+        Ok(table) => Ok((table, scope)),
+        Err(lack) => {
+            drop(scope);
+            Err(lack)
+        }
+    }
+}
+
+/// What is kept of an article.
+fn shown_parts_of(
+    alloc: Global,
+    table: &Table,
+    article: &Article,
+) -> Result<((Seq<Column>, Seq<usize>), (Option<Expr>, Option<Expr>)), NoMemory>
+    ensures parts { IfOk result (λ parts. parts ≡ (
+      (filter_map (λ n. named column_name n table.now.columns) article.now.columns, filter_map (λ n. place_of column_name n table.now.columns) article.now.columns),
+      (article.now.condition, article.now.by),
+    )) }
+{
+    let conditions = conditions_of(alloc, article)?;
+    match columns_with_places(alloc, table, article.columns.as_slice()) {
+        Ok(columns) => Ok((columns, conditions)),
+        Err(lack) => {
+            drop(conditions);
+            Err(lack)
+        }
+    }
+}
+
+fn columns_with_places(
+    alloc: Global,
+    table: &Table,
+    names: &[Name],
+) -> Result<(Seq<Column>, Seq<usize>), NoMemory>
+    ensures columns { IfOk result (λ columns. columns ≡ (filter_map (λ n. named column_name n table.now.columns) names.now, filter_map (λ n. place_of column_name n table.now.columns) names.now)) }
+{
+    let places = places_of(alloc, table, names)?;
+    match columns_of(alloc, table, names) {
+        Ok(columns) => Ok((columns, places)),
+        Err(lack) => {
+            drop(places);
+            Err(lack)
+        }
+    }
+}
+
+/// An article's WHERE, and its SUBSCRIBE BY.
+fn conditions_of(alloc: Global, article: &Article) -> Result<(Option<Expr>, Option<Expr>), NoMemory>
+    ensures conditions { IfOk result (λ conditions. conditions ≡ (article.now.condition, article.now.by)) }
+{
+    let condition = article.condition.copy(alloc)?;
+    match article.by.copy(alloc) {
+        Ok(by) => Ok((condition, by)),
+        Err(lack) => {
+            drop(condition);
+            Err(lack)
         }
     }
 }

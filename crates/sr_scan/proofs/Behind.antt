@@ -1,5 +1,5 @@
 -- The catalog behind a text.
-use Rattle.std.proofs.Common.{◌≡◌, ℕ, false, List, Option, Some, None, Result, Ok, Err, IfSome, IfOk, refl, sym, ap, ◌∙◌}
+use Rattle.std.proofs.Common.{◌≡◌, ℕ, true, false, List, Option, Some, None, is_some, Result, Ok, Err, IfSome, IfOk, refl, sym, ap, ◌∙◌}
 use Rattle.sr_ast.specs.Statements.{is_ddl}
 use Rattle.sr_ast.specs.declared.stmt.Stmt.{Stmt}
 use Rattle.sr_ast.specs.declared.stmt.Stmt.TheVariants as stmt
@@ -13,11 +13,17 @@ use Rattle.sr_scan.specs.Meanings.{IsMeant}
 
 -- ---- behind a statement
 
-pub refused : (c : Lists) (x : Stmt) (fault : DdlFault) → refusal c x ≡ Some fault → c ≡ catalog_behind c (Some x)
-refused c x fault e = sym (ap (λ (o : Option DdlFault). unless_refused o c (next c x)) e)
+pub refused : (c : Lists) (x : Stmt) → is_some (refusal c x) ≡ true → c ≡ catalog_behind c (Some x)
+refused c x e = go (refusal c x) e where
+  go : (o : Option DdlFault) → is_some o ≡ true → c ≡ unless_refused o c (next c x)
+  go None f = cc
+  go (Some fault) f = refl
 
-pub accepted : (c : Lists) (x : Stmt) → refusal c x ≡ None → next c x ≡ catalog_behind c (Some x)
-accepted c x e = sym (ap (λ (o : Option DdlFault). unless_refused o c (next c x)) e)
+pub accepted : (c : Lists) (x : Stmt) → is_some (refusal c x) ≡ false → next c x ≡ catalog_behind c (Some x)
+accepted c x e = go (refusal c x) e where
+  go : (o : Option DdlFault) → is_some o ≡ false → next c x ≡ unless_refused o c (next c x)
+  go None f = refl
+  go (Some fault) f = cc
 
 -- a statement that is no DDL leaves the catalog as it is, refused or not
 left : (o : Option DdlFault) (c : Lists) → unless_refused o c c ≡ c

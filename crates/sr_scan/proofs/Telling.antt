@@ -85,6 +85,10 @@ fed_from_told old new at e ops behind found t c u f = record {
   user = u;
 }
 
+pub fed_by_own : (old new : Scan) (at : Offset) (changes : List Change) (ops : List Op) (found : Option Transaction) → IsTold old.catalog (Own changes) old.user ops None
+    → new ≡ old → found ≡ transaction_of at ops → IsFed old at (Own changes) found new
+fed_by_own old new at changes ops found t e f = fed_from_told old new at (Own changes) ops None found t (ap (λ s. s.catalog) e) (ap (λ s. s.user) e) f
+
 -- ---- a statement on the catalog, in its place
 
 pub fed_by_statement : (old new : Scan) (at : Offset) (text : List ℕ) → Follows old text new → IsFed old at (Ddl text) None new

@@ -8,7 +8,7 @@ ghost use Rattle.sr_exec.specs.Statements.{key_of};
 ghost use Rattle.sr_logform.specs.declared.op.Op.TheVariants.{Insert, Remove};
 ghost use Rattle.sr_publish.specs.Views.{shown};
 ghost use Rattle.sr_scan.specs.Images.{images_told, change_told, changes_told};
-ghost use Rattle.sr_scan.specs.Ops.{key_columns, present_columns, update_of};
+ghost use Rattle.sr_scan.specs.Ops.{differing, key_columns, present_columns, update_of};
 
 use crate::columns::{differing_at, present_at};
 use crate::keys::key_of_row;
@@ -25,7 +25,10 @@ pub(crate) fn push(ops: &mut Vec<Op>, op: Op) -> Result<(), NoMemory>
 {
     match ops.push(op) {
         Ok(()) => Ok(()),
-        Err(_) => Err(AllocError),
+        Err(refused) => {
+            drop(refused);
+            Err(AllocError)
+        }
     }
 }
 
@@ -73,9 +76,7 @@ fn tell_new(alloc: Global, view: &TableView, after: &Row, ops: &mut Vec<Op>) -> 
     if !view.has(after.values()) {
         return Ok(());
     }
-    let op = insert_of(alloc, view, after)?;
-    push(ops, op)?;
-    Ok(())
+    add_insert(alloc, view, after, ops)
 }
 
 /// Adds what the loss of a row gives: a Remove where the user saw it.
@@ -90,9 +91,7 @@ fn tell_gone(
     if !view.has(before.values()) {
         return Ok(());
     }
-    let op = removal_of(alloc, view.table(), before)?;
-    push(ops, op)?;
-    Ok(())
+    add_removal(alloc, view.table(), before, ops)
 }
 
 /// Adds what an update of a row gives: a Set where the user sees it before and after, and else what came or went for him.
@@ -111,27 +110,52 @@ pub(crate) fn tell_update(
     }
     match (view.has(before.values()), view.has(after.values())) {
         (false, false) => Ok(()),
-        (false, true) => {
-            let op = insert_of(alloc, view, after)?;
-            push(ops, op)?;
-            Ok(())
-        }
-        (true, false) => {
-            let op = removal_of(alloc, view.table(), before)?;
-            push(ops, op)?;
-            Ok(())
-        }
-        (true, true) => {
-            let columns = differing_at(
-                alloc,
-                view.columns(),
-                view.places(),
-                before.values(),
-                after.values(),
-            )?;
-            tell_columns(alloc, view.table(), before, columns, ops)
-        }
+        (false, true) => add_insert(alloc, view, after, ops),
+        (true, false) => add_removal(alloc, view.table(), before, ops),
+        (true, true) => tell_differing(alloc, view, before, after, ops),
     }
+}
+
+/// Adds the Set of the columns in which two rows differ, where there are any.
+fn tell_differing(
+    alloc: Global,
+    view: &TableView,
+    before: &Row,
+    after: &Row,
+    ops: &mut Vec<Op>,
+) -> Result<(), NoMemory>
+    ensures told { OnOk result (ops.new.items ≡ ops.old.items ++ update_of view.now.table (key_of view.now.table.key before.now)
+        (differing view.now.columns (shown view.now before.now) (shown view.now after.now))) }
+{
+    let columns = differing_at(
+        alloc,
+        view.columns(),
+        view.places(),
+        before.values(),
+        after.values(),
+    )?;
+    tell_columns(alloc, view.table(), before, columns, ops)
+}
+
+/// Adds the Insert of a row.
+fn add_insert(alloc: Global, view: &TableView, row: &Row, ops: &mut Vec<Op>) -> Result<(), NoMemory>
+    ensures added { OnOk result (ops.new.items ≡ ops.old.items ++ Insert view.now.table.name (present_columns view.now.columns (shown view.now row.now)) ∷ []) }
+{
+    let op = insert_of(alloc, view, row)?;
+    push(ops, op)
+}
+
+/// Adds the Remove of a row.
+pub(crate) fn add_removal(
+    alloc: Global,
+    table: &Table,
+    row: &Row,
+    ops: &mut Vec<Op>,
+) -> Result<(), NoMemory>
+    ensures added { OnOk result (ops.new.items ≡ ops.old.items ++ Remove table.now.name (key_columns table.now (key_of table.now.key row.now)) ∷ []) }
+{
+    let op = removal_of(alloc, table, row)?;
+    push(ops, op)
 }
 
 /// The Insert of a row, with the columns of the user's article that are not NULL.
@@ -145,7 +169,7 @@ fn insert_of(alloc: Global, view: &TableView, row: &Row) -> Result<Op, NoMemory>
 }
 
 /// The Remove of a row, with its key.
-pub(crate) fn removal_of(alloc: Global, table: &Table, row: &Row) -> Result<Op, NoMemory>
+fn removal_of(alloc: Global, table: &Table, row: &Row) -> Result<Op, NoMemory>
     ensures op { IfOk result (λ op. op ≡ Remove table.now.name (key_columns table.now (key_of table.now.key row.now))) }
 {
     let key = key_of_row(alloc, table, row)?;
@@ -173,6 +197,5 @@ pub(crate) fn tell_columns(
         key: key_of_row(alloc, table, row)?,
         columns: Seq::from_vec(columns),
     };
-    push(ops, op)?;
-    Ok(())
+    push(ops, op)
 }

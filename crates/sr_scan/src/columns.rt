@@ -1,6 +1,6 @@
 //! Columns of rows, as ops list them.
 
-ghost use Rattle.std.specs.Prelude.{◌≡◌, IfOk, map, zip, filter, slice_get, unwrap_or};
+ghost use Rattle.std.specs.Prelude.{◌≡◌, ◌++◌, ◌∷◌, [], IfOk, OnOk, map, zip, filter, slice_get, unwrap_or};
 ghost use Rattle.std.specs.Ordering.{eq_by_cmp};
 ghost use Rattle.sr_base.specs.Order.{value_cmp};
 ghost use Rattle.sr_base.specs.declared.value.Value.TheVariants.{Null};
@@ -12,7 +12,7 @@ ghost use Rattle.sr_scan.specs.Ops.{present_columns, differing, outside_key};
 use sr_base::{Copied, Name, NoMemory, Seq, Value};
 use sr_publish::{is_null, is_same, value_or_null};
 use sr_schema::Column;
-use std::alloc::Global;
+use std::alloc::{AllocError, Global};
 
 /// Whether a value is there, and is not NULL.
 fn is_present(value: &Value) -> bool
@@ -37,7 +37,7 @@ pub(crate) fn present_columns(
             return Ok(Seq::from_vec(found));
         };
         if is_present(value) {
-            found.push((column.name.copy(alloc)?, value.copy(alloc)?))?;
+            add_copies(alloc, &column.name, value, &mut found)?;
         }
         columns_left = columns_after;
         values_left = values_after;
@@ -61,14 +61,37 @@ pub(crate) fn present_at(
         let Some((place, places_after)) = places_left.split_first() else {
             return Ok(Seq::from_vec(found));
         };
-        let value = value_or_null(alloc, row, *place)?;
-        if is_present(&value) {
-            found.push((column.name.copy(alloc)?, value))?;
+        if is_present_at(row, *place) {
+            add_at(alloc, column, *place, row, &mut found)?;
         }
         columns_left = columns_after;
         places_left = places_after;
     }
     Ok(Seq::from_vec(found))
+}
+
+/// Whether a row has a value at a place that is not NULL.
+fn is_present_at(row: &[Value], place: usize) -> bool
+    ensures { result ≡ is_present (unwrap_or (slice_get row.now place) Null) }
+{
+    match row.get(place) {
+        Some(value) => is_present(value),
+        None => false,
+    }
+}
+
+/// Adds a column with its value.
+fn add_at(
+    alloc: Global,
+    column: &Column,
+    place: usize,
+    row: &[Value],
+    found: &mut Vec<(Name, Value)>,
+) -> Result<(), NoMemory>
+    ensures added { OnOk result (found.new.items ≡ found.old.items ++ (column.now.name, unwrap_or (slice_get row.now place) Null) ∷ []) }
+{
+    let value = value_or_null(alloc, row, place)?;
+    add_named(alloc, &column.name, value, found)
 }
 
 /// The columns at places in which two rows differ, each with both values.
@@ -89,9 +112,7 @@ pub(crate) fn differing_at(
             return Ok(found);
         };
         if !is_same_at(before, after, *place) {
-            let old = value_or_null(alloc, before, *place)?;
-            let new = value_or_null(alloc, after, *place)?;
-            found.push((column.name.copy(alloc)?, old, new))?;
+            add_both(alloc, column, *place, before, after, &mut found)?;
         }
         columns_left = columns_after;
         places_left = places_after;
@@ -108,6 +129,67 @@ fn is_same_at(before: &[Value], after: &[Value], place: usize) -> bool
         (Some(old), None) => is_same(old, &Value::Null),
         (None, Some(new)) => is_same(&Value::Null, new),
         (None, None) => true,
+    }
+}
+
+/// Adds a column with its value before and after.
+fn add_both(
+    alloc: Global,
+    column: &Column,
+    place: usize,
+    before: &[Value],
+    after: &[Value],
+    found: &mut Vec<(Name, Value, Value)>,
+) -> Result<(), NoMemory>
+    ensures added { OnOk result (found.new.items ≡ found.old.items
+        ++ (column.now.name, unwrap_or (slice_get before.now place) Null, unwrap_or (slice_get after.now place) Null) ∷ []) }
+{
+    let name = column.name.copy(alloc)?;
+    let old = value_or_null(alloc, before, place)?;
+    let new = value_or_null(alloc, after, place)?;
+    found.push((name, old, new))?;
+    Ok(())
+}
+
+/// Adds a copy of a value under a copy of a name.
+pub(crate) fn add_copies(
+    alloc: Global,
+    name: &Name,
+    value: &Value,
+    found: &mut Vec<(Name, Value)>,
+) -> Result<(), NoMemory>
+    ensures added { OnOk result (found.new.items ≡ found.old.items ++ (name.now, value.now) ∷ []) }
+{
+    add_named(alloc, name, value.copy(alloc)?, found)
+}
+
+/// Adds a value under a copy of a name.
+fn add_named(
+    alloc: Global,
+    name: &Name,
+    value: Value,
+    found: &mut Vec<(Name, Value)>,
+) -> Result<(), NoMemory>
+    ensures added { OnOk result (found.new.items ≡ found.old.items ++ (name.now, value) ∷ []) }
+{
+    match name.copy(alloc) {
+        Ok(name) => push_pair(name, value, found),
+        Err(lack) => {
+            drop(value);
+            Err(lack)
+        }
+    }
+}
+
+fn push_pair(name: Name, value: Value, found: &mut Vec<(Name, Value)>) -> Result<(), NoMemory>
+    ensures added { OnOk result (found.new.items ≡ found.old.items ++ (name, value) ∷ []) }
+{
+    match found.push((name, value)) {
+        Ok(()) => Ok(()),
+        Err(refused) => {
+            drop(refused);
+            Err(AllocError)
+        }
     }
 }
 
@@ -130,9 +212,7 @@ pub(crate) fn outside_key_at(
             return Ok(found);
         };
         if !has(key, &column.name) {
-            let old = value_or_null(alloc, before, *place)?;
-            let new = value_or_null(alloc, after, *place)?;
-            found.push((column.name.copy(alloc)?, old, new))?;
+            add_both(alloc, column, *place, before, after, &mut found)?;
         }
         columns_left = columns_after;
         places_left = places_after;

@@ -79,9 +79,17 @@ fn tell_own(
     requires { AreViews catalog.now user.now views.now }
     ensures told { IfOk result (λ t. IsTold catalog.now (Own changes.now) user.now t.ops.items t.behind) }
 {
-    let mut ops = Vec::new(alloc);
-    tell_changes(alloc, views, changes.as_slice(), &mut ops)?;
+    let ops = own_ops(alloc, views, changes.as_slice())?;
     Ok(Told { ops, behind: None })
+}
+
+/// What changes give that this database made itself.
+pub(crate) fn own_ops(alloc: Global, views: &Views, changes: &[Change]) -> Result<Vec<Op>, NoMemory>
+    ensures ops { IfOk result (λ ops. ops.items ≡ changes_told (tree.get name_cmp views.now) changes.now) }
+{
+    let mut ops = Vec::new(alloc);
+    tell_changes(alloc, views, changes, &mut ops)?;
+    Ok(ops)
 }
 
 /// A transaction that was taken: op by op, each by the catalog behind those before it.
@@ -230,10 +238,18 @@ fn tell_taken(
     let mut sight: Option<Sight> = None;
     let mut left = taken;
     'taken: while let Some((done, rest)) = left.split_first() {
-        let next = tell_done(
+        match tell_done(
             alloc, catalog, views, &sight, user, is_origin, done, &mut ops,
-        )?;
-        sight = latest(next, sight);
+        ) {
+            Ok(next) => {
+                sight = latest(next, sight);
+            }
+            Err(lack) => {
+                drop(sight);
+                drop(ops);
+                return Err(lack);
+            }
+        }
         left = rest;
     }
     let behind = catalog_in(sight);
@@ -245,7 +261,10 @@ fn latest(next: Option<Sight>, sight: Option<Sight>) -> Option<Sight>
     ensures { result ≡ first_of next sight }
 {
     match next {
-        Some(next) => Some(next),
+        Some(next) => {
+            drop(sight);
+            Some(next)
+        }
         None => sight,
     }
 }
@@ -326,9 +345,20 @@ fn sight_behind(
 {
     match behind_text(alloc, catalog, text)? {
         None => Ok(None),
-        Some(catalog) => {
-            let views = views_of(alloc, &catalog, user)?;
-            Ok(Some(Sight { catalog, views }))
+        Some(catalog) => sight_of(alloc, catalog, user),
+    }
+}
+
+/// A catalog, with what a user has of it.
+fn sight_of(alloc: Global, catalog: Catalog, user: &Name) -> Result<Option<Sight>, NoMemory>
+    ensures catalog { IfOk result (λ sight. option_map (λ s. s.catalog) sight ≡ Some catalog) }
+    ensures views { IfOk result (λ sight. IfSome sight (λ s. AreViews s.catalog user.now s.views)) }
+{
+    match views_of(alloc, &catalog, user) {
+        Ok(views) => Ok(Some(Sight { catalog, views })),
+        Err(lack) => {
+            drop(catalog);
+            Err(lack)
         }
     }
 }

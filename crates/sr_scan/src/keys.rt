@@ -1,6 +1,6 @@
 //! Keys, as ops name them.
 
-ghost use Rattle.std.specs.Prelude.{◌≡◌, Some, zip, map, IfOk, slice_get};
+ghost use Rattle.std.specs.Prelude.{◌≡◌, ◌&&◌, List, ℕ, Some, zip, map, IfOk, slice_get};
 ghost use Rattle.std.specs.Ordering.{eq_by_cmp};
 ghost use Rattle.sr_base.specs.Order.{key_cmp};
 ghost use Rattle.sr_dates.specs.Fitting.{fitted};
@@ -9,6 +9,7 @@ ghost use Rattle.sr_history.specs.Fitting.{fitted_in};
 ghost use Rattle.sr_scan.specs.Images.{key_meant, all_of, stands_under, are_rows_of};
 ghost use Rattle.sr_scan.specs.Ops.{key_columns};
 
+use crate::columns::add_copies;
 use sr_base::{Copied, Key, Name, NoMemory, Row, Seq, Value};
 use sr_dates::fit;
 use sr_publish::{is_row, values_at};
@@ -24,14 +25,27 @@ pub(crate) fn key_columns(
     ensures columns { IfOk result (λ columns. columns ≡ key_columns table.now key.now) }
 {
     let names = key_names(alloc, table)?;
+    let columns = named_values(alloc, names.as_slice(), key);
+    drop(names);
+    columns
+}
+
+/// Values by their names.
+fn named_values(
+    alloc: Global,
+    names: &[Name],
+    values: &[Value],
+) -> Result<Seq<(Name, Value)>, NoMemory>
+    ensures columns { IfOk result (λ columns. columns ≡ zip names.now values.now) }
+{
     let mut columns = Vec::new(alloc);
-    let mut names_left = names.as_slice();
-    let mut values_left = key;
+    let mut names_left = names;
+    let mut values_left = values;
     'names: while let Some((name, names_after)) = names_left.split_first() {
         let Some((value, values_after)) = values_left.split_first() else {
             return Ok(Seq::from_vec(columns));
         };
-        columns.push((name.copy(alloc)?, value.copy(alloc)?))?;
+        add_copies(alloc, name, value, &mut columns)?;
         names_left = names_after;
         values_left = values_after;
     }
@@ -65,7 +79,22 @@ pub(crate) fn are_rows_of(
         return Ok(false);
     }
     let key = key_meant(alloc, table, columns)?;
-    Ok(stands_under(alloc, table, &key, before)? && stands_under(alloc, table, &key, after)?)
+    let told = both_stand_under(alloc, table, &key, before, after);
+    drop(key);
+    told
+}
+
+/// Whether two rows stand under a key.
+fn both_stand_under(
+    alloc: Global,
+    table: &Table,
+    key: &Option<Key>,
+    before: &Row,
+    after: &Row,
+) -> Result<bool, NoMemory>
+    ensures stand { IfOk result (λ told. told ≡ (stands_under table.now key.now before.now && stands_under table.now key.now after.now)) }
+{
+    Ok(stands_under(alloc, table, key, before)? && stands_under(alloc, table, key, after)?)
 }
 
 /// Whether a row stands under a key.
@@ -81,7 +110,9 @@ fn stands_under(
         return Ok(false);
     };
     let own = Key::new(values_at(alloc, table.key.as_slice(), row.values())?);
-    Ok(key.cmp(&own).is_eq())
+    let told = key.cmp(&own).is_eq();
+    drop(own);
+    Ok(told)
 }
 
 /// The key that columns name, with their values fitted.
@@ -119,10 +150,7 @@ fn fitted_at(
 {
     match item_at(table.columns.as_slice(), place) {
         None => Ok(None),
-        Some(column) => {
-            let value = fitted_to(alloc, columns, column)?;
-            Ok(value)
-        }
+        Some(column) => { fitted_to(alloc, columns, column) }
     }
 }
 
@@ -137,8 +165,7 @@ fn fitted_to(
     let mut left = columns;
     'columns: while let Some((named, rest)) = left.split_first() {
         if named.0.bytes() == column.name.bytes() {
-            let value = fitted_value(alloc, &named.1, column)?;
-            return Ok(value);
+            return fitted_value(alloc, &named.1, column);
         }
         left = rest;
     }

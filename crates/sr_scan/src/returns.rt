@@ -3,10 +3,11 @@
 ghost use Rattle.std.specs.Prelude.{◌≡◌, ◌++◌, Some, OnOk};
 ghost use Rattle.std.specs.Option.{option_copied};
 ghost use Rattle.sr_exec.specs.Statements.{key_of};
-ghost use Rattle.sr_publish.specs.Views.{shown_row};
-ghost use Rattle.sr_scan.specs.Ops.{told_back};
+ghost use Rattle.sr_publish.specs.Views.{shown, shown_row};
+ghost use Rattle.sr_schema.specs.Members.{key_names};
+ghost use Rattle.sr_scan.specs.Ops.{outside_key, told_back, update_of};
 
-use crate::changes::{push, removal_of, tell_columns};
+use crate::changes::{add_removal, tell_columns};
 use crate::columns::outside_key_at;
 use sr_base::{NoMemory, Row};
 use sr_logform::Op;
@@ -28,15 +29,26 @@ pub(crate) fn tell_back(
         before.now (shown_row (option_copied view.entry) (Some after.now))) }
 {
     let Some(view) = view else {
-        let op = removal_of(alloc, table, before)?;
-        push(ops, op)?;
-        return Ok(());
+        return add_removal(alloc, table, before, ops);
     };
     if !view.has(after.values()) {
-        let op = removal_of(alloc, table, before)?;
-        push(ops, op)?;
-        return Ok(());
+        return add_removal(alloc, table, before, ops);
     }
+    tell_outside_key(alloc, table, view, before, after, ops)
+}
+
+/// Adds the Set of all columns that the origin sees outside the key.
+fn tell_outside_key(
+    alloc: Global,
+    table: &Table,
+    view: &TableView,
+    before: &Row,
+    after: &Row,
+    ops: &mut Vec<Op>,
+) -> Result<(), NoMemory>
+    ensures told { OnOk result (ops.new.items ≡ ops.old.items ++ update_of table.now (key_of table.now.key before.now)
+        (outside_key (key_names table.now) view.now.columns (shown view.now before.now) (shown view.now after.now))) }
+{
     let key = key_names(alloc, table)?;
     let columns = outside_key_at(
         alloc,
@@ -45,6 +57,7 @@ pub(crate) fn tell_back(
         view.places(),
         before.values(),
         after.values(),
-    )?;
-    tell_columns(alloc, table, before, columns, ops)
+    );
+    drop(key);
+    tell_columns(alloc, table, before, columns?, ops)
 }

@@ -1,20 +1,22 @@
 //! Scanners, and what a single entry gives.
 
-ghost use Rattle.std.specs.Prelude.{◌≡◌, Some, IfOk, OnOk, OnErr};
+ghost use Rattle.std.specs.Prelude.{◌≡◌, Some, None, IfOk, OnOk, OnErr};
+ghost use Rattle.sr_logform.specs.declared.entry.Entry.TheVariants.{Own};
 ghost use Rattle.sr_scan.specs.Changed.{IsTold, or_before};
 ghost use Rattle.sr_scan.specs.Images.{catalog_behind};
 ghost use Rattle.sr_scan.specs.Meanings.{IsGiven};
 ghost use Rattle.sr_scan.specs.Scanners.{IsFed, Follows, transaction_of};
 
-use crate::entries::{Told, tell_entry};
-use crate::statements::meant_by;
+use crate::entries::{Told, own_ops, tell_entry};
+use crate::statements::{is_refused, meant_by};
 use crate::views::{Views, kept_or_made, views_of};
 use sr_ast::Stmt;
 use sr_base::{Copied, Name, NoMemory, Offset, Seq, Text};
 use sr_catalog::Catalog;
-use sr_logform::{Entry, Op, Transaction};
+use sr_logform::{Change, Entry, Op, Transaction};
 use std::alloc::Global;
 use std::marker::Model;
+use std::mem::replace;
 
 /// What an entry gives a user, with the catalog before it: the ops that tell him how his view changed.
 ///
@@ -35,8 +37,18 @@ pub fn given(
     ensures given { IfOk result (λ ops. IsGiven catalog.now entry.now user.now ops.items) }
 {
     let views = views_of(alloc, catalog, user)?;
-    let told = tell_entry(alloc, catalog, &views, user, entry)?;
-    Ok(told.ops)
+    let told = tell_entry(alloc, catalog, &views, user, entry);
+    drop(views);
+    Ok(ops_in(told?))
+}
+
+/// The ops of what an entry comes to.
+fn ops_in(told: Told) -> Vec<Op>
+    ensures ops { result.items ≡ told.ops.items }
+{
+    let Told { ops, behind } = told;
+    drop(behind);
+    ops
 }
 
 /// What the entries of a log give a user, read one after the other. Contracts see the user, and the catalog behind what was read.
@@ -74,11 +86,18 @@ impl Scanner {
         ensures catalog { IfOk result (λ s. s.catalog ≡ catalog.now) }
         ensures user { IfOk result (λ s. s.user ≡ user.now) }
     {
-        Ok(Scanner {
-            catalog: catalog.copy(alloc)?,
-            user: user.copy(alloc)?,
-            views: None,
-        })
+        let user = user.copy(alloc)?;
+        match catalog.copy(alloc) {
+            Ok(catalog) => Ok(Scanner {
+                catalog,
+                user,
+                views: None,
+            }),
+            Err(lack) => {
+                drop(user);
+                Err(lack)
+            }
+        }
     }
 
     /// What the next entry, which ends at `at`, gives the user; `None` exactly where it gives nothing. It goes on with the catalog behind the
@@ -101,7 +120,8 @@ impl Scanner {
                 Ok(None)
             }
             Entry::Note { .. } => Ok(None),
-            Entry::Own(_) | Entry::From { .. } | Entry::Sync { .. } | Entry::Pass { .. } => {
+            Entry::Own(changes) => self.feed_own(alloc, at, changes.as_slice()),
+            Entry::From { .. } | Entry::Sync { .. } | Entry::Pass { .. } => {
                 self.feed_told(alloc, at, entry)
             }
         }
@@ -128,16 +148,41 @@ impl Scanner {
         ensures user { self.new.user ≡ self.old.user }
         ensures err { OnErr result (self.new ≡ self.old) }
     {
-        match self.catalog.refusal(alloc, statement)? {
-            Some(_) => Ok(()),
-            None => {
-                self.views = None;
-                self.catalog.apply(alloc, statement)
-            }
+        if is_refused(alloc, &self.catalog, statement)? {
+            return Ok(());
         }
+        drop(self.views.take());
+        self.catalog.apply(alloc, statement)
     }
 
-    /// What an entry that may tell of rows gives.
+    /// What a transaction of this database's own gives. It has no statement, so that no other catalog comes of it.
+    #[tactic(auto, using(crate::proofs::Telling::fed_by_own))]
+    fn feed_own(
+        &mut self,
+        alloc: Global,
+        at: Offset,
+        changes: &[Change],
+    ) -> Result<Option<Transaction>, NoMemory>
+        ensures fed { IfOk result (λ found. IsFed self.old at (Own changes.now) found self.new) }
+        ensures err { OnErr result (self.new ≡ self.old) }
+    {
+        let told = self.tell_own(alloc, changes)?;
+        Ok(transaction_of(at, told))
+    }
+
+    /// What changes give that this database made itself.
+    #[tactic(auto, using(crate::proofs::Telling::own_told))]
+    fn tell_own(&mut self, alloc: Global, changes: &[Change]) -> Result<Vec<Op>, NoMemory>
+        ensures told { IfOk result (λ ops. IsTold self.old.catalog (Own changes.now) self.old.user ops.items None) }
+        ensures same { self.new ≡ self.old }
+    {
+        let views = kept_or_made(alloc, self.views.take(), &self.catalog, &self.user)?;
+        let told = own_ops(alloc, &views, changes);
+        self.views = Some(views);
+        told
+    }
+
+    /// What an entry gives that was taken, or that a statement is in.
     #[tactic(auto, using(crate::proofs::Telling::fed_from_told))]
     fn feed_told(
         &mut self,
@@ -161,8 +206,8 @@ impl Scanner {
         match behind {
             None => {}
             Some(catalog) => {
-                self.catalog = catalog;
-                self.views = None;
+                drop(replace(&mut self.catalog, catalog));
+                drop(self.views.take());
             }
         }
     }

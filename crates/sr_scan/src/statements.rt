@@ -1,7 +1,8 @@
 //! The catalog behind the statements of an entry.
 
-ghost use Rattle.std.specs.Prelude.{◌≡◌, Some, IfOk};
+ghost use Rattle.std.specs.Prelude.{◌≡◌, Some, is_some, IfOk};
 ghost use Rattle.std.specs.Option.{option_copied};
+ghost use Rattle.sr_change.specs.Changes.{refusal, next};
 ghost use Rattle.sr_scan.specs.Changed.{or_before, LeavesBehind};
 ghost use Rattle.sr_scan.specs.Images.{catalog_behind};
 ghost use Rattle.sr_scan.specs.Meanings.{text_done, IsMeant};
@@ -36,8 +37,7 @@ pub(crate) fn behind_text(
 pub(crate) fn meant_by(alloc: Global, text: &Text) -> Result<Option<Stmt>, NoMemory>
     ensures meant { IfOk result (λ meant. IsMeant (Some text.now) meant) }
 {
-    let meant = printed_statement(alloc, text)?;
-    Ok(meant)
+    printed_statement(alloc, text)
 }
 
 /// The catalog behind a statement: `None` where it stays as it is. It is copied only where it changes.
@@ -48,12 +48,45 @@ fn behind(alloc: Global, catalog: &Catalog, statement: &Stmt) -> Result<Option<C
     if !is_ddl(statement) {
         return Ok(None);
     }
-    if let Some(_) = catalog.refusal(alloc, statement)? {
+    if is_refused(alloc, catalog, statement)? {
         return Ok(None);
     }
+    copy_behind(alloc, catalog, statement)
+}
+
+/// Whether a catalog refuses a statement.
+pub(crate) fn is_refused(
+    alloc: Global,
+    catalog: &Catalog,
+    statement: &Stmt,
+) -> Result<bool, NoMemory>
+    ensures refused { IfOk result (λ told. told ≡ is_some (refusal catalog.now statement.now)) }
+{
+    match catalog.refusal(alloc, statement)? {
+        None => Ok(false),
+        Some(fault) => {
+            drop(fault);
+            Ok(true)
+        }
+    }
+}
+
+/// A copy of a catalog, behind a statement.
+fn copy_behind(
+    alloc: Global,
+    catalog: &Catalog,
+    statement: &Stmt,
+) -> Result<Option<Catalog>, NoMemory>
+    ensures behind { IfOk result (λ after. after ≡ Some (next catalog.now statement.now)) }
+{
     let mut after = catalog.copy(alloc)?;
-    after.apply(alloc, statement)?;
-    Ok(Some(after))
+    match after.apply(alloc, statement) {
+        Ok(()) => Ok(Some(after)),
+        Err(lack) => {
+            drop(after);
+            Err(lack)
+        }
+    }
 }
 
 /// The text of a statement that ran: that of an Exec that was done.

@@ -88,6 +88,5 @@ fn tell_row(
             table: table.copy(alloc)?,
             values,
         },
-    )?;
-    Ok(())
+    )
 }

@@ -1,6 +1,9 @@
 //! What a user has of each table.
 
-ghost use Rattle.std.specs.Prelude.{IfOk, OnOk, IfSome};
+ghost use Rattle.std.specs.Prelude.{◌≡◌, ℕ, Some, List, cond, IfOk, OnOk, IfSome};
+ghost use Rattle.std.specs.BTreeMap as tree;
+ghost use Rattle.std.specs.Ordering.{is_eq};
+ghost use Rattle.sr_base.specs.Order.{name_cmp};
 ghost use Rattle.sr_publish.specs.Shares.{share_of};
 ghost use Rattle.sr_scan.specs.Views.{AreViews, IsAdded};
 
@@ -8,7 +11,7 @@ use sr_base::{Copied, Name, NoMemory};
 use sr_catalog::Catalog;
 use sr_publish::TableView;
 use sr_schema::Table;
-use std::alloc::Global;
+use std::alloc::{AllocError, Global};
 use std::collections::BTreeMap;
 
 /// What a user has of each table, by the table's name. One is found in few steps.
@@ -56,10 +59,35 @@ fn add_view(
 {
     match TableView::of(alloc, catalog, user, &table.name)? {
         None => Ok(()),
-        Some(view) => {
-            let name = table.name.copy(alloc)?;
-            views.insert(name, view)?;
+        Some(view) => put_named(alloc, &table.name, view, views),
+    }
+}
+
+/// Puts what a user has of a table under the table's name.
+fn put_named(alloc: Global, name: &Name, view: TableView, views: &mut Views) -> Result<(), NoMemory>
+    ensures put { OnOk result ((n : List ℕ) → tree.get name_cmp views.new n ≡ cond (is_eq (name_cmp name.now n)) (Some view) (tree.get name_cmp views.old n)) }
+{
+    match name.copy(alloc) {
+        Ok(name) => put(name, view, views),
+        Err(lack) => {
+            drop(view);
+            Err(lack)
+        }
+    }
+}
+
+/// Puts what a user has of a table under a name.
+fn put(name: Name, view: TableView, views: &mut Views) -> Result<(), NoMemory>
+    ensures put { OnOk result ((n : List ℕ) → tree.get name_cmp views.new n ≡ cond (is_eq (name_cmp name n)) (Some view) (tree.get name_cmp views.old n)) }
+{
+    match views.insert(name, view) {
+        Ok(before) => {
+            drop(before);
             Ok(())
+        }
+        Err(refused) => {
+            drop(refused);
+            Err(AllocError)
         }
     }
 }

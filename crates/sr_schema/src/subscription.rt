@@ -14,8 +14,8 @@ impl Copied for Subscription {
     fn copy(&self, alloc: Global) -> Result<Subscription, NoMemory> {
         Ok(Subscription {
             publication: self.publication.copy(alloc)?,
-            value: self.value.copy(alloc)?,
             user: self.user.copy(alloc)?,
+            value: self.value.copy(alloc)?,
             started: self.started,
         })
     }

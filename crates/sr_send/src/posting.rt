@@ -31,7 +31,10 @@ fn put_one<S: Site>(
 {
     let name = file_name(alloc, &message.from, number)?;
     let bytes = write_message(alloc, message)?;
-    match site.put(alloc, address, &name, bytes.as_slice()) {
+    let outcome = site.put(alloc, address, &name, bytes.as_slice());
+    drop(bytes);
+    drop(name);
+    match outcome {
         Ok(()) => Ok(()),
         Err(fault) => Err(SendFault::from(fault)),
     }

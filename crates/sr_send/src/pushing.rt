@@ -82,7 +82,6 @@ fn lies_past(at: Offset, prev: Offset) -> bool
 
 /// Scans an entry that ends at `at`, and pushes what it gives. One that ends no later than what the partner was sent before gives nothing that is to
 /// be sent: it is passed over.
-#[tactic(auto, using(crate::proofs::Pushes::fed_old, crate::proofs::Pushes::feed_short))]
 pub(crate) fn feed_one<S: Site>(
     alloc: Global,
     site: &mut S,

@@ -24,6 +24,7 @@ use sr_database::Database;
 use sr_scan::Scanner;
 use sr_site::Site;
 use std::alloc::Global;
+use std::mem::replace;
 
 /// The end, where it lies past neither offset.
 fn up_to(found: Option<Offset>, sent: Offset, last: Offset) -> Option<Offset>
@@ -230,6 +231,14 @@ fn go_on_with(
     ensures catalog { OnOk result (scanner.new.catalog ≡ catalog.now) }
     ensures user { scanner.new.user ≡ scanner.old.user }
 {
-    *scanner = Scanner::new(alloc, catalog, user)?;
+    let next = Scanner::new(alloc, catalog, user)?;
+    take_over(scanner, next);
     Ok(())
+}
+
+/// Puts a scanner in the place of another, which is dropped.
+fn take_over(scanner: &mut Scanner, next: Scanner)
+    ensures { scanner.new ≡ next }
+{
+    drop(replace(scanner, next));
 }

@@ -1,6 +1,7 @@
 use Rattle.std.proofs.Common.{List, ◌∷◌, subst}
+use Rattle.std.specs.List.{AllByRecursion}
 use Rattle.sr_book.specs.Entries.{Name}
-use Rattle.sr_agent.specs.Steps.{TurnsBroken}
+use Rattle.sr_agent.specs.Steps.{IsUser, TurnsBroken}
 use Rattle.sr_agent.proofs.OrderSteps.{turning_more, turning_start}
 use Rattle.sr_agent.proofs.OrderStops.{turning_stop}
 use Rattle.sr_agent.proofs.Ordering.{IsTurning}
@@ -44,3 +45,12 @@ partners-preserved g c =
     subst (λ (l : List Name). IsTurning old db before seen c.args.names.now l c.args.bag.now c.partners.bag c.args.purges c.args.progress.now c.partners.progress written written') c.in-Some.ensures.cases.0 c.partners.invariant in
     turning_more old db new before seen now c.args.names.now c.in-Some.user.now c.in-Some.rest.now c.args.bag.now c.partners.bag c.receive_from.new.bag c.args.purges c.args.progress.now c.partners.progress c.receive_from.new.progress
     written written' written'' so c.in_ok-receive_from.ensures.ready c.in_ok-receive_from.ensures.keeps c.in_ok-receive_from.ensures.holds c.in_ok-receive_from.ensures.done
+
+pub receive_from-requires-clause-user : goal.receive_from-requires-clause-user
+receive_from-requires-clause-user g c = (subst (λ (l : List Name). AllByRecursion (IsUser c.partners.db) l) c.in-Some.ensures.cases.0 c.partners.invariant.users_are).0
+
+pub returns-clause-ready : goal.returns-clause-ready
+returns-clause-ready g c = c.partners.invariant.ready
+
+pub returns-clause-keeps : goal.returns-clause-keeps
+returns-clause-keeps g c = c.partners.invariant.keeps

@@ -1,5 +1,6 @@
 use Rattle.std.proofs.Common.{[]}
-use Rattle.sr_command.proofs.Opened.{tried_on, guarded_refused, guarded_still, guarded_on, made}
+use Rattle.sr_site.specs.Growing.{disk_stays_on}
+use Rattle.sr_command.proofs.Opened.{tried_on, tried_refused, tried_still, guarded_refused, guarded_still, guarded_on, made}
 use Rattle.sr_command.proofs.making.make_files.Goals as goal
 
 pub returns-in_err-attach_alone-clause-guarded : goal.returns-in_err-attach_alone-clause-guarded
@@ -25,3 +26,21 @@ returns-clause-guarded g c = guarded_on c.args.name.now [] c.args.user.now (g.S.
 pub returns-clause-made : goal.returns-clause-made
 returns-clause-made g c = made c.args.name.now c.args.user.now (g.S.Held.seen c.args.site.now) (g.S.Held.seen c.attach_alone.new.site) (g.S.Held.seen c.create.new.site)
     c.in_ok-attach_alone.ensures.attaches c.in_ok-attach_alone.ensures.steady c.create.ensures.stays c.create.ensures.attached c.in_ok-create.ensures.steady c.in_ok-create.ensures.made c.in_ok-create.ensures.settled c.in_ok-create.ensures.missing
+
+pub returns-in_err-attach_alone-clause-tried : goal.returns-in_err-attach_alone-clause-tried
+returns-in_err-attach_alone-clause-tried g c = tried_refused c.args.name.now [] (g.S.Held.seen c.args.site.now) (g.S.Held.seen c.attach_alone.new.site) c.in_err-attach_alone.ensures.attaches
+
+pub returns-in_err-attach_alone-clause-stays : goal.returns-in_err-attach_alone-clause-stays
+returns-in_err-attach_alone-clause-stays g c = c.in_err-attach_alone.ensures.attaches.stays
+
+pub returns-in_err-line-clause-tried : goal.returns-in_err-line-clause-tried
+returns-in_err-line-clause-tried g c = tried_still c.args.name.now [] (g.S.Held.seen c.args.site.now) (g.S.Held.seen c.attach_alone.new.site) c.in_ok-attach_alone.ensures.attaches
+
+pub returns-in_err-line-clause-stays : goal.returns-in_err-line-clause-stays
+returns-in_err-line-clause-stays g c = c.in_ok-attach_alone.ensures.attaches.stays
+
+pub returns-in_err-create-clause-stays : goal.returns-in_err-create-clause-stays
+returns-in_err-create-clause-stays g c = disk_stays_on (g.S.Held.seen c.args.site.now) (g.S.Held.seen c.attach_alone.new.site) (g.S.Held.seen c.create.new.site) c.in_ok-attach_alone.ensures.attaches.stays c.create.ensures.stays
+
+pub returns-clause-stays : goal.returns-clause-stays
+returns-clause-stays g c = disk_stays_on (g.S.Held.seen c.args.site.now) (g.S.Held.seen c.attach_alone.new.site) (g.S.Held.seen c.create.new.site) c.in_ok-attach_alone.ensures.attaches.stays c.create.ensures.stays

@@ -1,22 +1,49 @@
-use Rattle.sr_command.proofs.Opened.{tried_on, untouched_refused, untouched_on, opened}
+use Rattle.std.proofs.Common.{sym, ◌∙◌}
+use Rattle.sr_site.specs.Growing.{disk_stays_on}
+use Rattle.sr_command.proofs.Keeping.{not_attached, not_opened}
+use Rattle.sr_command.proofs.Opened.{opened, tried_on, tried_refused, untouched_on, untouched_refused}
 use Rattle.sr_command.proofs.running.open_anew.Goals as goal
 
-pub returns-in_err-attach-clause-untouched : goal.returns-in_err-attach-clause-untouched
-returns-in_err-attach-clause-untouched g c = untouched_refused c.args.name.now c.args.mail.now (g.S.Held.seen c.args.site.now) (g.S.Held.seen c.attach.new.site) c.in_err-attach.ensures.attaches
+pub returns-in-Ok-opened-clause-opened : goal.returns-in-Ok-opened-clause-opened
+returns-in-Ok-opened-clause-opened g c = opened c.args.name.now c.args.mail.now (g.S.Held.seen c.args.site.now) (g.S.Held.seen c.attach.new.site) (g.S.Held.seen c.open-opened.new.site) c.in-Ok-opened.database
+    c.in-Ok.ensures.attaches c.in-Ok.ensures.steady c.open-opened.ensures.stays c.open-opened.ensures.attached c.in-Ok-opened.ensures.steady c.open-opened.ensures.files c.open-opened.ensures.moments
+    (c.usable-usable.ensures.some c.in-Ok-opened.ensures.ready.0) c.in-Ok-opened.ensures.opened
 
-pub returns-in_err-database-clause-tried : goal.returns-in_err-database-clause-tried
-returns-in_err-database-clause-tried g c = tried_on c.args.name.now c.args.mail.now (g.S.Held.seen c.args.site.now) (g.S.Held.seen c.attach.new.site) (g.S.Held.seen c.open.new.site) c.in_ok-attach.ensures.attaches c.open.ensures.stays c.open.ensures.attached
+pub returns-in-Ok-opened-clause-ready : goal.returns-in-Ok-opened-clause-ready
+returns-in-Ok-opened-clause-ready g c = c.in-Ok-opened.ensures.ready
 
-pub returns-in_err-database-clause-untouched : goal.returns-in_err-database-clause-untouched
-returns-in_err-database-clause-untouched g c = untouched_on c.args.name.now c.args.mail.now (g.S.Held.seen c.args.site.now) (g.S.Held.seen c.attach.new.site) (g.S.Held.seen c.open.new.site) c.in_ok-attach.ensures.attaches c.open.ensures.files c.open.ensures.moments
+pub returns-in-Ok-opened-clause-stands : goal.returns-in-Ok-opened-clause-stands
+returns-in-Ok-opened-clause-stands g c told = c.in-Ok-opened.ensures.opened (sym c.open-opened.ensures.stays.told ∙ told)
 
-pub returns-clause-opened : goal.returns-clause-opened
-returns-clause-opened g c = opened c.args.name.now c.args.mail.now (g.S.Held.seen c.args.site.now) (g.S.Held.seen c.attach.new.site) (g.S.Held.seen c.open.new.site) c.in_ok-database.database
-    c.in_ok-attach.ensures.attaches c.in_ok-attach.ensures.steady c.open.ensures.stays c.open.ensures.attached c.in_ok-database.ensures.steady c.open.ensures.files c.open.ensures.moments
-    (c.usable-usable.ensures.some c.in_ok-database.ensures.ready.0) c.in_ok-database.ensures.opened
+pub returns-in-Ok-opened-clause-tried : goal.returns-in-Ok-opened-clause-tried
+returns-in-Ok-opened-clause-tried g c = tried_on c.args.name.now c.args.mail.now (g.S.Held.seen c.args.site.now) (g.S.Held.seen c.attach.new.site) (g.S.Held.seen c.open-opened.new.site) c.in-Ok.ensures.attaches c.open-opened.ensures.stays c.open-opened.ensures.attached
 
-pub returns-clause-tried : goal.returns-clause-tried
-returns-clause-tried g c = tried_on c.args.name.now c.args.mail.now (g.S.Held.seen c.args.site.now) (g.S.Held.seen c.attach.new.site) (g.S.Held.seen c.open.new.site) c.in_ok-attach.ensures.attaches c.open.ensures.stays c.open.ensures.attached
+pub returns-in-Ok-opened-clause-untouched : goal.returns-in-Ok-opened-clause-untouched
+returns-in-Ok-opened-clause-untouched g c = untouched_on c.args.name.now c.args.mail.now (g.S.Held.seen c.args.site.now) (g.S.Held.seen c.attach.new.site) (g.S.Held.seen c.open-opened.new.site) c.in-Ok.ensures.attaches c.open-opened.ensures.files c.open-opened.ensures.moments
 
-pub returns-clause-untouched : goal.returns-clause-untouched
-returns-clause-untouched g c = untouched_on c.args.name.now c.args.mail.now (g.S.Held.seen c.args.site.now) (g.S.Held.seen c.attach.new.site) (g.S.Held.seen c.open.new.site) c.in_ok-attach.ensures.attaches c.open.ensures.files c.open.ensures.moments
+pub returns-in-Ok-opened-clause-stays : goal.returns-in-Ok-opened-clause-stays
+returns-in-Ok-opened-clause-stays g c = disk_stays_on (g.S.Held.seen c.args.site.now) (g.S.Held.seen c.attach.new.site) (g.S.Held.seen c.open-opened.new.site) c.in-Ok.ensures.attaches.stays c.open-opened.ensures.stays
+
+pub returns-in-Err-opened-clause-tried : goal.returns-in-Err-opened-clause-tried
+returns-in-Err-opened-clause-tried g c = tried_on c.args.name.now c.args.mail.now (g.S.Held.seen c.args.site.now) (g.S.Held.seen c.attach.new.site) (g.S.Held.seen c.open-opened.new.site) c.in-Ok.ensures.attaches c.open-opened.ensures.stays c.open-opened.ensures.attached
+
+pub returns-in-Err-opened-clause-untouched : goal.returns-in-Err-opened-clause-untouched
+returns-in-Err-opened-clause-untouched g c = untouched_on c.args.name.now c.args.mail.now (g.S.Held.seen c.args.site.now) (g.S.Held.seen c.attach.new.site) (g.S.Held.seen c.open-opened.new.site) c.in-Ok.ensures.attaches c.open-opened.ensures.files c.open-opened.ensures.moments
+
+pub returns-in-Err-opened-clause-stays : goal.returns-in-Err-opened-clause-stays
+returns-in-Err-opened-clause-stays g c = disk_stays_on (g.S.Held.seen c.args.site.now) (g.S.Held.seen c.attach.new.site) (g.S.Held.seen c.open-opened.new.site) c.in-Ok.ensures.attaches.stays c.open-opened.ensures.stays
+
+pub returns-in-Err-opened-clause-cause : goal.returns-in-Err-opened-clause-cause
+returns-in-Err-opened-clause-cause g c = not_opened c.args.name.now c.args.mail.now (g.S.Held.seen c.args.site.now) (g.S.Held.seen c.attach.new.site) (g.S.Held.seen c.open-opened.new.site) c.in-Err-opened.fault c.in-Ok.ensures.attaches c.in-Ok.ensures.steady c.in-Err-opened.ensures.cause
+
+pub returns-in-Err-clause-tried : goal.returns-in-Err-clause-tried
+returns-in-Err-clause-tried g c = tried_refused c.args.name.now c.args.mail.now (g.S.Held.seen c.args.site.now) (g.S.Held.seen c.attach.new.site) c.in-Err.ensures.attaches
+
+pub returns-in-Err-clause-untouched : goal.returns-in-Err-clause-untouched
+returns-in-Err-clause-untouched g c = untouched_refused c.args.name.now c.args.mail.now (g.S.Held.seen c.args.site.now) (g.S.Held.seen c.attach.new.site) c.in-Err.ensures.attaches
+
+pub returns-in-Err-clause-stays : goal.returns-in-Err-clause-stays
+returns-in-Err-clause-stays g c = c.in-Err.ensures.attaches.stays
+
+pub returns-in-Err-clause-cause : goal.returns-in-Err-clause-cause
+returns-in-Err-clause-cause g c = not_attached (g.S.Held.seen c.args.site.now) (g.S.Held.seen c.attach.new.site) c.in-Err.fault c.in-Err.ensures.cause

@@ -1,4 +1,6 @@
 use Rattle.std.proofs.Common.{[]}
+use Rattle.sr_site.specs.Growing.{disk_stays_on}
+use Rattle.sr_command.proofs.Keeping.{kept_in}
 use Rattle.sr_command.proofs.Opened.{tried_more}
 use Rattle.sr_command.proofs.Scripts.{stopped_open}
 use Rattle.sr_command.proofs.running.run_sql.Goals as goal
@@ -17,3 +19,18 @@ returns-in-Err-ran-clause-tried g c = tried_more c.args.name.now [] (g.S.Held.se
 
 pub returns-in-Err-clause-stopped : goal.returns-in-Err-clause-stopped
 returns-in-Err-clause-stopped g c = stopped_open c.args.name.now (g.S.Held.seen c.args.site.now) (g.S.Held.seen c.open_alone.new.site) (g.I.Source.seen c.args.input.now) (g.O.Sink.seen c.args.output.now) c.in-Err.fault c.open_alone.ensures.untouched c.in-Err.ensures.cause
+
+pub returns-in-Ok-ran-clause-stays : goal.returns-in-Ok-ran-clause-stays
+returns-in-Ok-ran-clause-stays g c = disk_stays_on (g.S.Held.seen c.args.site.now) (g.S.Held.seen c.open_alone.new.site) (g.S.Held.seen c.read_and_run-ran.new.site) c.open_alone.ensures.stays c.read_and_run-ran.ensures.stays
+
+pub returns-in-Err-ran-clause-stays : goal.returns-in-Err-ran-clause-stays
+returns-in-Err-ran-clause-stays g c = disk_stays_on (g.S.Held.seen c.args.site.now) (g.S.Held.seen c.open_alone.new.site) (g.S.Held.seen c.read_and_run-ran.new.site) c.open_alone.ensures.stays c.read_and_run-ran.ensures.stays
+
+pub returns-in-Ok-ran-clause-kept : goal.returns-in-Ok-ran-clause-kept
+returns-in-Ok-ran-clause-kept g c = kept_in c.keep.new.kept c.read_and_run-ran.new.database (g.S.Held.seen c.read_and_run-ran.new.site) c.keep.ensures.kept c.in-Ok-ran.ensures.kept
+
+pub returns-in-Err-clause-tried : goal.returns-in-Err-clause-tried
+returns-in-Err-clause-tried g c = c.open_alone.ensures.tried
+
+pub returns-in-Err-clause-stays : goal.returns-in-Err-clause-stays
+returns-in-Err-clause-stays g c = c.open_alone.ensures.stays

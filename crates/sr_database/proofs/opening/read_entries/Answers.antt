@@ -1,6 +1,5 @@
 use Rattle.std.proofs.Common.{sym, subst}
 use Rattle.std.specs.Prelude.{IsTrue}
-use Rattle.std.proofs.lemmas.Result.{err_from_is_err_and}
 use Rattle.sr_logfile.specs.Records.{HasHeader}
 use Rattle.sr_site.specs.Files.{Files, bytes_of}
 use Rattle.sr_database.proofs.Looped.{size_now, replay_cause_before}
@@ -18,21 +17,20 @@ replay_all-requires-clause-header g c told =
     subst (λ (f : Files). HasHeader 0 (bytes_of f c.args.log)) (sym (c.length.ensures.files before)) (whole_header _ (c.requires.whole before))
 
 pub database_of-requires-clause-replayed : goal.database_of-requires-clause-replayed
-database_of-requires-clause-replayed g c = replayed_behind _ _ _ _ _ c.args.publisher c.args.log _ c.in_ok-end.ensures.replayed c.new-base_catalog.ensures.new
+database_of-requires-clause-replayed g c = replayed_behind _ _ _ _ _ c.args.publisher c.args.log _ c.in-Ok.ensures.replayed c.new-base_catalog.ensures.new
 
-pub returns-in_err-end-clause-read : goal.returns-in_err-end-clause-read
-returns-in_err-end-clause-read g c = read_then _ _ _ (read_alone _ _ c.length.ensures.stays c.length.ensures.files c.length.ensures.happened) c.replay_all.ensures.read
+pub returns-in-Err-clause-read : goal.returns-in-Err-clause-read
+returns-in-Err-clause-read g c = read_then _ _ _ (read_alone _ _ c.length.ensures.stays c.length.ensures.files c.length.ensures.happened) c.replay_all.ensures.read
 
-pub returns-in_err-end-clause-cause : goal.returns-in_err-end-clause-cause
-returns-in_err-end-clause-cause g c =
-    let p = err_from_is_err_and c.from_residual-in_err-end.result c.from_residual-in_err-end.ensures.1 in
-    rw (p.1, p.2) (replay_cause_before c.args.log c.args.publisher (g.S.Held.seen c.args.site.now) (g.S.Held.seen c.length.new.self) (g.S.Held.seen c.replay_all.new.site)
-    (read_alone _ _ c.length.ensures.stays c.length.ensures.files c.length.ensures.happened) c.in_err-end.field-0.0 c.in_err-end.ensures.cause)
+pub returns-in-Err-clause-cause : goal.returns-in-Err-clause-cause
+returns-in-Err-clause-cause g c =
+    replay_cause_before c.args.log c.args.publisher (g.S.Held.seen c.args.site.now) (g.S.Held.seen c.length.new.self) (g.S.Held.seen c.replay_all.new.site)
+    (read_alone _ _ c.length.ensures.stays c.length.ensures.files c.length.ensures.happened) c.in-Err.fault c.in-Err.ensures.cause
 
-pub returns-clause-read : goal.returns-clause-read
-returns-clause-read g c = read_then _ _ _ (read_alone _ _ c.length.ensures.stays c.length.ensures.files c.length.ensures.happened) c.replay_all.ensures.read
+pub returns-in-Ok-clause-read : goal.returns-in-Ok-clause-read
+returns-in-Ok-clause-read g c = read_then _ _ _ (read_alone _ _ c.length.ensures.stays c.length.ensures.files c.length.ensures.happened) c.replay_all.ensures.read
 
-pub returns-clause-opened : goal.returns-clause-opened
-returns-clause-opened g c =
-    opened_of _ _ _ _ _ c.args.publisher c.args.log _ _ c.database_of.ensures.file c.in_ok-end.ensures.replayed
+pub returns-in-Ok-clause-opened : goal.returns-in-Ok-clause-opened
+returns-in-Ok-clause-opened g c =
+    opened_of _ _ _ _ _ c.args.publisher c.args.log _ _ c.database_of.ensures.file c.in-Ok.ensures.replayed
     (λ es is. c.database_of.ensures.is c.args.publisher es is c.new-base_catalog.ensures.new) (told_then _ _ c.length.ensures.stays) c.length.ensures.files

@@ -9,7 +9,7 @@ taken-init c = GoesOn-start _ _ _ _ _ _ _ (search rules) (search rules) (search 
 pub taken-preserved : goal.taken-preserved
 taken-preserved c =
     let e : c.taken.left.now ≡ c.in-Some.done.now ∷ c.in-Some.rest.now = search rules in
-    GoesOn-more _ _ _ _ _ _ _ _ _ _ _ _ c.taken.invariant e c.in_ok-next.ensures.told c.in_ok-next.ensures.behind c.in_ok-next.ensures.sight c.latest-sight.ensures
+    GoesOn-more _ _ _ _ _ _ _ _ _ _ _ _ c.taken.invariant e c.in-Ok.ensures.told c.in-Ok.ensures.behind c.in-Ok.ensures.sight c.latest-sight.ensures
 
 pub returns : goal.returns
 returns c = record { told = GoesOn-end _ _ _ _ _ _ _ _ c.taken.invariant (nil_from_length _ c.in_default.ensures.cases) c.catalog_in-behind.ensures }

@@ -21,17 +21,17 @@ returns-in_err-bytes-clause-cause g c =
 
 pub returns-in-Ok-clause-put : goal.returns-in-Ok-clause-put
 returns-in-Ok-clause-put g c =
-    put_as (g.S.Held.seen c.args.site.now) (g.S.Held.seen c.put.new.self) c.args.address.now c.in_ok-name.name c.as_slice.result.now _ c.args.number c.args.message.now c.in_ok-name.ensures
+    put_as (g.S.Held.seen c.args.site.now) (g.S.Held.seen c.put-outcome.new.self) c.args.address.now c.in_ok-name.name c.as_slice.result.now _ c.args.number c.args.message.now c.in_ok-name.ensures
     (c.as_slice.ensures.value ∙ c.in_ok-bytes.ensures.spelling) c.in-Ok.ensures.stays c.in-Ok.ensures.put
 
 pub returns-in-Ok-clause-steady : goal.returns-in-Ok-clause-steady
 returns-in-Ok-clause-steady g c =
-    steady_put (g.S.Held.seen c.args.site.now) (g.S.Held.seen c.put.new.self) c.args.address.now c.in_ok-name.name c.as_slice.result.now c.in-Ok.ensures.stays c.in-Ok.ensures.steady c.in-Ok.ensures.put
+    steady_put (g.S.Held.seen c.args.site.now) (g.S.Held.seen c.put-outcome.new.self) c.args.address.now c.in_ok-name.name c.as_slice.result.now c.in-Ok.ensures.stays c.in-Ok.ensures.steady c.in-Ok.ensures.put
 
-pub returns-clause-cause : goal.returns-clause-cause
-returns-clause-cause g c =
+pub returns-in-Err-clause-cause : goal.returns-in-Err-clause-cause
+returns-in-Err-clause-cause g c =
     let before = g.S.Held.seen c.args.site.now in
-    let now = g.S.Held.seen c.put.new.self in
+    let now = g.S.Held.seen c.put-outcome.new.self in
     let item = letter c.args.address.now c.args.number c.args.message.now in
     let posted = put_as before now c.args.address.now c.in_ok-name.name c.as_slice.result.now _ c.args.number c.args.message.now c.in_ok-name.ensures
     (c.as_slice.ensures.value ∙ c.in_ok-bytes.ensures.spelling) c.in-Err.ensures.stays c.in-Err.ensures.put in

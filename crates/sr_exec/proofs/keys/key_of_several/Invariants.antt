@@ -1,6 +1,6 @@
 use Rattle.std.proofs.Common.{◌≡◌, ◌++◌, length}
 use Rattle.sr_exec.specs.Statements.{key_of}
-use Rattle.sr_fold.proofs.keys.key_at.Given as goal
+use Rattle.sr_exec.proofs.keys.key_of_several.Given as goal
 
 abbrev pub invariant-places : goal.invariant-places
 invariant-places l = l.values.items ++ key_of l.left l.row ≡ key_of l.places l.row
