@@ -38,32 +38,43 @@ fn say_on(
     question: &str,
     out: &mut Vec<u8>,
 ) -> Result<(), NoMemory> {
-    let (kind, steps) = question.split_once("; ").unwrap_or((question, ""));
-    let (before, rest) = steps.split_once("; *").unwrap_or((steps, ""));
-    let (step, behind) = rest.split_once("; ").unwrap_or((rest, ""));
+    let (kind, steps) = parted(question, "; ");
+    let (before, rest) = parted(steps, "; *");
+    let (step, behind) = parted(rest, "; ");
     say_steps(alloc, offices, before, out)?;
-    let row = Row { kind, step, behind };
-    match word(kind, 0) {
-        "fail" | "stop" => say_each(alloc, offices, row, out),
-        "once" => say_once(alloc, offices, row, out),
-        "lost" | "other" => say_changed(alloc, offices, row, out),
-        "source" => say_with(alloc, offices, row, Trouble::Source, out),
-        "sink" => say_with(alloc, offices, row, Trouble::Sink, out),
-        _ => say(out, "no kind"),
+    say_kind(alloc, offices, Row { kind, step, behind }, out)
+}
+
+/// What stands before the first place of some letters, and what stands behind it.
+fn parted<'a>(text: &'a str, at: &str) -> (&'a str, &'a str) {
+    text.split_once(at).unwrap_or((text, ""))
+}
+
+fn say_kind(alloc: Global, offices: &Offices, row: Row, out: &mut Vec<u8>) -> Result<(), NoMemory> {
+    if is_of_calls(row.kind) {
+        return say_each(alloc, offices, row, out);
+    }
+    match trouble_of(row.kind) {
+        Some(trouble) => say_with(alloc, offices, row, trouble, out),
+        None => say(out, "no kind"),
     }
 }
 
-fn say_once(alloc: Global, offices: &Offices, row: Row, out: &mut Vec<u8>) -> Result<(), NoMemory> {
-    say_with(alloc, offices, row, Trouble::Nothing, out)
+/// Whether a kind of row is about each call.
+fn is_of_calls(kind: &str) -> bool {
+    let kind = word(kind, 0);
+    kind == "fail" || kind == "stop"
 }
 
-fn say_changed(
-    alloc: Global,
-    offices: &Offices,
-    row: Row,
-    out: &mut Vec<u8>,
-) -> Result<(), NoMemory> {
-    say_with(alloc, offices, row, Trouble::Changes(row.kind), out)
+/// What befalls the step of any other kind.
+fn trouble_of(kind: &str) -> Option<Trouble<'_>> {
+    match word(kind, 0) {
+        "once" => Some(Trouble::Nothing),
+        "lost" | "other" => Some(Trouble::Changes(kind)),
+        "source" => Some(Trouble::Source),
+        "sink" => Some(Trouble::Sink),
+        _ => None,
+    }
 }
 
 fn say_with(
@@ -182,16 +193,23 @@ fn say_picks(
     for pick in 0..picks_of(row.kind) {
         let mut found = Vec::new(alloc);
         let trouble = Trouble::Stops(calls, pick);
-        let is_over = say_from(alloc, offices, row, trouble, &mut found)?;
-        is_whole = is_whole && is_over;
-        if has(said.as_slice(), found.as_slice()) {
-            drop(found);
-        } else {
-            push_part(out, " OR ", found.as_slice())?;
-            said.push(found)?;
-        }
+        let is_over = say_from(alloc, offices, row, trouble, &mut found);
+        let kept = say_other(said, found, out);
+        is_whole = is_over? && is_whole;
+        kept?;
     }
     Ok(is_whole)
+}
+
+/// Says what was found where it was not said before.
+fn say_other(said: &mut Vec<Vec<u8>>, found: Vec<u8>, out: &mut Vec<u8>) -> Result<(), NoMemory> {
+    if has(said.as_slice(), found.as_slice()) {
+        drop(found);
+        return Ok(());
+    }
+    let pushed = push_part(out, " OR ", found.as_slice());
+    said.push(found)?;
+    pushed
 }
 
 /// How many crashes are tried: what stands behind `stop`.

@@ -65,11 +65,11 @@ impl Offices {
     /// Gives the site of an office back, with what stands on it.
     pub fn give_back(&mut self, name: &str, site: MemorySite) {
         let (disk, mail) = site.apart();
-        self.mail = mail;
+        drop(replace(&mut self.mail, mail));
         if name == "cons" {
-            self.above = disk;
+            drop(replace(&mut self.above, disk));
         } else {
-            self.below = disk;
+            drop(replace(&mut self.below, disk));
         }
     }
 }

@@ -145,14 +145,30 @@ fn run_words<S: Site>(
 /// The words, of the agent with the mail folder behind the name.
 fn texts_of(alloc: Global, words: &str) -> Result<Vec<Text>, NoMemory> {
     let mut texts = Vec::new(alloc);
-    for word in words.split(' ') {
-        texts.push(Text::from_str(alloc, word)?)?;
-        if texts.len() == 2 && words.starts_with("agent") {
-            texts.push(Text::from_str(alloc, "--mail")?)?;
-            texts.push(Text::from_str(alloc, "m")?)?;
+    match push_words(alloc, words, &mut texts) {
+        Ok(()) => Ok(texts),
+        Err(refused) => {
+            drop(texts);
+            Err(refused)
         }
     }
-    Ok(texts)
+}
+
+fn push_words(alloc: Global, words: &str, texts: &mut Vec<Text>) -> Result<(), NoMemory> {
+    let is_agent = words.starts_with("agent");
+    for word in words.split(' ') {
+        push_text(alloc, word, texts)?;
+        if is_agent && texts.len() == 2 {
+            push_text(alloc, "--mail", texts)?;
+            push_text(alloc, "m", texts)?;
+        }
+    }
+    Ok(())
+}
+
+fn push_text(alloc: Global, word: &str, texts: &mut Vec<Text>) -> Result<(), NoMemory> {
+    texts.push(Text::from_str(alloc, word)?)?;
+    Ok(())
 }
 
 fn run_texts<S: Site>(
@@ -165,16 +181,27 @@ fn run_texts<S: Site>(
 ) -> Result<u8, NoMemory> {
     let mut input = MemorySource::new(Vec::from_slice(alloc, script)?);
     let mut output = MemorySink::new(alloc);
-    let failing = match trouble {
-        Trouble::Source => input.fail_calls(alloc, &[1]),
-        Trouble::Sink => output.fail_calls(alloc, &[1]),
-        _ => Ok(()),
-    };
-    let status = run(alloc, words, site, &mut input, &mut output, 0);
+    let status = run_between(alloc, words, site, &mut input, &mut output, trouble);
     let kept = out.extend_from_slice(output.bytes());
     drop(output);
     drop(input);
-    failing?;
     kept?;
-    Ok(status)
+    status
+}
+
+/// Runs the program from a source to a sink, of which one may fail.
+fn run_between<S: Site>(
+    alloc: Global,
+    words: &[Text],
+    site: &mut S,
+    input: &mut MemorySource,
+    output: &mut MemorySink,
+    trouble: Trouble,
+) -> Result<u8, NoMemory> {
+    match trouble {
+        Trouble::Source => input.fail_calls(alloc, &[1])?,
+        Trouble::Sink => output.fail_calls(alloc, &[1])?,
+        _ => {}
+    }
+    Ok(run(alloc, words, site, input, output, 0))
 }

@@ -45,15 +45,28 @@ const KEYS: &[u8] = b"123456";
 /// A script that inserts rows with long texts in one transaction.
 pub fn papers(alloc: Global) -> Result<Vec<u8>, NoMemory> {
     let mut script = Vec::new(alloc);
-    for key in KEYS {
-        script.extend_from_slice(b"INSERT INTO doc VALUES (")?;
-        script.push(*key)?;
-        script.extend_from_slice(b", '")?;
-        push_letters(&mut script)?;
-        script.extend_from_slice(b"'); ")?;
+    match push_papers(&mut script) {
+        Ok(()) => Ok(script),
+        Err(refused) => {
+            drop(script);
+            Err(refused)
+        }
     }
-    script.extend_from_slice(b"COMMIT;")?;
-    Ok(script)
+}
+
+fn push_papers(script: &mut Vec<u8>) -> Result<(), NoMemory> {
+    for key in KEYS {
+        push_paper(script, *key)?;
+    }
+    script.extend_from_slice(b"COMMIT;")
+}
+
+fn push_paper(script: &mut Vec<u8>, key: u8) -> Result<(), NoMemory> {
+    script.extend_from_slice(b"INSERT INTO doc VALUES (")?;
+    script.push(key)?;
+    script.extend_from_slice(b", '")?;
+    push_letters(script)?;
+    script.extend_from_slice(b"'); ")
 }
 
 fn push_letters(script: &mut Vec<u8>) -> Result<(), NoMemory> {

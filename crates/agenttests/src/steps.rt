@@ -16,13 +16,24 @@ pub fn say_steps(
     steps: &str,
     out: &mut Vec<u8>,
 ) -> Result<(), NoMemory> {
-    let mut said = Vec::new(alloc);
+    let mut part = Vec::new(alloc);
+    let said = say_parts(alloc, offices, steps, &mut part, out);
+    drop(part);
+    said
+}
+
+fn say_parts(
+    alloc: Global,
+    offices: &mut Offices,
+    steps: &str,
+    part: &mut Vec<u8>,
+    out: &mut Vec<u8>,
+) -> Result<(), NoMemory> {
     for step in steps.split("; ") {
-        said.clear();
-        say_step(alloc, offices, step, &mut said)?;
-        push_part(out, "; ", said.as_slice())?;
+        part.clear();
+        say_step(alloc, offices, step, part)?;
+        push_part(out, "; ", part.as_slice())?;
     }
-    drop(said);
     Ok(())
 }
 
@@ -45,16 +56,28 @@ pub fn say_befallen(
     trouble: Trouble,
     out: &mut Vec<u8>,
 ) -> Result<bool, NoMemory> {
-    let (is_asked, step) = asked(step);
     let mut lines = Vec::new(alloc);
-    let ended = run_step(alloc, offices, step, trouble, &mut lines)?;
+    let is_whole = say_troubled(alloc, offices, step, trouble, &mut lines, out);
+    drop(lines);
+    is_whole
+}
+
+fn say_troubled(
+    alloc: Global,
+    offices: &mut Offices,
+    step: &str,
+    trouble: Trouble,
+    lines: &mut Vec<u8>,
+    out: &mut Vec<u8>,
+) -> Result<bool, NoMemory> {
+    let (is_asked, step) = asked(step);
+    let ended = run_step(alloc, offices, step, trouble, lines)?;
     if !ended.is_right() {
         say(out, "WRONG ")?;
     }
     if is_asked || !ended.is_right() {
         say_ended(out, ended, lines.as_slice())?;
     }
-    drop(lines);
     Ok(ended.is_whole())
 }
 
@@ -76,35 +99,58 @@ fn say_step(
         "begin" => say_begun(alloc, offices, CUSTOMERS_ABOVE, CUSTOMERS_BELOW, out),
         "papers" => say_begun(alloc, offices, PAPERS_ABOVE, PAPERS_BELOW, out),
         "stand" => stand(alloc, offices),
-        "lay" | "lose" | "hold" | "repeat" | "release" | "puts" | "file" => {
-            say_mail(alloc, offices, step, out)
-        }
-        _ => say_run(alloc, offices, step, out),
+        _ => say_other(alloc, offices, step, out),
     }
 }
 
-/// Makes both databases.
-fn say_begun<'a>(
+fn say_other(
     alloc: Global,
     offices: &mut Offices,
-    above: &'a str,
-    below: &'a str,
+    step: &str,
+    out: &mut Vec<u8>,
+) -> Result<(), NoMemory> {
+    if is_of_mail(step) {
+        say_mail(alloc, offices, step, out)
+    } else {
+        say_run(alloc, offices, step, out)
+    }
+}
+
+/// Whether a step is about files on their way.
+fn is_of_mail(step: &str) -> bool {
+    matches!(
+        word(step, 0),
+        "lay" | "lose" | "hold" | "repeat" | "release" | "puts" | "file"
+    )
+}
+
+/// Makes both databases.
+fn say_begun(
+    alloc: Global,
+    offices: &mut Offices,
+    above: &str,
+    below: &str,
+    out: &mut Vec<u8>,
+) -> Result<(), NoMemory> {
+    say_made(alloc, offices, "init cons cons", "", out)?;
+    say_made(alloc, offices, "init r1 r1", "", out)?;
+    say_made(alloc, offices, "sql cons", above, out)?;
+    say_made(alloc, offices, "sql r1", below, out)
+}
+
+/// Runs the program with words and a script.
+fn say_made(
+    alloc: Global,
+    offices: &mut Offices,
+    words: &str,
+    script: &str,
     out: &mut Vec<u8>,
 ) -> Result<(), NoMemory> {
     let mut lines = Vec::new(alloc);
-    let steps = [
-        ("init cons cons", ""),
-        ("init r1 r1", ""),
-        ("sql cons", above),
-        ("sql r1", below),
-    ];
-    for (words, script) in steps {
-        let script = script.as_bytes();
-        let ended = run_at(alloc, offices, words, script, Trouble::Nothing, &mut lines)?;
-        say_unless_done(out, ended)?;
-    }
+    let script = script.as_bytes();
+    let ended = run_at(alloc, offices, words, script, Trouble::Nothing, &mut lines);
     drop(lines);
-    Ok(())
+    say_unless_done(out, ended?)
 }
 
 /// Runs the program once.
@@ -114,16 +160,26 @@ fn say_run(
     step: &str,
     out: &mut Vec<u8>,
 ) -> Result<(), NoMemory> {
-    let (is_asked, step) = asked(step);
     let mut lines = Vec::new(alloc);
-    let ended = run_step(alloc, offices, step, Trouble::Nothing, &mut lines)?;
-    if is_asked {
-        say_ended(out, ended, lines.as_slice())?;
-    } else {
-        say_unless_done(out, ended)?;
-    }
+    let said = say_ran(alloc, offices, step, &mut lines, out);
     drop(lines);
-    Ok(())
+    said
+}
+
+fn say_ran(
+    alloc: Global,
+    offices: &mut Offices,
+    step: &str,
+    lines: &mut Vec<u8>,
+    out: &mut Vec<u8>,
+) -> Result<(), NoMemory> {
+    let (is_asked, step) = asked(step);
+    let ended = run_step(alloc, offices, step, Trouble::Nothing, lines)?;
+    if is_asked {
+        say_ended(out, ended, lines.as_slice())
+    } else {
+        say_unless_done(out, ended)
+    }
 }
 
 /// Runs the program as a step has it.
@@ -177,12 +233,17 @@ fn run_sql(
 fn say_ended(out: &mut Vec<u8>, ended: Ended, lines: &[u8]) -> Result<(), NoMemory> {
     say_number(out, "", u64::from(ended.status))?;
     for line in lines.split(|byte| *byte == b'\n') {
-        if !line.is_empty() {
-            say(out, " / ")?;
-            out.extend_from_slice(line)?;
-        }
+        say_line(out, line)?;
     }
     Ok(())
+}
+
+fn say_line(out: &mut Vec<u8>, line: &[u8]) -> Result<(), NoMemory> {
+    if line.is_empty() {
+        return Ok(());
+    }
+    say(out, " / ")?;
+    out.extend_from_slice(line)
 }
 
 /// Says the status of a run that was not done.

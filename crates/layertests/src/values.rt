@@ -34,7 +34,7 @@ fn key(alloc: Global, words: &str) -> Result<Key, NoMemory> {
     for word in words.split_whitespace() {
         values.push(value(alloc, word)?)?;
     }
-    Ok(Key::new(Seq::from_vec(values)))
+    Key::new(alloc, Seq::from_vec(values))
 }
 
 fn word_of(order: Ordering) -> &'static str {

@@ -6,4 +6,4 @@ use Rattle.sr_base.specs.declared.value.Value.{Value}
 -- the values of a key, as it holds them
 abbrev pub values_of : Held → List Value
 values_of (One value) = value ∷ []
-values_of (Many values) = values
+values_of (Many row) = row

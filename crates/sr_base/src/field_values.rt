@@ -157,7 +157,7 @@ impl Field for Key {
 
     fn read(alloc: Global, bytes: &[u8]) -> Result<(Key, &[u8]), Broken> {
         let (values, rest) = Seq::<Value>::read(alloc, bytes)?;
-        Ok((Key::new(values), rest))
+        Ok((Key::new(alloc, values)?, rest))
     }
 
     fn write(&self, out: &mut Vec<u8>) -> Result<(), NoMemory> {

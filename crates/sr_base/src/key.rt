@@ -2,6 +2,7 @@ ghost use Rattle.std.specs.Prelude.{◌≡◌, ◌∷◌, [], IfOk};
 ghost use Rattle.sr_base.specs.Held.{values_of};
 
 use crate::copied::{Copied, NoMemory};
+use crate::row::Row;
 use crate::seq::Seq;
 use crate::value::Value;
 use std::alloc::Global;
@@ -11,14 +12,14 @@ use std::slice;
 /// The values of a key, in key order.
 #[derive(Drop)]
 pub struct Key {
-    held: Held,
+    pub(crate) held: Held,
 }
 
-/// A key of one value, which is the usual one, lies where the key lies. Others have their values in a list.
+/// A key of one value, which is the usual one, lies where the key lies. Others have their values as a row has them.
 #[derive(Drop)]
-enum Held {
+pub(crate) enum Held {
     One(Value),
-    Many(Seq<Value>),
+    Many(Row),
 }
 
 impl Model for Key {
@@ -32,11 +33,13 @@ impl Model for Key {
 }
 
 impl Key {
-    /// The key of these values.
-    pub fn new(values: Seq<Value>) -> Key
-        ensures values { result ≡ values }
+    /// The key of these values. One value takes no memory.
+    pub fn new(alloc: Global, values: Seq<Value>) -> Result<Key, NoMemory>
+        ensures values { IfOk result (λ k. k ≡ values) }
     {
-        Key { held: hold(values) }
+        Ok(Key {
+            held: hold(alloc, values)?,
+        })
     }
 
     /// The key of one value. It takes no memory.
@@ -54,22 +57,22 @@ impl Key {
     {
         match &self.held {
             Held::One(value) => slice::from_ref(value),
-            Held::Many(values) => values.as_slice(),
+            Held::Many(row) => row.values(),
         }
     }
 }
 
 /// The values of a list, the only one without the list.
-fn hold(values: Seq<Value>) -> Held
-    ensures values { values_of result ≡ values }
+fn hold(alloc: Global, values: Seq<Value>) -> Result<Held, NoMemory>
+    ensures values { IfOk result (λ held. values_of held ≡ values) }
 {
     let mut items = values.into_vec();
     if items.len() != 1 {
-        return Held::Many(Seq::from_vec(items));
+        return Ok(Held::Many(Row::new(alloc, Seq::from_vec(items))?));
     }
     match items.pop() {
-        Some(value) => Held::One(value),
-        None => Held::Many(Seq::from_vec(items)),
+        Some(value) => Ok(Held::One(value)),
+        None => Ok(Held::Many(Row::new(alloc, Seq::from_vec(items))?)),
     }
 }
 
@@ -77,7 +80,7 @@ impl Copied for Held {
     fn copy(&self, alloc: Global) -> Result<Held, NoMemory> {
         match self {
             Held::One(value) => Ok(Held::One(value.copy(alloc)?)),
-            Held::Many(values) => Ok(Held::Many(values.copy(alloc)?)),
+            Held::Many(row) => Ok(Held::Many(row.copy(alloc)?)),
         }
     }
 }

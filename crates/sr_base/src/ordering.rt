@@ -5,7 +5,7 @@ ghost use Rattle.std.specs.Cmp.Rules.{comparing};
 ghost use Rattle.std.specs.Ordering.{eq_by_cmp, as_partial_cmp};
 ghost use Rattle.sr_base.specs.Order.{class_rank, number_of, bytes_of, width_of, compared, worth_cmp, value_cmp, key_cmp, name_cmp, value_cmp_total, key_cmp_total, name_cmp_total};
 
-use crate::key::Key;
+use crate::key::{Held, Key};
 use crate::name::Name;
 use crate::value::Value;
 use std::cmp::Ordering;
@@ -170,9 +170,10 @@ impl Ord for Key {
     ghost matches_eq = { Prim.search (comparing, rules) };
 
     fn cmp(&self, other: &Key) -> Ordering {
-        match (self.values(), other.values()) {
-            ([Value::Int(number)], [Value::Int(other)]) => number.cmp(other),
-            (values, others) => values.cmp(others),
+        match (&self.held, &other.held) {
+            (Held::One(Value::Int(number)), Held::One(Value::Int(other))) => number.cmp(other),
+            (Held::One(value), Held::One(other)) => value.cmp(other).then(Ordering::Equal),
+            _ => self.values().cmp(other.values()),
         }
     }
 }

@@ -41,7 +41,7 @@ impl Database {
         ensures cause { IfErr result (EntryCause self.now after (S.seen site.old) (S.seen site.new)) }
     {
         let mut buffer = Vec::new(alloc);
-        entry_behind(alloc, &self.log, site, after, &mut buffer)
+        self.entry_read(alloc, site, after, &mut buffer)
     }
 
     /// As `entry_after`, in a buffer that is lent, and grows where it is shorter than the record: who goes along the log and lends the same one for each

@@ -150,6 +150,6 @@ fn push_key(alloc: Global, keys: &mut Vec<Key>, table: &Table, row: &Row) -> Res
     ensures ok { OnOk result (keys.new.items ≡ keys.old.items ++ keys_in table.now.key (row.now ∷ [])) }
 {
     let values = values_at(alloc, table.key.as_slice(), row.values())?;
-    keys.push(Key::new(values))?;
+    keys.push(Key::new(alloc, values)?)?;
     Ok(())
 }

@@ -49,7 +49,7 @@ fn fixed_columns(
         push(&mut values, value)?;
         left = rest;
     }
-    Ok(Some(Key::new(Seq::from_vec(values))))
+    Ok(Some(Key::new(alloc, Seq::from_vec(values))?))
 }
 
 /// The value of the column at a place, where it is the first of its name. It looks at each column before it.

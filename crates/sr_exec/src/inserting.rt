@@ -109,7 +109,7 @@ fn inserted_rows(
     Ok(added)
 }
 
-/// One row. Each column of the table looks through the columns that are named.
+/// One row. Each column of the table looks through the columns that are named. A row of two values takes one block of memory.
 fn inserted_row(
     alloc: Global,
     table: &Table,
@@ -121,15 +121,54 @@ fn inserted_row(
     requires good { bad_row table.now.name names.now exprs.now ≡ None }
     ensures answer { Answers result (inserted_row names.now exprs.now table.now.columns) }
 {
-    let columns = table.columns.as_slice();
+    match table.columns.as_slice() {
+        [column, next] => {
+            let value = value_of(alloc, table, names, exprs, constants, column)?;
+            let next_value = value_of(alloc, table, names, exprs, constants, next)?;
+            Ok(Row::two(alloc, [value, next_value])?)
+        }
+        columns => inserted_row_of_several(alloc, table, names, exprs, constants, columns),
+    }
+}
+
+/// The same for more columns than two, or for one.
+fn inserted_row_of_several(
+    alloc: Global,
+    table: &Table,
+    names: &[Name],
+    exprs: &[Expr],
+    constants: &Scope,
+    columns: &[Column],
+) -> Result<Row, DmlFault>
+    requires constants { constants.now ≡ [] }
+    requires good { bad_row table.now.name names.now exprs.now ≡ None }
+    ensures answer { Answers result (inserted_row names.now exprs.now columns.now) }
+{
     let mut values = Vec::with_capacity(alloc, columns.len())?;
     let mut left = columns;
     'columns: while let Some((column, rest)) = left.split_first() {
-        let expr = value_for(names, exprs, &column.name);
-        push(&mut values, inserted_value(alloc, constants, column, expr)?)?;
+        let value = value_of(alloc, table, names, exprs, constants, column)?;
+        push(&mut values, value)?;
         left = rest;
     }
     Ok(Row::new(alloc, Seq::from_vec(values))?)
+}
+
+/// What a column takes of the values that are named. It looks through them.
+fn value_of(
+    alloc: Global,
+    table: &Table,
+    names: &[Name],
+    exprs: &[Expr],
+    constants: &Scope,
+    column: &Column,
+) -> Result<Value, DmlFault>
+    requires constants { constants.now ≡ [] }
+    requires good { bad_row table.now.name names.now exprs.now ≡ None }
+    ensures answer { Answers result (stored column.now (constant (value_for names.now exprs.now column.now.name))) }
+{
+    let expr = value_for(names, exprs, &column.name);
+    inserted_value(alloc, constants, column, expr)
 }
 
 /// What a column takes of a constant, or of NULL where no value is given.

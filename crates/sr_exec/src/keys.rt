@@ -6,8 +6,8 @@ use crate::lists::push;
 use sr_base::{Copied, Key, NoMemory, Seq, Value};
 use std::alloc::Global;
 
-/// The key of a row: its values at the places of the key, each found at once.
-pub(crate) fn key_of(alloc: Global, places: &[usize], row: &[Value]) -> Result<Key, NoMemory>
+/// The key of a row: its values at the places of the key, each found at once. A key of one column takes no memory but that of a text.
+pub fn key_of(alloc: Global, places: &[usize], row: &[Value]) -> Result<Key, NoMemory>
     ensures key { IfOk result (λ key. key ≡ key_of places.now row.now) }
 {
     match places {
@@ -26,7 +26,7 @@ fn key_of_several(alloc: Global, places: &[usize], row: &[Value]) -> Result<Key,
         push(&mut values, value_at(alloc, row, *place)?)?;
         left = rest;
     }
-    Ok(Key::new(Seq::from_vec(values)))
+    Key::new(alloc, Seq::from_vec(values))
 }
 
 fn value_at(alloc: Global, row: &[Value], place: usize) -> Result<Value, NoMemory>

@@ -29,6 +29,7 @@ mod updating;
 pub use applying::apply;
 pub use changes::Changes;
 pub use execution::exec;
+pub use keys::key_of;
 pub use laws::{
     changes_are_where_rows_differ, changes_fit, changes_make_the_rows_afterwards, rows_stay_fitting,
 };

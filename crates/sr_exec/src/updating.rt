@@ -82,8 +82,30 @@ fn bad_in_update(
     }
 }
 
-/// The row that an UPDATE makes of a row. Each column looks through the assignments.
+/// The row that an UPDATE makes of a row. Each column looks through the assignments. A row of two values takes one block of memory.
 pub(crate) fn updated_row(
+    alloc: Global,
+    scope: &Scope,
+    row: &[Value],
+    sets: &[(Name, Expr)],
+    columns: &[Column],
+) -> Result<Row, DmlFault>
+    requires good { bad_sets scope.now [] sets.now ≡ None }
+    requires fits { IsRowOf scope.now row.now }
+    ensures answer { Answers result (updated_row scope.now row.now sets.now columns.now row.now) }
+{
+    match (columns, row) {
+        ([column, next], [old, next_old]) => {
+            let value = value_of(alloc, scope, row, sets, column, old)?;
+            let next_value = value_of(alloc, scope, row, sets, next, next_old)?;
+            Ok(Row::two(alloc, [value, next_value])?)
+        }
+        _ => updated_row_of_several(alloc, scope, row, sets, columns),
+    }
+}
+
+/// The same for more columns than two, or for one.
+fn updated_row_of_several(
     alloc: Global,
     scope: &Scope,
     row: &[Value],
@@ -101,15 +123,29 @@ pub(crate) fn updated_row(
         let Some((old, olds_rest)) = olds.split_first() else {
             return Ok(Row::new(alloc, Seq::from_vec(values))?);
         };
-        let expr = set_for(sets, &column.name);
-        push(
-            &mut values,
-            updated_value(alloc, scope, row, column, old, expr)?,
-        )?;
+        let value = value_of(alloc, scope, row, sets, column, old)?;
+        push(&mut values, value)?;
         left = rest;
         olds = olds_rest;
     }
     Ok(Row::new(alloc, Seq::from_vec(values))?)
+}
+
+/// What a column takes of the assignments. It looks through them.
+fn value_of(
+    alloc: Global,
+    scope: &Scope,
+    row: &[Value],
+    sets: &[(Name, Expr)],
+    column: &Column,
+    old: &Value,
+) -> Result<Value, DmlFault>
+    requires good { bad_sets scope.now [] sets.now ≡ None }
+    requires fits { IsRowOf scope.now row.now }
+    ensures answer { Answers result (updated_value scope.now row.now column.now old.now (set_for sets.now column.now.name)) }
+{
+    let expr = set_for(sets, &column.name);
+    updated_value(alloc, scope, row, column, old, expr)
 }
 
 /// What a column takes in an UPDATE: an expression's value over the old row, or the value that it has.

@@ -1,20 +1,17 @@
 //! Columns, keys, and what a column holds.
 
-ghost use Rattle.std.specs.Prelude.{◌≡◌, slice_get, unwrap_or, IfOk};
+ghost use Rattle.std.specs.Prelude.{◌≡◌};
 ghost use Rattle.std.specs.Option.{option_copied};
-ghost use Rattle.sr_base.specs.declared.value.Value.TheVariants.{Null};
 ghost use Rattle.sr_dates.specs.Fitting.{fitted};
 ghost use Rattle.sr_eval.specs.Comparisons.{is_null};
-ghost use Rattle.sr_exec.specs.Statements.{key_of};
 ghost use Rattle.sr_firing.specs.Holding.{held_by, held_in, is_named};
 ghost use Rattle.sr_schema.specs.Firsts.{has};
 ghost use Rattle.sr_schema.specs.Members.{key_names};
 ghost use Rattle.sr_schema.specs.Names.{place_of};
 
-use sr_base::{Copied, Key, Kind, Name, NoMemory, Seq, Value};
+use sr_base::{Kind, Name, Value};
 use sr_catalog::{Column, HasName, Table};
 use sr_dates::fit;
-use std::alloc::Global;
 
 /// What a column or variable of a type holds for a value, if it fits.
 #[tactic(auto, using(sr_exec::proofs::Fitted::given_rules))]
@@ -88,28 +85,5 @@ fn is_named(column: Option<&Column>, name: &Name) -> bool
     match column {
         None => false,
         Some(column) => name.bytes() == column.name.bytes(),
-    }
-}
-
-/// The key of a row: its values at the places of the key, each found at once.
-pub fn key_of(alloc: Global, places: &[usize], row: &[Value]) -> Result<Key, NoMemory>
-    ensures key { IfOk result (λ key. key ≡ key_of places.now row.now) }
-{
-    let mut values = Vec::new(alloc);
-    let mut left = places;
-    'places: while let Some((place, rest)) = left.split_first() {
-        values.push(value_at(alloc, row, *place)?)?;
-        left = rest;
-    }
-    Ok(Key::new(Seq::from_vec(values)))
-}
-
-/// A copy of the value at a place, or NULL where there is none.
-fn value_at(alloc: Global, row: &[Value], place: usize) -> Result<Value, NoMemory>
-    ensures value { IfOk result (λ value. value ≡ unwrap_or (slice_get row.now place) Null) }
-{
-    match row.get(place) {
-        Some(value) => value.copy(alloc),
-        None => Ok(Value::Null),
     }
 }

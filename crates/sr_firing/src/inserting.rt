@@ -8,13 +8,14 @@ ghost use Rattle.sr_firing.specs.Actions.{after_insert, given, row_made, term_fo
 ghost use Rattle.sr_firing.specs.Running.{ground_of, IsReady, Went};
 ghost use Rattle.sr_firing.specs.Scenes.{GroundFits, SceneFits};
 
-use crate::columns::{held_by, key_of};
+use crate::columns::held_by;
 use crate::conflict::Conflict;
 use crate::running::{Running, value};
 use crate::scene::Scene;
 use sr_ast::Expr;
 use sr_base::{Name, NoMemory, Row, Seq, Value};
 use sr_catalog::{HasName, Table};
+use sr_exec::key_of;
 use std::alloc::Global;
 
 /// INSERT into a table. It fails where a value passes its type's end, does not fit, or is a NULL that may not stand, and where the key is

@@ -15,7 +15,7 @@ mod running;
 mod scene;
 mod setting;
 
-pub use columns::{held_as, is_null, is_of_key, key_of};
+pub use columns::{held_as, is_null, is_of_key};
 pub use conflict::Conflict;
 pub use fired::Fired;
 pub use firing::fire;

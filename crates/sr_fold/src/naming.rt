@@ -83,7 +83,7 @@ fn named_values(
         values.push(value)?;
         left = rest;
     }
-    Ok(Some(Key::new(Seq::from_vec(values))))
+    Ok(Some(Key::new(alloc, Seq::from_vec(values))?))
 }
 
 /// The value that is named for the column at a place, fitted to it.

@@ -1,5 +1,5 @@
 -- The order of a SELECT's rows.
-use Rattle.std.specs.Prelude.{ℕ, Bool, true, false, List, map, Option, unwrap_or, slice_get, IsPermutation, IsSorted}
+use Rattle.std.specs.Prelude.{ℕ, Bool, cond, List, map, Option, unwrap_or, slice_get, IsPermutation, IsSorted}
 use Rattle.std.specs.Option.{option_and_then}
 use Rattle.std.specs.declared.cmp.Ordering.{Ordering}
 use Rattle.std.specs.Ordering.{on, then_cmp, flip_args}
@@ -17,10 +17,16 @@ use Rattle.sr_query.specs.declared.placing.Placed.{Placed}
 use Rattle.sr_query.specs.declared.rank.Rank.{Rank}
 use Rattle.sr_query.specs.declared.rank.Listed.{Listed}
 
--- the rank of a value under a column of ORDER BY, which is descending or not; the value for the other direction is NULL
+-- the rank of a value under a column of ORDER BY, which is descending or not
 abbrev pub rank_of : Bool → Cell → Rank
-rank_of false v = record { rising = v; falling = Null }
-rank_of true v = record { rising = Null; falling = v }
+rank_of descending v = record { descending = descending; value = v }
+
+-- its value where the column is ascending, or else NULL; and where it is descending, or else NULL
+abbrev pub rising : Rank → Cell
+rising r = cond r.descending Null r.value
+
+abbrev pub falling : Rank → Cell
+falling r = cond r.descending r.value Null
 
 -- the ranks of a combination: its values of the columns of ORDER BY
 abbrev pub ranks_of : Scope → List OrderBy → List Cell → List Rank
@@ -38,14 +44,14 @@ ranks_at places values = map (λ (p : Placed). rank_of p.descending (at_place va
 
 -- ascending by value, NULL first; descending the other way round, NULL last
 abbrev pub rank_cmp : Rank → Rank → Ordering
-rank_cmp = then_cmp (on (λ (r : Rank). r.rising) value_cmp) (on (λ (r : Rank). r.falling) (flip_args value_cmp))
+rank_cmp = then_cmp (on rising value_cmp) (on falling (flip_args value_cmp))
 
 -- rows by the first rank of each, then the next
 abbrev pub listed_cmp : Listed → Listed → Ordering
 listed_cmp = on (λ (l : Listed). l.ranks) (slice_cmp rank_cmp)
 
 pub rank_cmp_total : IsTotalOrder rank_cmp
-rank_cmp_total = then_total (on_total (λ (r : Rank). r.rising) value_cmp_total) (on_total (λ (r : Rank). r.falling) (back_total value_cmp_total))
+rank_cmp_total = then_total (on_total rising value_cmp_total) (on_total falling (back_total value_cmp_total))
 
 pub listed_cmp_total : IsTotalOrder listed_cmp
 listed_cmp_total = on_total (λ (l : Listed). l.ranks) (lists_total rank_cmp_total)

@@ -37,7 +37,7 @@ pub(crate) fn fixed_key<'a>(
         push(&mut values, value)?;
         left = others;
     }
-    Ok(Some(Key::new(Seq::from_vec(values))))
+    Ok(Some(Key::new(alloc, Seq::from_vec(values))?))
 }
 
 /// The value that the conditions fix for the column at a place.

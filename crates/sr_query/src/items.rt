@@ -138,6 +138,28 @@ fn item_values(
     requires good { IsTrue (all_pass (is_good_item scope.now) (items_in parts.now)) }
     ensures answer { Answers result (each (item_value scope.now (values_of (bounds_of combination.now))) (items_in parts.now)) }
 {
+    match parts {
+        [part, next] => {
+            let value = part_value(alloc, scope, part, combination)?;
+            let next_value = part_value(alloc, scope, next, combination)?;
+            Ok(Row::two(alloc, [value, next_value])?)
+        }
+        _ => values_of_several(alloc, scope, parts, combination),
+    }
+}
+
+/// The values of more items than two, or of one.
+fn values_of_several(
+    alloc: Global,
+    scope: &Scope,
+    parts: &[Part],
+    combination: &Combination,
+) -> Result<Row, DmlFault>
+    requires whole { IsCombination scope.now combination.now }
+    requires parts { AreListed scope.now parts.now }
+    requires good { IsTrue (all_pass (is_good_item scope.now) (items_in parts.now)) }
+    ensures answer { Answers result (each (item_value scope.now (values_of (bounds_of combination.now))) (items_in parts.now)) }
+{
     let mut values = Vec::with_capacity(alloc, parts.len())?;
     'parts: for part in parts {
         let value = part_value(alloc, scope, part, combination)?;
@@ -204,12 +226,17 @@ fn value_in(
     }
 }
 
-/// The ranks of a combination: a value for each column of ORDER BY. No column, or one, takes no memory but that of a text.
+/// The ranks of a combination: a value for each column of ORDER BY. Up to two columns take no memory but that of texts.
 fn ranks_of(alloc: Global, places: &[Placed], combination: &[Bound]) -> Result<Ranks, NoMemory>
     ensures ranks { IfOk result (λ ranks. ranks ≡ ranks_at places.now (values_of combination.now)) }
 {
     match places {
         [by] => Ok(Ranks::one(rank_of(alloc, by, combination)?)),
+        [by, then] => {
+            let rank = rank_of(alloc, by, combination)?;
+            let next = rank_of(alloc, then, combination)?;
+            Ok(Ranks::two([rank, next]))
+        }
         _ => Ok(Ranks::many(rank_list(alloc, places, combination)?)),
     }
 }
@@ -230,8 +257,10 @@ fn rank_list(alloc: Global, places: &[Placed], combination: &[Bound]) -> Result<
 fn rank_of(alloc: Global, by: &Placed, combination: &[Bound]) -> Result<Rank, NoMemory>
     ensures rank { IfOk result (λ rank. rank ≡ rank_of by.now.descending (at_place (values_of combination.now) by.now.place)) }
 {
-    let value = at_place(alloc, by.place, combination)?;
-    Ok(Rank::new(by.descending, value))
+    Ok(Rank {
+        descending: by.descending,
+        value: at_place(alloc, by.place, combination)?,
+    })
 }
 
 /// The value at a place among the values of a combination, or NULL. Only a text is copied.

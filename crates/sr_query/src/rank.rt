@@ -3,19 +3,21 @@ ghost use Rattle.std.proofs.Common.{rules};
 ghost use Rattle.std.specs.Cmp.{po, eq_by_cmp_equiv, partial_equiv_from_equiv};
 ghost use Rattle.std.specs.Cmp.Rules.{comparing};
 ghost use Rattle.std.specs.Ordering.{eq_by_cmp, as_partial_cmp};
-ghost use Rattle.sr_base.specs.Order.{value_cmp};
-ghost use Rattle.sr_query.specs.Orders.{rank_of, rank_cmp, rank_cmp_total, listed_cmp, listed_cmp_total};
+ghost use Rattle.std.specs.Cmp.Lexicographic.{slice_cmp};
+ghost use Rattle.sr_query.specs.Orders.{rank_cmp, rank_cmp_total, listed_cmp, listed_cmp_total};
 
 use sr_base::{Row, Seq, Value};
 use std::cmp::Ordering;
 use std::marker::Model;
 use std::slice;
 
-/// A value under a column of ORDER BY: rising where the column is ascending, falling where it is descending. The other one is NULL.
+const NULL: Value = Value::Null;
+
+/// A value under a column of ORDER BY, which is descending or not.
 #[derive(Drop)]
 pub(crate) struct Rank {
-    pub rising: Value,
-    pub falling: Value,
+    pub descending: bool,
+    pub value: Value,
 }
 
 /// The ranks of a row, one for each column of ORDER BY: contracts see their list.
@@ -24,10 +26,11 @@ pub(crate) struct Ranks {
     held: Held,
 }
 
-/// One rank, as most statements have, lies where the row lies, so that two rows are compared where they lie. Others have a list.
+/// One rank or two, as most statements have, lie where the row lies, so that two rows are compared where they lie. Others have a list.
 #[derive(Drop)]
 enum Held {
     One(Rank),
+    Two([Rank; 2]),
     Many(Seq<Rank>),
 }
 
@@ -58,6 +61,15 @@ impl Ranks {
         }
     }
 
+    /// Two ranks. They take no memory.
+    pub(crate) fn two(pair: [Rank; 2]) -> Ranks
+        ensures ranks { result ≡ pair }
+    {
+        Ranks {
+            held: Held::Two(pair),
+        }
+    }
+
     /// The ranks of a list.
     pub(crate) fn many(ranks: Seq<Rank>) -> Ranks
         ensures ranks { result ≡ ranks }
@@ -73,26 +85,8 @@ impl Ranks {
     {
         match &self.held {
             Held::One(rank) => slice::from_ref(rank),
+            Held::Two(pair) => pair.as_slice(),
             Held::Many(ranks) => ranks.as_slice(),
-        }
-    }
-}
-
-impl Rank {
-    /// The rank of a value under a column that is descending or not.
-    pub(crate) fn new(descending: bool, value: Value) -> Rank
-        ensures rank { result ≡ rank_of descending value }
-    {
-        if descending {
-            Rank {
-                rising: Value::Null,
-                falling: value,
-            }
-        } else {
-            Rank {
-                rising: value,
-                falling: Value::Null,
-            }
         }
     }
 }
@@ -131,23 +125,12 @@ impl Ord for Rank {
     ghost matches_eq = { Prim.search (comparing, rules) };
 
     fn cmp(&self, other: &Rank) -> Ordering {
-        match (&self.rising, &other.rising) {
-            (Value::Null, Value::Null) => other.falling.cmp(&self.falling),
-            (value, other_value) => match value.cmp(other_value) {
-                Ordering::Equal => falling_order(&self.falling, &other.falling),
-                order => order,
-            },
+        match (self.descending, other.descending) {
+            (false, false) => self.value.cmp(&other.value).then(Ordering::Equal),
+            (true, true) => other.value.cmp(&self.value),
+            (false, true) => self.value.cmp(&NULL).then(other.value.cmp(&NULL)),
+            (true, false) => NULL.cmp(&other.value).then(NULL.cmp(&self.value)),
         }
-    }
-}
-
-/// How two values under a column that falls compare: the greater one comes first.
-fn falling_order(value: &Value, other: &Value) -> Ordering
-    ensures order { result ≡ value_cmp other.now value.now }
-{
-    match (value, other) {
-        (Value::Null, Value::Null) => Ordering::Equal,
-        (value, other) => other.cmp(value),
     }
 }
 
@@ -185,9 +168,23 @@ impl Ord for Listed {
     ghost matches_eq = { Prim.search (comparing, rules) };
 
     fn cmp(&self, other: &Listed) -> Ordering {
-        match (self.ranks.as_slice(), other.ranks.as_slice()) {
-            ([rank], [other_rank]) => rank.cmp(other_rank),
-            (ranks, other_ranks) => ranks.cmp(other_ranks),
+        match (&self.ranks.held, &other.ranks.held) {
+            (Held::One(rank), Held::One(other_rank)) => rank.cmp(other_rank),
+            (Held::Two(pair), Held::Two(other_pair)) => pair_order(pair, other_pair),
+            _ => self.ranks.as_slice().cmp(other.ranks.as_slice()),
         }
+    }
+}
+
+/// The order of two pairs of ranks, by the first ones, then the second ones.
+fn pair_order(pair: &[Rank; 2], other: &[Rank; 2]) -> Ordering
+    ensures order { result ≡ slice_cmp rank_cmp pair.now other.now }
+{
+    match (pair.as_slice(), other.as_slice()) {
+        ([first, second], [other_first, other_second]) => match first.cmp(other_first) {
+            Ordering::Equal => second.cmp(other_second),
+            order => order,
+        },
+        (ranks, other_ranks) => ranks.cmp(other_ranks),
     }
 }

@@ -10,7 +10,7 @@ use crate::named::{filled_row, has_null, names_other};
 use crate::outcomes::inserted;
 use sr_base::{Name, NoMemory, Row, Value};
 use sr_catalog::{Catalog, Table};
-use sr_firing::key_of;
+use sr_exec::key_of;
 use sr_logform::{Clash, Outcome};
 use sr_rows::Rows;
 use std::alloc::Global;

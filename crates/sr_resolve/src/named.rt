@@ -76,7 +76,7 @@ pub(crate) fn fitted_key(
         key.push(value)?;
         left = rest;
     }
-    Ok(Some(Key::new(Seq::from_vec(key))))
+    Ok(Some(Key::new(alloc, Seq::from_vec(key))?))
 }
 
 /// The value that is named for the column at a place, fitted to it.

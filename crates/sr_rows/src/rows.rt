@@ -6,7 +6,7 @@ ghost use Rattle.sr_rows.specs.Marks.{rows_of_table, IsNext, IsLast};
 ghost use Rattle.sr_rows.specs.Steps.{at_mark, back, without_table, GoesOn};
 ghost use Rattle.sr_rows.specs.Walks.{table_rows, past};
 
-use crate::tables::{Tables, insert_at, place_at, remove_at, set_at};
+use crate::tables::{Tables, insert_at, place_at, remove_at, replace_at, set_at};
 use crate::undo::{Undo, note_change, shared, take_back};
 use crate::walk::Walk;
 use sr_base::{Copied, Key, Name, NoMemory, Row};
@@ -148,11 +148,14 @@ impl Rows {
         ensures on { GoesOn self.old self.new }
         ensures err { OnErr result (self.new ≡ self.old) }
     {
-        if !is_place(&self.tables, table, &key) {
-            return self.set(alloc, table, key, row);
-        }
         let name = shared(alloc, self.changes.as_slice(), table)?;
-        let place = set_at(&mut self.tables, table, &key, Some(row));
+        let place = match replace_at(&mut self.tables, table, &key, row) {
+            Ok(place) => place,
+            Err(row) => {
+                drop(name);
+                return self.set(alloc, table, key, row);
+            }
+        };
         let change = Undo {
             table: name,
             key,

@@ -1,4 +1,4 @@
-ghost use Rattle.std.specs.Prelude.{◌≡◌, Option, Some, None, IsSome, IsTrue, IfOk, OnOk, OnErr, MatchOption};
+ghost use Rattle.std.specs.Prelude.{◌≡◌, Option, Some, None, IsSome, IsTrue, IfOk, IfErr, OnOk, OnErr, MatchOption, MatchResult};
 ghost use Rattle.std.specs.Option.{option_copied, option_map};
 ghost use Rattle.std.specs.FinMap as map;
 ghost use Rattle.std.specs.Map.Iter.{deref_pair};
@@ -86,6 +86,19 @@ impl Table {
             Some(held) => mem::replace(held, place),
             None => None,
         }
+    }
+
+    /// Puts a row at a place, if it is there, and answers what stood there; else it gives the row back. It takes no memory.
+    pub(crate) fn replace(&mut self, key: &Key, row: Row) -> Result<Option<Row>, Row>
+        ensures before { MatchResult result (λ before. map.get self.old key.now ≡ Some before) (λ _. map.get self.old key.now ≡ None) }
+        ensures set { OnOk result (self.new ≡ map.insert self.old key.now (Some row)) }
+        ensures returned { IfErr result (λ back. back ≡ row) }
+        ensures err { OnErr result (self.new ≡ self.old) }
+    {
+        let Some(held) = self.places.get_mut(key) else {
+            return Err(row);
+        };
+        Ok(mem::replace(held, Some(row)))
     }
 
     /// Removes a place.

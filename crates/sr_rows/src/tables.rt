@@ -1,4 +1,4 @@
-ghost use Rattle.std.specs.Prelude.{◌≡◌, Option, Some, None, IsSome, IfOk, OnOk, OnErr};
+ghost use Rattle.std.specs.Prelude.{◌≡◌, Option, Some, None, IsSome, IfOk, IfErr, OnOk, OnErr, MatchResult};
 ghost use Rattle.std.specs.Option.{option_copied};
 ghost use Rattle.std.specs.BTreeMap as tree;
 ghost use Rattle.std.specs.FinMap as map;
@@ -74,6 +74,25 @@ pub(crate) fn set_at(
         return None;
     };
     held.set(key, place)
+}
+
+/// Puts a row at a place, if it is there, and answers what stood there; else it gives the row back. It takes no memory.
+pub(crate) fn replace_at(
+    tables: &mut Tables,
+    table: &Name,
+    key: &Key,
+    row: Row,
+) -> Result<Option<Row>, Row>
+    ensures before { MatchResult result (λ before. map.get (gathered tables.old.entries) (table.now, key.now) ≡ Some before)
+        (λ _. map.get (gathered tables.old.entries) (table.now, key.now) ≡ None) }
+    ensures set { OnOk result (gathered tables.new.entries ≡ map.insert (gathered tables.old.entries) (table.now, key.now) (Some row)) }
+    ensures returned { IfErr result (λ back. back ≡ row) }
+    ensures err { OnErr result (gathered tables.new.entries ≡ gathered tables.old.entries) }
+{
+    let Some(held) = tables.get_mut(table) else {
+        return Err(row);
+    };
+    held.replace(key, row)
 }
 
 /// Removes a place that is there.

@@ -54,7 +54,7 @@ pub(crate) fn present_at(
 ) -> Result<Seq<(Name, Value)>, NoMemory>
     ensures present { IfOk result (λ found. found ≡ present_columns columns.now (key_of places.now row.now)) }
 {
-    let mut found = Vec::new(alloc);
+    let mut found = Vec::with_capacity(alloc, columns.len())?;
     let mut columns_left = columns;
     let mut places_left = places;
     'columns: while let Some((column, columns_after)) = columns_left.split_first() {

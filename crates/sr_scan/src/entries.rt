@@ -87,7 +87,7 @@ fn tell_own(
 pub(crate) fn own_ops(alloc: Global, views: &Views, changes: &[Change]) -> Result<Vec<Op>, NoMemory>
     ensures ops { IfOk result (λ ops. ops.items ≡ changes_told (tree.get name_cmp views.now) changes.now) }
 {
-    let mut ops = Vec::new(alloc);
+    let mut ops = Vec::with_capacity(alloc, changes.len())?;
     tell_changes(alloc, views, changes, &mut ops)?;
     Ok(ops)
 }

@@ -109,7 +109,7 @@ fn stands_under(
     let Some(key) = key else {
         return Ok(false);
     };
-    let own = Key::new(values_at(alloc, table.key.as_slice(), row.values())?);
+    let own = Key::new(alloc, values_at(alloc, table.key.as_slice(), row.values())?)?;
     let told = key.cmp(&own).is_eq();
     drop(own);
     Ok(told)
@@ -135,7 +135,7 @@ fn key_meant(
         values.push(value)?;
         left = rest;
     }
-    Ok(Some(Key::new(Seq::from_vec(values))))
+    Ok(Some(Key::new(alloc, Seq::from_vec(values))?))
 }
 
 /// The value that is named for the column at a place, fitted to it.

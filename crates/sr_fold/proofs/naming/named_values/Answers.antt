@@ -15,5 +15,5 @@ places-preserved c =
 pub returns : goal.returns
 returns c = record {
   key = collected_all (λ place. fitted_by (tree.get name_cmp c.args.named.now) (slice_get c.args.columns.now place)) c.args.places.now c.places.left.now
-      c.places.values.items _ c.places.invariant c.in_default.ensures.cases (c.new.ensures.values ∙ c.from_vec.ensures.items);
+      c.places.values.items _ c.places.invariant c.in_default.ensures.cases (c.in_ok-new.ensures.values ∙ c.from_vec.ensures.items);
 }

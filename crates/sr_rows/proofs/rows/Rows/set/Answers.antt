@@ -1,4 +1,4 @@
-use Rattle.std.proofs.Common.{Some, ap, true, false}
+use Rattle.std.proofs.Common.{Some, ap, false}
 use Rattle.sr_rows.specs.Marks.{Marked}
 use Rattle.sr_rows.specs.Gathered.{gathered}
 use Rattle.sr_rows.specs.declared.undo.Undo.{Undo}

@@ -1,7 +1,7 @@
 use Rattle.std.proofs.Common.{◌≡◌, length}
 use Rattle.sr_exec.specs.Edits.{prefixed}
 use Rattle.sr_exec.specs.Storing.{updated_row}
-use Rattle.sr_exec.proofs.updating.updated_row.Given as goal
+use Rattle.sr_exec.proofs.updating.updated_row_of_several.Given as goal
 
 abbrev pub invariant-columns : goal.invariant-columns
 invariant-columns l = prefixed l.values.items (updated_row l.scope l.row l.sets l.left l.olds) ≡ updated_row l.scope l.row l.sets l.columns l.row

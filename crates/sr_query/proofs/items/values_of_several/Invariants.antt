@@ -6,7 +6,7 @@ use Rattle.sr_query.specs.Checks.{all_pass, is_good_item}
 use Rattle.sr_query.specs.Plain.{AreListed, items_in}
 use Rattle.sr_query.specs.Rows.{item_value}
 use Rattle.sr_query.specs.Walks.{bounds_of}
-use Rattle.sr_query.proofs.items.item_values.Given as goal
+use Rattle.sr_query.proofs.items.values_of_several.Given as goal
 
 abbrev pub invariant-parts : goal.invariant-parts
 invariant-parts l = record {
