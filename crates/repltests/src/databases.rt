@@ -1,13 +1,14 @@
 //! Databases that scripts make: a catalog, and rows that fit it.
 
 ghost use Rattle.std.specs.Prelude.{OnOk};
-ghost use Rattle.sr_exec.specs.Conditions.{RowsFit};
+ghost use Rattle.sr_dml.specs.Conditions.{RowsFit};
 
 use sr_answers::named;
 use sr_ast::{Dml, Script, Stmt};
 use sr_base::{NoMemory, Text};
 use sr_catalog::Catalog;
-use sr_exec::{apply, exec, rows_stay_fitting};
+use sr_dml::rows_stay_fitting;
+use sr_exec::{apply, exec};
 use sr_parse::parse;
 use sr_rows::Rows;
 use std::alloc::{AllocError, Global};

@@ -1,6 +1,6 @@
 //! Ops that are judged on the database of a script.
 
-ghost use Rattle.sr_exec.specs.Conditions.{RowsFit};
+ghost use Rattle.sr_dml.specs.Conditions.{RowsFit};
 
 use crate::databases::{follow, new_catalog, no_rows, run_all, script_of};
 use crate::outcomes::say_outcomes;

@@ -1,7 +1,7 @@
 //! A table of many rows.
 
 ghost use Rattle.std.specs.Prelude.{OnOk};
-ghost use Rattle.sr_exec.specs.Conditions.{RowsFit};
+ghost use Rattle.sr_dml.specs.Conditions.{RowsFit};
 
 use crate::databases::{run_all, script_of};
 use sr_base::NoMemory;

@@ -1,6 +1,6 @@
 //! What ops come to, in letters.
 
-ghost use Rattle.sr_exec.specs.Conditions.{RowsFit};
+ghost use Rattle.sr_dml.specs.Conditions.{RowsFit};
 
 use sr_answers::{say, say_bytes};
 use sr_base::{NoMemory, Row};

@@ -1,6 +1,6 @@
 //! Updates by key, that a partner below sent, judged on a table of many rows.
 
-ghost use Rattle.sr_exec.specs.Conditions.{RowsFit};
+ghost use Rattle.sr_dml.specs.Conditions.{RowsFit};
 
 use crate::databases::{follow, new_catalog, no_rows, script_of};
 use crate::loading::{TABLE, load};

@@ -4,11 +4,11 @@ use Rattle.std.specs.FinMap as map_of
 use Rattle.sr_ast.specs.declared.query.Dml.{Dml}
 use Rattle.sr_ast.specs.declared.stmt.Stmt.{Stmt}
 use Rattle.sr_change.specs.Changes.{refusal, next}
-use Rattle.sr_exec.specs.Applying.{applied}
-use Rattle.sr_exec.specs.Conditions.{RowsFit}
-use Rattle.sr_exec.specs.Laws.{NoRowsFit, RowsStayFit}
-use Rattle.sr_exec.specs.Statements.{done}
-use Rattle.sr_exec.specs.declared.changes.Changes.{Changes}
+use Rattle.sr_dml.specs.Applying.{applied}
+use Rattle.sr_dml.specs.Conditions.{RowsFit}
+use Rattle.sr_dml.specs.Laws.{NoRowsFit, RowsStayFit}
+use Rattle.sr_dml.specs.Statements.{done}
+use Rattle.sr_dml.specs.declared.changes.Changes.{Changes}
 use Rattle.sr_history.specs.Folds.{rows_left}
 use Rattle.sr_history.proofs.Tables.{statement_keeps}
 use Rattle.sr_logform.specs.declared.change.Change.{Change}

@@ -2,8 +2,8 @@
 //! with a new database. A statement that is refused changes nothing, and the section goes on.
 
 ghost use Rattle.std.specs.Prelude.{◌≡◌, Ok, OnOk};
-ghost use Rattle.sr_exec.specs.Conditions.{RowsFit};
-ghost use Rattle.sr_exec.specs.Statements.{done};
+ghost use Rattle.sr_dml.specs.Conditions.{RowsFit};
+ghost use Rattle.sr_dml.specs.Statements.{done};
 
 use crate::database::{accept, change, go_back, keep, new_catalog, no_rows};
 use crate::rows::say_rows;
@@ -12,7 +12,8 @@ use sr_answers::{say, say_number};
 use sr_ast::{Dml, Select, Stmt, print};
 use sr_base::{NoMemory, Text};
 use sr_catalog::Catalog;
-use sr_exec::{Changes, exec};
+use sr_dml::Changes;
+use sr_exec::exec;
 use sr_parse::{ParseFault, parse};
 use sr_query::select;
 use sr_rows::Rows;

@@ -1,7 +1,7 @@
 //! How many rows the statements of a script insert, update, delete and answer.
 
 ghost use Rattle.std.specs.Prelude.{OnOk};
-ghost use Rattle.sr_exec.specs.Conditions.{RowsFit};
+ghost use Rattle.sr_dml.specs.Conditions.{RowsFit};
 
 use crate::database::{accept, change, go_back, keep, new_catalog, no_rows};
 use sr_ast::{Dml, Select, Stmt};

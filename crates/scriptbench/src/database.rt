@@ -2,15 +2,16 @@
 
 ghost use Rattle.std.specs.Prelude.{◌≡◌, None, Ok, OnOk};
 ghost use Rattle.sr_change.specs.Changes.{refusal as refusal_of};
-ghost use Rattle.sr_exec.specs.Conditions.{RowsFit};
-ghost use Rattle.sr_exec.specs.Statements.{done};
+ghost use Rattle.sr_dml.specs.Conditions.{RowsFit};
+ghost use Rattle.sr_dml.specs.Statements.{done};
 ghost use Rattle.sr_history.specs.Folds.{rows_left};
 ghost use Rattle.sr_rows.specs.Steps.{at_mark};
 
 use sr_ast::{Dml, Stmt};
 use sr_base::{NoMemory, name_of};
 use sr_catalog::Catalog;
-use sr_exec::{Changes, apply, rows_stay_fitting};
+use sr_dml::{Changes, rows_stay_fitting};
+use sr_exec::apply;
 use sr_rows::Rows;
 use std::alloc::{AllocError, Global};
 

@@ -4,7 +4,7 @@ use sr_answers::{say, say_bytes, say_number};
 use sr_base::{Name, NoMemory, Row, Value};
 use sr_catalog::{DdlFault, DmlFault};
 use sr_dates::write_literal;
-use sr_exec::Changes;
+use sr_dml::Changes;
 use std::alloc::{AllocError, Global};
 
 /// Appends a word and a name.

@@ -80,7 +80,8 @@ fn width(value: &Value) -> u8
     }
 }
 
-/// The order of any two values, by class, then by worth, then the INTEGER first.
+/// The order of any two values, by class, then by worth, then the INTEGER first. It stays a call beside the comparison of two INTEGERs.
+#[inline(never)]
 fn any_order(a: &Value, b: &Value) -> Ordering
     ensures order { result ≡ value_cmp a.now b.now }
 {
@@ -92,6 +93,17 @@ fn worth_order(a: &Value, b: &Value) -> Ordering
     ensures worth { result ≡ worth_cmp a.now b.now }
 {
     number(a).cmp(&number(b)).then(text(a).cmp(text(b)))
+}
+
+/// The order of any two keys. It stays a call, so that a search among keys of one INTEGER, as most tables have, compares them in registers.
+#[inline(never)]
+fn any_key_order(a: &Key, b: &Key) -> Ordering
+    ensures order { result ≡ key_cmp a.now b.now }
+{
+    match (&a.held, &b.held) {
+        (Held::One(value), Held::One(other)) => value.cmp(other).then(Ordering::Equal),
+        _ => a.values().cmp(b.values()),
+    }
 }
 
 impl PartialEq for Value {
@@ -172,8 +184,7 @@ impl Ord for Key {
     fn cmp(&self, other: &Key) -> Ordering {
         match (&self.held, &other.held) {
             (Held::One(Value::Int(number)), Held::One(Value::Int(other))) => number.cmp(other),
-            (Held::One(value), Held::One(other)) => value.cmp(other).then(Ordering::Equal),
-            _ => self.values().cmp(other.values()),
+            _ => any_key_order(self, other),
         }
     }
 }

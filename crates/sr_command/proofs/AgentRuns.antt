@@ -9,7 +9,7 @@ use Rattle.sr_agent.specs.declared.options.Options.{Options}
 use Rattle.sr_book.specs.Entries.{Name}
 use Rattle.sr_database.specs.Databases.{HasDatabase}
 use Rattle.sr_database.specs.Views.{View}
-use Rattle.sr_database.specs.declared.fault.DatabaseFault.{DatabaseFault}
+use Rattle.sr_files.specs.declared.fault.DatabaseFault.{DatabaseFault}
 use Rattle.sr_history.specs.Recorded.{Recorded}
 use Rattle.sr_site.specs.Causes.{DiskStays, Stays}
 use Rattle.sr_site.specs.Growing.{stays_on}

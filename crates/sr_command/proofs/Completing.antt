@@ -9,8 +9,8 @@ use Rattle.sr_ast.specs.declared.stmt.Stmt.{Stmt}
 use Rattle.sr_book.specs.Entries.{Name}
 use Rattle.sr_database.proofs.Commits.{committed_is}
 use Rattle.sr_database.specs.Views.{committed}
-use Rattle.sr_database.specs.declared.fault.DatabaseFault.{DatabaseFault}
-use Rattle.sr_database.specs.declared.fault.DatabaseFault.TheVariants.{Missing, Exists, Damaged, Disk, Full, Long, Memory}
+use Rattle.sr_files.specs.declared.fault.DatabaseFault.{DatabaseFault}
+use Rattle.sr_files.specs.declared.fault.DatabaseFault.TheVariants.{Missing, Exists, Damaged, Disk, Full, Long, Memory}
 use Rattle.sr_grammar.proofs.Meaning.{written_once}
 use Rattle.sr_grammar.specs.Meanings.{IsWritten}
 use Rattle.sr_history.specs.Folds.{State, state_of}

@@ -3,7 +3,7 @@ use Rattle.std.proofs.Common.{◌≡◌, ℕ, List, [], ◌++◌, refl, inl, inr
 use Rattle.std.specs.Prelude.{◌≢◌, ◌⊎◌, IsTrue}
 use Rattle.sr_agent.specs.declared.options.Options.{Options}
 use Rattle.sr_book.specs.Entries.{Name}
-use Rattle.sr_database.specs.declared.fault.DatabaseFault.TheVariants.{Memory}
+use Rattle.sr_files.specs.declared.fault.DatabaseFault.TheVariants.{Memory}
 use Rattle.sr_site.specs.Causes.{DiskStays}
 use Rattle.sr_site.specs.Seen.{Seen}
 use Rattle.sr_site.specs.Streams.{Input, Output, OutputStays}

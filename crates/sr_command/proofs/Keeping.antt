@@ -9,8 +9,8 @@ use Rattle.sr_book.specs.Entries.{Name}
 use Rattle.sr_database.specs.Causes.{OpenCause}
 use Rattle.sr_database.specs.Databases.{IsDatabase, IsHeld, HasDatabase}
 use Rattle.sr_database.specs.Views.{View}
-use Rattle.sr_database.specs.declared.fault.DatabaseFault.{DatabaseFault}
-use Rattle.sr_database.specs.declared.fault.DatabaseFault.TheVariants as store
+use Rattle.sr_files.specs.declared.fault.DatabaseFault.{DatabaseFault}
+use Rattle.sr_files.specs.declared.fault.DatabaseFault.TheVariants as store
 use Rattle.sr_history.specs.Recorded.{Recorded}
 use Rattle.sr_script.specs.Acts.{entries_of}
 use Rattle.sr_session.specs.Reached.{IsBroken}

@@ -4,7 +4,7 @@ use Rattle.std.specs.Prelude.{IsTrue, Result, map}
 use Rattle.sr_ast.specs.declared.stmt.Stmt.{Stmt}
 use Rattle.sr_book.specs.Entries.{Name}
 use Rattle.sr_database.specs.Databases.{IsOf, IsOfSome, IsDatabase, HasDatabase}
-use Rattle.sr_database.specs.Fresh.{IsNoneOrNew, IsThere}
+use Rattle.sr_files.specs.Fresh.{IsNoneOrNew, IsThere}
 use Rattle.sr_database.specs.Views.{View}
 use Rattle.sr_history.specs.Recorded.{Recorded}
 use Rattle.sr_site.specs.Causes.{DiskStays}

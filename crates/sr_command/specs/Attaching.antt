@@ -1,7 +1,7 @@
 -- How a database is attached, and why it is not.
 use Rattle.std.specs.Prelude.{◌≡◌, ⊤, ℕ, Bool, List, ◌∷◌, IsTrue}
-use Rattle.sr_database.specs.declared.fault.DatabaseFault.{DatabaseFault}
-use Rattle.sr_database.specs.declared.fault.DatabaseFault.TheVariants as store
+use Rattle.sr_files.specs.declared.fault.DatabaseFault.{DatabaseFault}
+use Rattle.sr_files.specs.declared.fault.DatabaseFault.TheVariants as store
 use Rattle.sr_site.specs.Causes.{DiskStays, Rose}
 use Rattle.sr_site.specs.Happenings.{attached}
 use Rattle.sr_site.specs.Seen.{Seen}

@@ -3,8 +3,8 @@ use Rattle.std.specs.Prelude.{◌≡◌, ⊤, ℕ, List, IsTrue, Ok}
 use Rattle.std.specs.Str.{IsUtf8}
 use Rattle.sr_ast.specs.declared.stmt.Stmt.{Stmt}
 use Rattle.sr_book.specs.Entries.{Name}
-use Rattle.sr_database.specs.declared.fault.DatabaseFault.{DatabaseFault}
-use Rattle.sr_database.specs.declared.fault.DatabaseFault.TheVariants as store
+use Rattle.sr_files.specs.declared.fault.DatabaseFault.{DatabaseFault}
+use Rattle.sr_files.specs.declared.fault.DatabaseFault.TheVariants as store
 use Rattle.sr_grammar.specs.Meanings.{IsWritten}
 use Rattle.sr_history.specs.Folds.{state_of}
 use Rattle.sr_history.specs.Recorded.{Recorded}

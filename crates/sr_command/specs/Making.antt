@@ -1,9 +1,9 @@
 -- What `init` does.
 use Rattle.std.specs.Prelude.{◌≡◌, ◌≢◌, ⊤, ℕ, List, [], ◌++◌, codes, IsTrue}
 use Rattle.sr_book.specs.Entries.{Name}
-use Rattle.sr_database.specs.Fresh.{IsNoneOrNew, IsThere}
-use Rattle.sr_database.specs.declared.fault.DatabaseFault.{DatabaseFault}
-use Rattle.sr_database.specs.declared.fault.DatabaseFault.TheVariants as store
+use Rattle.sr_files.specs.Fresh.{IsNoneOrNew, IsThere}
+use Rattle.sr_files.specs.declared.fault.DatabaseFault.{DatabaseFault}
+use Rattle.sr_files.specs.declared.fault.DatabaseFault.TheVariants as store
 use Rattle.sr_script.specs.Acts.{line}
 use Rattle.sr_site.specs.Causes.{Rose}
 use Rattle.sr_site.specs.Images.{IsImage, IsSettled, RestsThroughout}

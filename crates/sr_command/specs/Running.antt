@@ -7,8 +7,8 @@ use Rattle.sr_base.specs.declared.refusals.NotUtf8.TheVariants as utf8
 use Rattle.sr_book.specs.Entries.{Name}
 use Rattle.sr_database.specs.Databases.{IsDatabase, IsOf}
 use Rattle.sr_database.specs.Views.{View}
-use Rattle.sr_database.specs.declared.fault.DatabaseFault.{DatabaseFault}
-use Rattle.sr_database.specs.declared.fault.DatabaseFault.TheVariants as store
+use Rattle.sr_files.specs.declared.fault.DatabaseFault.{DatabaseFault}
+use Rattle.sr_files.specs.declared.fault.DatabaseFault.TheVariants as store
 use Rattle.sr_grammar.specs.Meanings.{IsWritten}
 use Rattle.sr_grammar.specs.Places.{IsRefusedAt}
 use Rattle.sr_history.specs.Recorded.{Recorded}

@@ -1,7 +1,7 @@
 -- What a run does, by its words.
 use Rattle.std.specs.Prelude.{◌≡◌, ◌≢◌, ◌⊎◌, ◌++◌, ℕ, List, [], IsTrue, Ok}
 use Rattle.sr_book.specs.Entries.{Name}
-use Rattle.sr_database.specs.declared.fault.DatabaseFault.TheVariants.{Memory}
+use Rattle.sr_files.specs.declared.fault.DatabaseFault.TheVariants.{Memory}
 use Rattle.sr_agent.specs.declared.options.Options.{Options}
 use Rattle.sr_site.specs.Causes.{DiskStays}
 use Rattle.sr_site.specs.Streams.{Output, OutputStays}

@@ -41,7 +41,7 @@ impl From<DatabaseFault> for Fault {
 
 impl From<NoMemory> for Fault {
     ghost use Rattle.std.specs.Prelude.{◌≡◌};
-    ghost use Rattle.sr_database.specs.declared.fault.DatabaseFault.TheVariants.{Memory};
+    ghost use Rattle.sr_files.specs.declared.fault.DatabaseFault.TheVariants.{Memory};
     ghost use Rattle.sr_command.specs.declared.fault.Fault.TheVariants.{Database};
 
     ghost from_gives = { λ _ e. e ≡ Database Memory };

@@ -1,7 +1,7 @@
 //! The line of the fault that ended a run.
 
 ghost use Rattle.std.specs.Prelude.{◌≡◌, ◌⊎◌, ◌++◌, IsTrue, IfOk, IfSome, IsNone, OnOk};
-ghost use Rattle.sr_database.specs.declared.fault.DatabaseFault.TheVariants.{Damaged, Memory};
+ghost use Rattle.sr_files.specs.declared.fault.DatabaseFault.TheVariants.{Damaged, Memory};
 ghost use Rattle.sr_site.specs.Streams.{OutputStays};
 ghost use Rattle.sr_command.specs.Faults.{fault_line, file_text, numbers, database_text};
 ghost use Rattle.sr_command.specs.Reports.{Wrote, HasNumbers};

@@ -27,7 +27,7 @@ use Rattle.sr_database.specs.Commits.{CanCommit, CanCommitSome, IsPrepared, fram
 use Rattle.sr_database.specs.Databases.{IsOf, IsOfSome, IsDatabase}
 use Rattle.sr_database.specs.Taking.{Takes}
 use Rattle.sr_database.specs.Views.{View}
-use Rattle.sr_database.proofs.Beside.{made_on, something}
+use Rattle.sr_files.proofs.Beside.{made_on, something}
 use Rattle.sr_database.proofs.Commits.{may_stand, one_more, log_of_held, went, database_after}
 use Rattle.sr_database.proofs.Values.{stored_more}
 

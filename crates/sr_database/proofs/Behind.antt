@@ -32,11 +32,11 @@ use Rattle.sr_standing.proofs.Standing.{ends_are, size_is}
 use Rattle.sr_database.specs.Causes.{EntryCause, IsRecordFault}
 use Rattle.sr_database.specs.Databases.{IsHeld, IsDatabase}
 use Rattle.sr_database.specs.Entries.{IsNext, IsNextEnd, IsNextKind, BeginWith, Parts, BehindCause}
-use Rattle.sr_database.specs.Openings.{IsLogFault}
+use Rattle.sr_files.specs.Openings.{IsLogFault}
 use Rattle.sr_database.specs.Replays.{SpellingCause}
 use Rattle.sr_database.specs.Views.{View}
-use Rattle.sr_database.specs.declared.fault.DatabaseFault.{DatabaseFault}
-use Rattle.sr_database.specs.declared.fault.DatabaseFault.TheVariants.{Missing, Exists, Damaged, Disk, Full, Long, Memory}
+use Rattle.sr_files.specs.declared.fault.DatabaseFault.{DatabaseFault}
+use Rattle.sr_files.specs.declared.fault.DatabaseFault.TheVariants.{Missing, Exists, Damaged, Disk, Full, Long, Memory}
 use Rattle.sr_database.proofs.Commits.{log_of_held}
 
 -- the position parts the log as the offset parts the history

@@ -3,7 +3,7 @@ use Rattle.std.proofs.Common.{◌≡◌, ◌≢◌, ◌⊎◌, inl, inr, ℕ, �
 use Rattle.std.proofs.lemmas.Bool.{cases_lt}
 use Rattle.std.proofs.lemmas.List.{map-append}
 use Rattle.sr_book.specs.Entries.{Name}
-use Rattle.sr_exec.specs.FittingChanges.{ChangesFit}
+use Rattle.sr_dml.specs.FittingChanges.{ChangesFit}
 use Rattle.sr_fold.specs.Readings.{state_in}
 use Rattle.sr_history.specs.Fitting.{FitsState, Fits, Stored}
 use Rattle.sr_history.specs.Folds.{State, fresh, next, state_of, size, end_of}
@@ -34,11 +34,11 @@ use Rattle.sr_standing.proofs.Standing.{Stands, stands, size_is, ends_are}
 use Rattle.sr_database.specs.Commits.{MayFollow, CanCommit, framed_size, HasRoom}
 use Rattle.sr_database.specs.Databases.{ArePending, IsOf, IsHeld, IsDatabase, HasDatabase}
 use Rattle.sr_database.specs.Taking.{at_last_commit, BooksFollow}
-use Rattle.sr_database.specs.Touching.{HappenedOn}
+use Rattle.sr_files.specs.Touching.{HappenedOn}
 use Rattle.sr_database.specs.Views.{View, committed}
-use Rattle.sr_database.proofs.Attaches.{on_attaches}
-use Rattle.sr_database.proofs.Beside.{IsBeside, beside, rests_each, rests_both, rests_end}
-use Rattle.sr_database.proofs.Images.{stays}
+use Rattle.sr_files.proofs.Attaches.{on_attaches}
+use Rattle.sr_files.proofs.Beside.{IsBeside, beside, rests_each, rests_both, rests_end}
+use Rattle.sr_files.proofs.Images.{stays}
 use Rattle.sr_database.proofs.Values.{none_pending, stored_more, books_more}
 
 -- ---- the state

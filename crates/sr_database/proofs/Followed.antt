@@ -2,7 +2,7 @@
 use Rattle.std.proofs.Common.{◌≡◌, ◌≢◌, ℕ, ◌+◌, ◌≤◌, ◌<◌, ◌^◌, List, [], ◌∷◌, ◌++◌, length, take, drop, sym, ◌∙◌, ap, subst, arith, length-append}
 use Rattle.std.proofs.lemmas.List.{drop-drop, take_at, length-drop}
 use Rattle.sr_book.specs.Entries.{Name}
-use Rattle.sr_exec.specs.Conditions.{RowsFit}
+use Rattle.sr_dml.specs.Conditions.{RowsFit}
 use Rattle.sr_fold.specs.Readings.{state_in, FitsAs}
 use Rattle.sr_history.specs.Fitting.{FitsState, Fits, Stored}
 use Rattle.sr_history.specs.Folds.{State, fresh, next, state_of, size, end_of}

@@ -11,12 +11,12 @@ use Rattle.sr_site.specs.Files.{Files, bytes_of}
 use Rattle.sr_site.specs.declared.file.File.{File}
 use Rattle.sr_site.specs.Seen.{Seen}
 use Rattle.sr_database.specs.Books.{BookMap}
-use Rattle.sr_database.specs.Openings.{ReadAlone}
+use Rattle.sr_files.specs.Openings.{ReadAlone}
 use Rattle.sr_database.specs.Replays.{IsReplayed, IsReplayedOf, HasReplayed, IsReadOn, EndsThere, IsNextEntry, BeginsWith, HasRead, LacksNext, RecordCause, ReplayCause}
-use Rattle.sr_database.specs.declared.fault.DatabaseFault.{DatabaseFault}
-use Rattle.sr_database.specs.declared.fault.DatabaseFault.TheVariants.{Missing, Exists, Damaged, Disk, Full, Long, Memory}
+use Rattle.sr_files.specs.declared.fault.DatabaseFault.{DatabaseFault}
+use Rattle.sr_files.specs.declared.fault.DatabaseFault.TheVariants.{Missing, Exists, Damaged, Disk, Full, Long, Memory}
 use Rattle.sr_database.proofs.Opened.{read_none, read_more, read_all}
-use Rattle.sr_database.proofs.Quiet.{told_then, read_then}
+use Rattle.sr_files.proofs.Quiet.{told_then, read_then}
 
 -- a history that was read up to a position
 pub record IsReadUpTo (log : File) (publisher : Name) (catalog : Lists) (rows : Marked) (books : BookMap) (position : ℕ) (first : Seen) : Type 0 where

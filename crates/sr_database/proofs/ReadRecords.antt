@@ -22,14 +22,14 @@ use Rattle.sr_site.specs.Reads.{HasRead as GaveBytes}
 use Rattle.sr_site.specs.Seen.{Seen}
 use Rattle.sr_site.specs.declared.file.File.{File}
 use Rattle.sr_database.specs.Books.{BookMap}
-use Rattle.sr_database.specs.Openings.{ReadAlone, IsLogFault}
+use Rattle.sr_files.specs.Openings.{ReadAlone, IsLogFault}
 use Rattle.sr_database.specs.Replays.{IsReplayed, BeginsWith, HasRead, LacksNext, IsNone, Followed, FollowsAny, IsReadOn, EndsThere, piece, SpellingCause, BodyCause, RecordCause}
 use Rattle.sr_database.specs.Taking.{BooksFollow}
-use Rattle.sr_database.specs.declared.fault.DatabaseFault.{DatabaseFault}
-use Rattle.sr_database.specs.declared.fault.DatabaseFault.TheVariants.{Missing, Exists, Damaged, Disk, Full, Long, Memory}
+use Rattle.sr_files.specs.declared.fault.DatabaseFault.{DatabaseFault}
+use Rattle.sr_files.specs.declared.fault.DatabaseFault.TheVariants.{Missing, Exists, Damaged, Disk, Full, Long, Memory}
 use Rattle.sr_database.proofs.Followed.{too_long, unfit, one_more_read, begins_there, body_there, unspelled, unfitting}
 use Rattle.sr_database.proofs.Opened.{broken_record}
-use Rattle.sr_database.proofs.Quiet.{told_then}
+use Rattle.sr_files.proofs.Quiet.{told_then}
 
 -- ---- an entry that is followed, or not
 

@@ -14,11 +14,11 @@ use Rattle.sr_standing.specs.Standing.{StandsFor}
 use Rattle.sr_standing.proofs.Standing.{one_history, missing_is_none, damaged_is_none}
 use Rattle.sr_database.specs.Causes.{OpenCause, IsDiskOrMemory}
 use Rattle.sr_database.specs.Databases.{IsDatabase, HasDatabase}
-use Rattle.sr_database.specs.Openings.{SyncedAlone, IsFreshOf, AreInForce, RootCause, BlamesRoot, BlamesSnapshot, SnapshotCause, IsWhole, IsDamagedShape, ShapeCause, LogCause}
+use Rattle.sr_files.specs.Openings.{SyncedAlone, IsFreshOf, AreInForce, RootCause, BlamesRoot, BlamesSnapshot, SnapshotCause, IsWhole, IsDamagedShape, ShapeCause, LogCause}
 use Rattle.sr_database.specs.Replays.{LacksNext, ReplayCause}
 use Rattle.sr_database.specs.Views.{View}
-use Rattle.sr_database.specs.declared.fault.DatabaseFault.{DatabaseFault}
-use Rattle.sr_database.specs.declared.fault.DatabaseFault.TheVariants.{Missing, Exists, Damaged, Disk, Full, Long, Memory}
+use Rattle.sr_files.specs.declared.fault.DatabaseFault.{DatabaseFault}
+use Rattle.sr_files.specs.declared.fault.DatabaseFault.TheVariants.{Missing, Exists, Damaged, Disk, Full, Long, Memory}
 
 -- ---- the steps of an opening
 

@@ -22,12 +22,12 @@ use Rattle.sr_standing.specs.Standing.{bodies}
 use Rattle.sr_standing.proofs.Standing.{Stands}
 use Rattle.sr_database.specs.Books.{BookMap, book_in, or_new}
 use Rattle.sr_database.specs.Databases.{ArePending, IsOf, IsOfSome, HasDatabase}
-use Rattle.sr_database.specs.Openings.{SyncedAlone, IsFreshOf, AreInForce}
+use Rattle.sr_files.specs.Openings.{SyncedAlone, IsFreshOf, AreInForce}
 use Rattle.sr_database.specs.Replays.{IsReplayed, IsReplayedBehind, HasReplayed, IsOpened}
 use Rattle.sr_database.specs.Views.{View}
-use Rattle.sr_database.specs.declared.fault.DatabaseFault.{DatabaseFault}
+use Rattle.sr_files.specs.declared.fault.DatabaseFault.{DatabaseFault}
 use Rattle.sr_database.proofs.Opened.{opened}
-use Rattle.sr_database.proofs.Quiet.{told_then, synced_then, settled_then}
+use Rattle.sr_files.proofs.Quiet.{told_then, synced_then, settled_then}
 use Rattle.sr_database.proofs.Values.{none_pending}
 
 -- ---- nothing was read so far

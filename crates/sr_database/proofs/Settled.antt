@@ -3,8 +3,8 @@ use Rattle.std.proofs.Common.{◌≡◌, List, [], Option, refl, sym, ◌∙◌,
 use Rattle.std.specs.FinMap.{get, insert}
 use Rattle.sr_book.specs.Entries.{Name}
 use Rattle.sr_book.specs.declared.book.Book.{Book}
-use Rattle.sr_exec.specs.Applying.{applied}
-use Rattle.sr_exec.specs.Conditions.{RowsFit}
+use Rattle.sr_dml.specs.Applying.{applied}
+use Rattle.sr_dml.specs.Conditions.{RowsFit}
 use Rattle.sr_fold.specs.Readings.{state_in, FitsAs}
 use Rattle.sr_history.specs.Fitting.{FitsState}
 use Rattle.sr_history.specs.Folds.{State, next}

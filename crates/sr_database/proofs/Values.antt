@@ -3,11 +3,11 @@ use Rattle.std.proofs.Common.{◌≡◌, List, [], ◌∷◌, ◌++◌, refl, sy
 use Rattle.std.specs.List.{AllByRecursion}
 use Rattle.sr_book.specs.Entries.{Name, booked}
 use Rattle.sr_book.proofs.Folds.{book_more}
-use Rattle.sr_exec.specs.Applying.{applied, applied_in}
-use Rattle.sr_exec.specs.Conditions.{RowsFit}
-use Rattle.sr_exec.specs.FittingChanges.{ChangesFit}
-use Rattle.sr_exec.specs.Statements.{table_named}
-use Rattle.sr_exec.proofs.Applied.{fitting_changes_keep}
+use Rattle.sr_dml.specs.Applying.{applied, applied_in}
+use Rattle.sr_dml.specs.Conditions.{RowsFit}
+use Rattle.sr_dml.specs.FittingChanges.{ChangesFit}
+use Rattle.sr_dml.specs.Statements.{table_named}
+use Rattle.sr_dml.proofs.Applied.{fitting_changes_keep}
 use Rattle.sr_history.specs.Fitting.{Fits, Stored}
 use Rattle.sr_history.specs.Folds.{fresh, state_of, end_of, sees, books_of}
 use Rattle.sr_history.specs.Laws.{Holds}

@@ -1,5 +1,5 @@
 -- Why each call is refused, and what it leaves then.
-use Rattle.std.specs.Prelude.{◌≡◌, ◌≢◌, ℕ, ◌+◌, ⊤, true, false, [], ◌∷◌, length, IsTrue, Result, Ok, Err}
+use Rattle.std.specs.Prelude.{◌≡◌, ℕ, ◌+◌, ⊤, false, [], length, IsTrue, Result, Ok, Err}
 use Rattle.sr_base.specs.declared.offset.Offset.{Offset}
 use Rattle.sr_logfile.specs.Log.{Log}
 use Rattle.sr_logfile.specs.declared.fault.RecordFault.{RecordFault}
@@ -9,33 +9,15 @@ use Rattle.sr_logform.specs.Entries.{entry_spelling}
 use Rattle.sr_logform.specs.Limits.{longest_body}
 use Rattle.sr_logform.specs.declared.entry.Entry.{Entry}
 use Rattle.sr_site.specs.Causes.{Rose}
-use Rattle.sr_site.specs.Happenings.{synced}
 use Rattle.sr_site.specs.Seen.{Seen}
 use Rattle.sr_site.specs.declared.file.File.{File}
-use Rattle.sr_site.specs.declared.file.File.TheVariants.{Root}
 use Rattle.sr_standing.specs.Damage.{IsMissing, IsDamagedAt}
 use Rattle.sr_database.specs.Commits.{IsLong, HasNoRoom, HasRoom, framed_size}
 use Rattle.sr_database.specs.Entries.{IsEnd}
-use Rattle.sr_database.specs.Openings.{IsLogFault}
+use Rattle.sr_files.specs.Openings.{IsLogFault}
 use Rattle.sr_database.specs.Views.{View}
-use Rattle.sr_database.specs.declared.fault.DatabaseFault.{DatabaseFault}
-use Rattle.sr_database.specs.declared.fault.DatabaseFault.TheVariants.{Missing, Exists, Damaged, Disk, Full, Long, Memory}
-
--- the root has a byte, and nothing happened but that it was synced
-pub record IsLeft (before now : Seen) : Type 0 where
-  pub there : before.files.root ≢ []
-  pub files : now.files ≡ before.files
-  pub happened : now.happened ≡ synced Root true before.files.root ∷ before.happened
-
--- why `create` is refused: for want of memory before it calls any device
-abbrev pub CreateCause : Seen → Seen → DatabaseFault → Type 0
-CreateCause before now Missing = ⊥
-CreateCause before now Exists = IsTrue before.told → IsLeft before now
-CreateCause before now (Damaged file at) = ⊥
-CreateCause before now Disk = Rose before.disk_faults now.disk_faults
-CreateCause before now (Full end need) = ⊥
-CreateCause before now (Long long limit) = ⊥
-CreateCause before now Memory = now ≡ before
+use Rattle.sr_files.specs.declared.fault.DatabaseFault.{DatabaseFault}
+use Rattle.sr_files.specs.declared.fault.DatabaseFault.TheVariants.{Missing, Exists, Damaged, Disk, Full, Long, Memory}
 
 -- why `open` is refused
 abbrev pub OpenCause : Seen → Seen → DatabaseFault → Type 0

@@ -3,8 +3,8 @@ use Rattle.std.specs.Prelude.{◌≡◌, List, []}
 use Rattle.std.specs.List.{AllByRecursion}
 use Rattle.sr_base.specs.Fields.{IsName}
 use Rattle.sr_book.specs.Entries.{Name}
-use Rattle.sr_exec.specs.Applying.{applied}
-use Rattle.sr_exec.specs.FittingChanges.{ChangesFit}
+use Rattle.sr_dml.specs.Applying.{applied}
+use Rattle.sr_dml.specs.FittingChanges.{ChangesFit}
 use Rattle.sr_history.specs.Fitting.{Stored}
 use Rattle.sr_history.specs.Folds.{state_of, end_of, books_of}
 use Rattle.sr_history.specs.Recorded.{Recorded}

@@ -14,8 +14,8 @@ use Rattle.sr_site.specs.Seen.{Seen}
 use Rattle.sr_standing.specs.Standing.{bodies}
 use Rattle.sr_database.specs.Databases.{IsDatabase}
 use Rattle.sr_database.specs.Views.{View}
-use Rattle.sr_database.specs.declared.fault.DatabaseFault.{DatabaseFault}
-use Rattle.sr_database.specs.declared.fault.DatabaseFault.TheVariants.{Missing, Exists, Damaged, Disk, Full, Long, Memory}
+use Rattle.sr_files.specs.declared.fault.DatabaseFault.{DatabaseFault}
+use Rattle.sr_files.specs.declared.fault.DatabaseFault.TheVariants.{Missing, Exists, Damaged, Disk, Full, Long, Memory}
 
 -- the first of those that are left, with the end of its record
 pub record IsNext (done left : List Recorded) (end : Offset) (entry : Entry) : Type 0 where

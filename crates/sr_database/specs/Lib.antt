@@ -3,11 +3,6 @@ pub mod Causes
 pub mod Commits
 pub mod Databases
 pub mod Entries
-pub mod Fresh
-pub mod Making
-pub mod Openings
 pub mod Replays
-pub mod SnapshotFaults
 pub mod Taking
-pub mod Touching
 pub mod Views

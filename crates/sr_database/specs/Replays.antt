@@ -21,8 +21,8 @@ use Rattle.sr_standing.specs.Standing.{body, bodies}
 use Rattle.sr_database.specs.Books.{BookMap, book_in}
 use Rattle.sr_database.specs.Databases.{IsOf}
 use Rattle.sr_database.specs.Views.{View}
-use Rattle.sr_database.specs.declared.fault.DatabaseFault.{DatabaseFault}
-use Rattle.sr_database.specs.declared.fault.DatabaseFault.TheVariants.{Missing, Exists, Damaged, Disk, Full, Long, Memory}
+use Rattle.sr_files.specs.declared.fault.DatabaseFault.{DatabaseFault}
+use Rattle.sr_files.specs.declared.fault.DatabaseFault.TheVariants.{Missing, Exists, Damaged, Disk, Full, Long, Memory}
 
 -- what was read up to a position is this history
 pub record IsReplayed (catalog : Lists) (rows : Marked) (books : BookMap) (position : ℕ) (publisher : Name) (es : List Recorded) : Type 0 where

@@ -17,15 +17,15 @@ ghost use Rattle.sr_database.specs.Causes.{CommitCause, FramingCause, IsBegun};
 ghost use Rattle.sr_database.specs.Commits.{CanCommit, CanCommitSome, FollowsAsSome, HasRoom, IsPrepared};
 ghost use Rattle.sr_database.specs.Databases.{ArePending, IsOf, IsDatabase, HasDatabase};
 ghost use Rattle.sr_database.specs.Taking.{at_last_commit, StaysAll, Takes};
-ghost use Rattle.sr_exec.specs.Conditions.{RowsFit};
-ghost use Rattle.sr_database.specs.declared.fault.DatabaseFault.TheVariants.{Disk};
+ghost use Rattle.sr_dml.specs.Conditions.{RowsFit};
+ghost use Rattle.sr_files.specs.declared.fault.DatabaseFault.TheVariants.{Disk};
 
 use crate::bookkeeping::Books;
 use crate::database::Database;
-use crate::fault::DatabaseFault;
 use crate::settling::settle;
 use sr_base::Offset;
 use sr_catalog::Catalog;
+use sr_files::DatabaseFault;
 use sr_logfile::{LogFile, frame};
 use sr_logform::{Change, Entry, farthest_end, longest_body, write_entry};
 use sr_rows::Rows;

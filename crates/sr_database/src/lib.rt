@@ -1,6 +1,7 @@
 //! A database in five files: made, opened, gone on with one entry at a time, and read again.
 //!
-//! It stands on sr_standing for what files stand for and for trails, on sr_fold for what an entry does, on sr_logfile and sr_logform for records.
+//! It stands on sr_files for what is made and read of files before their entries, on sr_standing for what files stand for and for trails, on sr_fold
+//! for what an entry does, on sr_logfile and sr_logform for records.
 //! The contract that matters most is that of `Database::commit`: the database of a history is then that of the history and one entry more,
 //! at each moment a crash leaves the one or the other, and after a refusal all is as it was.
 #![tactic(auto)]
@@ -9,12 +10,10 @@ mod bookkeeping;
 mod committing;
 mod creating;
 mod database;
-mod fault;
 mod opening;
 mod reading;
 mod replaying;
 mod settling;
-mod snapshot;
 
 pub use database::Database;
-pub use fault::DatabaseFault;
+pub use sr_files::DatabaseFault;

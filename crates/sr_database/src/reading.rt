@@ -6,13 +6,13 @@ ghost use Rattle.sr_site.specs.Causes.{DiskStays};
 ghost use Rattle.sr_database.specs.Causes.{EntryCause, IsRecordFault};
 ghost use Rattle.sr_database.specs.Databases.{IsDatabase};
 ghost use Rattle.sr_database.specs.Entries.{IsEntryAfter, IsEndAfter, IsKindAfter, BeginWith, Parts, BehindCause};
-ghost use Rattle.sr_database.specs.declared.fault.DatabaseFault.TheVariants.{Damaged, Memory};
-ghost use Rattle.sr_database.specs.Openings.{ReadAlone, IsLogFault};
+ghost use Rattle.sr_files.specs.declared.fault.DatabaseFault.TheVariants.{Damaged, Memory};
+ghost use Rattle.sr_files.specs.Openings.{ReadAlone};
 
 use crate::database::Database;
-use crate::fault::DatabaseFault;
 use crate::replaying::entry_in;
 use sr_base::Offset;
+use sr_files::{DatabaseFault, log_fault};
 use sr_logfile::{LogFault, LogFile, RecordFault, Step};
 use sr_logform::Entry;
 use sr_site::{File, Site};
@@ -223,16 +223,5 @@ fn record_fault(log: File, fault: RecordFault) -> DatabaseFault
     match fault {
         RecordFault::Memory => DatabaseFault::Memory,
         RecordFault::Log(fault) => log_fault(log, fault),
-    }
-}
-
-/// The fault of a database whose log refuses.
-pub(crate) fn log_fault(log: File, fault: LogFault) -> DatabaseFault
-    ensures { IsLogFault log fault result }
-{
-    match fault {
-        LogFault::Disk => DatabaseFault::Disk,
-        LogFault::Full { end, need } => DatabaseFault::Full { end, need },
-        LogFault::Damaged { at } => DatabaseFault::Damaged { file: log, at },
     }
 }

@@ -9,16 +9,15 @@ ghost use Rattle.sr_logfile.specs.Heads.{HasWhole};
 ghost use Rattle.sr_logform.specs.Entries.{entry_spelling, IsEntry};
 ghost use Rattle.sr_site.specs.Files.{bytes_of};
 ghost use Rattle.sr_database.specs.Books.{book_in};
-ghost use Rattle.sr_database.specs.Openings.{ReadAlone};
+ghost use Rattle.sr_files.specs.Openings.{ReadAlone};
 ghost use Rattle.sr_database.specs.Replays.{IsReplayed, IsReplayedOf, IsReplayedSome, IsNextEntry, IsReadOn, FollowsAny, piece, SpellingCause, BodyCause, RecordCause};
 ghost use Rattle.sr_database.specs.Taking.{BooksFollow};
 
 use crate::bookkeeping::Books;
-use crate::fault::DatabaseFault;
-use crate::reading::log_fault;
 use sr_base::{Bad, Copied, Name, NoMemory, Offset};
 use sr_book::{Book, Note};
 use sr_catalog::Catalog;
+use sr_files::{DatabaseFault, log_fault};
 use sr_fold::go_on;
 use sr_logfile::record_end;
 use sr_logform::{Entry, longest_body, read_entry};

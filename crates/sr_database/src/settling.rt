@@ -2,7 +2,7 @@
 
 ghost use Rattle.std.specs.Prelude.{OnOk, OnErr};
 ghost use Rattle.std.specs.FinMap as map;
-ghost use Rattle.sr_exec.specs.Conditions.{RowsFit};
+ghost use Rattle.sr_dml.specs.Conditions.{RowsFit};
 ghost use Rattle.sr_database.specs.Commits.{FollowsAsSome};
 ghost use Rattle.sr_database.specs.Databases.{ArePending};
 ghost use Rattle.sr_database.specs.Taking.{at_last_commit, IsNoOwn, StaysAll, StaysState, Takes, TakesBooks, TakesState};

@@ -4,7 +4,7 @@ use Rattle.sr_command.specs.Reports.{Wrote}
 use Rattle.sr_command.specs.Runs.{Told}
 use Rattle.sr_command.specs.Streams.{SaidPart}
 use Rattle.sr_command.specs.declared.fault.Fault.TheVariants.{Database, Sink}
-use Rattle.sr_database.specs.declared.fault.DatabaseFault.TheVariants.{Memory}
+use Rattle.sr_files.specs.declared.fault.DatabaseFault.TheVariants.{Memory}
 use Rattle.sr_site.specs.Streams.{Output}
 use Rattle.sr_demo.specs.Courses.{Course, CourseStops}
 use Rattle.sr_demo.specs.Runs.{EndsAll}

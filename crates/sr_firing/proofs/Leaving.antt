@@ -17,12 +17,12 @@ use Rattle.sr_ast.specs.Chains.{Chain}
 use Rattle.sr_ast.specs.Chains.Chain.{done, set, insert as put, when, choose}
 use Rattle.sr_ast.specs.Terms.{Term}
 use Rattle.sr_ast.specs.declared.create.CreateTrigger.{CreateTrigger}
-use Rattle.sr_exec.specs.Applying.{place_of, without_row, with_row, applied_in, applied}
-use Rattle.sr_exec.specs.Conditions.{IsRow}
-use Rattle.sr_exec.specs.FittingChanges.{FitsAt, IsFitChange, ChangesFit}
-use Rattle.sr_exec.specs.Sequences.{or_else}
-use Rattle.sr_exec.specs.Statements.{key_of, names_of, table_named}
-use Rattle.sr_exec.proofs.Applied.{own_name}
+use Rattle.sr_dml.specs.Applying.{place_of, without_row, with_row, applied_in, applied}
+use Rattle.sr_dml.specs.Conditions.{IsRow}
+use Rattle.sr_dml.specs.FittingChanges.{FitsAt, IsFitChange, ChangesFit}
+use Rattle.sr_dml.specs.Sequences.{or_else}
+use Rattle.sr_dml.specs.Statements.{key_of, names_of, table_named}
+use Rattle.sr_dml.proofs.Applied.{own_name}
 use Rattle.sr_logform.specs.declared.change.Change.{Change}
 use Rattle.sr_rows.specs.Marks.{Place, RowMap, place_cmp, place_cmp_total}
 use Rattle.sr_rows.proofs.Gathering.{exact_places}

@@ -10,8 +10,8 @@ use Rattle.sr_ast.specs.Chains.Chain.{done, set, insert, when, choose}
 use Rattle.sr_ast.specs.Terms.{Term}
 use Rattle.sr_ast.specs.declared.create.CreateTrigger.{CreateTrigger}
 use Rattle.sr_eval.specs.Meanings.{Meaning, meaning, cell_of, is_true}
-use Rattle.sr_exec.specs.Applying.{place_of}
-use Rattle.sr_exec.specs.Statements.{names_of, table_named}
+use Rattle.sr_dml.specs.Applying.{place_of}
+use Rattle.sr_dml.specs.Statements.{names_of, table_named}
 use Rattle.sr_logform.specs.declared.change.Change.{Change}
 use Rattle.sr_rows.specs.Marks.{Place}
 use Rattle.sr_schema.specs.Members.{column_name}

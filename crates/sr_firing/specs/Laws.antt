@@ -3,10 +3,10 @@ use Rattle.std.specs.Prelude.{◌≡◌, List, Option, Some, None, IsSome}
 use Rattle.std.specs.FinMap as map_of
 use Rattle.std.specs.List.{AllByRecursion}
 use Rattle.sr_base.specs.declared.value.Value.{Value as Cell}
-use Rattle.sr_exec.specs.Applying.{applied}
-use Rattle.sr_exec.specs.Conditions.{IsRow}
-use Rattle.sr_exec.specs.FittingChanges.{ChangesFit}
-use Rattle.sr_exec.specs.Statements.{key_of}
+use Rattle.sr_dml.specs.Applying.{applied}
+use Rattle.sr_dml.specs.Conditions.{IsRow}
+use Rattle.sr_dml.specs.FittingChanges.{ChangesFit}
+use Rattle.sr_dml.specs.Statements.{key_of}
 use Rattle.sr_logform.specs.declared.change.Change.{Change}
 use Rattle.sr_rows.specs.Marks.{Place}
 use Rattle.sr_firing.specs.Scenes.{Ground}

@@ -14,7 +14,7 @@ use sr_catalog::{Column, HasName, Table};
 use sr_dates::fit;
 
 /// What a column or variable of a type holds for a value, if it fits.
-#[tactic(auto, using(sr_exec::proofs::Fitted::given_rules))]
+#[tactic(auto, using(sr_dml::proofs::Fitted::given_rules))]
 pub fn held_as(value: Value, kind: Kind) -> Option<Value>
     ensures { result ≡ fitted value kind }
 {

@@ -1,6 +1,6 @@
 //! What the triggers of a table make of a conflict: DECLARE, SET, IF and INSERT.
 //!
-//! It stands on sr_catalog, sr_eval, sr_rows and sr_logform, and takes definitions of sr_trigger and sr_exec. Nothing is changed: what triggers
+//! It stands on sr_catalog, sr_eval, sr_rows and sr_logform, and takes definitions of sr_trigger and sr_dml. Nothing is changed: what triggers
 //! insert is kept beside the rows. The contract that matters most is that of `fire`.
 #![tactic(auto)]
 

@@ -4,8 +4,8 @@ ghost use Rattle.std.specs.Prelude.{◌≡◌, ◌∷◌, ◌++◌, [], map, is_
 ghost use Rattle.std.proofs.Math.ListN.{set as set_at};
 ghost use Rattle.std.specs.FinMap as map_of;
 ghost use Rattle.sr_base.specs.declared.value.Value.TheVariants.{Null as NullCell};
-ghost use Rattle.sr_exec.specs.Statements.{key_of};
-ghost use Rattle.sr_exec.specs.Applying.{place_of};
+ghost use Rattle.sr_dml.specs.Statements.{key_of};
+ghost use Rattle.sr_dml.specs.Applying.{place_of};
 ghost use Rattle.sr_firing.specs.Actions.{insertion};
 ghost use Rattle.sr_firing.specs.Firing.{entered, first_scene, left};
 

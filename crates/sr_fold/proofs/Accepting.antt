@@ -2,7 +2,7 @@
 use Rattle.std.proofs.Common.{◌≡◌, ◌↔◌, Bool, true, false, None, Result, Ok, Err, IfOk, IsTrue, refl, sym, subst}
 use Rattle.sr_ast.specs.declared.stmt.Stmt.{Stmt}
 use Rattle.sr_change.specs.Changes.{refusal}
-use Rattle.sr_exec.specs.declared.changes.Changes.{Changes}
+use Rattle.sr_dml.specs.declared.changes.Changes.{Changes}
 use Rattle.sr_history.specs.Fitting.{HasChanges, IsDone, IsAccepted}
 use Rattle.sr_history.specs.Folds.{State}
 use Rattle.sr_schema.specs.declared.fault.DmlFault.{DmlFault}

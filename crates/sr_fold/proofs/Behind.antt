@@ -8,10 +8,10 @@ use Rattle.sr_ast.specs.declared.stmt.Stmt.{Stmt}
 use Rattle.sr_book.specs.Entries.{Name}
 use Rattle.sr_book.specs.declared.note.Note.{Note}
 use Rattle.sr_change.specs.Changes.{next as catalog_after}
-use Rattle.sr_exec.specs.Applying.{applied}
-use Rattle.sr_exec.specs.Conditions.{RowsFit}
-use Rattle.sr_exec.specs.FittingChanges.{ChangesFit}
-use Rattle.sr_exec.proofs.Applied.{fitting_changes_keep}
+use Rattle.sr_dml.specs.Applying.{applied}
+use Rattle.sr_dml.specs.Conditions.{RowsFit}
+use Rattle.sr_dml.specs.FittingChanges.{ChangesFit}
+use Rattle.sr_dml.proofs.Applied.{fitting_changes_keep}
 use Rattle.sr_history.specs.Folds.{State, with_statement, rows_left, after_done, after_dones, next}
 use Rattle.sr_history.specs.Recorded.{Done, IsNoExec, IsSet}
 use Rattle.sr_logform.specs.declared.change.Change.{Change}

@@ -4,13 +4,13 @@ use Rattle.std.specs.FinMap as map_of
 use Rattle.std.specs.List.{find as find_in}
 use Rattle.sr_base.specs.declared.value.Value.{Value as Cell}
 use Rattle.sr_book.specs.Entries.{Name}
-use Rattle.sr_exec.specs.Applying.{place_of, with_row, without_row, applied_in, applied}
-use Rattle.sr_exec.specs.Conditions.{IsRow, RowsFit}
-use Rattle.sr_exec.specs.FittingChanges.{FitsAt, IsFitChange, ChangesFit}
-use Rattle.sr_exec.specs.Statements.{key_of, table_named}
-use Rattle.sr_exec.proofs.Applied.{fitting_changes_keep}
-use Rattle.sr_exec.proofs.Fixed.{same_name}
-use Rattle.sr_exec.proofs.Over.{over}
+use Rattle.sr_dml.specs.Applying.{place_of, with_row, without_row, applied_in, applied}
+use Rattle.sr_dml.specs.Conditions.{IsRow, RowsFit}
+use Rattle.sr_dml.specs.FittingChanges.{FitsAt, IsFitChange, ChangesFit}
+use Rattle.sr_dml.specs.Statements.{key_of, table_named}
+use Rattle.sr_dml.proofs.Applied.{fitting_changes_keep}
+use Rattle.sr_dml.proofs.Fixed.{same_name}
+use Rattle.sr_dml.proofs.Over.{over}
 use Rattle.sr_logform.specs.declared.change.Change.{Change}
 use Rattle.sr_rows.specs.Marks.{RowMap, rows_of_table}
 use Rattle.sr_schema.specs.Catalogs.{Lists}

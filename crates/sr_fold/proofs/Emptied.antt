@@ -3,13 +3,13 @@ use Rattle.std.proofs.Common.{◌≡◌, List, [], ◌∷◌, ◌++◌, map, Opt
 use Rattle.sr_base.specs.declared.value.Value.{Value as Cell}
 use Rattle.sr_ast.specs.declared.query.Dml.{Dml}
 use Rattle.sr_book.specs.Entries.{Name}
-use Rattle.sr_exec.specs.declared.changes.Changes.{Changes}
-use Rattle.sr_exec.specs.Applying.{applied}
-use Rattle.sr_exec.specs.Conditions.{RowsFit}
-use Rattle.sr_exec.specs.RowsAfter.{rows_after, after_move, in_table, where_Ok, replaced}
-use Rattle.sr_exec.specs.Sequences.{front}
-use Rattle.sr_exec.specs.Statements.{done, fate_of, fates_of, staying, becoming, entry_of, deleted, on_table, table_named}
-use Rattle.sr_exec.proofs.RowsAre.{rows_are_those_after}
+use Rattle.sr_dml.specs.declared.changes.Changes.{Changes}
+use Rattle.sr_dml.specs.Applying.{applied}
+use Rattle.sr_dml.specs.Conditions.{RowsFit}
+use Rattle.sr_dml.specs.RowsAfter.{rows_after, after_move, in_table, where_Ok, replaced}
+use Rattle.sr_dml.specs.Sequences.{front}
+use Rattle.sr_dml.specs.Statements.{done, fate_of, fates_of, staying, becoming, entry_of, deleted, on_table, table_named}
+use Rattle.sr_dml.proofs.RowsAre.{rows_are_those_after}
 use Rattle.sr_rows.specs.Marks.{RowMap}
 use Rattle.sr_rows.specs.Steps.{without_table}
 use Rattle.sr_rows.specs.Walks.{Entry, table_rows}

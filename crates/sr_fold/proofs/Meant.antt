@@ -8,8 +8,8 @@ use Rattle.sr_ast.specs.Statements.{is_ddl, is_carried}
 use Rattle.sr_ast.specs.declared.stmt.Stmt.{Stmt}
 use Rattle.sr_book.specs.Entries.{Name}
 use Rattle.sr_book.specs.declared.note.Note.{Note}
-use Rattle.sr_exec.specs.Applying.{applied}
-use Rattle.sr_exec.specs.FittingChanges.{ChangesFit}
+use Rattle.sr_dml.specs.Applying.{applied}
+use Rattle.sr_dml.specs.FittingChanges.{ChangesFit}
 use Rattle.sr_history.specs.Fitting.{Knows, IsAccepted, FitsState}
 use Rattle.sr_history.specs.Folds.{State, with_statement, after_dones, next}
 use Rattle.sr_history.specs.Recorded.{Done, done_of, Recorded, own, taken, ddl, sync, pass, note}

@@ -8,10 +8,10 @@ use Rattle.sr_base.specs.declared.value.Value.{Value as Cell}
 use Rattle.sr_base.specs.Order.{name_cmp}
 use Rattle.sr_book.specs.Entries.{Name}
 use Rattle.sr_dates.specs.Fitting.{fitted}
-use Rattle.sr_exec.specs.Applying.{applied_in, applied}
-use Rattle.sr_exec.specs.Conditions.{IsRow}
-use Rattle.sr_exec.specs.FittingChanges.{IsFitChange, ChangesFit}
-use Rattle.sr_exec.specs.Statements.{key_of, table_named}
+use Rattle.sr_dml.specs.Applying.{applied_in, applied}
+use Rattle.sr_dml.specs.Conditions.{IsRow}
+use Rattle.sr_dml.specs.FittingChanges.{IsFitChange, ChangesFit}
+use Rattle.sr_dml.specs.Statements.{key_of, table_named}
 use Rattle.sr_history.specs.Fitting.{fitted_in, all_there, IsInsertion, IsNamedKey, AreNamedRows}
 use Rattle.sr_logform.specs.declared.change.Change.{Change}
 use Rattle.sr_rows.specs.Marks.{RowMap}

@@ -4,10 +4,10 @@ use Rattle.sr_base.specs.declared.value.Value.{Value as Cell}
 use Rattle.sr_ast.specs.Layout.{printed}
 use Rattle.sr_ast.specs.declared.stmt.Stmt.{Stmt}
 use Rattle.sr_book.specs.Entries.{Name}
-use Rattle.sr_exec.specs.Applying.{applied}
-use Rattle.sr_exec.specs.Conditions.{RowsFit}
-use Rattle.sr_exec.specs.FittingChanges.{ChangesFit}
-use Rattle.sr_exec.proofs.Applied.{fitting_changes_keep}
+use Rattle.sr_dml.specs.Applying.{applied}
+use Rattle.sr_dml.specs.Conditions.{RowsFit}
+use Rattle.sr_dml.specs.FittingChanges.{ChangesFit}
+use Rattle.sr_dml.proofs.Applied.{fitting_changes_keep}
 use Rattle.sr_history.specs.Fitting.{DoneFits}
 use Rattle.sr_history.specs.Folds.{State, with_statement, done_changes, after_done, after_dones}
 use Rattle.sr_history.specs.Recorded.{Done, plain, ran, conflict, clash, done_of, IsNoExec, IsSet}

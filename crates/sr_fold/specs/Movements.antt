@@ -4,9 +4,9 @@ use Rattle.std.specs.List.{AllByRecursion}
 use Rattle.std.specs.FinMap as map_of
 use Rattle.sr_base.specs.declared.value.Value.{Value as Cell}
 use Rattle.sr_book.specs.Entries.{Name}
-use Rattle.sr_exec.specs.Applying.{place_of}
-use Rattle.sr_exec.specs.Conditions.{IsRow}
-use Rattle.sr_exec.specs.Statements.{key_of}
+use Rattle.sr_dml.specs.Applying.{place_of}
+use Rattle.sr_dml.specs.Conditions.{IsRow}
+use Rattle.sr_dml.specs.Statements.{key_of}
 use Rattle.sr_logform.specs.declared.change.Change.{Change}
 use Rattle.sr_logform.specs.declared.outcome.Outcome.{Outcome}
 use Rattle.sr_logform.specs.declared.outcome.Outcome.TheVariants as outcomes

@@ -7,7 +7,7 @@ use Rattle.sr_ast.specs.Statements.{is_carried}
 use Rattle.sr_ast.specs.declared.stmt.Stmt.{Stmt}
 use Rattle.sr_book.specs.Entries.{Name}
 use Rattle.sr_dates.specs.Fitting.{fitted}
-use Rattle.sr_exec.specs.FittingChanges.{ChangesFit}
+use Rattle.sr_dml.specs.FittingChanges.{ChangesFit}
 use Rattle.sr_history.specs.Fitting.{IsAccepted, IsInsertion, MayHaveChanges, AreNamedRows}
 use Rattle.sr_history.specs.Folds.{State, with_changes, with_statement}
 use Rattle.sr_logform.specs.declared.change.Change.{Change}

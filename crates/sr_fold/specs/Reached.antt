@@ -4,9 +4,9 @@ use Rattle.std.specs.List.{AllByRecursion}
 use Rattle.sr_ast.specs.declared.query.Dml.{Dml}
 use Rattle.sr_ast.specs.declared.query.Dml.TheVariants as dml
 use Rattle.sr_book.specs.Entries.{Name}
-use Rattle.sr_exec.specs.declared.changes.Changes.{Changes}
-use Rattle.sr_exec.specs.Applying.{applied}
-use Rattle.sr_exec.specs.Statements.{done}
+use Rattle.sr_dml.specs.declared.changes.Changes.{Changes}
+use Rattle.sr_dml.specs.Applying.{applied}
+use Rattle.sr_dml.specs.Statements.{done}
 use Rattle.sr_history.specs.Folds.{State, after_done, after_dones, next}
 use Rattle.sr_history.specs.Recorded.{Done, Recorded, IsNoExec}
 use Rattle.sr_logform.specs.declared.entry.Entry.{Entry}

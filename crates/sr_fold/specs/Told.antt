@@ -3,9 +3,9 @@ use Rattle.std.specs.Prelude.{◌≡◌, ◌↔◌, ℕ, Bool, IsTrue, List, [],
 use Rattle.sr_base.specs.declared.value.Value.{Value as Cell}
 use Rattle.sr_ast.specs.declared.stmt.Stmt.{Stmt}
 use Rattle.sr_book.specs.Entries.{Name}
-use Rattle.sr_exec.specs.Applying.{applied_in, applied}
-use Rattle.sr_exec.specs.FittingChanges.{IsFitChange, ChangesFit}
-use Rattle.sr_exec.specs.Statements.{table_named}
+use Rattle.sr_dml.specs.Applying.{applied_in, applied}
+use Rattle.sr_dml.specs.FittingChanges.{IsFitChange, ChangesFit}
+use Rattle.sr_dml.specs.Statements.{table_named}
 use Rattle.sr_history.specs.Fitting.{IsAccepted}
 use Rattle.sr_history.specs.Folds.{State, with_statement, after_done, after_dones, next}
 use Rattle.sr_logform.specs.declared.change.Change.{Change}

@@ -5,9 +5,9 @@
 ghost use Rattle.std.specs.Prelude.{◌≡◌, ◌↔◌, Some, IfOk, IsTrue};
 ghost use Rattle.std.specs.Option.{option_copied};
 ghost use Rattle.std.specs.List.{AllByRecursion};
-ghost use Rattle.sr_exec.specs.Applying.{with_row, without_row};
-ghost use Rattle.sr_exec.specs.Conditions.{RowsFit};
-ghost use Rattle.sr_exec.specs.Statements.{key_of as key_at};
+ghost use Rattle.sr_dml.specs.Applying.{with_row, without_row};
+ghost use Rattle.sr_dml.specs.Conditions.{RowsFit};
+ghost use Rattle.sr_dml.specs.Statements.{key_of as key_at};
 ghost use Rattle.sr_rows.specs.Steps.{at_mark};
 ghost use Rattle.sr_fold.specs.Answers.{Tells};
 ghost use Rattle.sr_fold.specs.Movements.{Differs, change_of, MayCome, IsThere, MayBecome, KeyWhere};

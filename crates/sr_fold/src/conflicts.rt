@@ -2,8 +2,8 @@
 
 ghost use Rattle.std.specs.Prelude.{◌≡◌, ◌↔◌, IfOk, IsTrue};
 ghost use Rattle.std.specs.List.{AllByRecursion};
-ghost use Rattle.sr_exec.specs.Conditions.{RowsFit};
-ghost use Rattle.sr_exec.specs.Statements.{key_of};
+ghost use Rattle.sr_dml.specs.Conditions.{RowsFit};
+ghost use Rattle.sr_dml.specs.Statements.{key_of};
 ghost use Rattle.sr_history.specs.Fitting.{IsInsertion, AreNamedRows};
 ghost use Rattle.sr_rows.specs.Steps.{at_mark};
 ghost use Rattle.sr_fold.specs.Movements.{Differs};

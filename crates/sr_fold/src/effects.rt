@@ -5,7 +5,7 @@
 ghost use Rattle.std.specs.Prelude.{◌≡◌, List, OnOk, OnErr};
 ghost use Rattle.sr_base.specs.declared.offset.Offset.{Offset as Place};
 ghost use Rattle.sr_book.specs.Entries.{Name as AName};
-ghost use Rattle.sr_exec.specs.Conditions.{RowsFit};
+ghost use Rattle.sr_dml.specs.Conditions.{RowsFit};
 ghost use Rattle.sr_history.specs.Folds.{next};
 ghost use Rattle.sr_history.specs.Recorded.{Recorded};
 ghost use Rattle.sr_logform.specs.declared.entry.Entry.{Entry as Body};

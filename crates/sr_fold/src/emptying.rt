@@ -1,7 +1,7 @@
 //! A table without its rows, step by step.
 
 ghost use Rattle.std.specs.Prelude.{◌≡◌, IfOk, OnOk};
-ghost use Rattle.sr_exec.specs.Conditions.{RowsFit};
+ghost use Rattle.sr_dml.specs.Conditions.{RowsFit};
 ghost use Rattle.sr_rows.specs.Steps.{without_table, GoesOn};
 ghost use Rattle.sr_fold.specs.Reached.{IsExecuted, deletion_of};
 

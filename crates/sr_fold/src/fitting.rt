@@ -3,7 +3,7 @@
 ghost use Rattle.std.specs.Prelude.{◌≡◌, ◌↔◌, ◌&&◌, not, IsTrue, Some};
 ghost use Rattle.sr_dates.specs.Fitting.{fitted};
 ghost use Rattle.sr_eval.specs.Comparisons.{is_null};
-ghost use Rattle.sr_exec.specs.Conditions.{IsRow};
+ghost use Rattle.sr_dml.specs.Conditions.{IsRow};
 
 use sr_base::{Day, Kind, Row, Text, Value};
 use sr_catalog::Column;

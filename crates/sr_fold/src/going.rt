@@ -3,7 +3,7 @@
 ghost use Rattle.std.specs.Prelude.{◌≡◌, IfOk};
 ghost use Rattle.std.specs.List.{AllByRecursion};
 ghost use Rattle.sr_base.specs.declared.offset.Offset.{Offset as Place};
-ghost use Rattle.sr_exec.specs.Conditions.{RowsFit};
+ghost use Rattle.sr_dml.specs.Conditions.{RowsFit};
 ghost use Rattle.sr_history.specs.Folds.{next};
 ghost use Rattle.sr_logform.specs.declared.entry.Entry.{Entry as Body};
 ghost use Rattle.sr_logform.specs.Entries.{IsEntry};

@@ -1,11 +1,11 @@
 //! The key of a row.
 
 ghost use Rattle.std.specs.Prelude.{◌≡◌, ◌↔◌, IfOk, IsTrue};
-ghost use Rattle.sr_exec.specs.Statements.{key_of};
+ghost use Rattle.sr_dml.specs.Statements.{key_of};
 
 use sr_base::{Key, NoMemory, Row};
 use sr_catalog::Table;
-use sr_exec::key_of as key_at;
+use sr_dml::key_of as key_at;
 use std::alloc::Global;
 
 /// The key of a table's row: its values at the places of the key's columns, each found at once.

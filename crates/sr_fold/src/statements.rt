@@ -3,8 +3,8 @@
 ghost use Rattle.std.specs.Prelude.{◌≡◌, ◌≢◌, ◌↔◌, IfOk, IsTrue, OnOk, OnErr, None};
 ghost use Rattle.sr_ast.specs.Statements.{is_ddl as is_ddl_stmt, is_carried as is_carried_stmt};
 ghost use Rattle.sr_change.specs.Changes.{refusal};
-ghost use Rattle.sr_exec.specs.Conditions.{RowsFit};
-ghost use Rattle.sr_exec.specs.Statements.{done};
+ghost use Rattle.sr_dml.specs.Conditions.{RowsFit};
+ghost use Rattle.sr_dml.specs.Statements.{done};
 ghost use Rattle.sr_history.specs.Fitting.{HasChanges, IsAccepted, IsDone};
 ghost use Rattle.sr_history.specs.Folds.{with_statement, rows_left};
 ghost use Rattle.sr_rows.specs.Steps.{at_mark};

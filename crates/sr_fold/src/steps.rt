@@ -1,10 +1,10 @@
 //! Ops that are known to fit, by steps that lead back: what is done of a transaction before it is known that there is memory for all of it.
 
 ghost use Rattle.std.specs.Prelude.{◌≡◌, ◌↔◌, ◌∷◌, ◌++◌, [], false, IfSome, IsTrue, OnOk, OnErr};
-ghost use Rattle.sr_exec.specs.Applying.{applied, applied_in};
-ghost use Rattle.sr_exec.specs.Conditions.{RowsFit};
-ghost use Rattle.sr_exec.specs.FittingChanges.{ChangesFit};
-ghost use Rattle.sr_exec.specs.Statements.{table_named};
+ghost use Rattle.sr_dml.specs.Applying.{applied, applied_in};
+ghost use Rattle.sr_dml.specs.Conditions.{RowsFit};
+ghost use Rattle.sr_dml.specs.FittingChanges.{ChangesFit};
+ghost use Rattle.sr_dml.specs.Statements.{table_named};
 ghost use Rattle.sr_history.specs.Folds.{rows_left};
 ghost use Rattle.sr_history.specs.Recorded.{IsNoExec};
 ghost use Rattle.sr_logform.specs.declared.op.Op.{Op as AnOp};

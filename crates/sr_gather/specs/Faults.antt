@@ -1,6 +1,6 @@
 -- The faults of what a pass stands on, as its own.
-use Rattle.sr_database.specs.declared.fault.DatabaseFault.{DatabaseFault}
-use Rattle.sr_database.specs.declared.fault.DatabaseFault.TheVariants as store
+use Rattle.sr_files.specs.declared.fault.DatabaseFault.{DatabaseFault}
+use Rattle.sr_files.specs.declared.fault.DatabaseFault.TheVariants as store
 use Rattle.sr_site.specs.declared.mail.MailFault.{MailFault}
 use Rattle.sr_site.specs.declared.mail.MailFault.TheVariants as mail
 use Rattle.sr_gather.specs.declared.fault.ReceiveFault.{ReceiveFault}

@@ -10,7 +10,7 @@ use Rattle.sr_book.specs.Histories.{book_from}
 use Rattle.sr_book.proofs.Folds.{book_from-append}
 use Rattle.sr_change.specs.Changes.{next as catalog_after}
 use Rattle.sr_ddl.specs.Users.{user_of}
-use Rattle.sr_exec.proofs.Fixed.{same_name}
+use Rattle.sr_dml.proofs.Fixed.{same_name}
 use Rattle.sr_logform.specs.declared.change.Change.{Change}
 use Rattle.sr_schema.specs.Catalogs.{Lists}
 use Rattle.sr_schema.specs.Members.{user_name}

@@ -3,8 +3,8 @@ use Rattle.std.proofs.Common.{◌≡◌, ℕ, ◌+◌, Bool, true, false, List, 
 use Rattle.sr_ast.specs.declared.stmt.Stmt.{Stmt}
 use Rattle.sr_book.specs.Entries.{Name}
 use Rattle.sr_change.specs.Changes.{refusal}
-use Rattle.sr_exec.specs.FittingChanges.{ChangesFit}
-use Rattle.sr_exec.proofs.Applied.{no_rows_fit, fitting_changes_keep}
+use Rattle.sr_dml.specs.FittingChanges.{ChangesFit}
+use Rattle.sr_dml.proofs.Applied.{no_rows_fit, fitting_changes_keep}
 use Rattle.sr_logform.specs.declared.change.Change.{Change}
 use Rattle.sr_replay.proofs.Made.{new_made, still_made}
 use Rattle.sr_history.specs.Recorded.{Done, plain, ran, conflict, clash}

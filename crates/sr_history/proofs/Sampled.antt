@@ -45,7 +45,7 @@ use Rattle.sr_grammar.specs.Symbols.{named}
 use Rattle.sr_grammar.specs.NormalForms.{IsNormal}
 use Rattle.sr_history.specs.Recorded.{Recorded, entry_of, ddl, own, taken, sync, pass, note, IsRecorded}
 use Rattle.sr_history.specs.Fitting.{AreNamedRows, FitsState, stored_from, Stored}
-use Rattle.sr_exec.specs.FittingChanges.{IsFitChange}
+use Rattle.sr_dml.specs.FittingChanges.{IsFitChange}
 use Rattle.sr_logform.specs.Limits.{longest_body}
 use Rattle.sr_history.specs.Folds.{State, fresh, with_statement, next, state_of, size, end_of}
 use Rattle.sr_history.proofs.Tables.{left_at}

@@ -13,9 +13,9 @@ use Rattle.sr_ast.specs.declared.stmt.Stmt.{Stmt}
 use Rattle.sr_ast.specs.declared.stmt.Stmt.TheVariants as stmt
 use Rattle.sr_change.specs.Changes.{refusal, next}
 use Rattle.sr_ddl.specs.Tables.{table_of}
-use Rattle.sr_exec.specs.Conditions.{TableFits, RowsFit}
-use Rattle.sr_exec.specs.Statements.{table_named}
-use Rattle.sr_exec.proofs.Fixed.{same_name}
+use Rattle.sr_dml.specs.Conditions.{TableFits, RowsFit}
+use Rattle.sr_dml.specs.Statements.{table_named}
+use Rattle.sr_dml.proofs.Fixed.{same_name}
 use Rattle.sr_replay.proofs.ReplayLists.{found_as_taken, named-without}
 use Rattle.sr_replay.proofs.ReplayTables.{table_made}
 use Rattle.sr_rows.specs.Marks.{Place, RowMap}

@@ -8,7 +8,7 @@ use Rattle.sr_book.specs.declared.book.Book.{Book}
 use Rattle.sr_book.specs.Entries.{Name, Sight, local, from_user, noted}
 use Rattle.sr_book.specs.Histories.{book_of}
 use Rattle.sr_change.specs.Changes.{next as catalog_after}
-use Rattle.sr_exec.specs.Applying.{applied}
+use Rattle.sr_dml.specs.Applying.{applied}
 use Rattle.sr_logform.specs.declared.change.Change.{Change}
 use Rattle.sr_logform.specs.declared.op.Op.{Op}
 use Rattle.sr_logform.specs.declared.op.Op.TheVariants as ops

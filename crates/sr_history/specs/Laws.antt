@@ -1,5 +1,5 @@
 -- What holds of every state on the way of a history.
-use Rattle.sr_exec.specs.Conditions.{RowsFit}
+use Rattle.sr_dml.specs.Conditions.{RowsFit}
 use Rattle.sr_replay.specs.Scripts.{IsMade}
 use Rattle.sr_history.specs.Folds.{State}
 

@@ -8,7 +8,7 @@ ghost use Rattle.sr_ast.specs.declared.stmt.Stmt.TheVariants.{DropTable};
 ghost use Rattle.sr_book.specs.Entries.{Name};
 ghost use Rattle.sr_book.specs.declared.note.Note.{Note as BookNote};
 ghost use Rattle.sr_change.specs.Changes.{next as catalog_after};
-ghost use Rattle.sr_exec.specs.Applying.{applied};
+ghost use Rattle.sr_dml.specs.Applying.{applied};
 ghost use Rattle.sr_logform.specs.declared.change.Change.{Change as RowChange};
 ghost use Rattle.sr_logform.specs.declared.op.Op.{Op as AnOp};
 ghost use Rattle.sr_logform.specs.declared.op.Op.TheVariants.{Set};

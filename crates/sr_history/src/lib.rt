@@ -1,6 +1,6 @@
 //! What a history comes to: the entries of a log as they are meant, the state that they fold to, and which of them may stand in a log.
 //!
-//! It stands on sr_logform, sr_grammar, sr_replay, sr_exec and sr_book, and has no code but the laws. A recorded entry carries its statement
+//! It stands on sr_logform, sr_grammar, sr_replay, sr_dml and sr_book, and has no code but the laws. A recorded entry carries its statement
 //! in place of the text, so that the fold is a function. The law that matters most is `what_holds_stays`: behind every history that
 //! may stand in a log, each row fits its table.
 #![tactic(auto)]

@@ -12,9 +12,9 @@ use Rattle.sr_book.specs.Entries.{Name, local}
 use Rattle.sr_cut.proofs.Lists.{AllByRecursion-append, AllByRecursion-back, AllByRecursion-front}
 use Rattle.sr_database.specs.Databases.{IsDatabase}
 use Rattle.sr_database.specs.Views.{View, committed}
-use Rattle.sr_database.specs.declared.fault.DatabaseFault.{DatabaseFault}
-use Rattle.sr_database.specs.declared.fault.DatabaseFault.TheVariants as store
-use Rattle.sr_exec.specs.declared.changes.Changes.{Changes}
+use Rattle.sr_files.specs.declared.fault.DatabaseFault.{DatabaseFault}
+use Rattle.sr_files.specs.declared.fault.DatabaseFault.TheVariants as store
+use Rattle.sr_dml.specs.declared.changes.Changes.{Changes}
 use Rattle.sr_history.specs.Folds.{sees}
 use Rattle.sr_history.specs.Recorded.{Recorded, pass, sync}
 use Rattle.sr_logform.specs.declared.change.Change.{Change}

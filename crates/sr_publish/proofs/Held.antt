@@ -7,7 +7,7 @@ use Rattle.sr_ast.specs.Exprs.{term_of}
 use Rattle.sr_ast.specs.declared.expr.Expr.{Expr}
 use Rattle.sr_base.specs.declared.value.Value.{Value as Cell}
 use Rattle.sr_ddl.specs.Subscriptions.{articles_of}
-use Rattle.sr_exec.specs.Statements.{table_named}
+use Rattle.sr_dml.specs.Statements.{table_named}
 use Rattle.sr_replay.specs.Scripts.{IsMade}
 use Rattle.sr_replay.proofs.ReplayCauses.{first_of-None}
 use Rattle.sr_replay.proofs.ReplayLists.{AllByRecursion-step}

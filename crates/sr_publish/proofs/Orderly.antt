@@ -14,7 +14,7 @@ use Rattle.sr_ast.specs.declared.stmt.Stmt.TheVariants as stmt
 use Rattle.sr_ddl.specs.Publications.{twice_in_articles, taken_or_twice, absent_in, absent_in_table, absent_column, key_lacking, key_outside_columns, key_outside, table_in, create_publication_causes, columns_of, article_of, publication_of}
 use Rattle.sr_ddl.specs.Subscriptions.{articles_of}
 use Rattle.sr_ddl.specs.Tables.{rule_name, column_of, table_of, create_table_causes}
-use Rattle.sr_exec.specs.Statements.{table_named}
+use Rattle.sr_dml.specs.Statements.{table_named}
 use Rattle.sr_logform.specs.Rules.{AreDistinct}
 use Rattle.sr_replay.specs.Scripts.{IsMade, column_rule, article_rule}
 use Rattle.sr_replay.proofs.ReplayCauses.{NoCause, no_cause_of, where_true-None, first_of-None, option_map-None}

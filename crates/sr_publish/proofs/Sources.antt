@@ -9,7 +9,7 @@ use Rattle.sr_ast.specs.declared.stmt.Stmt.TheVariants.{DropTable}
 use Rattle.sr_base.specs.declared.value.Value.{Value as Cell}
 use Rattle.sr_change.specs.Changes.{publication_names, is_used, drop_table_causes, refusal}
 use Rattle.sr_ddl.specs.Subscriptions.{articles_of, has_article}
-use Rattle.sr_exec.specs.Statements.{table_named}
+use Rattle.sr_dml.specs.Statements.{table_named}
 use Rattle.sr_replay.specs.Scripts.{IsMade, subscription_rule}
 use Rattle.sr_replay.proofs.ReplayCauses.{where_true-None, no_cause_of}
 use Rattle.sr_replay.proofs.ReplayLists.{AllByRecursion-step, AllByRecursion-both, found_as_taken}

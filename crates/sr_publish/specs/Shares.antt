@@ -3,7 +3,7 @@ use Rattle.std.specs.Prelude.{ℕ, Bool, ◌&&◌, cond, List, filter_map, find,
 use Rattle.sr_base.specs.declared.value.Value.{Value as Cell}
 use Rattle.sr_ast.specs.declared.expr.Expr.{Expr}
 use Rattle.sr_ddl.specs.Subscriptions.{articles_of}
-use Rattle.sr_exec.specs.Statements.{table_named}
+use Rattle.sr_dml.specs.Statements.{table_named}
 use Rattle.sr_schema.specs.Catalogs.{Lists}
 use Rattle.sr_schema.specs.Firsts.{first_among}
 use Rattle.sr_schema.specs.Members.{column_name, publication_name}

@@ -8,12 +8,12 @@ use Rattle.sr_rows.specs.Marks.{RowMap, rows_of_table}
 use Rattle.sr_rows.specs.Walks.{Entry, table_rows}
 use Rattle.sr_ast.specs.declared.expr.Expr.{Expr}
 use Rattle.sr_schema.specs.declared.fault.DmlFault.{DmlFault}
-use Rattle.sr_exec.specs.Edits.{prefixed}
-use Rattle.sr_exec.specs.Sequences.{front}
-use Rattle.sr_exec.proofs.Fitted.{row_of}
+use Rattle.sr_dml.specs.Edits.{prefixed}
+use Rattle.sr_dml.specs.Sequences.{front}
+use Rattle.sr_dml.proofs.Fitted.{row_of}
 use Rattle.sr_query.specs.Combinations.{combinations, kept, over_each}
 use Rattle.sr_query.specs.Sources.{Origin, rows_by_key}
-use Rattle.sr_exec.specs.Checks.{Scope}
+use Rattle.sr_dml.specs.Checks.{Scope}
 use Rattle.sr_query.specs.Walks.{IsCombination, AreCombinations, IsJoined, AreJoined, seen}
 use Rattle.sr_query.specs.declared.joined.Joined.{Joined}
 use Rattle.sr_query.specs.declared.joined.Combination.{Combination}

@@ -33,10 +33,10 @@ use Rattle.sr_eval.proofs.Plain.{plain_have_values}
 use Rattle.sr_eval.proofs.Sources.{value_at-append}
 use Rattle.sr_schema.specs.Expressions.{has_arithmetic, is_negation, is_arithmetic}
 use Rattle.sr_schema.specs.declared.fault.DmlFault.{DmlFault}
-use Rattle.sr_exec.specs.Checks.{Scope}
-use Rattle.sr_exec.specs.Fixing.{with_value}
-use Rattle.sr_exec.specs.Sequences.{or_else}
-use Rattle.sr_exec.specs.Statements.{key_of, tested as tested_meaning}
+use Rattle.sr_dml.specs.Checks.{Scope}
+use Rattle.sr_dml.specs.Fixing.{with_value}
+use Rattle.sr_dml.specs.Sequences.{or_else}
+use Rattle.sr_dml.specs.Statements.{key_of, tested as tested_meaning}
 use Rattle.sr_query.specs.Combinations.{meets, and_then}
 use Rattle.sr_query.specs.Lookups.{place_of, is_place, held_as, known_value, is_column, side, equated_binary, equated, equated_by, fixed_value, fixed_key}
 

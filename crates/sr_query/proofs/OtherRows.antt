@@ -17,11 +17,11 @@ use Rattle.sr_rows.specs.Walks.{Entry, table_rows, Rises}
 use Rattle.sr_rows.proofs.Listing.{each_found, get-table_rows, table_rows-rise}
 use Rattle.sr_schema.specs.declared.fault.DmlFault.{DmlFault}
 use Rattle.sr_schema.specs.declared.fault.DmlFault.TheVariants.{Memory}
-use Rattle.sr_exec.specs.Checks.{Scope}
-use Rattle.sr_exec.specs.Edits.{prefixed}
-use Rattle.sr_exec.specs.Holding.{under, one_of}
-use Rattle.sr_exec.proofs.Folding.{itself}
-use Rattle.sr_exec.proofs.Outcomes.{above_same, row_under}
+use Rattle.sr_dml.specs.Checks.{Scope}
+use Rattle.sr_dml.specs.Edits.{prefixed}
+use Rattle.sr_dml.specs.Holding.{under, one_of}
+use Rattle.sr_dml.proofs.Folding.{itself}
+use Rattle.sr_dml.proofs.Outcomes.{above_same, row_under}
 use Rattle.sr_query.specs.Combinations.{combinations, kept, meets, over_each, with_kept, Keeps}
 use Rattle.sr_query.specs.Lookups.{fixed_key, over_one}
 use Rattle.sr_query.specs.Sources.{Origin}

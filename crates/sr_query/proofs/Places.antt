@@ -8,14 +8,14 @@ use Rattle.sr_ast.specs.Classes.{is_meant}
 use Rattle.sr_eval.specs.Bounds.{IsRowOf, AreRows, columns_of, values_of}
 use Rattle.sr_eval.specs.declared.bound.Bound.{Bound}
 use Rattle.sr_eval.specs.Meanings.{value_at, found_at}
-use Rattle.sr_exec.specs.Checks.{Scope}
+use Rattle.sr_dml.specs.Checks.{Scope}
 use Rattle.sr_ast.specs.Exprs.{term_of}
 use Rattle.sr_ast.specs.declared.expr.Expr.{Expr}
 use Rattle.sr_ast.specs.declared.expr.Expr.TheVariants.{Literal, Column, Unary, Binary}
 use Rattle.sr_ast.specs.declared.query.Item.{Item}
 use Rattle.sr_ast.specs.declared.query.Items.{Items}
 use Rattle.sr_ast.specs.declared.query.OrderBy.{OrderBy}
-use Rattle.sr_exec.specs.Sequences.{or_else, front, each}
+use Rattle.sr_dml.specs.Sequences.{or_else, front, each}
 use Rattle.sr_query.specs.Lookups.{place_of}
 use Rattle.sr_query.specs.Orders.{rank_of, ranks_of, at_place, placed_in, ranks_at}
 use Rattle.sr_query.specs.Plain.{plain_term, IsPlaced, AreListed, items_in}

@@ -12,11 +12,11 @@ use Rattle.sr_eval.specs.declared.bound.Bound.{Bound}
 use Rattle.sr_rows.specs.Marks.{RowMap}
 use Rattle.sr_schema.specs.Catalogs.{Lists}
 use Rattle.sr_schema.specs.declared.fault.DmlFault.{DmlFault}
-use Rattle.sr_exec.specs.Checks.{Scope}
-use Rattle.sr_exec.specs.Edits.{prefixed}
-use Rattle.sr_exec.specs.Sequences.{followed}
-use Rattle.sr_exec.specs.Statements.{in_order}
-use Rattle.sr_exec.proofs.Fitted.{prefixed-none}
+use Rattle.sr_dml.specs.Checks.{Scope}
+use Rattle.sr_dml.specs.Edits.{prefixed}
+use Rattle.sr_dml.specs.Sequences.{followed}
+use Rattle.sr_dml.specs.Statements.{in_order}
+use Rattle.sr_dml.proofs.Fitted.{prefixed-none}
 use Rattle.sr_query.specs.Checks.{all_pass, is_good, is_good_condition, is_good_item, is_good_order, are_good_items, are_together, are_distinct}
 use Rattle.sr_query.specs.Checks.{unknown_in_select}
 use Rattle.sr_query.specs.Combinations.{combinations, kept}

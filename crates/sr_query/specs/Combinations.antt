@@ -6,10 +6,10 @@ use Rattle.sr_ast.specs.declared.expr.Expr.{Expr}
 use Rattle.sr_eval.specs.Meanings.{meaning}
 use Rattle.sr_schema.specs.declared.fault.DmlFault.{DmlFault}
 use Rattle.sr_schema.specs.declared.fault.DmlFault.TheVariants.{Memory}
-use Rattle.sr_exec.specs.Checks.{Scope}
-use Rattle.sr_exec.specs.Edits.{prefixed}
-use Rattle.sr_exec.specs.Sequences.{front}
-use Rattle.sr_exec.specs.Statements.{tested}
+use Rattle.sr_dml.specs.Checks.{Scope}
+use Rattle.sr_dml.specs.Edits.{prefixed}
+use Rattle.sr_dml.specs.Sequences.{front}
+use Rattle.sr_dml.specs.Statements.{tested}
 use Rattle.sr_query.specs.Sources.{Origin}
 
 -- what each item of a list gives, one after the other

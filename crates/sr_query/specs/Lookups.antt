@@ -14,9 +14,9 @@ use Rattle.sr_ast.specs.declared.operator.Binary.{Binary}
 use Rattle.sr_ast.specs.declared.operator.Binary.TheVariants.{And, Equal}
 use Rattle.sr_eval.specs.Meanings.{found_at}
 use Rattle.sr_schema.specs.Expressions.{has_arithmetic}
-use Rattle.sr_exec.specs.Checks.{Scope}
-use Rattle.sr_exec.specs.Fixing.{with_value}
-use Rattle.sr_exec.specs.Sequences.{or_else}
+use Rattle.sr_dml.specs.Checks.{Scope}
+use Rattle.sr_dml.specs.Fixing.{with_value}
+use Rattle.sr_dml.specs.Sequences.{or_else}
 
 -- the place of the first column that a reference means
 abbrev pub place_of : Scope → Option (List ℕ) → List ℕ → Option ℕ

@@ -8,7 +8,7 @@ use Rattle.sr_ast.specs.declared.query.Item.{Item}
 use Rattle.sr_ast.specs.declared.query.Item.TheVariants as item
 use Rattle.sr_ast.specs.declared.query.Items.{Items}
 use Rattle.sr_ast.specs.declared.query.Items.TheVariants as items
-use Rattle.sr_exec.specs.Checks.{Scope}
+use Rattle.sr_dml.specs.Checks.{Scope}
 use Rattle.sr_query.specs.Lookups.{place_of}
 use Rattle.sr_query.specs.declared.plain.Part.{Part}
 use Rattle.sr_query.specs.declared.plain.Parts.{Parts}

@@ -17,8 +17,8 @@ use Rattle.sr_eval.specs.Meanings.{Meaning, meaning, cell_of}
 use Rattle.sr_eval.specs.Numbers.{big_of}
 use Rattle.sr_schema.specs.declared.fault.DmlFault.{DmlFault}
 use Rattle.sr_schema.specs.declared.fault.DmlFault.TheVariants.{Overflow}
-use Rattle.sr_exec.specs.Checks.{Scope}
-use Rattle.sr_exec.specs.Sequences.{each, followed}
+use Rattle.sr_dml.specs.Checks.{Scope}
+use Rattle.sr_dml.specs.Sequences.{each, followed}
 use Rattle.sr_query.specs.Checks.{is_aggregate, all_pass, is_good_item}
 use Rattle.sr_query.specs.Orders.{ranks_of, ranks_at}
 use Rattle.sr_query.specs.declared.placing.Placed.{Placed}

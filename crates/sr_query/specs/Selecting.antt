@@ -5,9 +5,9 @@ use Rattle.sr_ast.specs.declared.query.Select.{Select}
 use Rattle.sr_rows.specs.Marks.{RowMap}
 use Rattle.sr_schema.specs.Catalogs.{Lists}
 use Rattle.sr_schema.specs.declared.fault.DmlFault.{DmlFault}
-use Rattle.sr_exec.specs.Checks.{Scope}
-use Rattle.sr_exec.specs.Sequences.{followed}
-use Rattle.sr_exec.specs.Statements.{in_order}
+use Rattle.sr_dml.specs.Checks.{Scope}
+use Rattle.sr_dml.specs.Sequences.{followed}
+use Rattle.sr_dml.specs.Statements.{in_order}
 use Rattle.sr_query.specs.Checks.{unknown_in_select, is_good}
 use Rattle.sr_query.specs.Combinations.{combinations, kept}
 use Rattle.sr_query.specs.Orders.{IsOrdered}

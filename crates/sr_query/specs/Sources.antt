@@ -11,9 +11,9 @@ use Rattle.sr_schema.specs.Catalogs.{Lists}
 use Rattle.sr_schema.specs.declared.table.Table.{Table}
 use Rattle.sr_schema.specs.declared.fault.DmlFault.{DmlFault}
 use Rattle.sr_schema.specs.declared.fault.DmlFault.TheVariants.{NoTable}
-use Rattle.sr_exec.specs.Checks.{Scope}
-use Rattle.sr_exec.specs.Sequences.{each}
-use Rattle.sr_exec.specs.Statements.{table_named}
+use Rattle.sr_dml.specs.Checks.{Scope}
+use Rattle.sr_dml.specs.Sequences.{each}
+use Rattle.sr_dml.specs.Statements.{table_named}
 
 -- the sources in FROM order
 abbrev pub sources_of : Select → List Source

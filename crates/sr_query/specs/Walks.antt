@@ -4,8 +4,8 @@ use Rattle.sr_base.specs.declared.value.Value.{Value as Cell}
 use Rattle.sr_eval.specs.Bounds.{AreRows, columns_of, values_of}
 use Rattle.sr_eval.specs.declared.bound.Bound.{Bound}
 use Rattle.sr_rows.specs.Marks.{RowMap}
-use Rattle.sr_exec.specs.Checks.{Scope}
-use Rattle.sr_exec.specs.Conditions.{TableFits}
+use Rattle.sr_dml.specs.Checks.{Scope}
+use Rattle.sr_dml.specs.Conditions.{TableFits}
 use Rattle.sr_query.specs.Sources.{Origin, scope_under, rows_by_key}
 use Rattle.sr_query.specs.declared.joined.Joined.{Joined}
 use Rattle.sr_query.specs.declared.joined.Combination.{Combination}

@@ -2,7 +2,7 @@ ghost use Rattle.std.specs.Prelude.{◌≡◌, IfOk};
 ghost use Rattle.sr_ast.specs.Exprs.{term_of};
 ghost use Rattle.sr_ast.specs.Classes.{class_in, is_truth, is_number};
 ghost use Rattle.sr_eval.specs.Uses.{gives_value, gives_truth, is_value_class};
-ghost use Rattle.sr_exec.specs.Checks.{unknown_in};
+ghost use Rattle.sr_dml.specs.Checks.{unknown_in};
 ghost use Rattle.sr_query.specs.Checks.{gives_number};
 
 use sr_ast::{Class, Expr, NotTyped, Scope, class_of};

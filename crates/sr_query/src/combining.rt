@@ -2,8 +2,8 @@ ghost use Rattle.std.specs.Prelude.{◌≡◌, ◌++◌, ◌∷◌, [], map, tru
 ghost use Rattle.sr_ast.specs.Exprs.{term_of};
 ghost use Rattle.sr_eval.specs.Bounds.{IsRowOf, AreRows, columns_of, values_of};
 ghost use Rattle.sr_eval.specs.Meanings.{meaning};
-ghost use Rattle.sr_exec.specs.Conditions.{Answers};
-ghost use Rattle.sr_exec.specs.Statements.{tested};
+ghost use Rattle.sr_dml.specs.Conditions.{Answers};
+ghost use Rattle.sr_dml.specs.Statements.{tested};
 ghost use Rattle.sr_query.specs.Checks.{all_pass, is_good_condition};
 ghost use Rattle.sr_query.specs.Combinations.{combinations, meets, over_each, Keeps};
 ghost use Rattle.sr_query.specs.Lookups.{over_one};

@@ -1,6 +1,6 @@
 ghost use Rattle.std.specs.Prelude.{◌≡◌, ◌≢◌, [], map, None, Ok, Err, IsTrue, IfOk, MatchResult};
-ghost use Rattle.sr_exec.specs.Conditions.{RowsFit};
-ghost use Rattle.sr_exec.specs.Sequences.{first_in};
+ghost use Rattle.sr_dml.specs.Conditions.{RowsFit};
+ghost use Rattle.sr_dml.specs.Sequences.{first_in};
 ghost use Rattle.sr_query.specs.Checks.{all_pass, is_good_condition, is_good, unknown_in_order, unknown_in_select};
 ghost use Rattle.sr_query.specs.Combinations.{combinations, kept};
 ghost use Rattle.sr_query.specs.Rows.{listed, AreItemsGood};

@@ -5,7 +5,7 @@ use Rattle.std.specs.List.{AllByRecursion}
 use Rattle.sr_book.specs.Entries.{Name}
 use Rattle.sr_database.specs.Books.{book_in}
 use Rattle.sr_database.specs.Views.{View}
-use Rattle.sr_exec.proofs.Fixed.{same_name}
+use Rattle.sr_dml.proofs.Fixed.{same_name}
 use Rattle.sr_mail.specs.declared.window.Window.{Window}
 use Rattle.sr_site.specs.Seen.{Seen}
 use Rattle.sr_receive.specs.Acts.{Act, dropped, torn, begun, took, Stand, stand_of, AreActs, IsAct}

@@ -4,17 +4,17 @@ use Rattle.std.specs.List.{AllByRecursion}
 use Rattle.sr_base.specs.declared.value.Value.{Value as Cell}
 use Rattle.sr_ast.specs.declared.query.Dml.{Dml}
 use Rattle.sr_ast.specs.declared.query.Dml.TheVariants as dml
-use Rattle.sr_exec.specs.Checks.{scope_of, unknown_condition, bad_condition}
-use Rattle.sr_exec.specs.Holding.{is_same_row, held}
-use Rattle.sr_exec.specs.Laws.{IsDifference}
-use Rattle.sr_exec.specs.Sequences.{followed}
-use Rattle.sr_exec.specs.Statements.{entry_of, counted, unknown_in_insert, bad_in_insert, inserted_rows}
-use Rattle.sr_exec.specs.Statements.{inserted, staying, becoming, selections, moved, fates_of}
-use Rattle.sr_exec.specs.Statements.{unknown_in_update, bad_in_update, updated, deleted, on_table, table_named, done}
-use Rattle.sr_exec.specs.declared.changes.Changes.{Changes}
-use Rattle.sr_exec.proofs.Applied.{in_order-Ok, followed-Ok}
-use Rattle.sr_exec.proofs.Differing.{changes_differ}
-use Rattle.sr_exec.proofs.Folding.{itself}
+use Rattle.sr_dml.specs.Checks.{scope_of, unknown_condition, bad_condition}
+use Rattle.sr_dml.specs.Holding.{is_same_row, held}
+use Rattle.sr_dml.specs.Laws.{IsDifference}
+use Rattle.sr_dml.specs.Sequences.{followed}
+use Rattle.sr_dml.specs.Statements.{entry_of, counted, unknown_in_insert, bad_in_insert, inserted_rows}
+use Rattle.sr_dml.specs.Statements.{inserted, staying, becoming, selections, moved, fates_of}
+use Rattle.sr_dml.specs.Statements.{unknown_in_update, bad_in_update, updated, deleted, on_table, table_named, done}
+use Rattle.sr_dml.specs.declared.changes.Changes.{Changes}
+use Rattle.sr_dml.proofs.Applied.{in_order-Ok, followed-Ok}
+use Rattle.sr_dml.proofs.Differing.{changes_differ}
+use Rattle.sr_dml.proofs.Folding.{itself}
 use Rattle.sr_logform.specs.declared.change.Change.{Change}
 use Rattle.sr_rows.specs.Marks.{RowMap}
 use Rattle.sr_rows.specs.Walks.{Entry, table_rows}

@@ -4,8 +4,8 @@ use Rattle.std.specs.Prelude.{◌↔◌}
 use Rattle.std.specs.List.{AllByRecursion}
 use Rattle.sr_base.specs.declared.offset.Offset.{Offset}
 use Rattle.sr_book.specs.Entries.{Name}
-use Rattle.sr_exec.specs.Conditions.{RowsFit}
-use Rattle.sr_exec.proofs.Applied.{fitting_changes_keep}
+use Rattle.sr_dml.specs.Conditions.{RowsFit}
+use Rattle.sr_dml.proofs.Applied.{fitting_changes_keep}
 use Rattle.sr_history.specs.Fitting.{Knows, DoneFits, DonesFit, FitsState}
 use Rattle.sr_history.specs.Folds.{State, with_changes, with_statement, done_changes, after_done, after_dones, next}
 use Rattle.sr_history.specs.Recorded.{Done, plain, ran, conflict, clash, taken, IsDone, IsRecorded}

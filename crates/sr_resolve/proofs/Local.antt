@@ -8,15 +8,15 @@ use Rattle.sr_base.specs.Order.{key_cmp}
 use Rattle.sr_base.specs.declared.value.Value.{Value as Cell}
 use Rattle.sr_book.specs.Entries.{Name}
 use Rattle.sr_eval.specs.Comparisons.{is_null}
-use Rattle.sr_exec.specs.Applying.{place_of, without_row, with_row, applied_in, applied}
-use Rattle.sr_exec.specs.Conditions.{TableFits, RowsFit}
-use Rattle.sr_exec.specs.Holding.{is_same_row}
-use Rattle.sr_exec.specs.Sequences.{or_else}
-use Rattle.sr_exec.specs.Statements.{key_of, table_named}
-use Rattle.sr_exec.proofs.Afterwards.{all_stand, changed_at, apart}
-use Rattle.sr_exec.proofs.Applied.{own_name, found_named}
-use Rattle.sr_exec.proofs.Fixed.{same_name}
-use Rattle.sr_exec.proofs.Folding.{same_key}
+use Rattle.sr_dml.specs.Applying.{place_of, without_row, with_row, applied_in, applied}
+use Rattle.sr_dml.specs.Conditions.{TableFits, RowsFit}
+use Rattle.sr_dml.specs.Holding.{is_same_row}
+use Rattle.sr_dml.specs.Sequences.{or_else}
+use Rattle.sr_dml.specs.Statements.{key_of, table_named}
+use Rattle.sr_dml.proofs.Afterwards.{all_stand, changed_at, apart}
+use Rattle.sr_dml.proofs.Applied.{own_name, found_named}
+use Rattle.sr_dml.proofs.Fixed.{same_name}
+use Rattle.sr_dml.proofs.Folding.{same_key}
 use Rattle.sr_firing.specs.Actions.{insertion}
 use Rattle.sr_history.specs.Folds.{State, after_done}
 use Rattle.sr_history.specs.Recorded.{IsNoExec}

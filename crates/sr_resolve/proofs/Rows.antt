@@ -10,10 +10,10 @@ use Rattle.sr_book.specs.Entries.{Name}
 use Rattle.sr_dates.specs.Fitting.{fitted}
 use Rattle.sr_eval.specs.Bounds.{IsRowOf}
 use Rattle.sr_eval.specs.Comparisons.{is_null}
-use Rattle.sr_exec.specs.Conditions.{IsRow}
-use Rattle.sr_exec.specs.Statements.{key_of}
-use Rattle.sr_exec.proofs.Fixed.{same_name, bytes_itself}
-use Rattle.sr_exec.proofs.Keeping.{fitted_again}
+use Rattle.sr_dml.specs.Conditions.{IsRow}
+use Rattle.sr_dml.specs.Statements.{key_of}
+use Rattle.sr_dml.proofs.Fixed.{same_name, bytes_itself}
+use Rattle.sr_dml.proofs.Keeping.{fitted_again}
 use Rattle.sr_firing.proofs.Leaving.{in_front_some, map_some, or_fails}
 use Rattle.sr_history.specs.Fitting.{fitted_in, all_there}
 use Rattle.sr_schema.specs.Firsts.{has}

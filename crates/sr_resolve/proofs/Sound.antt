@@ -17,16 +17,16 @@ use Rattle.sr_ast.specs.declared.stmt.Stmt.TheVariants as stmt
 use Rattle.sr_book.specs.Entries.{Name}
 use Rattle.sr_change.specs.Changes.{refusal}
 use Rattle.sr_eval.specs.Comparisons.{is_null}
-use Rattle.sr_exec.specs.Applying.{place_of, applied_in, applied}
-use Rattle.sr_exec.specs.Conditions.{IsRow, RowsFit}
-use Rattle.sr_exec.specs.FittingChanges.{IsFitChange, ChangesFit}
-use Rattle.sr_exec.specs.Holding.{is_same_row}
-use Rattle.sr_exec.specs.Statements.{key_of, table_named, done}
-use Rattle.sr_exec.specs.declared.changes.Changes.{Changes}
-use Rattle.sr_exec.proofs.Applied.{own_name, found_named, statements_changes_fit}
-use Rattle.sr_exec.proofs.Afterwards.{all_stand, same_place}
-use Rattle.sr_exec.proofs.Fixed.{same_name}
-use Rattle.sr_exec.proofs.Folding.{turned}
+use Rattle.sr_dml.specs.Applying.{place_of, applied_in, applied}
+use Rattle.sr_dml.specs.Conditions.{IsRow, RowsFit}
+use Rattle.sr_dml.specs.FittingChanges.{IsFitChange, ChangesFit}
+use Rattle.sr_dml.specs.Holding.{is_same_row}
+use Rattle.sr_dml.specs.Statements.{key_of, table_named, done}
+use Rattle.sr_dml.specs.declared.changes.Changes.{Changes}
+use Rattle.sr_dml.proofs.Applied.{own_name, found_named, statements_changes_fit}
+use Rattle.sr_dml.proofs.Afterwards.{all_stand, same_place}
+use Rattle.sr_dml.proofs.Fixed.{same_name}
+use Rattle.sr_dml.proofs.Folding.{turned}
 use Rattle.sr_firing.specs.Actions.{insertion}
 use Rattle.sr_firing.specs.Firing.{fired}
 use Rattle.sr_firing.specs.Laws.{IsInserted, IsLeft}

@@ -9,9 +9,9 @@ use Rattle.sr_base.specs.declared.value.Value.{Value as Cell}
 use Rattle.sr_book.specs.Entries.{Name}
 use Rattle.sr_change.specs.Changes.{refusal}
 use Rattle.sr_eval.specs.Comparisons.{is_null}
-use Rattle.sr_exec.specs.Holding.{with_change}
-use Rattle.sr_exec.specs.Statements.{key_of, table_named, done}
-use Rattle.sr_exec.specs.declared.changes.Changes.{Changes}
+use Rattle.sr_dml.specs.Holding.{with_change}
+use Rattle.sr_dml.specs.Statements.{key_of, table_named, done}
+use Rattle.sr_dml.specs.declared.changes.Changes.{Changes}
 use Rattle.sr_firing.specs.Actions.{insertion}
 use Rattle.sr_firing.specs.Firing.{fired}
 use Rattle.sr_firing.specs.Scenes.{Ground}

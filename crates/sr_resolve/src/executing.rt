@@ -2,8 +2,8 @@
 
 ghost use Rattle.std.specs.Prelude.{◌≡◌, IfOk};
 ghost use Rattle.sr_change.specs.Changes.{refusal};
-ghost use Rattle.sr_exec.specs.Conditions.{RowsFit};
-ghost use Rattle.sr_exec.specs.Statements.{done};
+ghost use Rattle.sr_dml.specs.Conditions.{RowsFit};
+ghost use Rattle.sr_dml.specs.Statements.{done};
 ghost use Rattle.sr_logform.specs.declared.outcome.Clash.TheVariants.{Statement};
 ghost use Rattle.sr_logform.specs.declared.outcome.Outcome.TheVariants.{Plain};
 ghost use Rattle.sr_resolve.specs.Judging.{clash_if, is_too_long, ran_dml, ran_ddl, ran_stmt, executed, judged_exec};

@@ -1,8 +1,8 @@
 //! Set: an update of a row, and what triggers make of it where it met another value than it took for the stored one.
 
 ghost use Rattle.std.specs.Prelude.{◌≡◌, Some, IfOk};
-ghost use Rattle.sr_exec.specs.Conditions.{RowsFit, TableFits};
-ghost use Rattle.sr_exec.specs.Statements.{table_named};
+ghost use Rattle.sr_dml.specs.Conditions.{RowsFit, TableFits};
+ghost use Rattle.sr_dml.specs.Statements.{table_named};
 ghost use Rattle.sr_firing.specs.Firing.{fired};
 ghost use Rattle.sr_logform.specs.declared.outcome.Clash.TheVariants as why;
 ghost use Rattle.sr_resolve.specs.Judging.{changed, clash_unless, ground_of, judged_set, judged_update, resolved, set_at, updated_at, where_met};

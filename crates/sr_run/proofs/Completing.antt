@@ -1,6 +1,6 @@
 -- How a run ends that nothing stands in the way of, from what its words ask for.
 use Rattle.std.proofs.Common.{◌≡◌, ℕ, Option, Some, None, inl, inr}
-use Rattle.sr_database.specs.declared.fault.DatabaseFault.TheVariants.{Memory}
+use Rattle.sr_files.specs.declared.fault.DatabaseFault.TheVariants.{Memory}
 use Rattle.sr_command.proofs.Caught.{catches_up, told_above}
 use Rattle.sr_command.proofs.Completing.{is_complete}
 use Rattle.sr_command.specs.CaughtUp as caught

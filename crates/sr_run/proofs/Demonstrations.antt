@@ -1,7 +1,7 @@
 -- What the status of a demonstration tells.
 use Rattle.std.proofs.Common.{◌≡◌, ◌≤◌, ℕ, List, [], ◌∷◌, subst, inl, inr, arith}
 use Rattle.std.specs.Prelude.{◌≢◌, ◌+◌, ◌*◌, min}
-use Rattle.sr_database.specs.declared.fault.DatabaseFault.TheVariants.{Memory}
+use Rattle.sr_files.specs.declared.fault.DatabaseFault.TheVariants.{Memory}
 use Rattle.sr_site.specs.Causes.{Rose}
 use Rattle.sr_site.specs.Streams.{Output}
 use Rattle.sr_command.proofs.Completing.{told_status}

@@ -1,7 +1,7 @@
 -- What the status of a run tells.
 use Rattle.std.proofs.Common.{◌≡◌, ℕ, Option, Some, None, refl, inl, inr}
 use Rattle.std.specs.Prelude.{◌≢◌, ◌⊎◌}
-use Rattle.sr_database.specs.declared.fault.DatabaseFault.TheVariants.{Memory}
+use Rattle.sr_files.specs.declared.fault.DatabaseFault.TheVariants.{Memory}
 use Rattle.sr_site.specs.Causes.{Rose}
 use Rattle.sr_command.proofs.Statuses.{order_words, order_disk, order_stream, order_mail, order_amiss, refused_disk, refused_stream, refused_mail}
 use Rattle.sr_command.proofs.Statuses.{no_disk_words, no_disk_memory, no_words_memory, no_stream_words, no_stream_memory, no_mail_words, no_mail_memory, told_words, told_never_one}

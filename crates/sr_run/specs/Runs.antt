@@ -1,6 +1,6 @@
 -- What a run does, by its words.
 use Rattle.std.specs.Prelude.{◌≡◌, ◌⊎◌, ⊤, ℕ, Option, Some, None}
-use Rattle.sr_database.specs.declared.fault.DatabaseFault.TheVariants.{Memory}
+use Rattle.sr_files.specs.declared.fault.DatabaseFault.TheVariants.{Memory}
 use Rattle.sr_site.specs.Causes.{Rose}
 use Rattle.sr_command.specs.CaughtUp as caught
 use Rattle.sr_command.specs.Complete as complete

@@ -1,5 +1,5 @@
 ghost use Rattle.std.specs.Prelude.{◌≡◌, ◌⊎◌, IsTrue, List, None};
-ghost use Rattle.sr_database.specs.declared.fault.DatabaseFault.TheVariants.{Memory};
+ghost use Rattle.sr_files.specs.declared.fault.DatabaseFault.TheVariants.{Memory};
 ghost use Rattle.sr_book.specs.Entries.{Name};
 ghost use Rattle.sr_history.specs.Fitting.{Stored};
 ghost use Rattle.sr_history.specs.Recorded.{Recorded};

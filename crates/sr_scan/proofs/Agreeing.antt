@@ -9,11 +9,11 @@ use Rattle.sr_ast.specs.declared.stmt.Stmt.{Stmt}
 use Rattle.sr_base.specs.declared.offset.Offset.{Offset as Place}
 use Rattle.sr_book.specs.Entries.{Name}
 use Rattle.sr_change.specs.Changes.{refusal, next as catalog_next}
-use Rattle.sr_exec.specs.Applying.{applied_in, applied}
-use Rattle.sr_exec.specs.Conditions.{RowsFit}
-use Rattle.sr_exec.specs.FittingChanges.{ChangesFit}
-use Rattle.sr_exec.specs.Statements.{key_of, table_named}
-use Rattle.sr_exec.proofs.Applied.{fitting_changes_keep}
+use Rattle.sr_dml.specs.Applying.{applied_in, applied}
+use Rattle.sr_dml.specs.Conditions.{RowsFit}
+use Rattle.sr_dml.specs.FittingChanges.{ChangesFit}
+use Rattle.sr_dml.specs.Statements.{key_of, table_named}
+use Rattle.sr_dml.proofs.Applied.{fitting_changes_keep}
 use Rattle.sr_history.specs.Fitting.{IsAcceptedPass, IsNamedKey, AreNamedRows, all_there, fitted_in, DoneFits, DonesFit, FitsState, Fits}
 use Rattle.sr_history.specs.Folds.{State, with_changes, with_statement, done_changes, after_done, after_dones, after_pass, row_change, next}
 use Rattle.sr_history.specs.Recorded.{Done, plain, ran, conflict, clash, done_of}

@@ -5,11 +5,11 @@ use Rattle.std.specs.FinMap.{get, insert, remove, get-insert, get-remove}
 use Rattle.std.specs.Ordering.{eq_by_cmp}
 use Rattle.sr_base.specs.declared.value.Value.{Value as Cell}
 use Rattle.sr_book.specs.Entries.{Name}
-use Rattle.sr_exec.specs.Applying.{without_row, with_row, applied_in, applied}
-use Rattle.sr_exec.specs.Conditions.{IsRow, RowsFit}
-use Rattle.sr_exec.specs.FittingChanges.{FitsAt, IsFitChange, ChangesFit}
-use Rattle.sr_exec.specs.Statements.{key_of, table_named}
-use Rattle.sr_exec.proofs.Fixed.{same_name}
+use Rattle.sr_dml.specs.Applying.{without_row, with_row, applied_in, applied}
+use Rattle.sr_dml.specs.Conditions.{IsRow, RowsFit}
+use Rattle.sr_dml.specs.FittingChanges.{FitsAt, IsFitChange, ChangesFit}
+use Rattle.sr_dml.specs.Statements.{key_of, table_named}
+use Rattle.sr_dml.proofs.Fixed.{same_name}
 use Rattle.sr_logform.specs.declared.change.Change.{Change}
 use Rattle.sr_rows.specs.Marks.{Place, place_cmp, place_cmp_total, RowMap, rows_of_table}
 use Rattle.sr_schema.specs.Catalogs.{Lists}

@@ -6,8 +6,8 @@ use Rattle.std.specs.Map.{lookup}
 use Rattle.std.specs.Ordering.{is_eq}
 use Rattle.std.proofs.lemmas.Map.Text.{is_eq-slice_cmp}
 use Rattle.sr_base.specs.Order.{name_cmp}
-use Rattle.sr_exec.specs.Statements.{table_named}
-use Rattle.sr_exec.proofs.Fixed.{same_name}
+use Rattle.sr_dml.specs.Statements.{table_named}
+use Rattle.sr_dml.proofs.Fixed.{same_name}
 use Rattle.std.proofs.lemmas.Bool.{false_from_ne_true}
 use Rattle.std.proofs.lemmas.Slice.Eq.{bytes_eq-Decides}
 use Rattle.sr_publish.specs.Shares.{Share, share_in, source_of, share_of}

@@ -4,11 +4,11 @@ use Rattle.std.specs.Ordering.{eq_by_cmp}
 use Rattle.sr_base.specs.Order.{value_cmp}
 use Rattle.sr_base.specs.declared.value.Value.{Value as Cell}
 use Rattle.sr_book.specs.Entries.{Name}
-use Rattle.sr_exec.specs.Applying.{applied_in, without_row, with_row}
-use Rattle.sr_exec.specs.Conditions.{IsRow, RowsFit}
-use Rattle.sr_exec.specs.FittingChanges.{IsFitChange, ChangesFit}
-use Rattle.sr_exec.specs.Statements.{key_of, table_named}
-use Rattle.sr_exec.proofs.Applied.{fitting_changes_keep}
+use Rattle.sr_dml.specs.Applying.{applied_in, without_row, with_row}
+use Rattle.sr_dml.specs.Conditions.{IsRow, RowsFit}
+use Rattle.sr_dml.specs.FittingChanges.{IsFitChange, ChangesFit}
+use Rattle.sr_dml.specs.Statements.{key_of, table_named}
+use Rattle.sr_dml.proofs.Applied.{fitting_changes_keep}
 use Rattle.sr_history.specs.Folds.{State, with_changes}
 use Rattle.sr_logform.specs.declared.change.Change.{Change}
 use Rattle.sr_publish.specs.Shares.{Share, share_in, source_of, share_of}

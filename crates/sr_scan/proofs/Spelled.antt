@@ -12,7 +12,7 @@ use Rattle.sr_base.specs.declared.value.Value.{Value as Cell}
 use Rattle.sr_base.specs.declared.value.Value.TheVariants.{Null, Int, Big, Str, Date}
 use Rattle.sr_dates.specs.Fitting.{fitted}
 use Rattle.sr_eval.specs.Comparisons.{is_null}
-use Rattle.sr_exec.specs.Statements.{key_of}
+use Rattle.sr_dml.specs.Statements.{key_of}
 use Rattle.sr_logform.specs.Ops.{OpHas, IsOp}
 use Rattle.sr_logform.specs.Rules.{is_present, AreDistinct, AreColumns}
 use Rattle.sr_logform.specs.declared.op.Op.TheVariants.{Insert, Remove}

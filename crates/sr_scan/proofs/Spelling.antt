@@ -7,7 +7,7 @@ use Rattle.sr_base.specs.declared.value.Value.{Value as Cell}
 use Rattle.sr_ast.specs.Layout.{printed}
 use Rattle.sr_ast.specs.declared.stmt.Stmt.{Stmt}
 use Rattle.sr_book.specs.Entries.{Name}
-use Rattle.sr_exec.specs.Statements.{key_of, table_named}
+use Rattle.sr_dml.specs.Statements.{key_of, table_named}
 use Rattle.sr_history.specs.Fitting.{DonesFit, FitsState, Fits, Stored}
 use Rattle.sr_history.specs.Folds.{State, fresh, after_done, state_of, end_of}
 use Rattle.sr_history.specs.Recorded.{Done, done_of, IsDone}

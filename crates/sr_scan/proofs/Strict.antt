@@ -12,7 +12,7 @@ use Rattle.sr_base.specs.Fields.{IsName}
 use Rattle.sr_book.specs.Entries.{Name}
 use Rattle.sr_change.specs.Changes.{refusal, next as catalog_next}
 use Rattle.sr_ddl.specs.Tables.{rule_name, column_of, table_of}
-use Rattle.sr_exec.specs.Statements.{table_named}
+use Rattle.sr_dml.specs.Statements.{table_named}
 use Rattle.sr_grammar.specs.Normal.{IsSomeOf}
 use Rattle.sr_grammar.specs.NormalForms.{IsNormal, IsNormalRule, IsNormalTable}
 use Rattle.sr_history.specs.Fitting.{IsAcceptedPass, DoneFits, DonesFit, FitsState, stored_from, Stored}

@@ -3,7 +3,7 @@ use Rattle.std.specs.Prelude.{ℕ, ◌+◌, Bool, true, false, cond, List, [], �
 use Rattle.sr_base.specs.declared.value.Value.{Value as Cell}
 use Rattle.sr_ast.specs.Layout.{printed}
 use Rattle.sr_book.specs.Entries.{Name}
-use Rattle.sr_exec.specs.Statements.{key_of, table_named}
+use Rattle.sr_dml.specs.Statements.{key_of, table_named}
 use Rattle.sr_history.specs.Folds.{State, fresh, with_changes, done_changes, after_done, next, size}
 use Rattle.sr_history.specs.Recorded.{Done, plain, ran, conflict, clash}
 use Rattle.sr_history.specs.Recorded.{Recorded, own, taken, ddl, sync, pass, note}

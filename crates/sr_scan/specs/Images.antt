@@ -6,7 +6,7 @@ use Rattle.sr_base.specs.declared.value.Value.{Value as Cell}
 use Rattle.sr_ast.specs.declared.stmt.Stmt.{Stmt}
 use Rattle.sr_book.specs.Entries.{Name}
 use Rattle.sr_change.specs.Changes.{refusal, next}
-use Rattle.sr_exec.specs.Statements.{key_of, table_named}
+use Rattle.sr_dml.specs.Statements.{key_of, table_named}
 use Rattle.sr_history.specs.Fitting.{fitted_in}
 use Rattle.sr_logform.specs.declared.change.Change.{Change}
 use Rattle.sr_logform.specs.declared.entry.Entry.{Entry}

@@ -4,7 +4,7 @@ ghost use Rattle.std.specs.Prelude.{◌≡◌, ◌++◌, ◌∷◌, [], IfOk, On
 ghost use Rattle.std.specs.Ordering.{eq_by_cmp};
 ghost use Rattle.sr_base.specs.Order.{value_cmp};
 ghost use Rattle.sr_base.specs.declared.value.Value.TheVariants.{Null};
-ghost use Rattle.sr_exec.specs.Statements.{key_of};
+ghost use Rattle.sr_dml.specs.Statements.{key_of};
 ghost use Rattle.sr_logform.specs.Rules.{is_present};
 ghost use Rattle.sr_schema.specs.Firsts.{has};
 ghost use Rattle.sr_scan.specs.Ops.{present_columns, differing, outside_key};

@@ -3,7 +3,7 @@
 ghost use Rattle.std.specs.Prelude.{◌≡◌, ◌++◌, ◌∷◌, [], Some, OnOk};
 ghost use Rattle.std.specs.BTreeMap as tree;
 ghost use Rattle.sr_base.specs.Order.{name_cmp};
-ghost use Rattle.sr_exec.specs.Statements.{table_named};
+ghost use Rattle.sr_dml.specs.Statements.{table_named};
 ghost use Rattle.sr_publish.specs.Shares.{share_of};
 ghost use Rattle.sr_scan.specs.Images.{changes_told, images_told, change_told, row_changed, rows_told, conflict_told, op_told};
 ghost use Rattle.sr_scan.specs.Views.{AreViews};

@@ -12,8 +12,8 @@ use Rattle.sr_ast.specs.declared.stmt.Stmt.TheVariants as stmt
 use Rattle.sr_book.specs.Entries.{Name}
 use Rattle.sr_change.specs.Changes.{refusal}
 use Rattle.sr_ddl.specs.Subscriptions.{is_started}
-use Rattle.sr_exec.specs.Statements.{done}
-use Rattle.sr_exec.specs.declared.changes.Changes.{Changes}
+use Rattle.sr_dml.specs.Statements.{done}
+use Rattle.sr_dml.specs.declared.changes.Changes.{Changes}
 use Rattle.sr_history.specs.Folds.{State}
 use Rattle.sr_history.specs.Recorded.{Recorded, own, ddl, sync, pass}
 use Rattle.sr_logform.specs.declared.change.Change.{Change}

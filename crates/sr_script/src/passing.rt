@@ -1,7 +1,7 @@
 //! Statements in a passthrough region.
 
 ghost use Rattle.std.specs.Prelude.{◌≡◌, ◌++◌, [], MatchResult, IfOk};
-ghost use Rattle.sr_exec.specs.Conditions.{RowsFit};
+ghost use Rattle.sr_dml.specs.Conditions.{RowsFit};
 ghost use Rattle.sr_script.specs.Answers.{IsStop};
 ghost use Rattle.sr_script.specs.Meaning.{catalog_changes, row_changes, uncarried, not_carried};
 ghost use Rattle.sr_script.specs.Works.{is_among, once_behind, region_of};

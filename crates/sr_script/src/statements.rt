@@ -1,7 +1,7 @@
 //! What one statement comes to on a catalog and rows, or what refuses it.
 
 ghost use Rattle.std.specs.Prelude.{◌≡◌, IfOk, MatchResult};
-ghost use Rattle.sr_exec.specs.Conditions.{RowsFit};
+ghost use Rattle.sr_dml.specs.Conditions.{RowsFit};
 ghost use Rattle.sr_script.specs.Answers.{IsStop};
 ghost use Rattle.sr_script.specs.Meaning.{accepted, changes_by, rows_by, is_done_already};
 
@@ -9,7 +9,8 @@ use crate::refusal::Stop;
 use sr_ast::{Dml, Select, Stmt};
 use sr_base::{NoMemory, Row};
 use sr_catalog::Catalog;
-use sr_exec::{Changes, exec};
+use sr_dml::Changes;
+use sr_exec::exec;
 use sr_query::select;
 use sr_rows::Rows;
 use std::alloc::Global;

@@ -9,8 +9,8 @@ use Rattle.sr_database.specs.Causes.{EntryCause}
 use Rattle.sr_database.specs.Databases.{IsOfSome, IsDatabase}
 use Rattle.sr_database.specs.Entries.{IsNext}
 use Rattle.sr_database.specs.Views.{View}
-use Rattle.sr_database.specs.declared.fault.DatabaseFault.{DatabaseFault}
-use Rattle.sr_database.specs.declared.fault.DatabaseFault.TheVariants as store
+use Rattle.sr_files.specs.declared.fault.DatabaseFault.{DatabaseFault}
+use Rattle.sr_files.specs.declared.fault.DatabaseFault.TheVariants as store
 use Rattle.sr_history.specs.Folds.{end_of}
 use Rattle.sr_history.specs.Recorded.{Recorded}
 use Rattle.sr_logform.specs.declared.entry.Entry.{Entry}

@@ -8,8 +8,8 @@ use Rattle.sr_database.specs.Causes.{CommitCause, IsBegun}
 use Rattle.sr_database.specs.Commits.{CanCommit, CanCommitSome, HasRoom}
 use Rattle.sr_database.specs.Databases.{IsOf, IsDatabase}
 use Rattle.sr_database.specs.Views.{View}
-use Rattle.sr_database.specs.declared.fault.DatabaseFault.{DatabaseFault}
-use Rattle.sr_database.specs.declared.fault.DatabaseFault.TheVariants as store
+use Rattle.sr_files.specs.declared.fault.DatabaseFault.{DatabaseFault}
+use Rattle.sr_files.specs.declared.fault.DatabaseFault.TheVariants as store
 use Rattle.sr_history.specs.Fitting.{FitsState}
 use Rattle.sr_history.specs.Recorded.{Recorded, note}
 use Rattle.sr_logform.specs.declared.entry.Entry.{Entry}

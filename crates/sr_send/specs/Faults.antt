@@ -2,8 +2,8 @@
 use Rattle.sr_cut.specs.Bodies.{longest_transaction}
 use Rattle.sr_cut.specs.declared.too_long.TooLong.{TooLong}
 use Rattle.sr_cut.specs.declared.too_long.TooLong.TheVariants as long
-use Rattle.sr_database.specs.declared.fault.DatabaseFault.{DatabaseFault}
-use Rattle.sr_database.specs.declared.fault.DatabaseFault.TheVariants as store
+use Rattle.sr_files.specs.declared.fault.DatabaseFault.{DatabaseFault}
+use Rattle.sr_files.specs.declared.fault.DatabaseFault.TheVariants as store
 use Rattle.sr_site.specs.declared.mail.MailFault.{MailFault}
 use Rattle.sr_site.specs.declared.mail.MailFault.TheVariants as mail
 use Rattle.sr_send.specs.declared.fault.SendFault.{SendFault}

@@ -6,7 +6,7 @@ use Rattle.sr_database.specs.Causes.{IsSame, IsSpent, IsTooFar}
 use Rattle.sr_database.specs.Commits.{HasRoom}
 use Rattle.sr_database.specs.Databases.{IsOf, IsDatabase}
 use Rattle.sr_database.specs.Views.{View}
-use Rattle.sr_database.specs.declared.fault.DatabaseFault.{DatabaseFault}
+use Rattle.sr_files.specs.declared.fault.DatabaseFault.{DatabaseFault}
 use Rattle.sr_history.specs.Recorded.{Recorded, entry_of}
 use Rattle.sr_site.specs.Seen.{Seen}
 use Rattle.sr_standing.specs.Items.{commit}

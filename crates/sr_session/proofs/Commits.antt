@@ -18,8 +18,8 @@ use Rattle.sr_database.specs.Causes.{CommitCause, IsBegun, IsTooFar, IsTooLong}
 use Rattle.sr_database.specs.Commits.{CanCommit}
 use Rattle.sr_database.specs.Databases.{IsOf, IsDatabase}
 use Rattle.sr_database.specs.Views.{View, committed}
-use Rattle.sr_database.specs.declared.fault.DatabaseFault.{DatabaseFault}
-use Rattle.sr_database.specs.declared.fault.DatabaseFault.TheVariants as store
+use Rattle.sr_files.specs.declared.fault.DatabaseFault.{DatabaseFault}
+use Rattle.sr_files.specs.declared.fault.DatabaseFault.TheVariants as store
 use Rattle.sr_script.specs.Acts.{commits, line}
 use Rattle.sr_script.specs.Meaning.{Stepped, goes, enters}
 use Rattle.sr_script.specs.Works.{Work}

@@ -12,8 +12,8 @@ use Rattle.sr_site.specs.Streams.{Output, OutputStays}
 use Rattle.sr_database.specs.Causes.{IsTooFar, IsTooLong}
 use Rattle.sr_database.specs.Databases.{IsOf}
 use Rattle.sr_database.specs.Views.{View, committed}
-use Rattle.sr_database.specs.declared.fault.DatabaseFault.{DatabaseFault}
-use Rattle.sr_database.specs.declared.fault.DatabaseFault.TheVariants as store
+use Rattle.sr_files.specs.declared.fault.DatabaseFault.{DatabaseFault}
+use Rattle.sr_files.specs.declared.fault.DatabaseFault.TheVariants as store
 use Rattle.sr_script.specs.Acts.{Act, commits, text_from}
 use Rattle.sr_script.specs.Scripts.{Ran as Script, ran}
 use Rattle.sr_session.specs.Ends.{StopsAt, StoreEnd, IsDone, EndsAs, SinkEnd}

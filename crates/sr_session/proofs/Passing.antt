@@ -5,11 +5,11 @@ use Rattle.sr_ast.specs.declared.stmt.Passthrough.{Passthrough}
 use Rattle.sr_ast.specs.declared.stmt.Stmt.{Stmt}
 use Rattle.sr_ast.specs.declared.stmt.Stmt.TheVariants as stmt
 use Rattle.sr_change.specs.Changes.{refusal}
-use Rattle.sr_exec.specs.Conditions.{RowsFit}
-use Rattle.sr_exec.specs.FittingChanges.{ChangesFit}
-use Rattle.sr_exec.specs.Statements.{done}
-use Rattle.sr_exec.specs.declared.changes.Changes.{Changes}
-use Rattle.sr_exec.proofs.Applied.{statements_changes_fit}
+use Rattle.sr_dml.specs.Conditions.{RowsFit}
+use Rattle.sr_dml.specs.FittingChanges.{ChangesFit}
+use Rattle.sr_dml.specs.Statements.{done}
+use Rattle.sr_dml.specs.declared.changes.Changes.{Changes}
+use Rattle.sr_dml.proofs.Applied.{statements_changes_fit}
 use Rattle.sr_history.specs.Fitting.{HasChanges, IsAcceptedPass, MayHaveChanges}
 use Rattle.sr_history.specs.Folds.{State}
 use Rattle.sr_history.specs.Recorded.{pass, IsDdl}

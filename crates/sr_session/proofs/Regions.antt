@@ -9,7 +9,7 @@ use Rattle.sr_ast.specs.declared.stmt.Stmt.TheVariants as stmt
 use Rattle.sr_book.specs.Entries.{Name}
 use Rattle.sr_change.specs.Changes.{refusal}
 use Rattle.sr_ddl.specs.Users.{is_remote, passthrough_causes}
-use Rattle.sr_exec.specs.FittingChanges.{ChangesFit}
+use Rattle.sr_dml.specs.FittingChanges.{ChangesFit}
 use Rattle.sr_history.specs.Fitting.{Knows, FitsState, IsAcceptedPass, MayHaveChanges}
 use Rattle.sr_history.specs.Folds.{State, next, state_from}
 use Rattle.sr_history.specs.Recorded.{Recorded, pass, IsCarried}

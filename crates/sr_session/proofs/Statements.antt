@@ -7,11 +7,11 @@ use Rattle.sr_ast.specs.declared.query.Select.{Select}
 use Rattle.sr_ast.specs.declared.stmt.Passthrough.{Passthrough}
 use Rattle.sr_base.specs.declared.value.Value.{Value as Cell}
 use Rattle.sr_book.specs.Entries.{Name}
-use Rattle.sr_exec.specs.Conditions.{RowsFit}
-use Rattle.sr_exec.specs.FittingChanges.{ChangesFit}
-use Rattle.sr_exec.proofs.Applied.{statements_changes_fit}
-use Rattle.sr_exec.specs.Statements.{done}
-use Rattle.sr_exec.specs.declared.changes.Changes.{Changes}
+use Rattle.sr_dml.specs.Conditions.{RowsFit}
+use Rattle.sr_dml.specs.FittingChanges.{ChangesFit}
+use Rattle.sr_dml.proofs.Applied.{statements_changes_fit}
+use Rattle.sr_dml.specs.Statements.{done}
+use Rattle.sr_dml.specs.declared.changes.Changes.{Changes}
 use Rattle.sr_history.specs.Folds.{State}
 use Rattle.sr_history.specs.Recorded.{Recorded}
 use Rattle.sr_logform.specs.declared.change.Change.{Change}

@@ -1,7 +1,7 @@
 -- The state of a database's value, before and behind an entry.
 use Rattle.std.proofs.Common.{◌≡◌, ◌+◌, ℕ, List, [], ◌∷◌, ◌++◌, sym, ap, ◌∙◌}
 use Rattle.sr_book.specs.Entries.{Name}
-use Rattle.sr_exec.specs.Applying.{applied}
+use Rattle.sr_dml.specs.Applying.{applied}
 use Rattle.sr_history.specs.Folds.{State, with_changes, next, state_of, size}
 use Rattle.sr_history.specs.Recorded.{Recorded}
 use Rattle.sr_history.proofs.Joined.{state_from-more, end_from-more}

@@ -5,8 +5,8 @@ use Rattle.sr_history.specs.Recorded.{Recorded, entry_of}
 use Rattle.sr_site.specs.Seen.{Seen}
 use Rattle.sr_database.specs.Causes.{IsTooFar, IsTooLong}
 use Rattle.sr_database.specs.Views.{View}
-use Rattle.sr_database.specs.declared.fault.DatabaseFault.{DatabaseFault}
-use Rattle.sr_database.specs.declared.fault.DatabaseFault.TheVariants as store
+use Rattle.sr_files.specs.declared.fault.DatabaseFault.{DatabaseFault}
+use Rattle.sr_files.specs.declared.fault.DatabaseFault.TheVariants as store
 use Rattle.sr_script.specs.Acts.{Act, commits}
 use Rattle.sr_script.specs.Meaning.{Stepped, goes, stops, after}
 use Rattle.sr_script.specs.Works.{Work}

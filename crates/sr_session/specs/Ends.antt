@@ -3,8 +3,8 @@ use Rattle.std.specs.Prelude.{◌≡◌, ℕ, List, [], ◌∷◌, ◌++◌, map
 use Rattle.sr_history.specs.Recorded.{Recorded, entry_of}
 use Rattle.sr_database.specs.Causes.{IsTooFar, IsTooLong}
 use Rattle.sr_database.specs.Views.{View}
-use Rattle.sr_database.specs.declared.fault.DatabaseFault.{DatabaseFault}
-use Rattle.sr_database.specs.declared.fault.DatabaseFault.TheVariants as store
+use Rattle.sr_files.specs.declared.fault.DatabaseFault.{DatabaseFault}
+use Rattle.sr_files.specs.declared.fault.DatabaseFault.TheVariants as store
 use Rattle.sr_script.specs.Acts.{Act, commits}
 use Rattle.sr_script.specs.Scripts.{Ran, finished, refused}
 use Rattle.sr_site.specs.Causes.{Rose}

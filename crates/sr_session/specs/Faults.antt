@@ -1,7 +1,7 @@
 -- Faults of one statement, and of a script.
 use Rattle.std.specs.Prelude.{ℕ}
-use Rattle.sr_database.specs.declared.fault.DatabaseFault.{DatabaseFault}
-use Rattle.sr_database.specs.declared.fault.DatabaseFault.TheVariants as store
+use Rattle.sr_files.specs.declared.fault.DatabaseFault.{DatabaseFault}
+use Rattle.sr_files.specs.declared.fault.DatabaseFault.TheVariants as store
 use Rattle.sr_script.specs.declared.refusal.Stop.{Stop}
 use Rattle.sr_script.specs.declared.refusal.Stop.TheVariants as stops
 use Rattle.sr_session.specs.declared.fault.SessionFault.{SessionFault}

@@ -3,7 +3,7 @@ use Rattle.std.specs.Prelude.{◌≡◌, ℕ, List, [], ◌++◌, Option, Result
 use Rattle.sr_ast.specs.declared.stmt.Passthrough.{Passthrough}
 use Rattle.sr_history.specs.Recorded.{Recorded}
 use Rattle.sr_database.specs.Views.{View}
-use Rattle.sr_database.specs.declared.fault.DatabaseFault.{DatabaseFault}
+use Rattle.sr_files.specs.declared.fault.DatabaseFault.{DatabaseFault}
 use Rattle.sr_script.specs.Acts.{Act, text_from}
 use Rattle.sr_script.specs.Meaning.{Stepped, goes, stops}
 use Rattle.sr_script.specs.declared.refusal.Refusal.{Refusal}

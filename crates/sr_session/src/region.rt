@@ -3,7 +3,7 @@
 ghost use Rattle.std.specs.Prelude.{◌≡◌, [], true, ℕ, Option, Some, List, OnOk, OnErr};
 ghost use Rattle.sr_ast.specs.declared.stmt.Stmt.TheVariants.{Dml as DmlStmt, Passthrough as PassthroughStmt};
 ghost use Rattle.sr_ast.specs.declared.stmt.Passthrough.{Passthrough as Region};
-ghost use Rattle.sr_exec.specs.FittingChanges.{ChangesFit};
+ghost use Rattle.sr_dml.specs.FittingChanges.{ChangesFit};
 ghost use Rattle.sr_history.specs.Fitting.{IsAcceptedPass, MayHaveChanges};
 ghost use Rattle.sr_history.specs.Recorded.{IsCarried, IsDdl, pass};
 ghost use Rattle.sr_database.specs.Databases.{IsOfSome};

@@ -8,11 +8,11 @@ use Rattle.std.specs.FinMap.{get, insert, empty, find, same_map, get-empty, get-
 use Rattle.sr_base.specs.Order.{key_cmp}
 use Rattle.sr_base.specs.declared.value.Value.{Value as Cell}
 use Rattle.sr_book.specs.Entries.{Name}
-use Rattle.sr_exec.specs.Conditions.{RowsFit}
-use Rattle.sr_exec.specs.Statements.{table_named}
-use Rattle.sr_exec.proofs.Afterwards.{same_place}
-use Rattle.sr_exec.proofs.Fixed.{same_name, bytes_itself}
-use Rattle.sr_exec.proofs.Folding.{same_key}
+use Rattle.sr_dml.specs.Conditions.{RowsFit}
+use Rattle.sr_dml.specs.Statements.{table_named}
+use Rattle.sr_dml.proofs.Afterwards.{same_place}
+use Rattle.sr_dml.proofs.Fixed.{same_name, bytes_itself}
+use Rattle.sr_dml.proofs.Folding.{same_key}
 use Rattle.sr_rows.specs.Marks.{Place, RowMap, Marked, place_cmp, place_cmp_total, rows_of_table}
 use Rattle.sr_rows.specs.Steps.{at_mark}
 use Rattle.sr_rows.specs.Walks.{Entry, Rises, table_rows}

@@ -5,7 +5,7 @@ use Rattle.std.specs.List.{AllByRecursion}
 use Rattle.sr_base.specs.Values.{offset_from}
 use Rattle.sr_book.specs.Entries.{Name}
 use Rattle.sr_cut.proofs.Lists.{AllByRecursion-back}
-use Rattle.sr_exec.specs.Conditions.{RowsFit}
+use Rattle.sr_dml.specs.Conditions.{RowsFit}
 use Rattle.sr_fold.specs.Readings.{FitsAs}
 use Rattle.sr_fold.proofs.Taking.{done_keeps}
 use Rattle.sr_history.specs.Fitting.{DoneFits, FitsState, Knows}

@@ -13,12 +13,12 @@ use Rattle.sr_book.specs.Entries.{Name}
 use Rattle.sr_cut.proofs.Lists.{AllByRecursion-append, AllByRecursion-back}
 use Rattle.sr_database.specs.Databases.{IsOf, IsOfSome}
 use Rattle.sr_database.specs.Views.{View, committed, present}
-use Rattle.sr_exec.specs.Applying.{applied, applied_in}
-use Rattle.sr_exec.specs.Conditions.{RowsFit}
-use Rattle.sr_exec.specs.FittingChanges.{IsFitChange, ChangesFit}
-use Rattle.sr_exec.specs.Statements.{key_of, table_named}
-use Rattle.sr_exec.proofs.Folding.{itself, same_key}
-use Rattle.sr_exec.proofs.Over.{over}
+use Rattle.sr_dml.specs.Applying.{applied, applied_in}
+use Rattle.sr_dml.specs.Conditions.{RowsFit}
+use Rattle.sr_dml.specs.FittingChanges.{IsFitChange, ChangesFit}
+use Rattle.sr_dml.specs.Statements.{key_of, table_named}
+use Rattle.sr_dml.proofs.Folding.{itself, same_key}
+use Rattle.sr_dml.proofs.Over.{over}
 use Rattle.sr_fold.proofs.Changing.{applied_append, changes_append, own_name}
 use Rattle.sr_history.specs.Fitting.{DoneFits}
 use Rattle.sr_history.specs.Folds.{State, after_done}

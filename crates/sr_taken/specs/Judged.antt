@@ -3,7 +3,7 @@ use Rattle.std.specs.Prelude.{◌≡◌, ℕ, ◌+◌, ◌<◌, ◌^◌, Bool, t
 use Rattle.std.specs.List.{AllByRecursion, list_any}
 use Rattle.sr_base.specs.declared.value.Value.{Value as Cell}
 use Rattle.sr_book.specs.Entries.{Name}
-use Rattle.sr_exec.specs.Holding.{with_change}
+use Rattle.sr_dml.specs.Holding.{with_change}
 use Rattle.sr_history.specs.Fitting.{DonesFit}
 use Rattle.sr_history.specs.Folds.{State, after_dones}
 use Rattle.sr_history.specs.Recorded.{Recorded, Done, done_of, IsDone}

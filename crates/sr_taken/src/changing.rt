@@ -9,7 +9,7 @@ ghost use Rattle.sr_logform.specs.Outcomes.{IsShortOutcome};
 ghost use Rattle.sr_taken.specs.Judged.{pending_of, row_changes, table_of, with_row};
 
 use sr_base::{Copied, Name, NoMemory, Row, Seq, Value};
-use sr_exec::Changes;
+use sr_dml::Changes;
 use sr_logform::{Change, Op, Outcome};
 use sr_script::{are_few, are_short};
 use std::alloc::Global;

@@ -8,8 +8,8 @@ use Rattle.sr_drawn.specs.Agreement.{differing}
 use Rattle.sr_drawn.specs.Names.{text_of}
 use Rattle.sr_drawn.specs.declared.office.Office.{Office}
 use Rattle.sr_drawn.specs.declared.summary.Part.{Part}
-use Rattle.sr_exec.specs.Applying.{applied}
-use Rattle.sr_exec.specs.Statements.{table_named}
+use Rattle.sr_dml.specs.Applying.{applied}
+use Rattle.sr_dml.specs.Statements.{table_named}
 use Rattle.sr_history.specs.Folds.{State, state_of}
 use Rattle.sr_history.specs.Recorded.{Recorded, entry_of}
 use Rattle.sr_logform.specs.declared.change.Change.{Change}

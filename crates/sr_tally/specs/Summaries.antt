@@ -2,7 +2,7 @@
 use Rattle.std.specs.Prelude.{◌≡◌, ℕ, List, [], map, length, codes, Option, Some, None}
 use Rattle.sr_base.specs.declared.value.Value.{Value as Cell}
 use Rattle.sr_book.specs.Entries.{Name}
-use Rattle.sr_exec.specs.Statements.{table_named}
+use Rattle.sr_dml.specs.Statements.{table_named}
 use Rattle.sr_history.specs.Folds.{State, state_of}
 use Rattle.sr_history.specs.Recorded.{Recorded, entry_of}
 use Rattle.sr_logform.specs.declared.entry.Entry.{Entry}

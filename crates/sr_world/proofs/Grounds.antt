@@ -38,8 +38,8 @@ use Rattle.sr_world.specs.Sample.{r2, name_p, name_q}
 use Rattle.sr_world.specs.Sample.{first_row, updated, insert, insert_slim, slim_row, run_u, set, sent_to}
 use Rattle.sr_world.proofs.Lines.{Line, IsLine}
 use Rattle.sr_world.proofs.Lines.{note_line}
-use Rattle.sr_exec.specs.FittingChanges.{FitsAt, IsFitChange}
-use Rattle.sr_exec.specs.Statements.{table_named}
+use Rattle.sr_dml.specs.FittingChanges.{FitsAt, IsFitChange}
+use Rattle.sr_dml.specs.Statements.{table_named}
 use Rattle.sr_history.specs.Recorded.{IsNoExec}
 use Rattle.sr_logform.specs.Outcomes.{IsChange}
 use Rattle.sr_resolve.specs.Judging.{IsStatementOf}

@@ -1,5 +1,5 @@
 use Rattle.std.proofs.Common.{sym, subst}
-use Rattle.sr_exec.specs.Conditions.{RowsFit}
+use Rattle.sr_dml.specs.Conditions.{RowsFit}
 use Rattle.repltests.proofs.databases.no_rows.Goals as goal
 
 pub returns : goal.returns

@@ -1,5 +1,5 @@
 use Rattle.std.proofs.Common.{length}
-use Rattle.sr_exec.specs.Conditions.{RowsFit}
+use Rattle.sr_dml.specs.Conditions.{RowsFit}
 use Rattle.scriptbench.proofs.counting.count_each.Given as goal
 
 abbrev pub invariant-statements : goal.invariant-statements

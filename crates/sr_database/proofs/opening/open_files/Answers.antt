@@ -1,5 +1,5 @@
 use Rattle.std.proofs.lemmas.Result.{err_from_is_err_and}
-use Rattle.sr_database.proofs.Quiet.{synced_then}
+use Rattle.sr_files.proofs.Quiet.{synced_then}
 use Rattle.sr_database.proofs.Refused.{root_cause, snapshot_cause, log_refused}
 use Rattle.sr_database.proofs.Reopened.{opened_database}
 use Rattle.sr_database.proofs.opening.open_files.Goals as goal

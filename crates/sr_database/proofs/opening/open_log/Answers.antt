@@ -2,8 +2,8 @@ use Rattle.std.proofs.Common.{sym, subst}
 use Rattle.std.specs.Prelude.{IsTrue}
 use Rattle.std.proofs.lemmas.Result.{err_from_is_err_and}
 use Rattle.sr_site.specs.Files.{Files, bytes_of}
-use Rattle.sr_database.specs.Openings.{IsWhole}
-use Rattle.sr_database.proofs.Quiet.{OnOk-always, told_then, synced_then, read_synced, settled_then}
+use Rattle.sr_files.specs.Openings.{IsWhole}
+use Rattle.sr_files.proofs.Quiet.{OnOk-always, told_then, synced_then, read_synced, settled_then}
 use Rattle.sr_database.proofs.Refused.{shape_cause, entries_refused}
 use Rattle.sr_database.proofs.Reopened.{opened_before}
 use Rattle.sr_database.proofs.opening.open_log.Goals as goal

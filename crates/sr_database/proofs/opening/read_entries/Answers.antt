@@ -3,9 +3,9 @@ use Rattle.std.specs.Prelude.{IsTrue}
 use Rattle.sr_logfile.specs.Records.{HasHeader}
 use Rattle.sr_site.specs.Files.{Files, bytes_of}
 use Rattle.sr_database.proofs.Looped.{size_now, replay_cause_before}
-use Rattle.sr_database.proofs.Quiet.{told_then, read_alone, read_then}
+use Rattle.sr_files.proofs.Quiet.{told_then, read_alone, read_then}
 use Rattle.sr_database.proofs.Reopened.{replayed_behind, opened_of}
-use Rattle.sr_database.proofs.Shapes.{whole_header}
+use Rattle.sr_files.proofs.Shapes.{whole_header}
 use Rattle.sr_database.proofs.opening.read_entries.Goals as goal
 
 pub replay_all-requires-clause-size : goal.replay_all-requires-clause-size

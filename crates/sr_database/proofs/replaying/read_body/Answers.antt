@@ -1,5 +1,5 @@
 use Rattle.std.proofs.Common.{◌≡◌, ◌+◌, length, arith}
-use Rattle.sr_database.proofs.Quiet.{read_same}
+use Rattle.sr_files.proofs.Quiet.{read_same}
 use Rattle.sr_database.proofs.ReadRecords.{read_short, read_whole, short_cause, body_refused, body_read, entry_read, size_read}
 use Rattle.sr_site.specs.Files.{bytes_of}
 use Rattle.sr_database.proofs.replaying.read_body.Goals as goal

@@ -1,6 +1,6 @@
 use Rattle.std.proofs.Common.{◌≡◌, length, map}
 use Rattle.sr_ast.specs.Exprs.{term_of}
-use Rattle.sr_exec.specs.Statements.{names_of}
+use Rattle.sr_dml.specs.Statements.{names_of}
 use Rattle.sr_firing.specs.Actions.{after_items, row_made, value_in}
 use Rattle.sr_firing.specs.Running.{ground_of}
 use Rattle.sr_firing.proofs.inserting.row_made.Given as goal

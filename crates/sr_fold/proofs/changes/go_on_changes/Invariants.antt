@@ -1,6 +1,6 @@
 use Rattle.std.proofs.Common.{◌≡◌, length}
 use Rattle.std.specs.List.{AllByRecursion}
-use Rattle.sr_exec.specs.Conditions.{RowsFit}
+use Rattle.sr_dml.specs.Conditions.{RowsFit}
 use Rattle.sr_rows.specs.Steps.{at_mark}
 use Rattle.sr_fold.specs.Movements.{Differs}
 use Rattle.sr_fold.proofs.Changing.{ChangesLeft}

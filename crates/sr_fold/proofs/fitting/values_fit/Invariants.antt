@@ -1,5 +1,5 @@
 use Rattle.std.proofs.Common.{◌↔◌, length}
-use Rattle.sr_exec.specs.Conditions.{IsRow}
+use Rattle.sr_dml.specs.Conditions.{IsRow}
 use Rattle.sr_fold.proofs.fitting.values_fit.Given as goal
 
 abbrev pub invariant-columns : goal.invariant-columns

@@ -1,5 +1,5 @@
 use Rattle.std.proofs.Common.{◌≡◌, length}
-use Rattle.sr_exec.specs.Conditions.{RowsFit}
+use Rattle.sr_dml.specs.Conditions.{RowsFit}
 use Rattle.sr_rows.specs.Steps.{GoesOn}
 use Rattle.sr_fold.specs.Reached.{OpsFit, NoneRuns}
 use Rattle.sr_fold.specs.Readings.{state_in}

@@ -1,6 +1,6 @@
 use Rattle.std.proofs.Common.{◌≡◌, drop}
-use Rattle.sr_exec.specs.Edits.{prefixed}
-use Rattle.sr_exec.specs.Sequences.{each}
+use Rattle.sr_dml.specs.Edits.{prefixed}
+use Rattle.sr_dml.specs.Sequences.{each}
 use Rattle.sr_query.specs.Rows.{value_in}
 use Rattle.sr_query.specs.Walks.{AreCombinations, found}
 use Rattle.sr_query.proofs.aggregates.values_over.Given as goal

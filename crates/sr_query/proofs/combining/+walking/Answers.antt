@@ -3,7 +3,7 @@ use Rattle.std.proofs.lemmas.Result.{err_from_is_err_and}
 use Rattle.sr_eval.specs.Bounds.{IsRowOf, AreRows, columns_of, values_of}
 use Rattle.sr_rows.specs.Walks.{Entry}
 use Rattle.sr_rows.proofs.Cursors.{AreHeld, table_held}
-use Rattle.sr_exec.specs.Edits.{prefixed}
+use Rattle.sr_dml.specs.Edits.{prefixed}
 use Rattle.sr_query.specs.Combinations.{combinations, kept, over_each, Keeps}
 use Rattle.sr_query.specs.Lookups.{fixed_key}
 use Rattle.sr_query.specs.Sources.{conditions_of}

@@ -3,7 +3,7 @@ use Rattle.sr_base.specs.declared.value.Value.{Value}
 use Rattle.sr_eval.specs.Bounds.{values_of}
 use Rattle.sr_rows.specs.Walks.{Entry}
 use Rattle.sr_rows.proofs.Cursors.{AreHeld}
-use Rattle.sr_exec.specs.Edits.{prefixed}
+use Rattle.sr_dml.specs.Edits.{prefixed}
 use Rattle.sr_query.specs.Combinations.{combinations, kept, over_each}
 use Rattle.sr_query.specs.Sources.{conditions_of, rows_by_key}
 use Rattle.sr_query.specs.Walks.{AreCombinations, found, seen}

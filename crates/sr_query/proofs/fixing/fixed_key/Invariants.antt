@@ -1,6 +1,6 @@
 use Rattle.std.proofs.Common.{◌≡◌, length}
 use Rattle.sr_eval.specs.Bounds.{columns_of, values_of}
-use Rattle.sr_exec.specs.Fixing.{after_values}
+use Rattle.sr_dml.specs.Fixing.{after_values}
 use Rattle.sr_query.specs.Lookups.{fixed_key}
 use Rattle.sr_query.specs.Sources.{conditions_of}
 use Rattle.sr_query.proofs.fixing.fixed_key.Given as goal

@@ -1,6 +1,6 @@
 use Rattle.std.proofs.Common.{◌≡◌, drop, IsTrue}
-use Rattle.sr_exec.specs.Edits.{prefixed}
-use Rattle.sr_exec.specs.Sequences.{each}
+use Rattle.sr_dml.specs.Edits.{prefixed}
+use Rattle.sr_dml.specs.Sequences.{each}
 use Rattle.sr_eval.specs.Bounds.{values_of}
 use Rattle.sr_query.specs.Checks.{all_pass, is_good_item}
 use Rattle.sr_query.specs.Plain.{AreListed, items_in}

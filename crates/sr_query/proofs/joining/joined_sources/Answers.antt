@@ -1,6 +1,6 @@
 use Rattle.std.proofs.Common.{◌≡◌, ◌∷◌, List, map, rules, sym, ap, subst, ◌∙◌}
 use Rattle.sr_ast.specs.declared.query.Join.{Join}
-use Rattle.sr_exec.specs.Edits.{prefixed}
+use Rattle.sr_dml.specs.Edits.{prefixed}
 use Rattle.sr_query.specs.Sources.{origins_of}
 use Rattle.sr_query.specs.Walks.{AreJoined, seen}
 use Rattle.sr_query.proofs.Combined.{joined_one, one_more}

@@ -1,6 +1,6 @@
 use Rattle.std.proofs.Common.{◌≡◌, map, length}
 use Rattle.sr_ast.specs.declared.query.Join.{Join}
-use Rattle.sr_exec.specs.Edits.{prefixed}
+use Rattle.sr_dml.specs.Edits.{prefixed}
 use Rattle.sr_query.specs.Sources.{origins_of, sources_of}
 use Rattle.sr_query.specs.Walks.{AreJoined, seen}
 use Rattle.sr_query.proofs.joining.joined_sources.Given as goal

@@ -1,7 +1,7 @@
 use Rattle.std.proofs.Common.{◌≡◌, ◌∷◌, Some, None, rules, sym, ap, ◌∙◌}
 use Rattle.sr_eval.specs.Bounds.{columns_of, values_of}
 use Rattle.sr_eval.specs.Meanings.{found_at}
-use Rattle.sr_exec.specs.Sequences.{or_else}
+use Rattle.sr_dml.specs.Sequences.{or_else}
 use Rattle.sr_query.proofs.Places.{found_among}
 use Rattle.sr_query.proofs.referring.+value_among.Goals as goal
 

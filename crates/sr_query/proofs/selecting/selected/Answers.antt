@@ -2,8 +2,8 @@ use Rattle.std.proofs.Common.{◌≡◌, ◌≢◌, List, [], true, false, cond,
 use Rattle.std.proofs.lemmas.Result.{err_from_is_err_and}
 use Rattle.sr_schema.specs.declared.fault.DmlFault.{DmlFault}
 use Rattle.sr_schema.specs.declared.fault.DmlFault.TheVariants.{BadValue, Memory}
-use Rattle.sr_exec.specs.Sequences.{followed}
-use Rattle.sr_exec.specs.Statements.{in_order}
+use Rattle.sr_dml.specs.Sequences.{followed}
+use Rattle.sr_dml.specs.Statements.{in_order}
 use Rattle.sr_query.specs.Checks.{is_good, unknown_in_select}
 use Rattle.sr_query.specs.Combinations.{combinations, kept}
 use Rattle.sr_query.specs.Rows.{listed}

@@ -1,7 +1,7 @@
 use Rattle.std.proofs.Common.{◌≡◌, Some, Ok, sym, subst}
 use Rattle.sr_ast.specs.declared.stmt.Stmt.{Stmt}
 use Rattle.sr_ast.specs.declared.stmt.Stmt.TheVariants as stmt
-use Rattle.sr_exec.specs.Conditions.{RowsFit}
+use Rattle.sr_dml.specs.Conditions.{RowsFit}
 use Rattle.sr_history.specs.Fitting.{IsAcceptedPass, MayHaveChanges}
 use Rattle.sr_history.specs.Folds.{State}
 use Rattle.sr_script.specs.Answers.{IsStop}

@@ -1,0 +1,31 @@
+ghost use Rattle.sr_dml.specs.Conditions.{Answers, TableFits};
+ghost use Rattle.sr_dml.specs.Statements.{deleted};
+ghost use Rattle.sr_rows.specs.Walks.{table_rows};
+
+use crate::changes::Changes;
+use crate::classes::{bad_condition, scope_of, unknown_condition};
+use crate::moving::moved;
+use sr_ast::Delete;
+use sr_rows::Rows;
+use sr_schema::{DmlFault, Table};
+use std::alloc::Global;
+
+/// DELETE. It goes over the rows of the table; each that is selected takes logarithmic time for its key.
+pub fn delete(
+    alloc: Global,
+    table: &Table,
+    rows: &Rows,
+    delete: &Delete,
+) -> Result<Changes, DmlFault>
+    requires rows { TableFits table.now rows.now.rows }
+    ensures answer { Answers result (deleted table.now delete.now (table_rows rows.now.rows table.now.name)) }
+{
+    let scope = scope_of(alloc, table)?;
+    if let Some(name) = unknown_condition(alloc, &scope, &delete.condition)? {
+        return Err(DmlFault::NoColumn { name });
+    }
+    if let Some(name) = bad_condition(alloc, &scope, &table.name, &delete.condition)? {
+        return Err(DmlFault::BadValue { name });
+    }
+    moved(alloc, table, rows, &scope, None, &delete.condition)
+}

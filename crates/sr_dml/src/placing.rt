@@ -1,0 +1,111 @@
+//! UPDATE and DELETE where each row that is selected keeps its key: one walk, and no key is built or looked up.
+
+ghost use Rattle.std.specs.Prelude.{◌≡◌, ◌≢◌, [], Ok, Err, None, IfSome, IfOk, OnOk, IsTrue, MatchResult};
+ghost use Rattle.std.specs.Option.{option_copied};
+ghost use Rattle.sr_dml.specs.Checks.{scope_of, bad_sets, bad_condition};
+ghost use Rattle.sr_dml.specs.Conditions.{TableFits};
+ghost use Rattle.sr_dml.specs.Sequences.{followed};
+ghost use Rattle.sr_dml.specs.Statements.{fates_of, moved as moved_rows};
+ghost use Rattle.sr_dml.specs.Unmoving.{Counted, and_change, with_fate, behind, KeepsKey};
+ghost use Rattle.sr_rows.specs.Walks.{table_rows};
+
+use crate::applying::is_same_key;
+use crate::changes::Changes;
+use crate::fate::Fate;
+use crate::moving::fate_of;
+use crate::settling::note;
+use sr_ast::{Expr, Scope};
+use sr_base::{Name, NoMemory, Row, Seq};
+use sr_logform::Change;
+use sr_rows::Rows;
+use sr_schema::{DmlFault, Table};
+use std::alloc::{AllocError, Global};
+
+/// What is known of the rows that were looked at: their changes, and how many are selected.
+#[derive(Drop)]
+pub(crate) struct Found {
+    pub(crate) list: Vec<Change>,
+    pub(crate) count: u64,
+}
+
+/// The changes where each selected row keeps its key, as a DELETE and most UPDATEs have it; nothing where one gets another key.
+///
+/// Each row takes the time of its condition and, where it is selected, of its assignments and its copies.
+pub(crate) fn unmoved(
+    alloc: Global,
+    table: &Table,
+    rows: &Rows,
+    scope: &Scope,
+    sets: Option<&[(Name, Expr)]>,
+    condition: &Option<Expr>,
+) -> Result<Option<Changes>, DmlFault>
+    requires scope { scope.now ≡ scope_of table.now }
+    requires rows { TableFits table.now rows.now.rows }
+    requires condition { bad_condition scope.now table.now.name condition.now ≡ None }
+    requires sets { IfSome (option_copied sets) (λ s. bad_sets scope.now [] s ≡ None) }
+    ensures answer { MatchResult result (λ found. IfSome found (λ changes. followed (fates_of table.now (option_copied sets.entry) condition.now (table_rows rows.now.rows table.now.name)) (moved_rows table.now (table_rows rows.now.rows table.now.name)) ≡ Ok changes))
+        (λ fault. fault ≢ DmlFault.Memory → followed (fates_of table.now (option_copied sets.entry) condition.now (table_rows rows.now.rows table.now.name)) (moved_rows table.now (table_rows rows.now.rows table.now.name)) ≡ Err fault) }
+{
+    let mut found = Found {
+        list: Vec::new(alloc),
+        count: 0,
+    };
+    let mut walk = rows.walk(&table.name);
+    'rows: while let Some((_key, row)) = walk.next() {
+        let fate = fate_of(alloc, table, scope, sets, condition, row.values())?;
+        if !note_fate(alloc, table, &mut found, row, fate)? {
+            return Ok(None);
+        }
+    }
+    let Found { list, count } = found;
+    Ok(Some(Changes {
+        list: Seq::from_vec(list),
+        count,
+    }))
+}
+
+/// Notes what becomes of a row, and answers whether it keeps its key.
+fn note_fate(
+    alloc: Global,
+    table: &Table,
+    found: &mut Found,
+    row: &Row,
+    fate: Fate,
+) -> Result<bool, NoMemory>
+    ensures noted { IfOk result (λ is_kept. IsTrue is_kept → (rest : Counted) → behind found.old.list.items found.old.count (with_fate table.now.name row.now (Ok fate) rest) ≡ behind found.new.list.items found.new.count rest) }
+    ensures keeps { IfOk result (λ is_kept. IsTrue is_kept → KeepsKey table.now row.now fate) }
+{
+    match fate {
+        Fate::Stays => Ok(true),
+        Fate::Goes => {
+            note_one(alloc, &table.name, found, row, None)?;
+            Ok(true)
+        }
+        Fate::Becomes(new) => {
+            if !is_same_key(table.key.as_slice(), row.values(), new.values()) {
+                return Ok(false);
+            }
+            note_one(alloc, &table.name, found, row, Some(new))?;
+            Ok(true)
+        }
+    }
+}
+
+/// Notes the change of a row that is selected.
+#[tactic(auto, using(crate::proofs::Placed::noted))]
+fn note_one(
+    alloc: Global,
+    table: &Name,
+    found: &mut Found,
+    row: &Row,
+    after: Option<Row>,
+) -> Result<(), NoMemory>
+    ensures noted { OnOk result ((rest : Counted) → behind found.old.list.items found.old.count (and_change table.now row.now after rest) ≡ behind found.new.list.items found.new.count rest) }
+{
+    let Some(count) = found.count.checked_add(1) else {
+        return Err(AllocError);
+    };
+    note(alloc, &mut found.list, table, Some(row), after)?;
+    found.count = count;
+    Ok(())
+}

@@ -1,0 +1,185 @@
+ghost use Rattle.std.specs.Prelude.{◌≡◌, [], None, IsTrue, IfSome, IfOk};
+ghost use Rattle.std.specs.Option.{option_copied};
+ghost use Rattle.sr_ast.specs.Exprs.{term_of};
+ghost use Rattle.sr_ast.specs.Classes.{class_in};
+ghost use Rattle.sr_eval.specs.Uses.{gives_value};
+ghost use Rattle.sr_eval.specs.Bounds.{IsRowOf};
+ghost use Rattle.sr_dml.specs.Checks.{scope_of, bad_sets};
+ghost use Rattle.sr_dml.specs.Conditions.{Answers, TableFits};
+ghost use Rattle.sr_dml.specs.Statements.{unknown_in_update, bad_in_update, updated};
+ghost use Rattle.sr_dml.specs.Storing.{set_for, updated_value, updated_row};
+ghost use Rattle.sr_rows.specs.Walks.{table_rows};
+
+use crate::changes::Changes;
+use crate::checks::{bad_sets, unknown_in_sets};
+use crate::classes::{bad_condition, scope_of, unknown_condition};
+use crate::lists::push;
+use crate::moving::moved;
+use crate::names::is_same;
+use crate::storing::stored;
+use sr_ast::{Expr, Scope, Update};
+use sr_base::{Copied, Name, NoMemory, Row, Seq, Value};
+use sr_eval::Bound;
+use sr_rows::Rows;
+use sr_schema::{Column, DmlFault, Table};
+use std::alloc::Global;
+
+/// UPDATE. It goes over the rows of the table; each that is selected takes its columns times the assignments, and logarithmic time
+/// for its keys.
+pub fn update(
+    alloc: Global,
+    table: &Table,
+    rows: &Rows,
+    update: &Update,
+) -> Result<Changes, DmlFault>
+    requires rows { TableFits table.now rows.now.rows }
+    ensures answer { Answers result (updated table.now update.now (table_rows rows.now.rows table.now.name)) }
+{
+    let scope = scope_of(alloc, table)?;
+    if let Some(name) = unknown_in_update(alloc, table, &scope, update)? {
+        return Err(DmlFault::NoColumn { name });
+    }
+    if let Some(name) = bad_in_update(alloc, table, &scope, update)? {
+        return Err(DmlFault::BadValue { name });
+    }
+    moved(
+        alloc,
+        table,
+        rows,
+        &scope,
+        Some(update.sets.as_slice()),
+        &update.condition,
+    )
+}
+
+fn unknown_in_update(
+    alloc: Global,
+    table: &Table,
+    scope: &Scope,
+    update: &Update,
+) -> Result<Option<Name>, NoMemory>
+    requires scope { scope.now ≡ scope_of table.now }
+    ensures unknown { IfOk result (λ found. found ≡ unknown_in_update table.now update.now) }
+{
+    match unknown_in_sets(alloc, table, scope, update.sets.as_slice())? {
+        Some(unknown) => Ok(Some(unknown)),
+        None => unknown_condition(alloc, scope, &update.condition),
+    }
+}
+
+fn bad_in_update(
+    alloc: Global,
+    table: &Table,
+    scope: &Scope,
+    update: &Update,
+) -> Result<Option<Name>, NoMemory>
+    requires scope { scope.now ≡ scope_of table.now }
+    ensures bad { IfOk result (λ found. found ≡ bad_in_update table.now update.now) }
+{
+    match bad_sets(alloc, scope, update.sets.as_slice())? {
+        Some(bad) => Ok(Some(bad)),
+        None => bad_condition(alloc, scope, &table.name, &update.condition),
+    }
+}
+
+/// The row that an UPDATE makes of a row. Each column looks through the assignments. A row of two values takes one block of memory.
+pub(crate) fn updated_row(
+    alloc: Global,
+    scope: &Scope,
+    row: &[Value],
+    sets: &[(Name, Expr)],
+    columns: &[Column],
+) -> Result<Row, DmlFault>
+    requires good { bad_sets scope.now [] sets.now ≡ None }
+    requires fits { IsRowOf scope.now row.now }
+    ensures answer { Answers result (updated_row scope.now row.now sets.now columns.now row.now) }
+{
+    match (columns, row) {
+        ([column, next], [old, next_old]) => {
+            let value = value_of(alloc, scope, row, sets, column, old)?;
+            let next_value = value_of(alloc, scope, row, sets, next, next_old)?;
+            Ok(Row::two(alloc, [value, next_value])?)
+        }
+        _ => updated_row_of_several(alloc, scope, row, sets, columns),
+    }
+}
+
+/// The same for more columns than two, or for one.
+fn updated_row_of_several(
+    alloc: Global,
+    scope: &Scope,
+    row: &[Value],
+    sets: &[(Name, Expr)],
+    columns: &[Column],
+) -> Result<Row, DmlFault>
+    requires good { bad_sets scope.now [] sets.now ≡ None }
+    requires fits { IsRowOf scope.now row.now }
+    ensures answer { Answers result (updated_row scope.now row.now sets.now columns.now row.now) }
+{
+    let mut values = Vec::with_capacity(alloc, columns.len())?;
+    let mut left = columns;
+    let mut olds = row;
+    'columns: while let Some((column, rest)) = left.split_first() {
+        let Some((old, olds_rest)) = olds.split_first() else {
+            return Ok(Row::new(alloc, Seq::from_vec(values))?);
+        };
+        let value = value_of(alloc, scope, row, sets, column, old)?;
+        push(&mut values, value)?;
+        left = rest;
+        olds = olds_rest;
+    }
+    Ok(Row::new(alloc, Seq::from_vec(values))?)
+}
+
+/// What a column takes of the assignments. It looks through them.
+fn value_of(
+    alloc: Global,
+    scope: &Scope,
+    row: &[Value],
+    sets: &[(Name, Expr)],
+    column: &Column,
+    old: &Value,
+) -> Result<Value, DmlFault>
+    requires good { bad_sets scope.now [] sets.now ≡ None }
+    requires fits { IsRowOf scope.now row.now }
+    ensures answer { Answers result (updated_value scope.now row.now column.now old.now (set_for sets.now column.now.name)) }
+{
+    let expr = set_for(sets, &column.name);
+    updated_value(alloc, scope, row, column, old, expr)
+}
+
+/// What a column takes in an UPDATE: an expression's value over the old row, or the value that it has.
+fn updated_value(
+    alloc: Global,
+    scope: &Scope,
+    row: &[Value],
+    column: &Column,
+    old: &Value,
+    expr: Option<&Expr>,
+) -> Result<Value, DmlFault>
+    requires typed { IfSome (option_copied expr) (λ e. IsTrue (gives_value (class_in scope.now (term_of e)))) }
+    requires fits { IsRowOf scope.now row.now }
+    ensures answer { Answers result (updated_value scope.now row.now column.now old.now (option_copied expr.entry)) }
+{
+    match expr {
+        None => Ok(old.copy(alloc)?),
+        Some(expr) => {
+            let row = Bound { scope, values: row };
+            stored(alloc, column, &row, expr)
+        }
+    }
+}
+
+/// The expression that is assigned to a column. It looks at each assignment up to the column's.
+fn set_for<'a>(sets: &'a [(Name, Expr)], column: &Name) -> Option<&'a Expr>
+    ensures { option_copied result ≡ set_for sets.now column.now }
+{
+    let mut left = sets;
+    'sets: while let Some((set, rest)) = left.split_first() {
+        if is_same(&set.0, column) {
+            return Some(&set.1);
+        }
+        left = rest;
+    }
+    None
+}

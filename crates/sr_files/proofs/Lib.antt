@@ -1,0 +1,9 @@
+pub mod Attaches
+pub mod Beside
+pub mod Images
+pub mod Making
+pub mod Quiet
+pub mod Shapes
+pub mod SnapshotBytes
+pub mod Syncs
+pub mod Unchanged

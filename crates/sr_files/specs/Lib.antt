@@ -1,0 +1,6 @@
+pub mod Fresh
+pub mod Making
+pub mod Openings
+pub mod Refusing
+pub mod SnapshotFaults
+pub mod Touching
