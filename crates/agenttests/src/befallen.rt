@@ -1,10 +1,10 @@
 //! A row: what befalls its step once, or for each call that the step makes.
 
-use crate::offices::Offices;
 use crate::running::Trouble;
 use crate::steps::{push_part, say_befallen, say_steps};
 use sr_answers::{number, say, word};
 use sr_base::NoMemory;
+use sr_offices::Offices;
 use std::alloc::Global;
 
 /// More calls than a step makes.

@@ -35,12 +35,7 @@
 #![tactic(auto)]
 
 mod befallen;
-mod calls;
-mod offices;
 mod running;
-mod scripts;
-mod shifting;
-mod standing;
 mod steps;
 
 use befallen::say_row;

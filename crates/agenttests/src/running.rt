@@ -1,10 +1,9 @@
 //! One run of the program on the site of an office.
 
-use crate::offices::Offices;
-use crate::shifting::{Change, Shifting};
 use sr_answers::word;
 use sr_base::{NoMemory, Text};
 use sr_memsite::{MemorySink, MemorySite, MemorySource};
+use sr_offices::{Change, Offices, Shifting};
 use sr_run::run;
 use sr_site::Site;
 use std::alloc::Global;

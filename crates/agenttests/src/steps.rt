@@ -1,12 +1,11 @@
 //! Steps on offices, one after the other.
 
-use crate::calls::say_mail;
-use crate::offices::Offices;
 use crate::running::{Ended, Trouble, run_at};
-use crate::scripts::{CUSTOMERS_ABOVE, CUSTOMERS_BELOW, PAPERS_ABOVE, PAPERS_BELOW, papers};
-use crate::standing::stand;
 use sr_answers::{say, say_number, word};
 use sr_base::NoMemory;
+use sr_offices::{
+    CUSTOMERS_ABOVE, CUSTOMERS_BELOW, Offices, PAPERS_ABOVE, PAPERS_BELOW, papers, say_mail, stand,
+};
 use std::alloc::Global;
 
 /// Makes steps that nothing befalls, and says what they are to say.

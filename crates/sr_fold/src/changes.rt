@@ -115,7 +115,7 @@ fn remove(alloc: Global, table: &Table, rows: &mut Rows, before: &Row) -> Result
     let Some(key) = held_key(alloc, table, rows, before)? else {
         return Ok(false);
     };
-    rows.take_at_mark(&table.name, &key);
+    rows.take_at_mark(alloc, &table.name, &key);
     Ok(true)
 }
 

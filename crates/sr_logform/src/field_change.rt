@@ -13,7 +13,7 @@ use std::marker::Model;
 
 /// The row before and the row after, which differ.
 #[derive(Drop)]
-struct Images {
+pub(crate) struct Images {
     before: Option<Row>,
     after: Option<Row>,
 }
@@ -29,7 +29,7 @@ impl Model for Images {
 
 impl Images {
     /// The row before, and the row after.
-    fn into_rows(self) -> (Option<Row>, Option<Row>)
+    pub(crate) fn into_rows(self) -> (Option<Row>, Option<Row>)
         ensures { result ≡ self }
     {
         (self.before, self.after)

@@ -7,6 +7,7 @@ ghost use Rattle.sr_logform.specs.EntryLaws.{flag_format, users_format, entry_fo
 
 use crate::change::Change;
 use crate::entry::Entry;
+use crate::field_changes::filled_changes;
 use crate::field_note::BookNote;
 use crate::filled::Filled;
 use crate::names::are_distinct;
@@ -147,8 +148,8 @@ impl Field for Entry {
         match bytes {
             [] => Err(Broken::Left(0)),
             [1, rest @ ..] => {
-                let (changes, rest) = Filled::<Change>::read(alloc, rest)?;
-                Ok((Entry::Own(changes.into_seq()), rest))
+                let (changes, rest) = filled_changes(alloc, rest)?;
+                Ok((Entry::Own(changes), rest))
             }
             [2, rest @ ..] => {
                 let ((user, at, ops), rest) = FromParts::read(alloc, rest)?;

@@ -8,6 +8,7 @@
 mod change;
 mod entry;
 mod field_change;
+mod field_changes;
 mod field_entry;
 mod field_note;
 mod field_op;

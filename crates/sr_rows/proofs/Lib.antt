@@ -4,4 +4,5 @@ pub mod Gathering
 pub mod Going
 pub mod Keeping
 pub mod Listing
+pub mod Searching
 pub mod Walking

@@ -19,27 +19,27 @@ use Rattle.sr_rows.specs.Gathered.{first_of, first_filled, row_of}
 use Rattle.sr_rows.specs.Marks.{IsPast, IsNext, IsLast}
 use Rattle.sr_rows.proofs.Entries.{get-lookup}
 
-abbrev Key : Type 0
+abbrev pub Key : Type 0
 Key = List Value
 
-abbrev Entry : Type 0
+abbrev pub Entry : Type 0
 Entry = Key × Option (List Value)
 
-abbrev at : List Entry → Key → Option (Option (List Value))
+abbrev pub at : List Entry → Key → Option (Option (List Value))
 at es q = lookup (is_at (key_cmp q)) es
 
-same_key : (q k : Key) → is_eq (key_cmp q k) ≡ true → q ≡ k
+pub same_key : (q k : Key) → is_eq (key_cmp q k) ≡ true → q ≡ k
 same_key q k e = exact_keys q k ((Equal-is (key_cmp q k)).0 e)
 
 -- a key that is found behind the head is above it
-above_head : (k : Key) (es : List Entry) → AllByRecursion (λ y. key_cmp k y ≡ Less) (keys_of es) → (q : Key) (v : Option (List Value)) → at es q ≡ Some v → key_cmp k q ≡ Less
+pub above_head : (k : Key) (es : List Entry) → AllByRecursion (λ y. key_cmp k y ≡ Less) (keys_of es) → (q : Key) (v : Option (List Value)) → at es q ≡ Some v → key_cmp k q ≡ Less
 above_head k [] s q v e = cc
 above_head k (x ∷ es) s q v e = go (is_eq (key_cmp q x.0)) refl e (above_head k es s.1 q v) where
   go : (b : Bool) → is_eq (key_cmp q x.0) ≡ b → cond b (Some x.1) (at es q) ≡ Some v → (at es q ≡ Some v → key_cmp k q ≡ Less) → key_cmp k q ≡ Less
   go true h f rest = ap (key_cmp k) (same_key q x.0 h) ∙ s.0
   go false h f rest = rest f
 
-turned : (k q : Key) → key_cmp k q ≡ Less → key_cmp q k ≡ Greater
+pub turned : (k q : Key) → key_cmp k q ≡ Less → key_cmp q k ≡ Greater
 turned k q e = key_cmp_total.antisymm q k ∙ ap ordering_reverse e
 
 -- what is shown of the entry that is found

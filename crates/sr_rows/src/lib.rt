@@ -5,9 +5,11 @@
 #![tactic(auto)]
 
 mod laws;
+mod rising;
 mod rows;
 mod table;
 mod tables;
+mod tree;
 mod undo;
 mod walk;
 

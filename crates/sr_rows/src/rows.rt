@@ -6,9 +6,9 @@ ghost use Rattle.sr_rows.specs.Marks.{rows_of_table, IsNext, IsLast};
 ghost use Rattle.sr_rows.specs.Steps.{at_mark, back, without_table, GoesOn};
 ghost use Rattle.sr_rows.specs.Walks.{table_rows, past};
 
-use crate::tables::{Tables, insert_at, place_at, remove_at, replace_at, set_at};
+use crate::tables::{Tables, empty_at, insert_at, place_at, remove_at, replace_at, take_at};
 use crate::undo::{Undo, note_change, shared, take_back};
-use crate::walk::Walk;
+use crate::walk::{Left, Walk};
 use sr_base::{Copied, Key, Name, NoMemory, Row};
 use std::alloc::Global;
 use std::collections::BTreeMap;
@@ -17,8 +17,10 @@ use std::marker::Model;
 /// Rows by table and key, with a mark. Contracts see finite maps: the rows, the rows at the mark, and those before each step that
 /// was made since.
 ///
-/// A call at one key takes logarithmic time; `mark`, `undo` and `back_to` take it for each change since the mark, and not for each
-/// row.
+/// The rows of a table stand in a list while each new key comes past all others, and in a tree from then on. A call at one key takes
+/// constant time past all keys of a list, and else logarithmic time; the call that makes the tree takes the time of all rows of the
+/// table, once. `mark`, `undo` and `back_to` take logarithmic time for each change since the mark, and not for each row; but a place
+/// that goes from a list takes a step for each place behind it.
 #[derive(Drop)]
 pub struct Rows {
     tables: Tables,
@@ -80,8 +82,8 @@ impl Rows {
         ensures rows { result ≡ table_rows self.now.rows table.now }
     {
         match self.tables.get(table) {
-            None => Walk::new(None),
-            Some(held) => Walk::new(Some(held.iter())),
+            None => Walk::new(Left::Nothing),
+            Some(held) => Walk::new(held.all()),
         }
     }
 
@@ -117,7 +119,8 @@ impl Rows {
         Ok(before)
     }
 
-    /// Puts a row under a key of a table. The row before is kept for the way back, and not copied.
+    /// Puts a row under a key of a table. The row before is kept for the way back, and not copied. A new key between others makes a
+    /// tree of a list.
     pub fn set(&mut self, alloc: Global, table: &Name, key: Key, row: Row) -> Result<(), NoMemory>
         ensures rows { OnOk result (self.new.rows ≡ map.insert self.old.rows (table.now, key) row) }
         ensures on { GoesOn self.old self.new }
@@ -137,6 +140,7 @@ impl Rows {
     }
 
     /// Puts a row under a key of a table, as `set` does. Where a row stands there, its place is found at once and the key is not copied.
+    /// In a list, rows that are replaced in the order of their keys are found in constant time.
     pub fn replace(
         &mut self,
         alloc: Global,
@@ -166,7 +170,8 @@ impl Rows {
         Ok(())
     }
 
-    /// Takes the row under a key of a table away. The row is kept for the way back, and its place until the next `mark`.
+    /// Takes the row under a key of a table away. The row is kept for the way back, and its place until the next `mark`. A list becomes a tree
+    /// first, where there is memory for it.
     pub fn unset(&mut self, alloc: Global, table: &Name, key: Key) -> Result<(), NoMemory>
         ensures rows { OnOk result (self.new.rows ≡ map.remove self.old.rows (table.now, key)) }
         ensures on { GoesOn self.old self.new }
@@ -176,7 +181,7 @@ impl Rows {
             return Ok(());
         }
         let name = shared(alloc, self.changes.as_slice(), table)?;
-        let place = set_at(&mut self.tables, table, &key, None);
+        let place = empty_at(alloc, &mut self.tables, table, &key);
         let change = Undo {
             table: name,
             key,
@@ -204,13 +209,14 @@ impl Rows {
         Ok(())
     }
 
-    /// Takes the row under a key of a table away, at the mark too, where no step has been made since the mark. It takes no memory.
-    pub fn take_at_mark(&mut self, table: &Name, key: &Key)
+    /// Takes the row under a key of a table away, at the mark too, where no step has been made since the mark. A list of which it is
+    /// not the last row becomes a tree first. Where there is no memory for the tree, the list closes up behind the row.
+    pub fn take_at_mark(&mut self, alloc: Global, table: &Name, key: &Key)
         requires fresh { self.old.trail ≡ [] }
         ensures taken { self.new ≡ at_mark (map.remove self.old.rows (table.now, key.now)) }
     {
         if is_place(&self.tables, table, key) {
-            remove_at(&mut self.tables, table, key);
+            take_at(alloc, &mut self.tables, table, key);
         }
     }
 

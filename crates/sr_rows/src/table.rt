@@ -1,22 +1,30 @@
-ghost use Rattle.std.specs.Prelude.{◌≡◌, Option, Some, None, IsSome, IsTrue, IfOk, IfErr, OnOk, OnErr, MatchOption, MatchResult};
-ghost use Rattle.std.specs.Option.{option_copied, option_map};
+ghost use Rattle.std.specs.Prelude.{◌≡◌, Option, Some, None, IsSome, IfOk, IfErr, IfSome, OnOk, OnErr, MatchOption, MatchResult};
+ghost use Rattle.std.specs.Option.{option_copied};
 ghost use Rattle.std.specs.FinMap as map;
-ghost use Rattle.std.specs.Map.Iter.{deref_pair};
-ghost use Rattle.sr_rows.specs.Gathered.{row_of, first_filled};
+ghost use Rattle.sr_rows.specs.Forms.{places_of};
+ghost use Rattle.sr_rows.specs.Gathered.{row_of};
+ghost use Rattle.sr_rows.specs.Lefts.{places_left};
 ghost use Rattle.sr_rows.specs.Marks.{IsNext, IsLast};
 
+use crate::rising::{Refused, Rising};
+use crate::tree::Tree;
+use crate::walk::Left;
 use sr_base::{Key, NoMemory, Row};
-use std::alloc::Global;
-use std::collections::BTreeMap;
-use std::collections::btree_map::{Iter, Range};
+use std::alloc::{AllocError, Global};
 use std::marker::Model;
 use std::mem;
-use std::ops::Bound;
 
-/// The places of one table, by key. A place holds a row or is empty.
+/// The places of one table, by key. A place holds a row or is empty. They stand in a list as long as new keys come past all others,
+/// and in a tree from the first one on that comes between others: making the tree takes the time of all places, once.
 #[derive(Drop)]
 pub(crate) struct Table {
-    places: BTreeMap<Key, Option<Row>>,
+    places: Places,
+}
+
+#[derive(Drop)]
+pub(crate) enum Places {
+    Listed(Rising),
+    Grown(Tree),
 }
 
 impl Model for Table {
@@ -31,7 +39,9 @@ impl Model for Table {
 
     ghost coded = { map.code (coded_list coded_value) (coded_option (coded_list coded_value)) };
 
-    ghost view = { λ t. map.from_entries t.places.entries };
+    ghost use Rattle.sr_rows.specs.Forms.{places_of};
+
+    ghost view = { λ t. places_of t.places };
 }
 
 impl Table {
@@ -39,7 +49,7 @@ impl Table {
         ensures empty { result ≡ map.empty }
     {
         Table {
-            places: BTreeMap::new(alloc),
+            places: Places::Listed(Rising::new(alloc)),
         }
     }
 
@@ -47,25 +57,16 @@ impl Table {
     pub(crate) fn get(&self, key: &Key) -> Option<&Option<Row>>
         ensures place { option_copied result ≡ map.get self.now key.now }
     {
-        if self.is_past(key) {
-            return None;
-        }
-        self.places.get(key)
-    }
-
-    /// Whether a key comes after those of all places, where there are any. Rows that are put in the order of their keys are looked up past all others.
-    fn is_past(&self, key: &Key) -> bool
-        ensures none { IsTrue result → map.get self.now key.now ≡ None }
-    {
-        match self.places.last_key_value() {
-            Some((last, _)) => last.cmp(key).is_lt(),
-            None => false,
+        match &self.places {
+            Places::Listed(places) => places.get(key),
+            Places::Grown(places) => places.get(key),
         }
     }
 
-    /// Puts a row or nothing at a place, which is made where it is not there.
+    /// Puts a row or nothing at a place, which is made where it is not there. It takes constant time past all others in a list.
     pub(crate) fn insert(
         &mut self,
+        alloc: Global,
         key: Key,
         place: Option<Row>,
     ) -> Result<Option<Option<Row>>, NoMemory>
@@ -73,7 +74,39 @@ impl Table {
         ensures ok { OnOk result (self.new ≡ map.insert self.old key place) }
         ensures err { OnErr result (self.new ≡ self.old) }
     {
-        Ok(self.places.insert(key, place)?)
+        let refused = match &mut self.places {
+            Places::Grown(places) => return places.insert(key, place),
+            Places::Listed(places) => match places.insert(key, place) {
+                Ok(before) => return Ok(before),
+                Err(refused) => refused,
+            },
+        };
+        match refused {
+            Refused::NoMemory => Err(AllocError),
+            Refused::Between(key, place) => self.insert_between(alloc, key, place),
+        }
+    }
+
+    /// The same, in a tree.
+    fn insert_between(
+        &mut self,
+        alloc: Global,
+        key: Key,
+        place: Option<Row>,
+    ) -> Result<Option<Option<Row>>, NoMemory>
+        ensures before { IfOk result (λ before. before ≡ map.get self.old key) }
+        ensures ok { OnOk result (self.new ≡ map.insert self.old key place) }
+        ensures err { OnErr result (self.new ≡ self.old) }
+    {
+        match &mut self.places {
+            Places::Grown(places) => places.insert(key, place),
+            Places::Listed(places) => {
+                let mut tree = places.tree(alloc)?;
+                let before = tree.insert(key, place)?;
+                drop(mem::replace(&mut self.places, Places::Grown(tree)));
+                Ok(before)
+            }
+        }
     }
 
     /// Puts a row or nothing at a place that is there. It takes no memory.
@@ -82,9 +115,9 @@ impl Table {
         ensures before { map.get self.old key.now ≡ Some result }
         ensures set { self.new ≡ map.insert self.old key.now place }
     {
-        match self.places.get_mut(key) {
-            Some(held) => mem::replace(held, place),
-            None => None,
+        match &mut self.places {
+            Places::Listed(places) => places.set(key, place),
+            Places::Grown(places) => places.set(key, place),
         }
     }
 
@@ -95,24 +128,56 @@ impl Table {
         ensures returned { IfErr result (λ back. back ≡ row) }
         ensures err { OnErr result (self.new ≡ self.old) }
     {
-        let Some(held) = self.places.get_mut(key) else {
-            return Err(row);
-        };
-        Ok(mem::replace(held, Some(row)))
+        match &mut self.places {
+            Places::Listed(places) => places.replace(key, row),
+            Places::Grown(places) => places.replace(key, row),
+        }
     }
 
-    /// Removes a place.
+    /// Removes a place. In a list this takes a step for each place behind it.
     pub(crate) fn remove(&mut self, key: &Key)
         ensures removed { self.new ≡ map.remove self.old key.now }
     {
-        self.places.remove(key);
+        match &mut self.places {
+            Places::Listed(places) => places.remove(key),
+            Places::Grown(places) => places.remove(key),
+        }
+    }
+
+    /// Makes ready for the removal of a place. A list of which it is not the last place becomes a tree, where there is memory for it.
+    pub(crate) fn ease_removal(&mut self, alloc: Global, key: &Key)
+        ensures same { self.new ≡ self.old }
+    {
+        if !self.ends_with(key) {
+            self.grow(alloc);
+        }
+    }
+
+    /// Whether a list's last place is that of a key. Only the time of a removal depends on it.
+    fn ends_with(&self, key: &Key) -> bool {
+        match &self.places {
+            Places::Listed(places) => places.ends_with(key),
+            Places::Grown(_) => false,
+        }
+    }
+
+    /// Makes a tree of a list, where there is memory for it.
+    pub(crate) fn grow(&mut self, alloc: Global)
+        ensures same { self.new ≡ self.old }
+    {
+        if let Some(tree) = tree_of(&self.places, alloc) {
+            drop(mem::replace(&mut self.places, Places::Grown(tree)));
+        }
     }
 
     /// All places, in the order of their keys.
-    pub(crate) fn iter(&self) -> Iter<'_, Key, Option<Row>>
-        ensures all { result ≡ map.entries self.now }
+    pub(crate) fn all(&self) -> Left<'_>
+        ensures all { places_left result ≡ map.entries self.now }
     {
-        self.places.iter()
+        match &self.places {
+            Places::Listed(places) => Left::Listed(places.as_slice()),
+            Places::Grown(places) => Left::Grown(places.iter()),
+        }
     }
 
     /// The row with the least key past another one, or past none.
@@ -120,23 +185,19 @@ impl Table {
         ensures next { MatchOption result (IsLast (λ k. row_of (map.get self.now k)) (option_copied after.entry))
             (λ x. IsNext (λ k. row_of (map.get self.now k)) (option_copied after.entry) x.0.now x.1.now) }
     {
-        match after {
-            Some(key) => {
-                first_filled(self.places.range((Bound::Excluded(key), Bound::Unbounded)))
-            }
-            None => first_filled(self.places.range(..)),
+        match &self.places {
+            Places::Listed(places) => places.next(after),
+            Places::Grown(places) => places.next(after),
         }
     }
 }
 
-/// The first entry that holds a row.
-fn first_filled<'a>(places: Range<'a, Key, Option<Row>>) -> Option<(&'a Key, &'a Row)>
-    ensures first { option_map deref_pair result ≡ first_filled places.entry }
+/// The tree of a list, where there is memory for it.
+fn tree_of(places: &Places, alloc: Global) -> Option<Tree>
+    ensures same { IfSome result (λ tree. tree ≡ places_of places.now) }
 {
-    for (key, place) in places {
-        if let Some(row) = place {
-            return Some((key, row));
-        }
+    match places {
+        Places::Listed(places) => places.tree(alloc).ok(),
+        Places::Grown(_) => None,
     }
-    None
 }

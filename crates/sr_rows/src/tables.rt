@@ -34,15 +34,16 @@ pub(crate) fn insert_at(
     ensures err { OnErr result (gathered tables.new.entries ≡ gathered tables.old.entries) }
 {
     if tables.contains_key(table) {
-        return insert_there(tables, table, key, place);
+        return insert_there(alloc, tables, table, key, place);
     }
     let mut made = Table::new(alloc);
-    made.insert(key, place)?;
+    made.insert(alloc, key, place)?;
     tables.insert(table.copy(alloc)?, made)?;
     Ok(None)
 }
 
 fn insert_there(
+    alloc: Global,
     tables: &mut Tables,
     table: &Name,
     key: Key,
@@ -56,7 +57,7 @@ fn insert_there(
     let Some(held) = tables.get_mut(table) else {
         return Ok(None);
     };
-    held.insert(key, place)
+    held.insert(alloc, key, place)
 }
 
 /// Puts a row or nothing at a place that is there. It takes no memory.
@@ -95,7 +96,47 @@ pub(crate) fn replace_at(
     held.replace(key, row)
 }
 
-/// Removes a place that is there.
+/// Takes what stands at a place that is there away. The empty place stays for a while, and others may come behind it; so a list becomes a tree,
+/// where there is memory for it.
+pub(crate) fn empty_at(alloc: Global, tables: &mut Tables, table: &Name, key: &Key) -> Option<Row>
+    requires there { IsSome (map.get (gathered tables.old.entries) (table.now, key.now)) }
+    ensures before { map.get (gathered tables.old.entries) (table.now, key.now) ≡ Some result }
+    ensures set { gathered tables.new.entries ≡ map.insert (gathered tables.old.entries) (table.now, key.now) None }
+{
+    grow_at(alloc, tables, table);
+    set_at(tables, table, key, None)
+}
+
+/// Makes a tree of a table's list, where there is memory for it.
+fn grow_at(alloc: Global, tables: &mut Tables, table: &Name)
+    ensures same { gathered tables.new.entries ≡ gathered tables.old.entries }
+{
+    let Some(held) = tables.get_mut(table) else {
+        return;
+    };
+    held.grow(alloc);
+}
+
+/// Removes a place that is there, in logarithmic time where there is memory to make ready for it.
+pub(crate) fn take_at(alloc: Global, tables: &mut Tables, table: &Name, key: &Key)
+    requires there { IsSome (map.get (gathered tables.old.entries) (table.now, key.now)) }
+    ensures removed { gathered tables.new.entries ≡ map.remove (gathered tables.old.entries) (table.now, key.now) }
+{
+    ease_removal_at(alloc, tables, table, key);
+    remove_at(tables, table, key);
+}
+
+/// Makes ready for the removal of a place, where there is memory for it.
+fn ease_removal_at(alloc: Global, tables: &mut Tables, table: &Name, key: &Key)
+    ensures same { gathered tables.new.entries ≡ gathered tables.old.entries }
+{
+    let Some(held) = tables.get_mut(table) else {
+        return;
+    };
+    held.ease_removal(alloc, key);
+}
+
+/// Removes a place that is there. It takes no memory.
 pub(crate) fn remove_at(tables: &mut Tables, table: &Name, key: &Key)
     requires there { IsSome (map.get (gathered tables.old.entries) (table.now, key.now)) }
     ensures removed { gathered tables.new.entries ≡ map.remove (gathered tables.old.entries) (table.now, key.now) }

@@ -1,7 +1,9 @@
 ghost use Rattle.std.specs.Prelude.{◌≡◌};
 ghost use Rattle.std.specs.Map.Iter.{TakesFirst, deref_pair};
-ghost use Rattle.sr_rows.specs.Gathered.{filled_rows, rows_left};
+ghost use Rattle.sr_rows.specs.Gathered.{filled_rows};
+ghost use Rattle.sr_rows.specs.Lefts.{places_left};
 
+use crate::rising::{Place, next_filled};
 use sr_base::{Key, Row};
 use std::collections::btree_map::Iter;
 use std::marker::Model;
@@ -11,23 +13,33 @@ use std::marker::Model;
 /// A step takes constant time on average, and one more for each place on the way that was emptied since the mark.
 #[derive(Drop)]
 pub struct Walk<'a> {
-    places: Option<Iter<'a, Key, Option<Row>>>,
+    places: Left<'a>,
+}
+
+/// The places of a table that are left to go along, in the order of their keys.
+#[derive(Drop)]
+pub(crate) enum Left<'a> {
+    Nothing,
+    Listed(&'a [Place]),
+    Grown(Iter<'a, Key, Option<Row>>),
 }
 
 impl<'a> Model for Walk<'a> {
     ghost use Rattle.std.specs.Prelude.{List};
     ghost use Rattle.sr_rows.specs.Walks.{Entry};
-    ghost use Rattle.sr_rows.specs.Gathered.{rows_left};
 
     ghost Value = { List Entry };
 
-    ghost view = { λ w. rows_left w.places };
+    ghost use Rattle.sr_rows.specs.Gathered.{filled_rows};
+    ghost use Rattle.sr_rows.specs.Lefts.{places_left};
+
+    ghost view = { λ w. filled_rows (places_left w.places) };
 }
 
 impl<'a> Walk<'a> {
-    /// A walk along the rows of these places, or along none.
-    pub(crate) fn new(places: Option<Iter<'a, Key, Option<Row>>>) -> Walk<'a>
-        ensures left { result ≡ rows_left places.entry }
+    /// A walk along the rows of these places.
+    pub(crate) fn new(places: Left<'a>) -> Walk<'a>
+        ensures left { result ≡ filled_rows (places_left places.entry) }
     {
         Walk { places }
     }
@@ -37,14 +49,19 @@ impl<'a> Walk<'a> {
         ensures next { TakesFirst deref_pair self.old result self.new }
     {
         match &mut self.places {
-            None => None,
-            Some(places) => next_filled(places),
+            Left::Nothing => None,
+            Left::Listed(places) => {
+                let (row, later) = next_filled(places);
+                *places = later;
+                row
+            }
+            Left::Grown(places) => next_grown(places),
         }
     }
 }
 
 /// The next entry that holds a row.
-fn next_filled<'a>(places: &mut Iter<'a, Key, Option<Row>>) -> Option<(&'a Key, &'a Row)>
+fn next_grown<'a>(places: &mut Iter<'a, Key, Option<Row>>) -> Option<(&'a Key, &'a Row)>
     ensures next { TakesFirst deref_pair (filled_rows places.old) result (filled_rows places.new) }
 {
     'places: while let Some((key, place)) = places.next() {

@@ -1,4 +1,4 @@
-use Rattle.std.proofs.Common.{◌≡◌, sym, ap, List, Option, None, ◌∙◌}
+use Rattle.std.proofs.Common.{◌≡◌, sym, ap, List, None, ◌∙◌}
 use Rattle.std.specs.FinMap as map
 use Rattle.sr_base.specs.declared.value.Value.{Value}
 use Rattle.sr_rows.specs.Gathered.{gathered, row_of, filled_rows}
@@ -23,4 +23,4 @@ returns-in-Some c =
     let held = c.in-Some.held.now in
     let same : (k : List Value) → row_of (map.get held k) ≡ rows_of_table c.args.self.now.rows t k = λ k.
     ap row_of (sym (get-held ts t held k c.in-Some.ensures.value)) ∙ sym (get-filled (gathered ts) (t, k)) ∙ ap (λ (v : Marked). map.get v.rows (t, k)) c.self.view_is in
-    record { rows = c.new-in-Some.ensures.left ∙ ap filled_rows c.iter.ensures.all ∙ filled_table c.args.self.now.rows t held same }
+    record { rows = c.new-in-Some.ensures.left ∙ ap filled_rows c.all.ensures.all ∙ filled_table c.args.self.now.rows t held same }
