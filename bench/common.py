@@ -19,7 +19,7 @@ def arguments(about):
     parser = argparse.ArgumentParser(description=about)
     parser.add_argument("program", help="the proved program, as crates/dbremote/out/dbremote")
     parser.add_argument("--folder", default=".", help="the disk that is measured: a folder on it (default: the present one)")
-    parser.add_argument("--times", type=int, default=3, help="how often each run is made; the least time counts (default 3)")
+    parser.add_argument("--times", type=int, default=3, help="how often each run is made (default 3)")
     parser.add_argument("--small", action="store_true", help="a tenth of each size, to see that it works")
     words = parser.parse_args()
     words.program = os.path.abspath(words.program)
@@ -49,6 +49,32 @@ def run(words, script, folder):
     if child.returncode != 0:
         sys.exit(f"{' '.join(words)} ended with status {child.returncode}: {wrote[-200:].decode(errors='replace')}")
     return seconds, used.ru_maxrss / 1024, wrote
+
+
+def middle(values):
+    """The middle one of an odd number of values, the mean of the two in the middle of an even number."""
+    values = sorted(values)
+    return (values[(len(values) - 1) // 2] + values[len(values) // 2]) / 2
+
+
+def rounds(sides, folder, times):
+    """Of each side, (its command, a script, the same script with so many repeats of what is measured behind it, how many): the seconds of one repeat in
+    each round. All scripts of a round are run in turn, since machines change their pace; so what is compared is what one round says."""
+    seconds = [[] for _ in sides]
+    for _ in range(times):
+        for (command, without, beyond, repeats), found in zip(sides, seconds):
+            both = []
+            for script in (without, beyond):
+                with open(f"{folder}/script", "wb") as file:
+                    file.write(script)
+                both.append(run(command, f"{folder}/script", folder)[0])
+            found.append((both[1] - both[0]) / repeats)
+    return seconds
+
+
+def ratio(theirs, ours):
+    """The middle of the ratios of the rounds, and the middles of the seconds that they come from."""
+    return f"sqlite3 / ours {middle([their / our for their, our in zip(theirs, ours)]):.2f} ({middle(theirs):.3f} s / {middle(ours):.3f} s)"
 
 
 def fresh(folder, name):

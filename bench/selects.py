@@ -3,8 +3,8 @@
     python3 bench/selects.py crates/scriptbench/out/scriptbench [--folder F] [--times N] [--small]
 
 A line for each kind of SELECT, with `sqlite3` on the path: how many times as long SQLite takes in memory, on the same script in the same run, so that
-more is better. The time of each is that of a script beyond that of the same script without the SELECTs, so that reading the SELECTs is part of it and
-loading the tables is not. SQLite writes its rows to /dev/null, ours counts them.
+more is better. The time of each is that of a script with the SELECTs five times, beyond that of the same script without them, by five: so reading the
+SELECTs is part of it and loading the tables is not. The ratio is the middle of those of the rounds. SQLite writes its rows to /dev/null, ours counts them.
 """
 
 import shutil
@@ -15,6 +15,8 @@ import common
 COMMIT = b"COMMIT;\n"
 # how many rows an INSERT has
 TOGETHER = 1_000
+# how often the SELECTs are made in one run
+REPEATS = 5
 
 
 def rows_of(table, rows):
@@ -56,21 +58,6 @@ def measurements(rows):
     ]
 
 
-def written(path, script):
-    with open(path, "wb") as file:
-        file.write(script)
-
-
-def beyond(words, folder, runner, load, end):
-    """The least time of both parts of a script beyond the least of the first one, run in turn."""
-    loads, wholes = [], []
-    for _ in range(words.times):
-        for script, times in ((load, loads), (load + end, wholes)):
-            written(f"{folder}/script", script)
-            times.append(common.run(runner, f"{folder}/script", folder)[0])
-    return min(wholes) - min(loads)
-
-
 def for_sqlite(script):
     """The script in SQLite's words, with its rows written nowhere."""
     return b".output /dev/null\nBEGIN;\n" + script.replace(COMMIT, b"COMMIT; BEGIN;\n")
@@ -78,10 +65,14 @@ def for_sqlite(script):
 
 def against_sqlite(words, folder, rows):
     """Prints a line for each measurement: the ratio, and the seconds that it comes from."""
+    sqlite = [shutil.which("sqlite3"), ":memory:"]
     for name, load, end in measurements(rows):
-        ours = beyond(words, folder, [words.program, "run"], load, end)
-        theirs = beyond(words, folder, [shutil.which("sqlite3"), ":memory:"], for_sqlite(load), end)
-        print(f"{name}: sqlite3 / ours {theirs / ours:.2f} ({theirs:.3f} s / {ours:.3f} s)", flush=True)
+        sides = [
+            ([words.program, "run"], load, load + REPEATS * end, REPEATS),
+            (sqlite, for_sqlite(load), for_sqlite(load) + REPEATS * end, REPEATS),
+        ]
+        ours, theirs = common.rounds(sides, folder, words.times)
+        print(f"{name}: {common.ratio(theirs, ours)}", flush=True)
 
 
 def main():

@@ -64,7 +64,7 @@ def sqlite(path, script, folder):
 
 
 def compare(words, folder, name, before, groups, mode):
-    """The least times of the program and of sqlite3 on the same transactions, behind those that stand before them."""
+    """The middle times of the program and of sqlite3 on the same transactions, behind those that stand before them, and the middle of the rounds' ratios."""
     runs, others, peak = [], [], 0.0
     for _ in range(words.times):
         begin(words, folder, ours(before))
@@ -77,7 +77,7 @@ def compare(words, folder, name, before, groups, mode):
                 os.remove(path + suffix)
         sqlite(path, PRAGMAS[mode] + common.SETUP + theirs(before), folder)
         others.append(sqlite(path, PRAGMAS[mode] + theirs(groups), folder))
-    return [name, min(runs), f"sqlite3 {mode}", min(others), min(others) / min(runs), peak]
+    return [name, common.middle(runs), f"sqlite3 {mode}", common.middle(others), common.middle([other / ours for other, ours in zip(others, runs)]), peak]
 
 
 def beside_loop(words, folder, commits):
@@ -89,7 +89,7 @@ def beside_loop(words, folder, commits):
         seconds, _, _ = common.run([words.program, "sql", "c1"], write(f"{folder}/ours", ours(inserts(commits, 1))), folder)
         runs.append(seconds)
         loops.append(plain_loop(f"{folder}/plain", commits, os.path.getsize(f"{folder}/c1.log0") - stood))
-    return [f"{commits:,} commits of one row", min(runs), "loop", min(loops), min(loops) / min(runs), 0.0]
+    return [f"{commits:,} commits of one row", common.middle(runs), "loop", common.middle(loops), common.middle([loop / ours for loop, ours in zip(loops, runs)]), 0.0]
 
 
 def cold(words, folder, rows):

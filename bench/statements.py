@@ -7,7 +7,8 @@ the rows. The others are one statement over all rows: their time is to grow with
 all of them.
 
 With `sqlite3` on the path, the first lines compare with it, in memory and on the same script in the same run: how many times as long it takes,
-so that more is better; and the bytes of memory that a row of two INTEGERs takes.
+so that more is better; and the bytes of memory that a row of two INTEGERs takes. What is short is made several times in one run, and the ratio is the middle
+of those of the rounds: one difference of two runs says little where a machine changes its pace.
 """
 
 import shutil
@@ -74,10 +75,11 @@ PAIRS = b"CREATE TABLE p (id INTEGER PRIMARY KEY, n INTEGER);\n"
 PAIR = b"INSERT INTO p VALUES (%d, 7);\n"
 # how many statements stand between two COMMITs
 TOGETHER = 1_000
+# what is run behind the inserts, and how often in one run
 COMPARED = {
-    "point updates by key": lambda rows: statements(b"UPDATE p SET n = 8 WHERE id = %d;\n", rows),
-    "update of each row": lambda rows: b"UPDATE p SET n = n + 1;\n" + COMMIT,
-    "walk that changes none": lambda rows: b"UPDATE p SET n = 8 WHERE n = 6;\n" + COMMIT,
+    "point updates by key": (lambda rows: statements(b"UPDATE p SET n = 8 WHERE id = %d;\n", rows), 1),
+    "update of each row": (lambda rows: b"UPDATE p SET n = n + 1;\n" + COMMIT, 5),
+    "walk that changes none": (lambda rows: b"UPDATE p SET n = 8 WHERE n = 6;\n" + COMMIT, 20),
 }
 
 
@@ -86,29 +88,24 @@ def statements(statement, rows):
     return b"".join(statement % row + (COMMIT if (row + 1) % TOGETHER == 0 else b"") for row in range(rows)) + COMMIT
 
 
-def compared(words, folder, end, rows):
-    """The least times of our program and of SQLite on the rows and what follows them, run in turn, and the memory of ours in MiB."""
-    path = f"{folder}/script"
-    ours, theirs, memory = [], [], 0.0
-    for _ in range(words.times):
-        with open(path, "wb") as script:
-            script.write(PAIRS + COMMIT + statements(PAIR, rows) + end)
-        seconds, memory, _ = common.run([words.program, "run"], path, folder)
-        ours.append(seconds)
-        with open(path, "wb") as script:
-            script.write(PAIRS + b"BEGIN;\n" + (statements(PAIR, rows) + end).replace(COMMIT, b"COMMIT; BEGIN;\n") + COMMIT)
-        theirs.append(common.run([shutil.which("sqlite3"), ":memory:"], path, folder)[0])
-    return min(ours), min(theirs), memory
+def for_sqlite(script):
+    """The script in SQLite's words."""
+    return b"BEGIN;\n" + script.replace(COMMIT, b"COMMIT; BEGIN;\n") + COMMIT
 
 
 def against_sqlite(words, folder, rows):
     """Prints a line for each comparison: the ratio, and the seconds that it comes from."""
-    ours, theirs, memory = compared(words, folder, b"", rows)
-    print(f"{rows:,} one-row inserts: sqlite3 / ours {theirs / ours:.2f} ({theirs:.2f} s / {ours:.2f} s)", flush=True)
-    for name, end in COMPARED.items():
-        our_whole, their_whole, _ = compared(words, folder, end(rows), rows)
-        ours_alone, theirs_alone = our_whole - ours, their_whole - theirs
-        print(f"{name}, {rows:,} rows: sqlite3 / ours {theirs_alone / ours_alone:.2f} ({theirs_alone:.2f} s / {ours_alone:.2f} s)", flush=True)
+    program, sqlite = [words.program, "run"], [shutil.which("sqlite3"), ":memory:"]
+    load = PAIRS + COMMIT + statements(PAIR, rows)
+    ours, theirs = common.rounds([(program, b"", load, 1), (sqlite, b"", for_sqlite(load), 1)], folder, words.times)
+    print(f"{rows:,} one-row inserts: {common.ratio(theirs, ours)}", flush=True)
+    for name, (end, repeats) in COMPARED.items():
+        more = load + repeats * end(rows)
+        ours, theirs = common.rounds([(program, load, more, repeats), (sqlite, for_sqlite(load), for_sqlite(more), repeats)], folder, words.times)
+        print(f"{name}, {rows:,} rows: {common.ratio(theirs, ours)}", flush=True)
+    with open(f"{folder}/script", "wb") as script:
+        script.write(load)
+    memory = common.run(program, f"{folder}/script", folder)[1]
     print(f"memory of a run that reads and holds {rows:,} rows of two INTEGERs: {memory * 1024 * 1024 / rows:.0f} bytes a row, its script and statements with them", flush=True)
 
 
