@@ -1,4 +1,5 @@
 pub mod Afterwards
+pub mod Alone
 pub mod Applied
 pub mod Classed
 pub mod Differing

@@ -16,7 +16,6 @@ use Rattle.sr_rows.proofs.Cursors.{AreHeld, table_held}
 use Rattle.sr_logform.specs.declared.change.Change.{Change}
 use Rattle.sr_schema.specs.declared.table.Table.{Table}
 use Rattle.sr_schema.specs.declared.fault.DmlFault.{DmlFault}
-use Rattle.sr_dml.specs.declared.edit.Edit.{Edit}
 use Rattle.sr_dml.specs.declared.edit.Edit.TheVariants.{Gone, Moved}
 use Rattle.sr_dml.specs.declared.fate.Fate.{Fate}
 use Rattle.sr_dml.specs.declared.fate.Fate.TheVariants.{Stays, Goes, Becomes}

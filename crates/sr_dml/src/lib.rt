@@ -22,6 +22,7 @@ mod moving;
 mod names;
 mod placing;
 mod settling;
+mod single;
 mod storing;
 mod updating;
 

@@ -1,13 +1,13 @@
-ghost use Rattle.std.specs.Prelude.{◌≡◌, ◌≢◌, [], IfOk, IfSome, OnOk, MatchResult};
+ghost use Rattle.std.specs.Prelude.{◌≡◌, ◌≢◌, [], ℕ, List, Option, Ok, IfOk, IfSome, OnOk, MatchResult};
+ghost use Rattle.sr_ast.specs.declared.expr.Expr.{Expr as AnExpr};
 ghost use Rattle.std.specs.Option.{option_copied};
 ghost use Rattle.sr_eval.specs.Bounds.{IsRowOf};
 ghost use Rattle.sr_dml.specs.Checks.{scope_of, bad_sets, bad_condition};
 ghost use Rattle.sr_dml.specs.Conditions.{Answers, TableFits};
 ghost use Rattle.sr_dml.specs.Edits.{picks_of, with_pick, prefixed, Picks};
-ghost use Rattle.sr_dml.specs.Fixing.{only_key, one_pick};
+ghost use Rattle.sr_dml.specs.Fixing.{only_key};
 ghost use Rattle.sr_dml.specs.Sequences.{followed};
 ghost use Rattle.sr_dml.specs.Statements.{selected, fate_of, fates_of, moved as moved_rows};
-ghost use Rattle.sr_rows.specs.Marks.{rows_of_table};
 ghost use Rattle.sr_rows.specs.Walks.{table_rows};
 
 use crate::changes::Changes;
@@ -17,10 +17,11 @@ use crate::fixing::{fixed_key, is_plain};
 use crate::lists::push;
 use crate::placing::unmoved;
 use crate::settling::settle;
+use crate::single::moved_at;
 use crate::updating::updated_row;
 use sr_ast::{Expr, Scope};
 use sr_base::{Copied, Key, Name, NoMemory, Row, Value};
-use sr_eval::{Bound, EvalFault, and_holds_where_both_hold, holds};
+use sr_eval::{Bound, EvalFault, holds};
 use sr_rows::Rows;
 use sr_schema::{DmlFault, Table};
 use std::alloc::Global;
@@ -40,63 +41,31 @@ pub(crate) fn moved(
     requires sets { IfSome (option_copied sets) (λ s. bad_sets scope.now [] s ≡ None) }
     ensures answer { Answers result (followed (fates_of table.now (option_copied sets.entry) condition.now (table_rows rows.now.rows table.now.name)) (moved_rows table.now (table_rows rows.now.rows table.now.name))) }
 {
-    let key = only_key(alloc, table, condition)?;
-    if key.is_none() {
-        if let Some(changes) = unmoved(alloc, table, rows, scope, sets, condition)? {
-            return Ok(changes);
-        }
+    if let Some(key) = only_key(alloc, table, condition)? {
+        return moved_at(alloc, table, rows, scope, sets, condition, &key);
     }
-    moved_picks(alloc, table, rows, scope, sets, condition, &key)
+    if let Some(changes) = unmoved(alloc, table, rows, scope, sets, condition)? {
+        return Ok(changes);
+    }
+    let picks = picks_along(alloc, table, rows, scope, sets, condition)?;
+    settle_picks(alloc, table, rows, picks)
 }
 
-/// The same where rows may get other keys: they are taken, and put under the keys that they get.
-fn moved_picks(
+/// The changes of selected rows of which some may get other keys: they are taken, and put under the keys that they get. Each takes
+/// logarithmic time.
+pub(crate) fn settle_picks(
     alloc: Global,
     table: &Table,
     rows: &Rows,
-    scope: &Scope,
-    sets: Option<&[(Name, Expr)]>,
-    condition: &Option<Expr>,
-    key: &Option<Key>,
+    picks: Vec<(Key, Option<Row>)>,
 ) -> Result<Changes, DmlFault>
-    requires scope { scope.now ≡ scope_of table.now }
-    requires rows { TableFits table.now rows.now.rows }
-    requires condition { bad_condition scope.now table.now.name condition.now ≡ None }
-    requires sets { IfSome (option_copied sets) (λ s. bad_sets scope.now [] s ≡ None) }
-    requires key { key.now ≡ only_key table.now condition.now }
-    ensures answer { Answers result (followed (fates_of table.now (option_copied sets.entry) condition.now (table_rows rows.now.rows table.now.name)) (moved_rows table.now (table_rows rows.now.rows table.now.name))) }
+    ensures answer { (sets : Option (List (List ℕ × AnExpr))) (condition : Option AnExpr) → picks_of table.now sets condition (table_rows rows.now.rows table.now.name) ≡ Ok picks.items
+        → Answers result (followed (fates_of table.now sets condition (table_rows rows.now.rows table.now.name)) (moved_rows table.now (table_rows rows.now.rows table.now.name))) }
 {
-    let picks = picks(alloc, table, rows, scope, sets, condition, key)?;
     let count = picks.len() as u64;
     let edits = edits_of_picks(alloc, table, picks)?;
     let list = settle(alloc, &table.name, rows, edits)?;
     Ok(Changes { list, count })
-}
-
-/// The selected rows, by their keys, with what they become. Where the condition fixes the key, only the row under it is looked at,
-/// which takes logarithmic time.
-fn picks(
-    alloc: Global,
-    table: &Table,
-    rows: &Rows,
-    scope: &Scope,
-    sets: Option<&[(Name, Expr)]>,
-    condition: &Option<Expr>,
-    key: &Option<Key>,
-) -> Result<Vec<(Key, Option<Row>)>, DmlFault>
-    requires scope { scope.now ≡ scope_of table.now }
-    requires rows { TableFits table.now rows.now.rows }
-    requires condition { bad_condition scope.now table.now.name condition.now ≡ None }
-    requires sets { IfSome (option_copied sets) (λ s. bad_sets scope.now [] s ≡ None) }
-    requires key { key.now ≡ only_key table.now condition.now }
-    ensures answer { MatchResult result (λ picks. picks_of table.now (option_copied sets.entry) condition.now (table_rows rows.now.rows table.now.name) ≡ Ok picks.items)
-        (λ fault. fault ≢ DmlFault.Memory → picks_of table.now (option_copied sets.entry) condition.now (table_rows rows.now.rows table.now.name) ≡ Err fault) }
-{
-    and_holds_where_both_hold();
-    match key {
-        Some(key) => picks_at(alloc, table, rows, scope, sets, condition, key),
-        None => picks_along(alloc, table, rows, scope, sets, condition),
-    }
 }
 
 /// The key of the only row that can be selected: where a condition without arithmetic fixes it.
@@ -110,32 +79,6 @@ fn only_key(alloc: Global, table: &Table, condition: &Option<Expr>) -> Result<Op
         return Ok(None);
     }
     fixed_key(alloc, table, condition)
-}
-
-/// What is picked of the row under a key, if it is there.
-fn picks_at(
-    alloc: Global,
-    table: &Table,
-    rows: &Rows,
-    scope: &Scope,
-    sets: Option<&[(Name, Expr)]>,
-    condition: &Option<Expr>,
-    key: &Key,
-) -> Result<Vec<(Key, Option<Row>)>, DmlFault>
-    requires scope { scope.now ≡ scope_of table.now }
-    requires rows { TableFits table.now rows.now.rows }
-    requires condition { bad_condition scope.now table.now.name condition.now ≡ None }
-    requires sets { IfSome (option_copied sets) (λ s. bad_sets scope.now [] s ≡ None) }
-    ensures answer { MatchResult result (λ picks. one_pick table.now (option_copied sets.entry) condition.now key.now (rows_of_table rows.now.rows table.now.name key.now) ≡ Ok picks.items)
-        (λ fault. fault ≢ DmlFault.Memory → one_pick table.now (option_copied sets.entry) condition.now key.now (rows_of_table rows.now.rows table.now.name key.now) ≡ Err fault) }
-{
-    let mut picks = Vec::new(alloc);
-    let Some(row) = rows.get(&table.name, key) else {
-        return Ok(picks);
-    };
-    let fate = fate_of(alloc, table, scope, sets, condition, row.values())?;
-    note_fate(alloc, &mut picks, key, fate)?;
-    Ok(picks)
 }
 
 /// What is picked of all rows, in the order of their keys. Each row of the table takes the time of its condition.

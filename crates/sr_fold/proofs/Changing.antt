@@ -16,7 +16,7 @@ use Rattle.sr_rows.specs.Marks.{RowMap, rows_of_table}
 use Rattle.sr_schema.specs.Catalogs.{Lists}
 use Rattle.sr_schema.specs.declared.table.Table.{Table}
 use Rattle.sr_fold.specs.Answers.{Tells}
-use Rattle.sr_fold.specs.Movements.{Differs, MayCome, IsThere, MayBecome, KeyWhere}
+use Rattle.sr_fold.specs.Movements.{IsHeld, MayCome, IsThere, MayBecome, KeyWhere}
 use Rattle.sr_fold.specs.Told.{ChangeTold, ChangesTold}
 
 -- a table stands under its name
@@ -30,6 +30,10 @@ name_found name (t ∷ tables) table h = go (bytes_eq name t.name) refl h (name_
 
 pub own_name : (catalog : Lists) (name : Name) (table : Table) → table_named catalog name ≡ Some table → name ≡ table.name
 own_name catalog name table named = name_found name catalog.tables table named
+
+-- a table that was found is the catalog's
+pub found_held : (catalog : Lists) (name : Name) (table : Table) → Some table ≡ table_named catalog name → IsHeld catalog (Some table)
+found_held catalog name table is = ap (table_named catalog) (sym (own_name catalog name table (sym is))) ∙ sym is
 
 -- one change of a table
 module _ (catalog : Lists) (rows : RowMap) (c : Change) (table : Table) (fit : RowsFit catalog rows) (named : table_named catalog c.table ≡ Some table) where
@@ -149,21 +153,27 @@ pub ok_as : {A E : Type 0} {P Q : A → Type 0} (r : Result A E) → ((x : A) �
 ok_as (Ok x) on h = on x h
 ok_as (Err e) on h = tt
 
-pub insert_told : {E : Type 0} (catalog : Lists) (rows new : RowMap) (c : Change) (table : Table) (after : List Cell) (r : Result Bool E)
-    → RowsFit catalog rows → table_named catalog c.table ≡ Some table → c.before ≡ None → c.after ≡ Some after
-    → IfOk r (λ told. Tells (MayCome table after rows) (new ≡ with_row table (Some after) rows) told)
-    → IfOk r (λ told. ChangeTold catalog rows c new told)
-unfolding ChangeTold
-insert_told catalog rows new c table after r fit named none some h =
-    ok_as r (λ told. told_as told (comes catalog rows c table fit named after none some) (made catalog rows c table fit named None (Some after) new none some)) h
+-- whatever the catalog is in which the table stands
+abbrev pub ToldIn : Table → RowMap → Change → RowMap → Bool → Type 0
+ToldIn table rows c new told = (catalog : Lists) → RowsFit catalog rows → table_named catalog c.table ≡ Some table → ChangeTold catalog rows c new told
 
-pub remove_told : {E : Type 0} (catalog : Lists) (rows new : RowMap) (c : Change) (table : Table) (before : List Cell) (r : Result Bool E)
-    → RowsFit catalog rows → table_named catalog c.table ≡ Some table → c.before ≡ Some before → c.after ≡ None
-    → IfOk r (λ told. Tells (IsThere table before rows) (new ≡ without_row table (Some before) rows) told)
-    → IfOk r (λ told. ChangeTold catalog rows c new told)
+pub insert_told : {E : Type 0} (rows new : RowMap) (c : Change) (table : Table) (after : List Cell) (r : Result Bool E) → c.before ≡ None → c.after ≡ Some after
+    → IfOk r (λ told. Tells (MayCome table after rows) (new ≡ with_row table (Some after) rows) told) → IfOk r (λ told. ToldIn table rows c new told)
 unfolding ChangeTold
-remove_told catalog rows new c table before r fit named some none h =
-    ok_as r (λ told. told_as told (goes catalog rows c table fit named before some none) (made catalog rows c table fit named (Some before) None new some none)) h
+insert_told rows new c table after r none some h =
+    ok_as r (λ told t catalog fit named. told_as told (comes catalog rows c table fit named after none some) (made catalog rows c table fit named None (Some after) new none some) t) h
+
+pub remove_told : {E : Type 0} (rows new : RowMap) (c : Change) (table : Table) (before : List Cell) (r : Result Bool E) → c.before ≡ Some before → c.after ≡ None
+    → IfOk r (λ told. Tells (IsThere table before rows) (new ≡ without_row table (Some before) rows) told) → IfOk r (λ told. ToldIn table rows c new told)
+unfolding ChangeTold
+remove_told rows new c table before r some none h =
+    ok_as r (λ told t catalog fit named. told_as told (goes catalog rows c table fit named before some none) (made catalog rows c table fit named (Some before) None new some none) t) h
+
+pub become_told : {E : Type 0} (rows new : RowMap) (c : Change) (table : Table) (before after : List Cell) (r : Result Bool E) → c.before ≡ Some before → c.after ≡ Some after
+    → IfOk r (λ told. Tells (MayBecome table before after rows) (new ≡ with_row table (Some after) (without_row table (Some before) rows)) told) → IfOk r (λ told. ToldIn table rows c new told)
+unfolding ChangeTold
+become_told rows new c table before after r old now h =
+    ok_as r (λ told t catalog fit named. told_as told (becomes catalog rows c table fit named before after old now) (made catalog rows c table fit named (Some before) (Some after) new old now) t) h
 
 pub replace_told : {E : Type 0} (catalog : Lists) (rows new : RowMap) (c : Change) (table : Table) (before after : List Cell) (r : Result Bool E)
     → RowsFit catalog rows → table_named catalog c.table ≡ Some table → c.before ≡ Some before → c.after ≡ Some after
@@ -180,11 +190,6 @@ no_table catalog rows c none f = let both : None ≡ Some f.table = sym none ∙
 pub no_table_told : (catalog : Lists) (rows new : RowMap) (c : Change) → table_named catalog c.table ≡ None → ChangeTold catalog rows c new false
 unfolding ChangeTold
 no_table_told catalog rows new c none = no_table catalog rows c none
-
--- a change has a row before or a row after
-pub no_row_told : (catalog : Lists) (rows new : RowMap) (c : Change) → Differs c → c.before ≡ None → c.after ≡ None → ChangeTold catalog rows c new false
-unfolding ChangeTold
-no_row_told catalog rows new c differs old now = absurd (differs (old ∙ sym now))
 
 -- changes one after the other
 pub changes_append : (catalog : Lists) (rows : RowMap) (xs ys : List Change)

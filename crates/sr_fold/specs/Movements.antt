@@ -6,11 +6,12 @@ use Rattle.sr_base.specs.declared.value.Value.{Value as Cell}
 use Rattle.sr_book.specs.Entries.{Name}
 use Rattle.sr_dml.specs.Applying.{place_of}
 use Rattle.sr_dml.specs.Conditions.{IsRow}
-use Rattle.sr_dml.specs.Statements.{key_of}
+use Rattle.sr_dml.specs.Statements.{key_of, table_named}
 use Rattle.sr_logform.specs.declared.change.Change.{Change}
 use Rattle.sr_logform.specs.declared.outcome.Outcome.{Outcome}
 use Rattle.sr_logform.specs.declared.outcome.Outcome.TheVariants as outcomes
 use Rattle.sr_rows.specs.Marks.{RowMap}
+use Rattle.sr_schema.specs.Catalogs.{Lists}
 use Rattle.sr_schema.specs.declared.table.Table.{Table}
 
 -- the rows before and after are two
@@ -20,6 +21,11 @@ Differs c = ¬ (c.before ≡ c.after)
 -- the change of a row to another one, or to itself
 abbrev pub change_of : Name → List Cell → List Cell → Change
 change_of table before after = record { table = table; before = Some before; after = Some after }
+
+-- the table, if there is one, is the catalog's
+abbrev pub IsHeld : Lists → Option Table → Type 0
+IsHeld catalog None = ⊤
+IsHeld catalog (Some table) = table_named catalog table.name ≡ Some table
 
 -- the row fits the table, and none stands under its key
 pub record MayCome (table : Table) (row : List Cell) (rows : RowMap) : Type 0 where

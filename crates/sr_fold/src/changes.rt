@@ -1,16 +1,18 @@
 //! Whether changes fit the rows, and the rows with them made. The mark goes along, so no way back is kept.
 //!
-//! A change takes one look-up of its table, one key, one look-up of its row and one change of the rows.
+//! Changes of one table that follow one another take one look-up of the table; each takes a key and one change of the rows, and where a
+//! row was before also a look-up of it.
 
 ghost use Rattle.std.specs.Prelude.{◌≡◌, ◌↔◌, Some, IfOk, IsTrue};
 ghost use Rattle.std.specs.Option.{option_copied};
 ghost use Rattle.std.specs.List.{AllByRecursion};
 ghost use Rattle.sr_dml.specs.Applying.{with_row, without_row};
 ghost use Rattle.sr_dml.specs.Conditions.{RowsFit};
-ghost use Rattle.sr_dml.specs.Statements.{key_of as key_at};
+ghost use Rattle.sr_dml.specs.Statements.{key_of as key_at, table_named};
 ghost use Rattle.sr_rows.specs.Steps.{at_mark};
+ghost use Rattle.sr_schema.specs.Catalogs.{Lists};
 ghost use Rattle.sr_fold.specs.Answers.{Tells};
-ghost use Rattle.sr_fold.specs.Movements.{Differs, change_of, MayCome, IsThere, MayBecome, KeyWhere};
+ghost use Rattle.sr_fold.specs.Movements.{Differs, IsHeld, change_of, MayCome, IsThere, MayBecome, KeyWhere};
 ghost use Rattle.sr_fold.specs.Told.{ChangeTold, ChangesTold};
 
 use crate::fitting::row_fits;
@@ -22,7 +24,7 @@ use sr_rows::Rows;
 use std::alloc::Global;
 
 /// Whether the changes fit, one after the other, and if so the rows with them.
-#[tactic(auto, using(crate::proofs::Changing::changes_begin, crate::proofs::Changing::changes_on, crate::proofs::Changing::changes_end, crate::proofs::Changing::change_keeps))]
+#[tactic(auto, using(crate::proofs::Changing::changes_begin, crate::proofs::Changing::changes_end))]
 pub(crate) fn go_on_changes(
     alloc: Global,
     catalog: &Catalog,
@@ -36,32 +38,43 @@ pub(crate) fn go_on_changes(
     ensures fresh { rows.new ≡ at_mark rows.new.rows }
 {
     let mut left = changes;
+    let mut last = None;
     'changes: while let Some((change, rest)) = left.split_first() {
-        if !go_on_change(alloc, catalog, rows, change)? {
+        let Some(table) = table_of(catalog, last, &change.table) else {
+            return Ok(false);
+        };
+        if !go_on_change(alloc, table, rows, change)? {
             return Ok(false);
         }
+        last = Some(table);
         left = rest;
     }
     Ok(true)
 }
 
-/// Whether one change fits, and if so the rows with it. It does not where its table is not there.
-#[tactic(auto, using(crate::proofs::Changing::insert_told, crate::proofs::Changing::remove_told, crate::proofs::Changing::no_table_told, crate::proofs::Changing::no_row_told))]
+/// The table of a name. The last one is tried first, so changes of one table that follow one another take one look-up.
+fn table_of<'a>(catalog: &'a Catalog, last: Option<&'a Table>, name: &Name) -> Option<&'a Table>
+    requires last { IsHeld catalog.now (option_copied last) }
+    ensures table { option_copied result ≡ table_named catalog.now name.now }
+{
+    match last {
+        Some(table) if table.name.bytes() == name.bytes() => Some(table),
+        _ => catalog.table(name),
+    }
+}
+
+/// Whether one change of a table fits, and if so the rows with it.
 fn go_on_change(
     alloc: Global,
-    catalog: &Catalog,
+    table: &Table,
     rows: &mut Rows,
     change: &Change,
 ) -> Result<bool, NoMemory>
-    requires rows { RowsFit catalog.now rows.old.rows }
     requires fresh { rows.old ≡ at_mark rows.old.rows }
     requires differ { Differs change.now }
-    ensures told { IfOk result (λ told. ChangeTold catalog.now rows.old.rows change.now rows.new.rows told) }
+    ensures told { IfOk result (λ told. (catalog : Lists) → RowsFit catalog rows.old.rows → table_named catalog change.now.table ≡ Some table.now → ChangeTold catalog rows.old.rows change.now rows.new.rows told) }
     ensures fresh { rows.new ≡ at_mark rows.new.rows }
 {
-    let Some(table) = catalog.table(&change.table) else {
-        return Ok(false);
-    };
     match (&change.before, &change.after) {
         (None, None) => Ok(false),
         (None, Some(after)) => insert(alloc, table, rows, after),
@@ -98,11 +111,11 @@ fn insert(alloc: Global, table: &Table, rows: &mut Rows, after: &Row) -> Result<
         (rows.new.rows ≡ with_row table.now (Some after.now) rows.old.rows) told) }
     ensures fresh { rows.new ≡ at_mark rows.new.rows }
 {
-    let Some(key) = free_key(alloc, table, rows, after)? else {
+    if !row_fits(table.columns.as_slice(), after) {
         return Ok(false);
-    };
-    rows.put_at_mark(alloc, &table.name, key, after.copy(alloc)?)?;
-    Ok(true)
+    }
+    let key = key_of(alloc, table, after)?;
+    rows.put_new_at_mark(alloc, &table.name, key, after.copy(alloc)?)
 }
 
 /// A row goes, where it is there.
@@ -137,20 +150,6 @@ fn replace(
     };
     rows.put_at_mark(alloc, &table.name, key, after.copy(alloc)?)?;
     Ok(true)
-}
-
-/// The key of a row that may come: it fits, and none stands there.
-fn free_key(alloc: Global, table: &Table, rows: &Rows, after: &Row) -> Result<Option<Key>, NoMemory>
-    ensures key { IfOk result (KeyWhere (MayCome table.now after.now rows.now.rows) (key_at table.now.key after.now)) }
-{
-    if !row_fits(table.columns.as_slice(), after) {
-        return Ok(None);
-    }
-    let key = key_of(alloc, table, after)?;
-    if rows.get(&table.name, &key).is_some() {
-        return Ok(None);
-    }
-    Ok(Some(key))
 }
 
 /// The key of a row that is there.

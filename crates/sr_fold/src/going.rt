@@ -32,8 +32,8 @@ use std::alloc::Global;
 /// granted, a Pass has changes only where its statement is one on rows that ran here, and a conflict stands beside a Set alone, with rows under the key that
 /// the Set names. Otherwise it does not, and then catalog and rows are good for nothing; nor are they where there was no memory.
 ///
-/// A change takes one look-up of its table, one key, one look-up of its row and one change of the rows, in logarithmic time; a text the time of reading it,
-/// and an INSERT, UPDATE or DELETE that runs here that of executing it.
+/// Changes of one table that follow one another take one look-up of it, and each a key, a look-up of its row and a change of the rows, in logarithmic
+/// time; a text the time of reading it, and an INSERT, UPDATE or DELETE that runs here that of executing it.
 /// The mark goes along, so no way back is kept.
 #[tactic(auto, unfolding(crate::specs::Told::EntryTold))]
 pub fn go_on(

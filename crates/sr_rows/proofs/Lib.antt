@@ -1,5 +1,6 @@
 pub mod Cursors
 pub mod Entries
+pub mod Filling
 pub mod Gathering
 pub mod Going
 pub mod Keeping

@@ -1,3 +1,4 @@
+pub mod Filling
 pub mod Forms
 pub mod Gathered
 pub mod Lefts

@@ -12,7 +12,7 @@ ghost use Rattle.sr_rows.specs.Marks.{IsNext, IsLast};
 ghost use Rattle.sr_rows.specs.Searches.{InOrder, EndsAt, IsGivenBack};
 
 use crate::tree::Tree;
-use sr_base::{Copied, Key, NoMemory, Row};
+use sr_base::{Copied, Key, NoMemory, Row, Value};
 use std::alloc::{AllocError, Global};
 use std::marker::Model;
 use std::mem;
@@ -20,8 +20,8 @@ use std::mem;
 /// A key, and what stands at its place: a row or nothing.
 pub(crate) type Place = (Key, Option<Row>);
 
-/// The places of one table whose keys came in rising order, in a list. A key past all others is found and put in constant time,
-/// any other key is found in logarithmic time.
+/// The places of one table whose keys came in rising order, in a list. A key past all others is found and put in constant time, and so is
+/// a number found among numbers without gaps; any other key is found in logarithmic time.
 #[derive(Drop)]
 pub(crate) struct Rising {
     places: Vec<Place>,
@@ -191,20 +191,44 @@ fn insert_copy(tree: &mut Tree, alloc: Global, place: &Place) -> Result<(), NoMe
     Ok(())
 }
 
-/// Where a key stands among places in order, or where it would. First it is compared with the last one.
+/// Where a key stands among places in order, or where it would. First it is compared with the last one, then with the one at its
+/// distance from the first: so a key among numbers without gaps is found in constant time.
 fn search(places: &[Place], key: &Key) -> Result<usize, usize>
     requires order { InOrder places.now }
     ensures ends { EndsAt places.now key.now result }
 {
     match places.last() {
         Some((last, _)) if !last.cmp(key).is_lt() => {
-            places.binary_search_by(|place| place.0.cmp(key))
+            search_near(places, distance(places, key), key)
         }
         _ => Err(places.len()),
     }
 }
 
-/// The same, where a guess is tried first.
+/// How far a number is from the first one, and 0 for other keys. Only the time of a search depends on it.
+fn distance(places: &[Place], key: &Key) -> usize {
+    let Some((first, _)) = places.first() else {
+        return 0;
+    };
+    match (first.values(), key.values()) {
+        ([Value::Int(first)], [Value::Int(number)]) => number.abs_diff(*first) as usize,
+        ([Value::Big(first)], [Value::Big(number)]) => number.abs_diff(*first) as usize,
+        _ => 0,
+    }
+}
+
+/// Where a key stands, or where it would: a guess is tried first, and then half of the places is left out at each step.
+fn search_near(places: &[Place], guess: usize, key: &Key) -> Result<usize, usize>
+    requires order { InOrder places.now }
+    ensures ends { EndsAt places.now key.now result }
+{
+    match places.get(guess) {
+        Some((held, _)) if held.cmp(key).is_eq() => Ok(guess),
+        _ => places.binary_search_by(|place| place.0.cmp(key)),
+    }
+}
+
+/// The same as `search`, where a guess is tried first.
 fn search_from(places: &[Place], guess: usize, key: &Key) -> Result<usize, usize>
     requires order { InOrder places.now }
     ensures ends { EndsAt places.now key.now result }

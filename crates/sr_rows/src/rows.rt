@@ -1,12 +1,15 @@
 ghost use Rattle.std.specs.Prelude.{◌≡◌, ◌∷◌, [], length, is_some, IfOk, OnOk, OnErr, MatchOption};
 ghost use Rattle.std.specs.Option.{option_copied};
 ghost use Rattle.std.specs.FinMap as map;
+ghost use Rattle.sr_rows.specs.Filling.{FillsRows};
 ghost use Rattle.sr_rows.specs.Gathered.{gathered, filled};
 ghost use Rattle.sr_rows.specs.Marks.{rows_of_table, IsNext, IsLast};
 ghost use Rattle.sr_rows.specs.Steps.{at_mark, back, without_table, GoesOn};
 ghost use Rattle.sr_rows.specs.Walks.{table_rows, past};
 
-use crate::tables::{Tables, empty_at, insert_at, place_at, remove_at, replace_at, take_at};
+use crate::tables::{
+    Tables, empty_at, fill_at, insert_at, place_at, remove_at, replace_at, take_at,
+};
 use crate::undo::{Undo, note_change, shared, take_back};
 use crate::walk::{Left, Walk};
 use sr_base::{Copied, Key, Name, NoMemory, Row};
@@ -207,6 +210,22 @@ impl Rows {
     {
         insert_at(alloc, &mut self.tables, table, key, Some(row))?;
         Ok(())
+    }
+
+    /// Puts a row under a key of a table where none stands, at the mark too, and answers whether none did; else nothing changes. No step
+    /// has been made since the mark, and none is made. The table is looked up once.
+    pub fn put_new_at_mark(
+        &mut self,
+        alloc: Global,
+        table: &Name,
+        key: Key,
+        row: Row,
+    ) -> Result<bool, NoMemory>
+        requires fresh { self.old.trail ≡ [] }
+        ensures told { IfOk result (λ free. FillsRows self.old (table.now, key) row self.new free) }
+        ensures err { OnErr result (self.new ≡ self.old) }
+    {
+        fill_at(alloc, &mut self.tables, table, key, row)
     }
 
     /// Takes the row under a key of a table away, at the mark too, where no step has been made since the mark. A list of which it is

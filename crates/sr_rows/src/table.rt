@@ -1,6 +1,7 @@
 ghost use Rattle.std.specs.Prelude.{◌≡◌, Option, Some, None, IsSome, IfOk, IfErr, IfSome, OnOk, OnErr, MatchOption, MatchResult};
 ghost use Rattle.std.specs.Option.{option_copied};
 ghost use Rattle.std.specs.FinMap as map;
+ghost use Rattle.sr_rows.specs.Filling.{Fills};
 ghost use Rattle.sr_rows.specs.Forms.{places_of};
 ghost use Rattle.sr_rows.specs.Gathered.{row_of};
 ghost use Rattle.sr_rows.specs.Lefts.{places_left};
@@ -107,6 +108,18 @@ impl Table {
                 Ok(before)
             }
         }
+    }
+
+    /// Puts a row at a place where none stands, and answers whether none did; else nothing changes.
+    pub(crate) fn fill(&mut self, alloc: Global, key: Key, row: Row) -> Result<bool, NoMemory>
+        ensures told { IfOk result (λ free. Fills self.old key row self.new free) }
+        ensures err { OnErr result (self.new ≡ self.old) }
+    {
+        if let Some(Some(_)) = self.get(&key) {
+            return Ok(false);
+        }
+        self.insert(alloc, key, Some(row))?;
+        Ok(true)
     }
 
     /// Puts a row or nothing at a place that is there. It takes no memory.

@@ -4,6 +4,7 @@ ghost use Rattle.std.specs.BTreeMap as tree;
 ghost use Rattle.std.specs.FinMap as map;
 ghost use Rattle.sr_base.specs.Order.{name_cmp};
 ghost use Rattle.sr_rows.specs.Gathered.{gathered};
+ghost use Rattle.sr_rows.specs.Filling.{Fills};
 
 use crate::table::Table;
 use sr_base::{Copied, Key, Name, NoMemory, Row};
@@ -33,31 +34,49 @@ pub(crate) fn insert_at(
     ensures ok { OnOk result (gathered tables.new.entries ≡ map.insert (gathered tables.old.entries) (table.now, key) place) }
     ensures err { OnErr result (gathered tables.new.entries ≡ gathered tables.old.entries) }
 {
-    if tables.contains_key(table) {
-        return insert_there(alloc, tables, table, key, place);
+    match tables.get_mut(table) {
+        Some(held) => held.insert(alloc, key, place),
+        None => insert_first(alloc, tables, table, key, place),
     }
-    let mut made = Table::new(alloc);
-    made.insert(alloc, key, place)?;
-    tables.insert(table.copy(alloc)?, made)?;
-    Ok(None)
 }
 
-fn insert_there(
+/// Makes a table that is not there, with one place.
+fn insert_first(
     alloc: Global,
     tables: &mut Tables,
     table: &Name,
     key: Key,
     place: Option<Row>,
 ) -> Result<Option<Option<Row>>, NoMemory>
-    requires there { IsSome (tree.get_by (name_cmp table.now) tables.old) }
+    requires gone { None ≡ tree.get_by (name_cmp table.now) tables.old }
     ensures before { IfOk result (λ before. before ≡ map.get (gathered tables.old.entries) (table.now, key)) }
     ensures ok { OnOk result (gathered tables.new.entries ≡ map.insert (gathered tables.old.entries) (table.now, key) place) }
     ensures err { OnErr result (gathered tables.new.entries ≡ gathered tables.old.entries) }
 {
-    let Some(held) = tables.get_mut(table) else {
-        return Ok(None);
-    };
-    held.insert(alloc, key, place)
+    let mut made = Table::new(alloc);
+    made.insert(alloc, key, place)?;
+    tables.insert(table.copy(alloc)?, made)?;
+    Ok(None)
+}
+
+/// Puts a row at a place where none stands, and answers whether none did; else nothing changes.
+pub(crate) fn fill_at(
+    alloc: Global,
+    tables: &mut Tables,
+    table: &Name,
+    key: Key,
+    row: Row,
+) -> Result<bool, NoMemory>
+    ensures told { IfOk result (λ free. Fills (gathered tables.old.entries) (table.now, key) row (gathered tables.new.entries) free) }
+    ensures err { OnErr result (gathered tables.new.entries ≡ gathered tables.old.entries) }
+{
+    match tables.get_mut(table) {
+        Some(held) => held.fill(alloc, key, row),
+        None => {
+            insert_first(alloc, tables, table, key, Some(row))?;
+            Ok(true)
+        }
+    }
 }
 
 /// Puts a row or nothing at a place that is there. It takes no memory.

@@ -1,8 +1,9 @@
 use Rattle.std.proofs.Common.{◌≡◌, length}
 use Rattle.std.specs.List.{AllByRecursion}
+use Rattle.std.specs.Option.{option_copied}
 use Rattle.sr_dml.specs.Conditions.{RowsFit}
 use Rattle.sr_rows.specs.Steps.{at_mark}
-use Rattle.sr_fold.specs.Movements.{Differs}
+use Rattle.sr_fold.specs.Movements.{Differs, IsHeld}
 use Rattle.sr_fold.proofs.Changing.{ChangesLeft}
 use Rattle.sr_fold.proofs.changes.go_on_changes.Given as goal
 
@@ -11,6 +12,7 @@ invariant-changes l = record {
   rows : RowsFit l.catalog l.rows.rows;
   fresh : l.rows ≡ at_mark l.rows.rows;
   differ : AllByRecursion Differs l.left;
+  last : IsHeld l.catalog (option_copied l.last);
   more : ChangesLeft l.catalog l.fn.rows.rows l.rows.rows l.changes l.left;
 }
 

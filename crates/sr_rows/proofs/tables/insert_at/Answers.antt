@@ -1,18 +1,25 @@
-use Rattle.std.proofs.Common.{sym, ap, cond, Some, ◌∙◌}
-use Rattle.std.specs.BTreeMap.{is_at}
+use Rattle.std.proofs.Common.{rules, sym, ap, ◌∙◌}
 use Rattle.std.specs.FinMap as map
-use Rattle.sr_base.specs.Order.{name_cmp}
-use Rattle.sr_rows.proofs.Entries.{none_of_test}
-use Rattle.sr_rows.proofs.Gathering.{table_at, get-gone, place_at-gone, gathered-inserted}
+use Rattle.std.proofs.lemmas.Result.{IfOk-weaker, on_ok_weaker, on_err_weaker}
+use Rattle.sr_rows.proofs.Gathering.{get-held, place_at-held, gathered-inserted, gathered-same}
 use Rattle.sr_rows.proofs.tables.insert_at.Goals as goal
 
-pub returns-clause-before : goal.returns-clause-before
-returns-clause-before c = sym (get-gone c.args.tables.now.entries c.args.table.now c.args.key (none_of_test _ c.if-contains_key.ensures))
+pub returns-in-Some-clause-before : goal.returns-in-Some-clause-before
+returns-in-Some-clause-before c =
+    IfOk-weaker c.insert.result _ _ (λ before e. e ∙ sym (get-held c.args.tables.now.entries c.args.table.now c.in-Some.held.now c.args.key c.in-Some.ensures.value)) c.insert.ensures.before
 
-pub returns-clause-ok : goal.returns-clause-ok
-returns-clause-ok c =
+pub returns-in-Some-clause-ok : goal.returns-in-Some-clause-ok
+returns-in-Some-clause-ok c =
     let es = c.args.tables.now.entries in
-    gathered-inserted es c.insert-2.new.self.entries c.args.table.now map.empty c.insert.new.self c.args.key c.args.place
-    (λ q. c.in_ok-insert-2.ensures.updates.0 q ∙ ap (λ n. cond (is_at (name_cmp n) q) (Some c.insert.new.self) (table_at es q)) c.in_ok-copy.ensures.equal)
-    (place_at-gone es c.args.table.now (none_of_test _ c.if-contains_key.ensures))
-    (c.in_ok-insert.ensures.ok ∙ ap (λ m. map.insert m c.args.key c.args.place) c.new-made.ensures.empty)
+    let table = c.insert.new.self in
+    on_ok_weaker c.insert.result
+    (λ e. gathered-inserted es (c.get_mut.follows.lender table).entries c.args.table.now c.in-Some.held.now table c.args.key c.args.place ((c.get_mut.follows.holds table).3 (search rules)).0 (place_at-held es c.args.table.now c.in-Some.held.now c.in-Some.ensures.value) e)
+    c.insert.ensures.ok
+
+pub returns-in-Some-clause-err : goal.returns-in-Some-clause-err
+returns-in-Some-clause-err c =
+    let es = c.args.tables.now.entries in
+    let table = c.insert.new.self in
+    on_err_weaker c.insert.result
+    (λ e. gathered-same es (c.get_mut.follows.lender table).entries c.args.table.now table ((c.get_mut.follows.holds table).3 (search rules)).0 (λ j. place_at-held es c.args.table.now c.in-Some.held.now c.in-Some.ensures.value j ∙ ap (λ m. map.get m j) (sym e)))
+    c.insert.ensures.err

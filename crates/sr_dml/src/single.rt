@@ -1,0 +1,87 @@
+//! UPDATE and DELETE where the condition fixes the key: only the row under it can be selected, and it is looked up once.
+
+ghost use Rattle.std.specs.Prelude.{◌≡◌, [], ◌∷◌, Some, None, IfSome, IfOk};
+ghost use Rattle.std.specs.Option.{option_copied};
+ghost use Rattle.sr_dml.specs.Checks.{scope_of, bad_sets, bad_condition};
+ghost use Rattle.sr_dml.specs.Conditions.{Answers, TableFits};
+ghost use Rattle.sr_dml.specs.Fixing.{only_key};
+ghost use Rattle.sr_dml.specs.Holding.{with_change};
+ghost use Rattle.sr_dml.specs.Sequences.{followed};
+ghost use Rattle.sr_dml.specs.Statements.{fates_of, moved as moved_rows};
+ghost use Rattle.sr_rows.specs.Walks.{table_rows};
+
+use crate::applying::is_same_key;
+use crate::changes::Changes;
+use crate::fate::Fate;
+use crate::lists::push;
+use crate::moving::{fate_of, settle_picks};
+use crate::settling::note;
+use sr_ast::{Expr, Scope};
+use sr_base::{Copied, Key, Name, NoMemory, Row, Seq};
+use sr_eval::and_holds_where_both_hold;
+use sr_rows::Rows;
+use sr_schema::{DmlFault, Table};
+use std::alloc::Global;
+
+/// The changes where only the row under a key can be selected, which takes logarithmic time. Where the row keeps its key, no other
+/// place is looked at.
+pub(crate) fn moved_at(
+    alloc: Global,
+    table: &Table,
+    rows: &Rows,
+    scope: &Scope,
+    sets: Option<&[(Name, Expr)]>,
+    condition: &Option<Expr>,
+    key: &Key,
+) -> Result<Changes, DmlFault>
+    requires scope { scope.now ≡ scope_of table.now }
+    requires rows { TableFits table.now rows.now.rows }
+    requires condition { bad_condition scope.now table.now.name condition.now ≡ None }
+    requires sets { IfSome (option_copied sets) (λ s. bad_sets scope.now [] s ≡ None) }
+    requires key { only_key table.now condition.now ≡ Some key.now }
+    ensures answer { Answers result (followed (fates_of table.now (option_copied sets.entry) condition.now (table_rows rows.now.rows table.now.name)) (moved_rows table.now (table_rows rows.now.rows table.now.name))) }
+{
+    and_holds_where_both_hold();
+    let Some(row) = rows.get(&table.name, key) else {
+        return Ok(no_changes(alloc));
+    };
+    match fate_of(alloc, table, scope, sets, condition, row.values())? {
+        Fate::Stays => Ok(no_changes(alloc)),
+        Fate::Goes => Ok(one_change(alloc, &table.name, row, None)?),
+        Fate::Becomes(new) => {
+            if is_same_key(table.key.as_slice(), row.values(), new.values()) {
+                return Ok(one_change(alloc, &table.name, row, Some(new))?);
+            }
+            let mut picks = Vec::with_capacity(alloc, 1)?;
+            push(&mut picks, (key.copy(alloc)?, Some(new)))?;
+            settle_picks(alloc, table, rows, picks)
+        }
+    }
+}
+
+/// No row is selected.
+fn no_changes(alloc: Global) -> Changes
+    ensures none { result ≡ record { list = []; count = 0 } }
+{
+    Changes {
+        list: Seq::from_vec(Vec::new(alloc)),
+        count: 0,
+    }
+}
+
+/// One row is selected: it goes, or becomes another one under its key.
+fn one_change(
+    alloc: Global,
+    table: &Name,
+    row: &Row,
+    after: Option<Row>,
+) -> Result<Changes, NoMemory>
+    ensures one { IfOk result (λ changes. changes ≡ record { list = with_change table.now (Some row.now) after []; count = 1 }) }
+{
+    let mut list = Vec::with_capacity(alloc, 1)?;
+    note(alloc, &mut list, table, Some(row), after)?;
+    Ok(Changes {
+        list: Seq::from_vec(list),
+        count: 1,
+    })
+}
