@@ -63,10 +63,13 @@ def sqlite(path, script, folder):
     return seconds
 
 
-def compare(words, folder, name, before, groups, mode):
-    """The middle times of the program and of sqlite3 on the same transactions, behind those that stand before them, and the middle of the rounds' ratios."""
+def compare(words, folder, name, before, groups, mode, often=1):
+    """The middle times of the program and of sqlite3 on the same transactions, behind those that stand before them, and the middle of the rounds' ratios.
+
+    What is short takes so many times as many rounds: a single one says little beside two syncs.
+    """
     runs, others, peak = [], [], 0.0
-    for _ in range(words.times):
+    for _ in range(words.times * often):
         begin(words, folder, ours(before))
         seconds, memory, _ = common.run([words.program, "sql", "c1"], write(f"{folder}/ours", ours(groups)), folder)
         runs.append(seconds)
@@ -128,7 +131,7 @@ def main():
             compare(words, folder, "2,000 commits of one row", [], inserts(2_000 // part, 1), "installed"),
             compare(words, folder, "2,000 commits of one row", [], inserts(2_000 // part, 1), "wal"),
             beside_loop(words, folder, 2_000 // part),
-            compare(words, folder, "10,000 updates by key over 100,000 rows", inserts(100_000, 100_000), updates(10_000 // part, 100_000), "wal"),
+            compare(words, folder, "10,000 updates by key over 100,000 rows", inserts(100_000, 100_000), updates(10_000 // part, 100_000), "wal", 4),
             cold(words, folder, 1_000_000 // part),
             longest(words, folder),
         ]
