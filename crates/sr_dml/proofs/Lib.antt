@@ -1,7 +1,6 @@
 pub mod Afterwards
 pub mod Alone
 pub mod Applied
-pub mod Classed
 pub mod Differing
 pub mod Fates
 pub mod FitChanges
@@ -13,4 +12,5 @@ pub mod Outcomes
 pub mod Over
 pub mod Placed
 pub mod Putting
+pub mod Readied
 pub mod RowsAre

@@ -1,32 +1,29 @@
-ghost use Rattle.std.specs.Prelude.{◌≡◌, ◌≢◌, ◌++◌, ◌∷◌, [], map, IsTrue, IfSome, MatchResult};
-ghost use Rattle.std.specs.Option.{option_copied};
-ghost use Rattle.sr_ast.specs.Exprs.{term_of};
-ghost use Rattle.sr_ast.specs.Classes.{class_in};
-ghost use Rattle.sr_eval.specs.Uses.{gives_value};
-ghost use Rattle.sr_dml.specs.Checks.{bad_row};
+ghost use Rattle.std.specs.Prelude.{◌≡◌, ◌≢◌, ◌++◌, ◌∷◌, [], map, slice_get, MatchResult};
+ghost use Rattle.std.specs.Option.{option_and_then, option_copied};
 ghost use Rattle.sr_dml.specs.Conditions.{Answers};
 ghost use Rattle.sr_dml.specs.Holding.{held};
-ghost use Rattle.sr_dml.specs.Sequences.{first_in, each};
+ghost use Rattle.sr_dml.specs.Preparing.{given_row, given_value};
+ghost use Rattle.sr_dml.specs.Sequences.{each};
 ghost use Rattle.sr_dml.specs.Statements.{inserted, entry_of};
-ghost use Rattle.sr_dml.specs.Storing.{constant, stored, value_for, inserted_row};
+ghost use Rattle.sr_dml.specs.Storing.{inserted_row};
 ghost use Rattle.sr_rows.specs.Walks.{table_rows};
 
 use crate::changes::Changes;
 use crate::checks::{bad_in_insert, unknown_in_insert};
 use crate::edits::edits_of_rows;
 use crate::lists::push;
-use crate::names::{is_same, names_of};
+use crate::names::names_of;
+use crate::prepared::places_in;
 use crate::settling::{put_row, settle};
 use crate::storing::{fitting, stored};
-use sr_ast::{Expr, Insert, Scope};
+use sr_ast::{Expr, Insert};
 use sr_base::{Name, Row, Seq, Value};
-use sr_eval::Bound;
 use sr_logform::Change;
 use sr_rows::Rows;
 use sr_schema::{Column, DmlFault, Table};
 use std::alloc::Global;
 
-/// INSERT. Each row takes its columns times the columns that are named, and logarithmic time for its key.
+/// INSERT. Each column looks through the columns that are named, once. Each row takes its columns, and logarithmic time for its key.
 pub fn insert(
     alloc: Global,
     table: &Table,
@@ -43,13 +40,7 @@ pub fn insert(
     if let Some(name) = bad_in_insert(alloc, table, insert, names.as_slice(), &constants)? {
         return Err(DmlFault::BadValue { name });
     }
-    let added = inserted_rows(
-        alloc,
-        table,
-        names.as_slice(),
-        insert.rows.as_slice(),
-        &constants,
-    )?;
+    let added = inserted_rows(alloc, table, names.as_slice(), insert.rows.as_slice())?;
     let count = added.len() as u64;
     let list = put_rows(alloc, table, rows, added)?;
     Ok(Changes { list, count })
@@ -87,128 +78,103 @@ fn only(rows: Vec<Row>) -> Result<Row, Vec<Row>>
     }
 }
 
-/// The rows as written. Each is made once.
+/// The rows as written. Each column looks through the names once, and each row is made once.
 fn inserted_rows(
     alloc: Global,
     table: &Table,
     names: &[Name],
     rows: &[Seq<Expr>],
-    constants: &Scope,
 ) -> Result<Vec<Row>, DmlFault>
-    requires constants { constants.now ≡ [] }
-    requires good { first_in (bad_row table.now.name names.now) rows.now ≡ None }
     ensures answer { MatchResult result (λ added. each (λ es. inserted_row names.now es table.now.columns) rows.now ≡ Ok added.items) (λ fault. fault ≢ DmlFault.Memory → each (λ es. inserted_row names.now es table.now.columns) rows.now ≡ Err fault) }
+{
+    let columns = table.columns.as_slice();
+    let places = places_in(alloc, names, columns)?;
+    given_rows(alloc, columns, places.as_slice(), rows)
+}
+
+/// The rows by the places of their values.
+fn given_rows(
+    alloc: Global,
+    columns: &[Column],
+    places: &[Option<usize>],
+    rows: &[Seq<Expr>],
+) -> Result<Vec<Row>, DmlFault>
+    ensures answer { MatchResult result (λ added. each (λ es. given_row es columns.now places.now) rows.now ≡ Ok added.items) (λ fault. fault ≢ DmlFault.Memory → each (λ es. given_row es columns.now places.now) rows.now ≡ Err fault) }
 {
     let mut added = Vec::with_capacity(alloc, rows.len())?;
     let mut left = rows;
     'rows: while let Some((row, rest)) = left.split_first() {
-        let row = inserted_row(alloc, table, names, row.as_slice(), constants)?;
+        let row = given_row(alloc, row.as_slice(), columns, places)?;
         push(&mut added, row)?;
         left = rest;
     }
     Ok(added)
 }
 
-/// One row. Each column of the table looks through the columns that are named. A row of two values takes one block of memory.
-fn inserted_row(
+/// One row. A row of two values takes one block of memory.
+fn given_row(
     alloc: Global,
-    table: &Table,
-    names: &[Name],
     exprs: &[Expr],
-    constants: &Scope,
+    columns: &[Column],
+    places: &[Option<usize>],
 ) -> Result<Row, DmlFault>
-    requires constants { constants.now ≡ [] }
-    requires good { bad_row table.now.name names.now exprs.now ≡ None }
-    ensures answer { Answers result (inserted_row names.now exprs.now table.now.columns) }
+    ensures answer { Answers result (given_row exprs.now columns.now places.now) }
 {
-    match table.columns.as_slice() {
-        [column, next] => {
-            let value = value_of(alloc, table, names, exprs, constants, column)?;
-            let next_value = value_of(alloc, table, names, exprs, constants, next)?;
+    match (columns, places) {
+        ([column, next], [place, next_place]) => {
+            let value = given_value(alloc, exprs, column, *place)?;
+            let next_value = given_value(alloc, exprs, next, *next_place)?;
             Ok(Row::two(alloc, [value, next_value])?)
         }
-        columns => inserted_row_of_several(alloc, table, names, exprs, constants, columns),
+        _ => given_row_of_several(alloc, exprs, columns, places),
     }
 }
 
 /// The same for more columns than two, or for one.
-fn inserted_row_of_several(
+fn given_row_of_several(
     alloc: Global,
-    table: &Table,
-    names: &[Name],
     exprs: &[Expr],
-    constants: &Scope,
     columns: &[Column],
+    places: &[Option<usize>],
 ) -> Result<Row, DmlFault>
-    requires constants { constants.now ≡ [] }
-    requires good { bad_row table.now.name names.now exprs.now ≡ None }
-    ensures answer { Answers result (inserted_row names.now exprs.now columns.now) }
+    ensures answer { Answers result (given_row exprs.now columns.now places.now) }
 {
     let mut values = Vec::with_capacity(alloc, columns.len())?;
     let mut left = columns;
+    let mut places_left = places;
     'columns: while let Some((column, rest)) = left.split_first() {
-        let value = value_of(alloc, table, names, exprs, constants, column)?;
+        let Some((place, places_rest)) = places_left.split_first() else {
+            return Ok(Row::new(alloc, Seq::from_vec(values))?);
+        };
+        let value = given_value(alloc, exprs, column, *place)?;
         push(&mut values, value)?;
         left = rest;
+        places_left = places_rest;
     }
     Ok(Row::new(alloc, Seq::from_vec(values))?)
 }
 
-/// What a column takes of the values that are named. It looks through them.
-fn value_of(
-    alloc: Global,
-    table: &Table,
-    names: &[Name],
-    exprs: &[Expr],
-    constants: &Scope,
-    column: &Column,
-) -> Result<Value, DmlFault>
-    requires constants { constants.now ≡ [] }
-    requires good { bad_row table.now.name names.now exprs.now ≡ None }
-    ensures answer { Answers result (stored column.now (constant (value_for names.now exprs.now column.now.name))) }
-{
-    let expr = value_for(names, exprs, &column.name);
-    inserted_value(alloc, constants, column, expr)
-}
-
 /// What a column takes of a constant, or of NULL where no value is given.
-fn inserted_value(
+fn given_value(
     alloc: Global,
-    constants: &Scope,
+    exprs: &[Expr],
     column: &Column,
-    expr: Option<&Expr>,
+    place: Option<usize>,
 ) -> Result<Value, DmlFault>
-    requires constants { constants.now ≡ [] }
-    requires typed { IfSome (option_copied expr) (λ e. IsTrue (gives_value (class_in [] (term_of e)))) }
-    ensures answer { Answers result (stored column.now (constant (option_copied expr.entry))) }
+    ensures answer { Answers result (given_value exprs.now column.now place) }
 {
-    match expr {
+    match expr_at(exprs, place) {
         None => fitting(alloc, column, Value::Null),
-        Some(expr) => {
-            let row = Bound {
-                scope: constants,
-                values: &[],
-            };
-            stored(alloc, column, &row, expr)
-        }
+        Some(expr) => stored(alloc, column, expr),
     }
 }
 
-/// The expression that stands for a column. It looks at each name up to the column's.
-fn value_for<'a>(names: &[Name], exprs: &'a [Expr], column: &Name) -> Option<&'a Expr>
-    ensures { option_copied result ≡ value_for names.now exprs.now column.now }
+/// The expression at a place, if there is one.
+fn expr_at(exprs: &[Expr], place: Option<usize>) -> Option<&Expr>
+    ensures { option_copied result ≡ option_and_then (slice_get exprs.now) place }
 {
-    let mut names_left = names;
-    let mut left = exprs;
-    'names: while let Some((name, names_rest)) = names_left.split_first() {
-        let Some((expr, rest)) = left.split_first() else {
-            return None;
-        };
-        if is_same(name, column) {
-            return Some(expr);
-        }
-        names_left = names_rest;
-        left = rest;
+    match place {
+        None => None,
+        Some(place) => exprs.get(place),
     }
-    None
 }

@@ -21,6 +21,7 @@ mod lists;
 mod moving;
 mod names;
 mod placing;
+mod prepared;
 mod settling;
 mod single;
 mod storing;

@@ -1,13 +1,13 @@
 ghost use Rattle.std.specs.Prelude.{◌≡◌, ◌≢◌, [], ℕ, List, Option, Ok, IfOk, IfSome, OnOk, MatchResult};
 ghost use Rattle.sr_ast.specs.declared.expr.Expr.{Expr as AnExpr};
 ghost use Rattle.std.specs.Option.{option_copied};
-ghost use Rattle.sr_eval.specs.Bounds.{IsRowOf};
 ghost use Rattle.sr_dml.specs.Checks.{scope_of, bad_sets, bad_condition};
 ghost use Rattle.sr_dml.specs.Conditions.{Answers, TableFits};
 ghost use Rattle.sr_dml.specs.Edits.{picks_of, with_pick, prefixed, Picks};
 ghost use Rattle.sr_dml.specs.Fixing.{only_key};
+ghost use Rattle.sr_dml.specs.Preparing.{IsPrepared, resolution_in, selected_at};
 ghost use Rattle.sr_dml.specs.Sequences.{followed};
-ghost use Rattle.sr_dml.specs.Statements.{selected, fate_of, fates_of, moved as moved_rows};
+ghost use Rattle.sr_dml.specs.Statements.{fate_of, fates_of, moved as moved_rows};
 ghost use Rattle.sr_rows.specs.Walks.{table_rows};
 
 use crate::changes::Changes;
@@ -16,15 +16,17 @@ use crate::fate::Fate;
 use crate::fixing::{fixed_key, is_plain};
 use crate::lists::push;
 use crate::placing::unmoved;
+use crate::prepared::{Prepared, prepare};
 use crate::settling::settle;
 use crate::single::moved_at;
 use crate::updating::updated_row;
 use sr_ast::{Expr, Scope};
 use sr_base::{Copied, Key, Name, NoMemory, Row, Value};
-use sr_eval::{Bound, EvalFault, holds};
+use sr_eval::{Bound, EvalFault, Resolved, is_resolved_true};
 use sr_rows::Rows;
 use sr_schema::{DmlFault, Table};
 use std::alloc::Global;
+use std::slice;
 
 /// The changes where the selected rows are taken, and put as the assignments of an UPDATE make them; a DELETE has none.
 pub(crate) fn moved(
@@ -41,13 +43,14 @@ pub(crate) fn moved(
     requires sets { IfSome (option_copied sets) (λ s. bad_sets scope.now [] s ≡ None) }
     ensures answer { Answers result (followed (fates_of table.now (option_copied sets.entry) condition.now (table_rows rows.now.rows table.now.name)) (moved_rows table.now (table_rows rows.now.rows table.now.name))) }
 {
+    let prepared = prepare(alloc, table, scope, sets, condition)?;
     if let Some(key) = only_key(alloc, table, condition)? {
-        return moved_at(alloc, table, rows, scope, sets, condition, &key);
+        return moved_at(alloc, table, rows, &prepared, &key);
     }
-    if let Some(changes) = unmoved(alloc, table, rows, scope, sets, condition)? {
+    if let Some(changes) = unmoved(alloc, table, rows, &prepared)? {
         return Ok(changes);
     }
-    let picks = picks_along(alloc, table, rows, scope, sets, condition)?;
+    let picks = picks_along(alloc, table, rows, &prepared)?;
     settle_picks(alloc, table, rows, picks)
 }
 
@@ -86,21 +89,16 @@ fn picks_along(
     alloc: Global,
     table: &Table,
     rows: &Rows,
-    scope: &Scope,
-    sets: Option<&[(Name, Expr)]>,
-    condition: &Option<Expr>,
+    prepared: &Prepared,
 ) -> Result<Vec<(Key, Option<Row>)>, DmlFault>
-    requires scope { scope.now ≡ scope_of table.now }
-    requires rows { TableFits table.now rows.now.rows }
-    requires condition { bad_condition scope.now table.now.name condition.now ≡ None }
-    requires sets { IfSome (option_copied sets) (λ s. bad_sets scope.now [] s ≡ None) }
-    ensures answer { MatchResult result (λ picks. picks_of table.now (option_copied sets.entry) condition.now (table_rows rows.now.rows table.now.name) ≡ Ok picks.items)
-        (λ fault. fault ≢ DmlFault.Memory → picks_of table.now (option_copied sets.entry) condition.now (table_rows rows.now.rows table.now.name) ≡ Err fault) }
+    requires prepared { IsPrepared table.now prepared.now }
+    ensures answer { MatchResult result (λ picks. picks_of table.now (option_copied prepared.now.sets) prepared.now.condition.now (table_rows rows.now.rows table.now.name) ≡ Ok picks.items)
+        (λ fault. fault ≢ DmlFault.Memory → picks_of table.now (option_copied prepared.now.sets) prepared.now.condition.now (table_rows rows.now.rows table.now.name) ≡ Err fault) }
 {
     let mut picks = Vec::new(alloc);
     let mut walk = rows.walk(&table.name);
     'rows: while let Some((key, row)) = walk.next() {
-        let fate = fate_of(alloc, table, scope, sets, condition, row.values())?;
+        let fate = fate_of(alloc, table, prepared, row.values())?;
         note_fate(alloc, &mut picks, key, fate)?;
     }
     Ok(picks)
@@ -122,49 +120,44 @@ fn note_fate(
 }
 
 /// What becomes of a row.
+#[tactic(auto, using(crate::proofs::Readied::by_names))]
 pub(crate) fn fate_of(
     alloc: Global,
     table: &Table,
-    scope: &Scope,
-    sets: Option<&[(Name, Expr)]>,
-    condition: &Option<Expr>,
+    prepared: &Prepared,
     row: &[Value],
 ) -> Result<Fate, DmlFault>
-    requires scope { scope.now ≡ scope_of table.now }
-    requires fits { IsRowOf scope.now row.now }
-    requires condition { bad_condition scope.now table.now.name condition.now ≡ None }
-    requires sets { IfSome (option_copied sets) (λ s. bad_sets scope.now [] s ≡ None) }
-    ensures answer { Answers result (fate_of table.now (option_copied sets.entry) condition.now row.now) }
+    requires prepared { IsPrepared table.now prepared.now }
+    ensures answer { Answers result (fate_of table.now (option_copied prepared.now.sets) prepared.now.condition.now row.now) }
 {
-    if !selected(alloc, table, scope, condition, row)? {
+    let source = Bound {
+        scope: prepared.scope,
+        values: row,
+    };
+    if !selected(&prepared.resolved_condition, &source)? {
         return Ok(Fate::Stays);
     }
-    match sets {
-        None => Ok(Fate::Goes),
-        Some(sets) => {
-            let new = updated_row(alloc, scope, row, sets, table.columns.as_slice())?;
-            Ok(Fate::Becomes(new))
-        }
+    if prepared.sets.is_none() {
+        return Ok(Fate::Goes);
     }
+    let new = updated_row(
+        alloc,
+        &source,
+        prepared.resolved_sets.as_slice(),
+        table.columns.as_slice(),
+    )?;
+    Ok(Fate::Becomes(new))
 }
 
 /// Whether a row is selected: where the condition is true, or where there is none.
-fn selected(
-    alloc: Global,
-    table: &Table,
-    scope: &Scope,
-    condition: &Option<Expr>,
-    row: &[Value],
-) -> Result<bool, DmlFault>
-    requires condition { bad_condition scope.now table.now.name condition.now ≡ None }
-    requires fits { IsRowOf scope.now row.now }
-    ensures answer { Answers result (selected scope.now condition.now row.now) }
+#[tactic(auto, using(crate::proofs::Readied::one_source))]
+fn selected(condition: &Option<Resolved>, row: &Bound) -> Result<bool, DmlFault>
+    ensures answer { Answers result (selected_at row.now.values.now (resolution_in condition.now)) }
 {
     let Some(condition) = condition else {
         return Ok(true);
     };
-    let row = Bound { scope, values: row };
-    match holds(alloc, condition, &row) {
+    match is_resolved_true(condition, slice::from_ref(row)) {
         Ok(held) => Ok(held),
         Err(EvalFault::Overflow) => Err(DmlFault::Overflow),
         Err(EvalFault::Memory) => Err(DmlFault::Memory),

@@ -1,9 +1,9 @@
 //! UPDATE and DELETE where each row that is selected keeps its key: one walk, and no key is built or looked up.
 
-ghost use Rattle.std.specs.Prelude.{◌≡◌, ◌≢◌, [], Ok, Err, None, IfSome, IfOk, OnOk, IsTrue, MatchResult};
+ghost use Rattle.std.specs.Prelude.{◌≡◌, ◌≢◌, Ok, Err, IfSome, IfOk, OnOk, IsTrue, MatchResult};
 ghost use Rattle.std.specs.Option.{option_copied};
-ghost use Rattle.sr_dml.specs.Checks.{scope_of, bad_sets, bad_condition};
 ghost use Rattle.sr_dml.specs.Conditions.{TableFits};
+ghost use Rattle.sr_dml.specs.Preparing.{IsPrepared};
 ghost use Rattle.sr_dml.specs.Sequences.{followed};
 ghost use Rattle.sr_dml.specs.Statements.{fates_of, moved as moved_rows};
 ghost use Rattle.sr_dml.specs.Unmoving.{Counted, and_change, with_fate, behind, KeepsKey};
@@ -13,8 +13,8 @@ use crate::applying::is_same_key;
 use crate::changes::Changes;
 use crate::fate::Fate;
 use crate::moving::fate_of;
+use crate::prepared::Prepared;
 use crate::settling::note;
-use sr_ast::{Expr, Scope};
 use sr_base::{Name, NoMemory, Row, Seq};
 use sr_logform::Change;
 use sr_rows::Rows;
@@ -35,16 +35,12 @@ pub(crate) fn unmoved(
     alloc: Global,
     table: &Table,
     rows: &Rows,
-    scope: &Scope,
-    sets: Option<&[(Name, Expr)]>,
-    condition: &Option<Expr>,
+    prepared: &Prepared,
 ) -> Result<Option<Changes>, DmlFault>
-    requires scope { scope.now ≡ scope_of table.now }
+    requires prepared { IsPrepared table.now prepared.now }
     requires rows { TableFits table.now rows.now.rows }
-    requires condition { bad_condition scope.now table.now.name condition.now ≡ None }
-    requires sets { IfSome (option_copied sets) (λ s. bad_sets scope.now [] s ≡ None) }
-    ensures answer { MatchResult result (λ found. IfSome found (λ changes. followed (fates_of table.now (option_copied sets.entry) condition.now (table_rows rows.now.rows table.now.name)) (moved_rows table.now (table_rows rows.now.rows table.now.name)) ≡ Ok changes))
-        (λ fault. fault ≢ DmlFault.Memory → followed (fates_of table.now (option_copied sets.entry) condition.now (table_rows rows.now.rows table.now.name)) (moved_rows table.now (table_rows rows.now.rows table.now.name)) ≡ Err fault) }
+    ensures answer { MatchResult result (λ found. IfSome found (λ changes. followed (fates_of table.now (option_copied prepared.now.sets) prepared.now.condition.now (table_rows rows.now.rows table.now.name)) (moved_rows table.now (table_rows rows.now.rows table.now.name)) ≡ Ok changes))
+        (λ fault. fault ≢ DmlFault.Memory → followed (fates_of table.now (option_copied prepared.now.sets) prepared.now.condition.now (table_rows rows.now.rows table.now.name)) (moved_rows table.now (table_rows rows.now.rows table.now.name)) ≡ Err fault) }
 {
     let mut found = Found {
         list: Vec::new(alloc),
@@ -52,7 +48,7 @@ pub(crate) fn unmoved(
     };
     let mut walk = rows.walk(&table.name);
     'rows: while let Some((_key, row)) = walk.next() {
-        let fate = fate_of(alloc, table, scope, sets, condition, row.values())?;
+        let fate = fate_of(alloc, table, prepared, row.values())?;
         if !note_fate(alloc, table, &mut found, row, fate)? {
             return Ok(None);
         }

@@ -1,11 +1,11 @@
 //! UPDATE and DELETE where the condition fixes the key: only the row under it can be selected, and it is looked up once.
 
-ghost use Rattle.std.specs.Prelude.{◌≡◌, [], ◌∷◌, Some, None, IfSome, IfOk};
+ghost use Rattle.std.specs.Prelude.{◌≡◌, [], ◌∷◌, Some, IfOk};
 ghost use Rattle.std.specs.Option.{option_copied};
-ghost use Rattle.sr_dml.specs.Checks.{scope_of, bad_sets, bad_condition};
 ghost use Rattle.sr_dml.specs.Conditions.{Answers, TableFits};
 ghost use Rattle.sr_dml.specs.Fixing.{only_key};
 ghost use Rattle.sr_dml.specs.Holding.{with_change};
+ghost use Rattle.sr_dml.specs.Preparing.{IsPrepared};
 ghost use Rattle.sr_dml.specs.Sequences.{followed};
 ghost use Rattle.sr_dml.specs.Statements.{fates_of, moved as moved_rows};
 ghost use Rattle.sr_rows.specs.Walks.{table_rows};
@@ -15,8 +15,8 @@ use crate::changes::Changes;
 use crate::fate::Fate;
 use crate::lists::push;
 use crate::moving::{fate_of, settle_picks};
+use crate::prepared::Prepared;
 use crate::settling::note;
-use sr_ast::{Expr, Scope};
 use sr_base::{Copied, Key, Name, NoMemory, Row, Seq};
 use sr_eval::and_holds_where_both_hold;
 use sr_rows::Rows;
@@ -29,23 +29,19 @@ pub(crate) fn moved_at(
     alloc: Global,
     table: &Table,
     rows: &Rows,
-    scope: &Scope,
-    sets: Option<&[(Name, Expr)]>,
-    condition: &Option<Expr>,
+    prepared: &Prepared,
     key: &Key,
 ) -> Result<Changes, DmlFault>
-    requires scope { scope.now ≡ scope_of table.now }
+    requires prepared { IsPrepared table.now prepared.now }
     requires rows { TableFits table.now rows.now.rows }
-    requires condition { bad_condition scope.now table.now.name condition.now ≡ None }
-    requires sets { IfSome (option_copied sets) (λ s. bad_sets scope.now [] s ≡ None) }
-    requires key { only_key table.now condition.now ≡ Some key.now }
-    ensures answer { Answers result (followed (fates_of table.now (option_copied sets.entry) condition.now (table_rows rows.now.rows table.now.name)) (moved_rows table.now (table_rows rows.now.rows table.now.name))) }
+    requires key { only_key table.now prepared.now.condition.now ≡ Some key.now }
+    ensures answer { Answers result (followed (fates_of table.now (option_copied prepared.now.sets) prepared.now.condition.now (table_rows rows.now.rows table.now.name)) (moved_rows table.now (table_rows rows.now.rows table.now.name))) }
 {
     and_holds_where_both_hold();
     let Some(row) = rows.get(&table.name, key) else {
         return Ok(no_changes(alloc));
     };
-    match fate_of(alloc, table, scope, sets, condition, row.values())? {
+    match fate_of(alloc, table, prepared, row.values())? {
         Fate::Stays => Ok(no_changes(alloc)),
         Fate::Goes => Ok(one_change(alloc, &table.name, row, None)?),
         Fate::Becomes(new) => {

@@ -1,19 +1,17 @@
-ghost use Rattle.std.specs.Prelude.{IsTrue};
+ghost use Rattle.std.specs.Prelude.{Some};
 ghost use Rattle.sr_dates.specs.Fitting.{fitted};
-ghost use Rattle.sr_ast.specs.Exprs.{term_of};
-ghost use Rattle.sr_ast.specs.Classes.{class_in};
-ghost use Rattle.sr_eval.specs.Uses.{gives_value};
-ghost use Rattle.sr_eval.specs.Bounds.{IsRowOf};
-ghost use Rattle.sr_eval.specs.Meanings.{meaning};
+ghost use Rattle.sr_eval.specs.Resolutions.{meaning_at};
+ghost use Rattle.sr_eval.specs.Resolving.{resolution_of};
 ghost use Rattle.sr_dml.specs.Conditions.{Answers};
-ghost use Rattle.sr_dml.specs.Storing.{allowed, fitting, stored};
+ghost use Rattle.sr_dml.specs.Storing.{allowed, constant, fitting, stored};
 
 use sr_ast::Expr;
-use sr_base::{Copied, Value};
+use sr_base::{Copied, Kind, Value};
 use sr_dates::fit;
-use sr_eval::{Bound, EvalFault, eval};
+use sr_eval::{Bound, EvalFault, Resolved, resolved_value, value_over};
 use sr_schema::{Column, DmlFault};
 use std::alloc::Global;
+use std::slice;
 
 /// A value that fits its column, where NULL may be forbidden.
 fn allowed(alloc: Global, column: &Column, value: Value) -> Result<Value, DmlFault>
@@ -39,6 +37,9 @@ fn allowed(alloc: Global, column: &Column, value: Value) -> Result<Value, DmlFau
 pub(crate) fn fitting(alloc: Global, column: &Column, value: Value) -> Result<Value, DmlFault>
     ensures answer { Answers result (fitting column.now (fitted value column.now.kind)) }
 {
+    if let (Value::Int(number), Kind::Int) = (&value, column.kind) {
+        return Ok(Value::Int(*number));
+    }
     match fit(value, column.kind) {
         Ok(held) => allowed(alloc, column, held),
         Err(_) => Err(DmlFault::BadValue {
@@ -47,18 +48,29 @@ pub(crate) fn fitting(alloc: Global, column: &Column, value: Value) -> Result<Va
     }
 }
 
-/// What a column holds for an expression's value over a row: `Overflow` where there is none, and then as `fitting`.
-pub(crate) fn stored(
+/// What a column holds for the value of a constant, NULL in the place of a truth: `Overflow` where there is none, and then as `fitting`.
+#[tactic(auto, using(crate::proofs::Readied::stored_value))]
+pub(crate) fn stored(alloc: Global, column: &Column, expr: &Expr) -> Result<Value, DmlFault>
+    ensures answer { Answers result (stored column.now (constant (Some expr.now))) }
+{
+    match value_over(alloc, expr, &[]) {
+        Ok(value) => fitting(alloc, column, value),
+        Err(EvalFault::Overflow) => Err(DmlFault::Overflow),
+        Err(EvalFault::Memory) => Err(DmlFault::Memory),
+    }
+}
+
+/// The same of an expression over a row, its names resolved.
+#[tactic(auto, using(crate::proofs::Readied::one_source))]
+pub(crate) fn stored_at(
     alloc: Global,
     column: &Column,
     row: &Bound,
-    expr: &Expr,
+    resolved: &Resolved,
 ) -> Result<Value, DmlFault>
-    requires typed { IsTrue (gives_value (class_in row.now.scope.now (term_of expr.now))) }
-    requires fits { IsRowOf row.now.scope.now row.now.values.now }
-    ensures answer { Answers result (stored column.now (meaning row.now.scope.now row.now.values.now (term_of expr.now))) }
+    ensures answer { Answers result (stored column.now (meaning_at row.now.values.now (resolution_of resolved.now))) }
 {
-    match eval(alloc, expr, row) {
+    match resolved_value(alloc, resolved, slice::from_ref(row)) {
         Ok(value) => fitting(alloc, column, value),
         Err(EvalFault::Overflow) => Err(DmlFault::Overflow),
         Err(EvalFault::Memory) => Err(DmlFault::Memory),

@@ -1,13 +1,10 @@
-ghost use Rattle.std.specs.Prelude.{◌≡◌, [], None, IsTrue, IfSome, IfOk};
+ghost use Rattle.std.specs.Prelude.{◌≡◌, [], map, None, IfOk};
 ghost use Rattle.std.specs.Option.{option_copied};
-ghost use Rattle.sr_ast.specs.Exprs.{term_of};
-ghost use Rattle.sr_ast.specs.Classes.{class_in};
-ghost use Rattle.sr_eval.specs.Uses.{gives_value};
-ghost use Rattle.sr_eval.specs.Bounds.{IsRowOf};
 ghost use Rattle.sr_dml.specs.Checks.{scope_of, bad_sets};
 ghost use Rattle.sr_dml.specs.Conditions.{Answers, TableFits};
 ghost use Rattle.sr_dml.specs.Statements.{unknown_in_update, bad_in_update, updated};
-ghost use Rattle.sr_dml.specs.Storing.{set_for, updated_value, updated_row};
+ghost use Rattle.sr_dml.specs.Preparing.{new_row, new_value, resolution_in};
+ghost use Rattle.sr_dml.specs.Storing.{set_for};
 ghost use Rattle.sr_rows.specs.Walks.{table_rows};
 
 use crate::changes::Changes;
@@ -16,10 +13,10 @@ use crate::classes::{bad_condition, scope_of, unknown_condition};
 use crate::lists::push;
 use crate::moving::moved;
 use crate::names::is_same;
-use crate::storing::stored;
+use crate::storing::stored_at;
 use sr_ast::{Expr, Scope, Update};
 use sr_base::{Copied, Name, NoMemory, Row, Seq, Value};
-use sr_eval::Bound;
+use sr_eval::{Bound, Resolved};
 use sr_rows::Rows;
 use sr_schema::{Column, DmlFault, Table};
 use std::alloc::Global;
@@ -82,96 +79,72 @@ fn bad_in_update(
     }
 }
 
-/// The row that an UPDATE makes of a row. Each column looks through the assignments. A row of two values takes one block of memory.
+/// The row that an UPDATE makes of a row, by what each column takes. A row of two values takes one block of memory.
 pub(crate) fn updated_row(
     alloc: Global,
-    scope: &Scope,
-    row: &[Value],
-    sets: &[(Name, Expr)],
+    row: &Bound,
+    sets: &[Option<Resolved>],
     columns: &[Column],
 ) -> Result<Row, DmlFault>
-    requires good { bad_sets scope.now [] sets.now ≡ None }
-    requires fits { IsRowOf scope.now row.now }
-    ensures answer { Answers result (updated_row scope.now row.now sets.now columns.now row.now) }
+    ensures answer { Answers result (new_row row.now.values.now columns.now row.now.values.now (map resolution_in sets.now)) }
 {
-    match (columns, row) {
-        ([column, next], [old, next_old]) => {
-            let value = value_of(alloc, scope, row, sets, column, old)?;
-            let next_value = value_of(alloc, scope, row, sets, next, next_old)?;
+    match (columns, row.values, sets) {
+        ([column, next], [old, next_old], [set, next_set]) => {
+            let value = new_value(alloc, row, column, old, set)?;
+            let next_value = new_value(alloc, row, next, next_old, next_set)?;
             Ok(Row::two(alloc, [value, next_value])?)
         }
-        _ => updated_row_of_several(alloc, scope, row, sets, columns),
+        _ => updated_row_of_several(alloc, row, sets, columns),
     }
 }
 
 /// The same for more columns than two, or for one.
 fn updated_row_of_several(
     alloc: Global,
-    scope: &Scope,
-    row: &[Value],
-    sets: &[(Name, Expr)],
+    row: &Bound,
+    sets: &[Option<Resolved>],
     columns: &[Column],
 ) -> Result<Row, DmlFault>
-    requires good { bad_sets scope.now [] sets.now ≡ None }
-    requires fits { IsRowOf scope.now row.now }
-    ensures answer { Answers result (updated_row scope.now row.now sets.now columns.now row.now) }
+    ensures answer { Answers result (new_row row.now.values.now columns.now row.now.values.now (map resolution_in sets.now)) }
 {
     let mut values = Vec::with_capacity(alloc, columns.len())?;
     let mut left = columns;
-    let mut olds = row;
+    let mut olds = row.values;
+    let mut sets_left = sets;
     'columns: while let Some((column, rest)) = left.split_first() {
         let Some((old, olds_rest)) = olds.split_first() else {
             return Ok(Row::new(alloc, Seq::from_vec(values))?);
         };
-        let value = value_of(alloc, scope, row, sets, column, old)?;
+        let Some((set, sets_rest)) = sets_left.split_first() else {
+            return Ok(Row::new(alloc, Seq::from_vec(values))?);
+        };
+        let value = new_value(alloc, row, column, old, set)?;
         push(&mut values, value)?;
         left = rest;
         olds = olds_rest;
+        sets_left = sets_rest;
     }
     Ok(Row::new(alloc, Seq::from_vec(values))?)
 }
 
-/// What a column takes of the assignments. It looks through them.
-fn value_of(
-    alloc: Global,
-    scope: &Scope,
-    row: &[Value],
-    sets: &[(Name, Expr)],
-    column: &Column,
-    old: &Value,
-) -> Result<Value, DmlFault>
-    requires good { bad_sets scope.now [] sets.now ≡ None }
-    requires fits { IsRowOf scope.now row.now }
-    ensures answer { Answers result (updated_value scope.now row.now column.now old.now (set_for sets.now column.now.name)) }
-{
-    let expr = set_for(sets, &column.name);
-    updated_value(alloc, scope, row, column, old, expr)
-}
-
 /// What a column takes in an UPDATE: an expression's value over the old row, or the value that it has.
-fn updated_value(
+fn new_value(
     alloc: Global,
-    scope: &Scope,
-    row: &[Value],
+    row: &Bound,
     column: &Column,
     old: &Value,
-    expr: Option<&Expr>,
+    set: &Option<Resolved>,
 ) -> Result<Value, DmlFault>
-    requires typed { IfSome (option_copied expr) (λ e. IsTrue (gives_value (class_in scope.now (term_of e)))) }
-    requires fits { IsRowOf scope.now row.now }
-    ensures answer { Answers result (updated_value scope.now row.now column.now old.now (option_copied expr.entry)) }
+    ensures answer { Answers result (new_value row.now.values.now column.now old.now (resolution_in set.now)) }
 {
-    match expr {
+    match set {
         None => Ok(old.copy(alloc)?),
-        Some(expr) => {
-            let row = Bound { scope, values: row };
-            stored(alloc, column, &row, expr)
-        }
+        Some(resolved) => stored_at(alloc, column, row, resolved),
     }
 }
 
 /// The expression that is assigned to a column. It looks at each assignment up to the column's.
-fn set_for<'a>(sets: &'a [(Name, Expr)], column: &Name) -> Option<&'a Expr>
+pub(crate) fn set_for<'a>(sets: &'a [(Name, Expr)], column: &Name) -> Option<&'a Expr>
     ensures { option_copied result ≡ set_for sets.now column.now }
 {
     let mut left = sets;

@@ -1,4 +1,5 @@
 pub mod Judgements
+pub mod Places
 pub mod Plain
 pub mod Sources
 pub mod Typed

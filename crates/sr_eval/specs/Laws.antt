@@ -12,6 +12,7 @@ use Rattle.sr_ast.specs.declared.operator.Binary.TheVariants.{And, Equal}
 use Rattle.sr_eval.specs.Uses.{is_plain}
 use Rattle.sr_eval.specs.Bounds.{IsRowOf}
 use Rattle.sr_eval.specs.Meanings.{Meaning, meaning, is_true}
+use Rattle.sr_eval.specs.Resolutions.{resolved, meaning_at}
 use Rattle.sr_eval.specs.Meanings.Meaning.{value, truth}
 
 -- a value of the class, or NULL; a truth where the class is truth
@@ -38,3 +39,7 @@ AndNeedsBoth = (columns : List (Option (List ℕ) × List ℕ × Kind)) (values 
 -- NULL equals nothing, on neither side
 abbrev pub NullEqualsNothing : Type 0
 NullEqualsNothing = (columns : List (Option (List ℕ) × List ℕ × Kind)) (values : List Cell) (a b : Term) → (meaning columns values a ≡ Some (value Null)) ⊎ (meaning columns values b ≡ Some (value Null)) → is_true (meaning columns values (binary Equal a b)) ≡ false
+
+-- an expression whose names are resolved among columns gives over each row of them what it gives by its names
+abbrev pub ResolvedMeanTheSame : Type 0
+ResolvedMeanTheSame = (columns : List (Option (List ℕ) × List ℕ × Kind)) (values : List Cell) (t : Term) → meaning_at values (resolved columns t) ≡ meaning columns values t

@@ -3,6 +3,9 @@ pub mod Comparisons
 pub mod Laws
 pub mod Meanings
 pub mod Numbers
+pub mod ResolutionFalls
+pub mod Resolutions
+pub mod Resolving
 pub mod Truths
 pub mod Uses
 pub mod Worths

@@ -34,7 +34,7 @@ pub fn eval(alloc: Global, expr: &Expr, row: &Bound) -> Result<Value, EvalFault>
 /// The value of an expression over several sources, each with a row: as `eval` says, over the columns of all.
 ///
 /// No value is copied but a text that is the answer.
-pub fn eval_over(alloc: Global, expr: &Expr, sources: &[Bound]) -> Result<Value, EvalFault>
+fn eval_over(alloc: Global, expr: &Expr, sources: &[Bound]) -> Result<Value, EvalFault>
     requires typed { IsTrue (gives_value (class_in (columns_of sources.now) (term_of expr.now))) }
     requires fit { AreRows sources.now }
     ensures value { IsEvaluated result (meaning (columns_of sources.now) (values_of sources.now) (term_of expr.now)) }
@@ -74,7 +74,7 @@ pub fn holds(_alloc: Global, expr: &Expr, row: &Bound) -> Result<bool, EvalFault
 }
 
 /// Whether a condition is true over several sources, each with a row: as `holds` says, over the columns of all.
-pub fn holds_over(expr: &Expr, sources: &[Bound]) -> Result<bool, EvalFault>
+fn holds_over(expr: &Expr, sources: &[Bound]) -> Result<bool, EvalFault>
     requires typed { IsTrue (gives_truth (class_in (columns_of sources.now) (term_of expr.now))) }
     requires fit { AreRows sources.now }
     ensures held { IsHeld result (meaning (columns_of sources.now) (values_of sources.now) (term_of expr.now)) }

@@ -1,6 +1,6 @@
 //! Laws of the meaning of expressions. Each is the contract of a function that does nothing.
 
-ghost use Rattle.sr_eval.specs.Laws.{HaveTheirClass, PlainHaveValues, AndIsBoth, AndNeedsBoth, NullEqualsNothing};
+ghost use Rattle.sr_eval.specs.Laws.{HaveTheirClass, PlainHaveValues, AndIsBoth, AndNeedsBoth, NullEqualsNothing, ResolvedMeanTheSame};
 
 /// Over a row that fits, an expression of class number, text or date has a value of that class, or NULL, or none. One of
 /// class any has NULL, or none. A condition has a truth, or none.
@@ -22,4 +22,9 @@ pub fn and_holds_where_both_hold()
 /// An equation with NULL on a side is never true.
 pub fn null_equals_nothing()
     ensures never { NullEqualsNothing }
+{}
+
+/// An expression whose names are resolved gives what it gives by its names.
+pub fn a_resolved_expression_means_the_same()
+    ensures same { ResolvedMeanTheSame }
 {}

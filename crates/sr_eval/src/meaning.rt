@@ -103,7 +103,12 @@ fn value_in<'a>(source: &Bound<'a>, table: &Option<Name>, name: &Name) -> Option
     None
 }
 
-fn is_meant(alias: &Option<Name>, column: &Name, table: &Option<Name>, name: &Name) -> bool
+pub(crate) fn is_meant(
+    alias: &Option<Name>,
+    column: &Name,
+    table: &Option<Name>,
+    name: &Name,
+) -> bool
     ensures { result ≡ is_meant alias.now column.now table.now name.now }
 {
     if !is_same(column, name) {
@@ -124,7 +129,7 @@ fn is_same(left: &Name, right: &Name) -> bool
     left.bytes() == right.bytes()
 }
 
-fn unary_worth<'a>(operator: Unary, operand: Worth<'a>) -> Option<Worth<'a>>
+pub(crate) fn unary_worth<'a>(operator: Unary, operand: Worth<'a>) -> Option<Worth<'a>>
     ensures { option_map meant result ≡ unary_meaning operator (meant operand.entry) }
 {
     let null = Value::Null;
@@ -136,7 +141,11 @@ fn unary_worth<'a>(operator: Unary, operand: Worth<'a>) -> Option<Worth<'a>>
     }
 }
 
-fn binary_worth<'a>(operator: Binary, left: Worth<'a>, right: Worth<'a>) -> Option<Worth<'a>>
+pub(crate) fn binary_worth<'a>(
+    operator: Binary,
+    left: Worth<'a>,
+    right: Worth<'a>,
+) -> Option<Worth<'a>>
     ensures { option_map meant result ≡ binary_meaning operator (meant left.entry) (meant right.entry) }
 {
     match operator {

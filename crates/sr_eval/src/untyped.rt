@@ -32,7 +32,7 @@ pub fn value_over(alloc: Global, expr: &Expr, sources: &[Bound]) -> Result<Value
 }
 
 /// A copy of a value.
-fn copied(alloc: Global, value: &Value) -> Result<Value, EvalFault>
+pub(crate) fn copied(alloc: Global, value: &Value) -> Result<Value, EvalFault>
     ensures value { IsValued result (Some (a_value value.now)) }
 {
     match held(alloc, value) {

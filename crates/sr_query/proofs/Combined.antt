@@ -14,15 +14,8 @@ use Rattle.sr_dml.proofs.Fitted.{row_of}
 use Rattle.sr_query.specs.Combinations.{combinations, kept, over_each}
 use Rattle.sr_query.specs.Sources.{Origin, rows_by_key}
 use Rattle.sr_dml.specs.Checks.{Scope}
-use Rattle.sr_query.specs.Walks.{IsCombination, AreCombinations, IsJoined, AreJoined, seen}
+use Rattle.sr_query.specs.Walks.{IsJoined, AreJoined, seen}
 use Rattle.sr_query.specs.declared.joined.Joined.{Joined}
-use Rattle.sr_query.specs.declared.joined.Combination.{Combination}
-
--- one more combination
-pub with_one : (scope : Scope) (cs : List Combination) (c : Combination) → AreCombinations scope cs → IsCombination scope c
-    → AreCombinations scope (cs ++ c ∷ [])
-with_one scope [] c whole one = (one, tt)
-with_one scope (d ∷ cs) c whole one = (whole.0, with_one scope cs c whole.1 one)
 
 -- one more source
 pub joined_one : (rows : RowMap) (js : List Joined) (j : Joined) → AreJoined rows js → IsJoined rows j → AreJoined rows (js ++ j ∷ [])

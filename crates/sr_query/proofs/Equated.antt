@@ -28,6 +28,7 @@ use Rattle.sr_eval.specs.Comparisons.{tested}
 use Rattle.sr_eval.specs.Laws.{AndIsBoth}
 use Rattle.sr_eval.specs.Meanings.{Meaning, meaning, binary_meaning, of_both, value_at, found_at, is_true}
 use Rattle.sr_eval.specs.Meanings.Meaning.{value, truth}
+use Rattle.sr_eval.specs.Resolutions.{place_of}
 use Rattle.sr_eval.specs.Uses.{is_plain, is_plain_unary, is_plain_binary}
 use Rattle.sr_eval.proofs.Plain.{plain_have_values}
 use Rattle.sr_eval.proofs.Sources.{value_at-append}
@@ -38,7 +39,7 @@ use Rattle.sr_dml.specs.Fixing.{with_value}
 use Rattle.sr_dml.specs.Sequences.{or_else}
 use Rattle.sr_dml.specs.Statements.{key_of, tested as tested_meaning}
 use Rattle.sr_query.specs.Combinations.{meets, and_then}
-use Rattle.sr_query.specs.Lookups.{place_of, is_place, held_as, known_value, is_column, side, equated_binary, equated, equated_by, fixed_value, fixed_key}
+use Rattle.sr_query.specs.Lookups.{is_place, held_as, known_value, is_column, side, equated_binary, equated, equated_by, fixed_value, fixed_key}
 
 abbrev Key : Type 0
 Key = List Value

@@ -2,4 +2,5 @@ pub mod Combined
 pub mod Equated
 pub mod OtherRows
 pub mod Places
+pub mod Readied
 pub mod Whole

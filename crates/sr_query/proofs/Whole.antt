@@ -1,11 +1,8 @@
 -- The whole of a SELECT, from its parts.
-use Rattle.std.proofs.Common.{◌≡◌, Bool, true, false, ◌&&◌, List, [], ◌∷◌, ◌++◌, map, Result, Ok, IsTrue, refl, sym, ap, ◌∙◌}
+use Rattle.std.proofs.Common.{◌≡◌, List, [], ◌∷◌, ◌++◌, map, Result, Ok, refl, sym, ap, ◌∙◌}
 use Rattle.std.proofs.lemmas.List.{append-nil}
 use Rattle.sr_base.specs.declared.value.Value.{Value as Cell}
 use Rattle.sr_ast.specs.declared.expr.Expr.{Expr}
-use Rattle.sr_ast.specs.declared.query.Items.{Items}
-use Rattle.sr_ast.specs.declared.query.Items.TheVariants.{All, Each}
-use Rattle.sr_ast.specs.declared.query.Join.{Join}
 use Rattle.sr_ast.specs.declared.query.Select.{Select}
 use Rattle.sr_eval.specs.Bounds.{values_of}
 use Rattle.sr_eval.specs.declared.bound.Bound.{Bound}
@@ -17,12 +14,11 @@ use Rattle.sr_dml.specs.Edits.{prefixed}
 use Rattle.sr_dml.specs.Sequences.{followed}
 use Rattle.sr_dml.specs.Statements.{in_order}
 use Rattle.sr_dml.proofs.Fitted.{prefixed-none}
-use Rattle.sr_query.specs.Checks.{all_pass, is_good, is_good_condition, is_good_item, is_good_order, are_good_items, are_together, are_distinct}
 use Rattle.sr_query.specs.Checks.{unknown_in_select}
 use Rattle.sr_query.specs.Combinations.{combinations, kept}
-use Rattle.sr_query.specs.Rows.{listed, AreItemsGood}
+use Rattle.sr_query.specs.Rows.{listed}
 use Rattle.sr_query.specs.Selecting.{selected, selected_from, bad_in_select}
-use Rattle.sr_query.specs.Sources.{Origin, sources_of, conditions_of, origins_of, scope_of, alias_of}
+use Rattle.sr_query.specs.Sources.{Origin, sources_of, conditions_of, origins_of, scope_of}
 use Rattle.sr_query.specs.Walks.{columns_left, found, seen}
 use Rattle.sr_query.specs.declared.joined.Joined.{Joined}
 use Rattle.sr_query.specs.declared.joined.Combination.{Combination}
@@ -52,28 +48,3 @@ by_sources catalog rows s js found_js scope same origins e =
     (listed sc s.items s.order))) (scope_seen rows js ∙ sym e)
     ∙ ap (λ ls. in_order (unknown_in_select scope s) (bad_in_select scope s)
     (followed (kept scope (conditions_of s) (combinations [] (map (seen rows) ls))) (listed scope s.items s.order))) (sym same)
-
-left_true : (a b : Bool) → (a && b) ≡ true → IsTrue a
-left_true true b e = refl
-left_true false b e = cc
-
-right_true : (a b : Bool) → (a && b) ≡ true → b ≡ true
-right_true true b e = e
-right_true false b e = cc
-
--- of a SELECT with which nothing is wrong, the conditions and the items are right
-pub good_conditions : (scope : Scope) (s : Select) → is_good scope s ≡ true → IsTrue (all_pass (is_good_condition scope) (conditions_of s))
-good_conditions scope s e =
-    left_true _ (all_pass (is_good_order scope) s.order) (right_true (are_good_items scope s.items s.joins) _
-    (right_true (are_distinct (map alias_of (sources_of s))) _ e))
-
-items_good : (scope : Scope) (items : Items) (joins : List Join) → IsTrue (are_good_items scope items joins) → AreItemsGood scope items
-items_good scope All joins h = tt
-items_good scope (Each list) joins h = both (are_together list joins) h where
-  both : (a : Bool) → IsTrue (a && all_pass (is_good_item scope) list) → IsTrue (all_pass (is_good_item scope) list)
-  both true g = g
-  both false g = cc
-
-pub good_items : (scope : Scope) (s : Select) → is_good scope s ≡ true → AreItemsGood scope s.items
-good_items scope s e =
-    items_good scope s.items s.joins (left_true (are_good_items scope s.items s.joins) _ (right_true (are_distinct (map alias_of (sources_of s))) _ e))

@@ -3,7 +3,7 @@ pub mod Combinations
 pub mod Held
 pub mod Lookups
 pub mod Orders
-pub mod Plain
+pub mod Preparing
 pub mod Rows
 pub mod Selecting
 pub mod Sources

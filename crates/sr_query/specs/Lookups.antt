@@ -1,11 +1,10 @@
 -- The key that the conditions fix for the next source, once those before it have their rows: each of its columns is equal to a literal, or
 -- to a column of a source before.
-use Rattle.std.specs.Prelude.{ℕ, suc, Bool, false, not, ◌&&◌, cond, List, [], ◌∷◌, Option, Some, None, is_some, slice_get, nat_eq, unwrap_or}
+use Rattle.std.specs.Prelude.{ℕ, Bool, false, not, ◌&&◌, cond, List, [], ◌∷◌, Option, Some, None, is_some, slice_get, nat_eq, unwrap_or}
 use Rattle.std.specs.Option.{option_map}
 use Rattle.sr_dates.specs.Fitting.{fitted}
 use Rattle.sr_base.specs.declared.value.Kind.{Kind}
 use Rattle.sr_base.specs.declared.value.Value.{Value as Cell}
-use Rattle.sr_ast.specs.Classes.{is_meant}
 use Rattle.sr_ast.specs.Exprs.{term_of}
 use Rattle.sr_ast.specs.Terms.{Term}
 use Rattle.sr_ast.specs.Terms.Term.{literal, column, unary, binary}
@@ -13,15 +12,11 @@ use Rattle.sr_ast.specs.declared.expr.Expr.{Expr}
 use Rattle.sr_ast.specs.declared.operator.Binary.{Binary}
 use Rattle.sr_ast.specs.declared.operator.Binary.TheVariants.{And, Equal}
 use Rattle.sr_eval.specs.Meanings.{found_at}
+use Rattle.sr_eval.specs.Resolutions.{place_of}
 use Rattle.sr_schema.specs.Expressions.{has_arithmetic}
 use Rattle.sr_dml.specs.Checks.{Scope}
 use Rattle.sr_dml.specs.Fixing.{with_value}
 use Rattle.sr_dml.specs.Sequences.{or_else}
-
--- the place of the first column that a reference means
-abbrev pub place_of : Scope → Option (List ℕ) → List ℕ → Option ℕ
-place_of [] table name = None
-place_of (c ∷ columns) table name = cond (is_meant c.0 c.1 table name) (Some 0) (option_map suc (place_of columns table name))
 
 -- whether it is this place
 abbrev pub is_place : ℕ → Option ℕ → Bool

@@ -1,6 +1,6 @@
 -- The rows that a SELECT answers: the items of each combination, or the aggregates over all of them.
 use Rattle.std.specs.Prelude.{ℕ, ◌*◌, ◌^◌, ◌+ℤ◌, ◌≤ℤ◌, ℤ, pos, neg_ℤ, Bool, true, false, cond, List, [], ◌∷◌, length, Option, Some, None, Result, Ok}
-use Rattle.std.specs.Prelude.{Err, IsTrue}
+use Rattle.std.specs.Prelude.{Err}
 use Rattle.std.specs.List.{list_any}
 use Rattle.std.specs.Ordering.{is_lt}
 use Rattle.sr_base.specs.declared.value.Value.{Value as Cell}
@@ -19,9 +19,8 @@ use Rattle.sr_schema.specs.declared.fault.DmlFault.{DmlFault}
 use Rattle.sr_schema.specs.declared.fault.DmlFault.TheVariants.{Overflow}
 use Rattle.sr_dml.specs.Checks.{Scope}
 use Rattle.sr_dml.specs.Sequences.{each, followed}
-use Rattle.sr_query.specs.Checks.{is_aggregate, all_pass, is_good_item}
-use Rattle.sr_query.specs.Orders.{ranks_of, ranks_at}
-use Rattle.sr_query.specs.declared.placing.Placed.{Placed}
+use Rattle.sr_query.specs.Checks.{is_aggregate}
+use Rattle.sr_query.specs.Orders.{ranks_of}
 use Rattle.sr_query.specs.declared.rank.Rank.{Rank}
 use Rattle.sr_query.specs.declared.rank.Listed.{Listed}
 
@@ -54,10 +53,6 @@ with_ranks ranks (Ok row) = Ok (record { ranks = ranks; row = row })
 
 abbrev pub listed_row : Scope → Items → List OrderBy → List Cell → Result Listed DmlFault
 listed_row scope items order values = with_ranks (ranks_of scope order values) (row_of scope items values)
-
--- the same by the places of ORDER BY's columns
-abbrev pub placed_row : Scope → Items → List Placed → List Cell → Result Listed DmlFault
-placed_row scope items places values = with_ranks (ranks_at places values) (row_of scope items values)
 
 -- a BIGINT, or Overflow where the number passes its end
 abbrev pub bounded : Option Cell → Result Cell DmlFault
@@ -130,11 +125,6 @@ listed_items false scope list order kept = each (listed_row scope (items.Each li
 abbrev pub listed : Scope → Items → List OrderBy → List (List Cell) → Result (List Listed) DmlFault
 listed scope items.All order kept = each (listed_row scope items.All order) kept
 listed scope (items.Each list) order kept = listed_items (list_any is_aggregate list) scope list order kept
-
--- each item of a list of items is right
-abbrev pub AreItemsGood : Scope → Items → Type 0
-AreItemsGood scope items.All = Unit {0}
-AreItemsGood scope (items.Each list) = IsTrue (all_pass (is_good_item scope) list)
 
 -- a sum of so many numbers of 64 bits
 abbrev pub IsBounded : ℕ → Option ℤ → Type 0

@@ -1,7 +1,7 @@
 -- The sources as the program goes over them.
 use Rattle.std.specs.Prelude.{◌≡◌, ℕ, List, [], ◌∷◌, ◌++◌, map}
 use Rattle.sr_base.specs.declared.value.Value.{Value as Cell}
-use Rattle.sr_eval.specs.Bounds.{AreRows, columns_of, values_of}
+use Rattle.sr_eval.specs.Bounds.{values_of}
 use Rattle.sr_eval.specs.declared.bound.Bound.{Bound}
 use Rattle.sr_rows.specs.Marks.{RowMap}
 use Rattle.sr_dml.specs.Checks.{Scope}
@@ -34,15 +34,6 @@ columns_left (joined ∷ left) = joined.scope ++ columns_left left
 abbrev pub bounds_of : Combination → List Bound
 bounds_of (One bound) = bound ∷ []
 bounds_of (Many bounds) = bounds.items
-
--- a combination has a row of each source
-pub record IsCombination (scope : Scope) (c : Combination) : Type 0 where
-  pub columns : columns_of (bounds_of c) ≡ scope
-  pub fit : AreRows (bounds_of c)
-
-abbrev pub AreCombinations : Scope → List Combination → Type 0
-AreCombinations scope [] = Unit {0}
-AreCombinations scope (c ∷ combinations) = IsCombination scope c × AreCombinations scope combinations
 
 -- the values of combinations
 abbrev pub found : List Combination → List (List Cell)

@@ -1,24 +1,22 @@
-ghost use Rattle.std.specs.Prelude.{◌≡◌, ◌≢◌, ◌+◌, None, Ok, Err, pos, length, IsTrue, IfOk, MatchResult};
-ghost use Rattle.sr_ast.specs.Exprs.{term_of};
-ghost use Rattle.sr_ast.specs.Classes.{class_in};
+ghost use Rattle.std.specs.Prelude.{◌≡◌, ◌≢◌, ◌+◌, None, Ok, Err, pos, length, IfOk, MatchResult};
 ghost use Rattle.sr_base.specs.declared.value.Value.TheVariants.{Null};
-ghost use Rattle.sr_eval.specs.Uses.{gives_value};
+ghost use Rattle.sr_eval.specs.Resolving.{resolution_of};
 ghost use Rattle.sr_dml.specs.Conditions.{Answers};
 ghost use Rattle.sr_dml.specs.Sequences.{each};
-ghost use Rattle.sr_query.specs.Checks.{all_pass, is_good_item};
-ghost use Rattle.sr_query.specs.Rows.{value_in, aggregate, listed, AreItemsGood, as_big, as_sum, sum_from, plus, number_in, is_better, best_from};
+ghost use Rattle.sr_query.specs.Preparing.{value_by};
+ghost use Rattle.sr_query.specs.Rows.{value_in, aggregate, listed, as_big, as_sum, sum_from, plus, number_in, is_better, best_from};
 ghost use Rattle.sr_query.specs.Rows.{is_less, is_greater, IsBounded};
-ghost use Rattle.sr_query.specs.Walks.{AreCombinations, found};
+ghost use Rattle.sr_query.specs.Walks.{found};
 
 use crate::checks::has_aggregate;
 use crate::items::{listed_rows, value_by};
 use crate::joined::Combination;
 use crate::lists::push;
-use crate::plain::plain_expr;
 use crate::rank::{Listed, Ranks};
 use sr_ast::{Expr, Item, Items, OrderBy, Scope};
 use sr_base::{Copied, NoMemory, Row, Seq, Value};
 use sr_catalog::DmlFault;
+use sr_eval::{Resolved, resolve};
 use std::alloc::Global;
 
 /// The rows with their ranks: one of each combination, or one alone where the items are aggregates.
@@ -29,8 +27,6 @@ pub(crate) fn listed(
     order: &[OrderBy],
     kept: &[Combination],
 ) -> Result<Vec<Listed>, DmlFault>
-    requires whole { AreCombinations scope.now kept.now }
-    requires good { AreItemsGood scope.now items.now }
     ensures answer { MatchResult result (λ rows. listed scope.now items.now order.now (found kept.now) ≡ Ok rows.items)
         (λ fault. fault ≢ DmlFault.Memory → listed scope.now items.now order.now (found kept.now) ≡ Err fault) }
 {
@@ -54,8 +50,6 @@ fn aggregates(
     items: &[Item],
     kept: &[Combination],
 ) -> Result<Row, DmlFault>
-    requires whole { AreCombinations scope.now kept.now }
-    requires good { IsTrue (all_pass (is_good_item scope.now) items.now) }
     ensures answer { Answers result (each (aggregate scope.now (found kept.now)) items.now) }
 {
     let mut values = Vec::new(alloc);
@@ -74,8 +68,6 @@ fn aggregate(
     item: &Item,
     kept: &[Combination],
 ) -> Result<Value, DmlFault>
-    requires whole { AreCombinations scope.now kept.now }
-    requires good { IsTrue (is_good_item scope.now item.now) }
     ensures answer { Answers result (aggregate scope.now (found kept.now) item.now) }
 {
     match item {
@@ -96,22 +88,33 @@ fn aggregate(
     }
 }
 
-/// The values of an expression on all combinations. A plain column is looked for by its name once, and not on each of them.
+/// The values of an expression on all combinations. Its names are resolved once, and not on each of them.
+#[tactic(auto, using(crate::proofs::Readied::valued_by))]
 fn values_over(
     alloc: Global,
     scope: &Scope,
     expr: &Expr,
     kept: &[Combination],
 ) -> Result<Vec<Value>, DmlFault>
-    requires whole { AreCombinations scope.now kept.now }
-    requires typed { IsTrue (gives_value (class_in scope.now (term_of expr.now))) }
     ensures answer { MatchResult result (λ values. each (value_in scope.now expr.now) (found kept.now) ≡ Ok values.items)
         (λ fault. fault ≢ DmlFault.Memory → each (value_in scope.now expr.now) (found kept.now) ≡ Err fault) }
 {
-    let place = plain_expr(scope, expr);
+    let resolved = resolve(alloc, expr, scope)?;
+    values_by(alloc, &resolved, kept)
+}
+
+/// The values of a resolved expression on all combinations. Each takes the time of the expression.
+fn values_by(
+    alloc: Global,
+    resolved: &Resolved,
+    kept: &[Combination],
+) -> Result<Vec<Value>, DmlFault>
+    ensures answer { MatchResult result (λ values. each (value_by (resolution_of resolved.now)) (found kept.now) ≡ Ok values.items)
+        (λ fault. fault ≢ DmlFault.Memory → each (value_by (resolution_of resolved.now)) (found kept.now) ≡ Err fault) }
+{
     let mut values = Vec::new(alloc);
     'kept: for combination in kept {
-        let value = value_by(alloc, scope, expr, place, combination)?;
+        let value = value_by(alloc, resolved, combination)?;
         push(&mut values, value)?;
     }
     Ok(values)

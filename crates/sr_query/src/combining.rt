@@ -1,23 +1,23 @@
-ghost use Rattle.std.specs.Prelude.{◌≡◌, ◌++◌, ◌∷◌, [], map, true, IsTrue, OnOk};
-ghost use Rattle.sr_ast.specs.Exprs.{term_of};
+ghost use Rattle.std.specs.Prelude.{◌≡◌, ◌++◌, ◌∷◌, [], map, OnOk};
 ghost use Rattle.sr_eval.specs.Bounds.{IsRowOf, AreRows, columns_of, values_of};
-ghost use Rattle.sr_eval.specs.Meanings.{meaning};
+ghost use Rattle.sr_eval.specs.Resolutions.{meaning_at};
+ghost use Rattle.sr_eval.specs.Resolving.{resolution_of};
 ghost use Rattle.sr_dml.specs.Conditions.{Answers};
 ghost use Rattle.sr_dml.specs.Statements.{tested};
-ghost use Rattle.sr_query.specs.Checks.{all_pass, is_good_condition};
 ghost use Rattle.sr_query.specs.Combinations.{combinations, meets, over_each, Keeps};
 ghost use Rattle.sr_query.specs.Lookups.{over_one};
+ghost use Rattle.sr_query.specs.Preparing.{IsPrepared, meets_at};
 ghost use Rattle.sr_query.specs.Sources.{conditions_of, rows_by_key};
-ghost use Rattle.sr_query.specs.Walks.{IsJoined, AreJoined, AreCombinations, columns_left, found, seen};
+ghost use Rattle.sr_query.specs.Walks.{IsJoined, AreJoined, columns_left, found, seen};
 ghost use Rattle.sr_rows.specs.Marks.{rows_of_table};
 
 use crate::fixing::fixed_key;
 use crate::joined::{Combination, Joined};
 use crate::lists::push;
-use sr_ast::{Expr, Scope, Select};
+use crate::prepared::Prepared;
 use sr_base::{Key, Row};
 use sr_catalog::DmlFault;
-use sr_eval::{Bound, EvalFault, and_holds_where_both_hold, holds_over};
+use sr_eval::{Bound, EvalFault, Resolved, and_holds_where_both_hold, is_resolved_true};
 use sr_rows::Rows;
 use std::alloc::Global;
 
@@ -29,39 +29,35 @@ use std::alloc::Global;
 pub(crate) fn walk<'a>(
     alloc: Global,
     rows: &'a Rows,
-    select: &Select,
-    scope: &Scope,
+    prepared: &Prepared,
     left: &'a [Joined<'a>],
     combination: &mut Vec<Bound<'a>>,
     kept: &mut Vec<Combination<'a>>,
 ) -> Result<(), DmlFault>
-    requires scope { columns_of combination.old.items ++ columns_left left.now ≡ scope.now }
+    requires scope { columns_of combination.old.items ++ columns_left left.now ≡ prepared.now.scope.now }
     requires fit { AreRows combination.old.items }
     requires joined { AreJoined rows.now.rows left.now }
-    requires good { IsTrue (all_pass (is_good_condition scope.now) (conditions_of select.now)) }
-    requires whole { AreCombinations scope.now kept.old.items }
+    requires prepared { IsPrepared prepared.now }
     ensures same { OnOk result (combination.new.items ≡ combination.old.items) }
-    ensures whole { OnOk result (AreCombinations scope.now kept.new.items) }
-    ensures kept { Keeps result scope.now (conditions_of select.now) (found kept.old.items)
+    ensures kept { Keeps result prepared.now.scope.now (conditions_of prepared.now.select.now) (found kept.old.items)
         (combinations (values_of combination.old.items) (map (seen rows.now.rows) left.now)) (found kept.new.items) }
 {
     let Some((joined, after)) = left.split_first() else {
-        return keep(alloc, select, scope, combination.as_slice(), kept);
+        return keep(alloc, prepared, combination.as_slice(), kept);
     };
     and_holds_where_both_hold();
-    match fixed_key(alloc, select, combination.as_slice(), joined)? {
+    match fixed_key(alloc, prepared.select, combination.as_slice(), joined)? {
         Some(key) => walk_at(
             alloc,
             rows,
-            select,
-            scope,
+            prepared,
             joined,
             &key,
             after,
             combination,
             kept,
         ),
-        None => walk_along(alloc, rows, select, scope, joined, after, combination, kept),
+        None => walk_along(alloc, rows, prepared, joined, after, combination, kept),
     }
 }
 
@@ -70,40 +66,27 @@ pub(crate) fn walk<'a>(
 fn walk_at<'a>(
     alloc: Global,
     rows: &'a Rows,
-    select: &Select,
-    scope: &Scope,
+    prepared: &Prepared,
     joined: &'a Joined<'a>,
     key: &Key,
     after: &'a [Joined<'a>],
     combination: &mut Vec<Bound<'a>>,
     kept: &mut Vec<Combination<'a>>,
 ) -> Result<(), DmlFault>
-    requires scope { columns_of combination.old.items ++ (joined.now.scope ++ columns_left after.now) ≡ scope.now }
+    requires scope { columns_of combination.old.items ++ (joined.now.scope ++ columns_left after.now) ≡ prepared.now.scope.now }
     requires fit { AreRows combination.old.items }
     requires source { IsJoined rows.now.rows joined.now }
     requires joined { AreJoined rows.now.rows after.now }
-    requires good { IsTrue (all_pass (is_good_condition scope.now) (conditions_of select.now)) }
-    requires whole { AreCombinations scope.now kept.old.items }
+    requires prepared { IsPrepared prepared.now }
     ensures same { OnOk result (combination.new.items ≡ combination.old.items) }
-    ensures whole { OnOk result (AreCombinations scope.now kept.new.items) }
-    ensures kept { Keeps result scope.now (conditions_of select.now) (found kept.old.items)
+    ensures kept { Keeps result prepared.now.scope.now (conditions_of prepared.now.select.now) (found kept.old.items)
         (over_one (λ row. combinations (values_of combination.old.items ++ row) (map (seen rows.now.rows) after.now))
         (rows_of_table rows.now.rows joined.now.table.now.name key.now)) (found kept.new.items) }
 {
     let Some(row) = rows.get(&joined.table.name, key) else {
         return Ok(());
     };
-    walk_row(
-        alloc,
-        rows,
-        select,
-        scope,
-        joined,
-        row,
-        after,
-        combination,
-        kept,
-    )
+    walk_row(alloc, rows, prepared, joined, row, after, combination, kept)
 }
 
 /// Keeps those of the combinations that begin with this one and a row of the next source: it goes over each of its rows.
@@ -111,38 +94,25 @@ fn walk_at<'a>(
 fn walk_along<'a>(
     alloc: Global,
     rows: &'a Rows,
-    select: &Select,
-    scope: &Scope,
+    prepared: &Prepared,
     joined: &'a Joined<'a>,
     after: &'a [Joined<'a>],
     combination: &mut Vec<Bound<'a>>,
     kept: &mut Vec<Combination<'a>>,
 ) -> Result<(), DmlFault>
-    requires scope { columns_of combination.old.items ++ (joined.now.scope ++ columns_left after.now) ≡ scope.now }
+    requires scope { columns_of combination.old.items ++ (joined.now.scope ++ columns_left after.now) ≡ prepared.now.scope.now }
     requires fit { AreRows combination.old.items }
     requires source { IsJoined rows.now.rows joined.now }
     requires joined { AreJoined rows.now.rows after.now }
-    requires good { IsTrue (all_pass (is_good_condition scope.now) (conditions_of select.now)) }
-    requires whole { AreCombinations scope.now kept.old.items }
+    requires prepared { IsPrepared prepared.now }
     ensures same { OnOk result (combination.new.items ≡ combination.old.items) }
-    ensures whole { OnOk result (AreCombinations scope.now kept.new.items) }
-    ensures kept { Keeps result scope.now (conditions_of select.now) (found kept.old.items)
+    ensures kept { Keeps result prepared.now.scope.now (conditions_of prepared.now.select.now) (found kept.old.items)
         (over_each (λ row. combinations (values_of combination.old.items ++ row) (map (seen rows.now.rows) after.now))
         (rows_by_key rows.now.rows joined.now.table.now)) (found kept.new.items) }
 {
     let mut source = rows.walk(&joined.table.name);
     'rows: while let Some((_key, row)) = source.next() {
-        walk_row(
-            alloc,
-            rows,
-            select,
-            scope,
-            joined,
-            row,
-            after,
-            combination,
-            kept,
-        )?;
+        walk_row(alloc, rows, prepared, joined, row, after, combination, kept)?;
     }
     Ok(())
 }
@@ -153,23 +123,20 @@ fn walk_along<'a>(
 fn walk_row<'a>(
     alloc: Global,
     rows: &'a Rows,
-    select: &Select,
-    scope: &Scope,
+    prepared: &Prepared,
     joined: &'a Joined<'a>,
     row: &'a Row,
     after: &'a [Joined<'a>],
     combination: &mut Vec<Bound<'a>>,
     kept: &mut Vec<Combination<'a>>,
 ) -> Result<(), DmlFault>
-    requires scope { columns_of combination.old.items ++ (joined.now.scope ++ columns_left after.now) ≡ scope.now }
+    requires scope { columns_of combination.old.items ++ (joined.now.scope ++ columns_left after.now) ≡ prepared.now.scope.now }
     requires fit { AreRows combination.old.items }
     requires row { IsRowOf joined.now.scope row.now }
     requires joined { AreJoined rows.now.rows after.now }
-    requires good { IsTrue (all_pass (is_good_condition scope.now) (conditions_of select.now)) }
-    requires whole { AreCombinations scope.now kept.old.items }
+    requires prepared { IsPrepared prepared.now }
     ensures same { OnOk result (combination.new.items ≡ combination.old.items) }
-    ensures whole { OnOk result (AreCombinations scope.now kept.new.items) }
-    ensures kept { Keeps result scope.now (conditions_of select.now) (found kept.old.items)
+    ensures kept { Keeps result prepared.now.scope.now (conditions_of prepared.now.select.now) (found kept.old.items)
         (combinations (values_of combination.old.items ++ row.now) (map (seen rows.now.rows) after.now)) (found kept.new.items) }
 {
     let depth = combination.len();
@@ -178,61 +145,56 @@ fn walk_row<'a>(
         values: row.values(),
     };
     push(combination, bound)?;
-    walk(alloc, rows, select, scope, after, combination, kept)?;
+    walk(alloc, rows, prepared, after, combination, kept)?;
     combination.truncate(depth);
     Ok(())
 }
 
 /// Keeps a combination where it meets the conditions. That of one source takes no memory of its own.
-#[tactic(auto, using(crate::proofs::Combined::with_one))]
 fn keep<'a>(
     alloc: Global,
-    select: &Select,
-    scope: &Scope,
+    prepared: &Prepared,
     combination: &[Bound<'a>],
     kept: &mut Vec<Combination<'a>>,
 ) -> Result<(), DmlFault>
-    requires scope { columns_of combination.now ≡ scope.now }
-    requires fit { AreRows combination.now }
-    requires good { IsTrue (all_pass (is_good_condition scope.now) (conditions_of select.now)) }
-    requires whole { AreCombinations scope.now kept.old.items }
-    ensures whole { OnOk result (AreCombinations scope.now kept.new.items) }
-    ensures kept { Keeps result scope.now (conditions_of select.now) (found kept.old.items) (values_of combination.now ∷ []) (found kept.new.items) }
+    requires prepared { IsPrepared prepared.now }
+    ensures kept { Keeps result prepared.now.scope.now (conditions_of prepared.now.select.now) (found kept.old.items) (values_of combination.now ∷ [])
+        (found kept.new.items) }
 {
-    if meets(select, scope, combination)? {
+    if meets(prepared, combination)? {
         push(kept, Combination::of(alloc, combination)?)?;
     }
     Ok(())
 }
 
-/// Whether a combination meets the conditions: each ON and then WHERE, up to the first that is not true.
-fn meets(select: &Select, scope: &Scope, combination: &[Bound]) -> Result<bool, DmlFault>
-    requires scope { columns_of combination.now ≡ scope.now }
-    requires fit { AreRows combination.now }
-    requires good { IsTrue (all_pass (is_good_condition scope.now) (conditions_of select.now)) }
-    ensures answer { Answers result (meets scope.now (conditions_of select.now) (values_of combination.now)) }
+/// Whether a combination meets the conditions.
+#[tactic(auto, using(crate::proofs::Readied::met_by))]
+fn meets(prepared: &Prepared, combination: &[Bound]) -> Result<bool, DmlFault>
+    requires prepared { IsPrepared prepared.now }
+    ensures answer { Answers result (meets prepared.now.scope.now (conditions_of prepared.now.select.now) (values_of combination.now)) }
 {
-    let mut left = select.joins.as_slice();
-    'joins: while let Some((join, rest)) = left.split_first() {
-        if !tested(scope, combination, &join.condition)? {
+    meets_at(prepared.conditions.as_slice(), combination)
+}
+
+/// The same by resolved conditions: they are tested in order, up to the first that is not true. No name is looked for.
+fn meets_at(conditions: &[Resolved], combination: &[Bound]) -> Result<bool, DmlFault>
+    ensures answer { Answers result (meets_at (values_of combination.now) (map resolution_of conditions.now)) }
+{
+    let mut left = conditions;
+    'conditions: while let Some((condition, rest)) = left.split_first() {
+        if !tested(condition, combination)? {
             return Ok(false);
         }
         left = rest;
     }
-    match &select.condition {
-        None => Ok(true),
-        Some(condition) => tested(scope, combination, condition),
-    }
+    Ok(true)
 }
 
-/// Whether a combination meets a condition.
-fn tested(scope: &Scope, combination: &[Bound], condition: &Expr) -> Result<bool, DmlFault>
-    requires scope { columns_of combination.now ≡ scope.now }
-    requires fit { AreRows combination.now }
-    requires good { IsTrue (is_good_condition scope.now condition.now) }
-    ensures answer { Answers result (tested (meaning scope.now (values_of combination.now) (term_of condition.now))) }
+/// Whether a combination meets a condition. It takes no memory.
+fn tested(condition: &Resolved, combination: &[Bound]) -> Result<bool, DmlFault>
+    ensures answer { Answers result (tested (meaning_at (values_of combination.now) (resolution_of condition.now))) }
 {
-    match holds_over(condition, combination) {
+    match is_resolved_true(condition, combination) {
         Ok(held) => Ok(held),
         Err(EvalFault::Overflow) => Err(DmlFault::Overflow),
         Err(EvalFault::Memory) => Err(DmlFault::Memory),

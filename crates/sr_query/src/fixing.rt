@@ -7,11 +7,11 @@ ghost use Rattle.sr_query.specs.Sources.{conditions_of};
 
 use crate::joined::Joined;
 use crate::lists::push;
-use crate::referring::{place_of, value_among};
+use crate::referring::value_among;
 use sr_ast::{Binary, Expr, Operand, Select};
 use sr_base::{Copied, Key, Kind, Name, NoMemory, Seq, Value};
 use sr_dates::fit;
-use sr_eval::Bound;
+use sr_eval::{Bound, place_of};
 use sr_schema::has_arithmetic;
 use std::alloc::Global;
 

@@ -2,9 +2,9 @@ ghost use Rattle.std.specs.Prelude.{◌≡◌, map, IfOk};
 ghost use Rattle.sr_query.specs.Orders.{placed_in};
 
 use crate::lists::push;
-use crate::referring::place_of;
 use sr_ast::{OrderBy, Scope};
 use sr_base::NoMemory;
+use sr_eval::place_of;
 use std::alloc::Global;
 
 /// A column of ORDER BY: whether it is descending, and the place of its value among those of a combination.

@@ -1,12 +1,12 @@
-ghost use Rattle.std.specs.Prelude.{◌≡◌, ◌≢◌, [], map, None, Ok, Err, IsTrue, IfOk, MatchResult};
+ghost use Rattle.std.specs.Prelude.{◌≡◌, ◌≢◌, [], map, None, Ok, Err, MatchResult};
 ghost use Rattle.sr_dml.specs.Conditions.{RowsFit};
 ghost use Rattle.sr_dml.specs.Sequences.{first_in};
-ghost use Rattle.sr_query.specs.Checks.{all_pass, is_good_condition, is_good, unknown_in_order, unknown_in_select};
+ghost use Rattle.sr_query.specs.Checks.{is_good, unknown_in_order, unknown_in_select};
 ghost use Rattle.sr_query.specs.Combinations.{combinations, kept};
-ghost use Rattle.sr_query.specs.Rows.{listed, AreItemsGood};
+ghost use Rattle.sr_query.specs.Rows.{listed};
 ghost use Rattle.sr_query.specs.Selecting.{selected, Answered};
 ghost use Rattle.sr_query.specs.Sources.{conditions_of};
-ghost use Rattle.sr_query.specs.Walks.{AreJoined, AreCombinations, columns_left, found, seen};
+ghost use Rattle.sr_query.specs.Walks.{AreJoined, columns_left, found, seen};
 
 use crate::aggregates::listed;
 use crate::checks::is_good;
@@ -14,6 +14,7 @@ use crate::combining::walk;
 use crate::joined::{Combination, Joined};
 use crate::joining::{joined_sources, scope_of};
 use crate::ordering::ordered;
+use crate::prepared::{Prepared, conditions_of};
 use crate::rank::Listed;
 use crate::unknown::unknown_in_select;
 use sr_ast::{Scope, Select};
@@ -74,7 +75,7 @@ fn selected(
     )
 }
 
-/// The combinations that meet the conditions.
+/// The combinations that meet the conditions, whose names are resolved once.
 fn kept<'a>(
     alloc: Global,
     rows: &'a Rows,
@@ -84,22 +85,17 @@ fn kept<'a>(
 ) -> Result<Vec<Combination<'a>>, DmlFault>
     requires scope { columns_left joined.now ≡ scope.now }
     requires joined { AreJoined rows.now.rows joined.now }
-    requires good { IsTrue (all_pass (is_good_condition scope.now) (conditions_of select.now)) }
-    ensures whole { IfOk result (λ kept. AreCombinations scope.now kept.items) }
     ensures answer { MatchResult result
         (λ found_now. kept scope.now (conditions_of select.now) (combinations [] (map (seen rows.now.rows) joined.now)) ≡ Ok (found found_now.items))
         (λ fault. fault ≢ DmlFault.Memory → kept scope.now (conditions_of select.now) (combinations [] (map (seen rows.now.rows) joined.now)) ≡ Err fault) }
 {
-    let mut combination = Vec::new(alloc);
-    let mut kept = Vec::new(alloc);
-    walk(
-        alloc,
-        rows,
+    let prepared = Prepared {
         select,
         scope,
-        joined,
-        &mut combination,
-        &mut kept,
-    )?;
+        conditions: conditions_of(alloc, scope, select)?,
+    };
+    let mut combination = Vec::new(alloc);
+    let mut kept = Vec::new(alloc);
+    walk(alloc, rows, &prepared, joined, &mut combination, &mut kept)?;
     Ok(kept)
 }

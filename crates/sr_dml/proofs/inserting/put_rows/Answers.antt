@@ -1,4 +1,4 @@
-use Rattle.std.proofs.Common.{◌≡◌, ◌++◌, map, sym, subst, ◌∙◌}
+use Rattle.std.proofs.Common.{◌++◌, map, sym, subst, ◌∙◌}
 use Rattle.sr_rows.specs.Walks.{table_rows}
 use Rattle.sr_dml.specs.Conditions.{Answers}
 use Rattle.sr_dml.specs.Holding.{held}

@@ -1,13 +1,9 @@
-use Rattle.std.proofs.Common.{rules, ◌≡◌, IsTrue, List, Ok, sym, ap, subst, ◌∙◌}
+use Rattle.std.proofs.Common.{rules, ◌≡◌, IsTrue, Ok, sym, ap, subst, ◌∙◌}
 use Rattle.std.proofs.lemmas.Result.{err_from_is_err_and}
 use Rattle.std.specs.Option.{option_copied}
-use Rattle.sr_base.specs.declared.value.Value.{Value}
 use Rattle.sr_rows.proofs.Cursors.{AreHeld, table_held}
-use Rattle.sr_eval.specs.Bounds.{IsRowOf}
-use Rattle.sr_dml.specs.Checks.{Scope}
 use Rattle.sr_dml.specs.Statements.{fate_of, counted}
 use Rattle.sr_dml.specs.Unmoving.{unmoved, behind, with_fate, Keeps, KeepKeys}
-use Rattle.sr_dml.proofs.Fitted.{row_of}
 use Rattle.sr_dml.proofs.Placed.{unmoved_are, unmoved_fault, keeps_one, behind-none, behind-end}
 use Rattle.sr_dml.proofs.placing.unmoved.Goals as goal
 
@@ -16,27 +12,18 @@ rows-init c =
     let table = c.args.table.now in
     let rows = c.args.rows.now.rows in
     record {
-      found = ap (λ xs. behind xs 0 (unmoved table (option_copied c.args.sets) c.args.condition.now c.walk-walk.result)) c.new.ensures.items
-          ∙ behind-none (unmoved table (option_copied c.args.sets) c.args.condition.now c.walk-walk.result)
-          ∙ ap (unmoved table (option_copied c.args.sets) c.args.condition.now) c.walk-walk.ensures.rows;
-      keep = subst (KeepKeys table (option_copied c.args.sets) c.args.condition.now) c.walk-walk.ensures.rows;
+      found = ap (λ xs. behind xs 0 (unmoved table (option_copied c.args.prepared.now.sets) c.args.prepared.now.condition.now c.walk-walk.result)) c.new.ensures.items
+          ∙ behind-none (unmoved table (option_copied c.args.prepared.now.sets) c.args.prepared.now.condition.now c.walk-walk.result)
+          ∙ ap (unmoved table (option_copied c.args.prepared.now.sets) c.args.prepared.now.condition.now) c.walk-walk.ensures.rows;
+      keep = subst (KeepKeys table (option_copied c.args.prepared.now.sets) c.args.prepared.now.condition.now) c.walk-walk.ensures.rows;
       held = subst (AreHeld rows table.name) (sym c.walk-walk.ensures.rows) (table_held rows table.name);
     }
-
-pub fate_of-requires-clause-fits : goal.fate_of-requires-clause-fits
-fate_of-requires-clause-fits c =
-    let table = c.args.table.now in
-    let key = c.in-Some._key.now in
-    let row = c.in-Some.row.now in
-    let held = subst (AreHeld c.args.rows.now.rows table.name) c.in-Some.ensures.next c.rows.invariant.held in
-    let fits = row_of table.name table.columns row (c.requires.rows key row held.0).0 in
-    subst (λ (x : Scope × List Value). IsRowOf x.0 x.1) (λ i. (sym c.requires.scope i, sym c.values.ensures.values i)) fits
 
 pub returns-in_err-fate : goal.returns-in_err-fate
 returns-in_err-fate c =
     let t = c.args.table.now in
-    let s = option_copied c.args.sets in
-    let d = c.args.condition.now in
+    let s = option_copied c.args.prepared.now.sets in
+    let d = c.args.prepared.now.condition.now in
     let row = c.in-Some.row.now in
     let done = c.rows.found.list.items in
     let p = err_from_is_err_and c.from_residual.result c.from_residual.ensures.1 in
@@ -50,8 +37,8 @@ returns-in_err-fate c =
 pub rows-preserved : goal.rows-preserved
 rows-preserved c =
     let t = c.args.table.now in
-    let s = option_copied c.args.sets in
-    let d = c.args.condition.now in
+    let s = option_copied c.args.prepared.now.sets in
+    let d = c.args.prepared.now.condition.now in
     let key = c.in-Some._key.now in
     let row = c.in-Some.row.now in
     let fate = c.in_ok-fate.fate in
@@ -76,8 +63,8 @@ rows-preserved c =
 pub returns : goal.returns
 returns c =
     let t = c.args.table.now in
-    let s = option_copied c.args.sets in
-    let d = c.args.condition.now in
+    let s = option_copied c.args.prepared.now.sets in
+    let d = c.args.prepared.now.condition.now in
     let list = c.rows.found.list.items in
     let count = c.rows.found.count in
     let none = c.in_default.ensures.next.0 in

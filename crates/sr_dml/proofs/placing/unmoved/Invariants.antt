@@ -8,8 +8,8 @@ use Rattle.sr_dml.proofs.placing.unmoved.Given as goal
 -- what becomes of the rows that are left stands behind what is found, and if they keep their keys all do; these rows are held
 abbrev pub invariant-rows : goal.invariant-rows
 invariant-rows l = record {
-  found : behind l.found.list.items l.found.count (unmoved l.table (option_copied l.sets) l.condition l.walk) ≡ unmoved l.table (option_copied l.sets) l.condition (table_rows l.rows.rows l.table.name);
-  keep : KeepKeys l.table (option_copied l.sets) l.condition l.walk → KeepKeys l.table (option_copied l.sets) l.condition (table_rows l.rows.rows l.table.name);
+  found : behind l.found.list.items l.found.count (unmoved l.table (option_copied l.prepared.sets) l.prepared.condition.now l.walk) ≡ unmoved l.table (option_copied l.prepared.sets) l.prepared.condition.now (table_rows l.rows.rows l.table.name);
+  keep : KeepKeys l.table (option_copied l.prepared.sets) l.prepared.condition.now l.walk → KeepKeys l.table (option_copied l.prepared.sets) l.prepared.condition.now (table_rows l.rows.rows l.table.name);
   held : AreHeld l.rows.rows l.table.name l.walk;
 }
 

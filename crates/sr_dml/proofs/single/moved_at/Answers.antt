@@ -1,34 +1,23 @@
-use Rattle.std.proofs.Common.{◌≡◌, ◌++◌, [], ◌∷◌, List, Some, Ok, sym, ap, subst, ◌∙◌}
+use Rattle.std.proofs.Common.{◌≡◌, ◌++◌, [], ◌∷◌, Some, Ok, sym, ap, ◌∙◌}
 use Rattle.std.proofs.lemmas.Result.{err_from_is_err_and}
 use Rattle.std.specs.Option.{option_copied}
-use Rattle.sr_base.specs.declared.value.Value.{Value}
-use Rattle.sr_eval.specs.Bounds.{IsRowOf}
 use Rattle.sr_dml.specs.declared.fate.Fate.TheVariants.{Becomes}
-use Rattle.sr_dml.specs.Checks.{Scope}
 use Rattle.sr_dml.specs.Statements.{key_of, fate_of}
 use Rattle.sr_dml.proofs.Alone.{not_there, picked_by, it_faults, it_stays, it_goes, it_becomes}
-use Rattle.sr_dml.proofs.Fitted.{row_of}
 use Rattle.sr_dml.proofs.single.moved_at.Goals as goal
 
 pub returns-in_default : goal.returns-in_default
 returns-in_default c = record {
-  answer = not_there c.args.table.now c.args.rows.now.rows (option_copied c.args.sets) c.args.condition.now c.args.key.now c.and_holds_where_both_hold.ensures.held c.requires.rows c.requires.key
+  answer = not_there c.args.table.now c.args.rows.now.rows (option_copied c.args.prepared.now.sets) c.args.prepared.now.condition.now c.args.key.now c.and_holds_where_both_hold.ensures.held c.requires.rows c.requires.key
       (sym c.in_default.ensures.row)
       ∙ ap (λ x. Ok x) (sym c.no_changes.ensures.none);
 }
 
-pub fate_of-requires-clause-fits : goal.fate_of-requires-clause-fits
-fate_of-requires-clause-fits c =
-    let table = c.args.table.now in
-    let row = c.in-Some.row.now in
-    let fits = row_of table.name table.columns row (c.requires.rows c.args.key.now row (sym c.in-Some.ensures.row)).0 in
-    subst (λ (x : Scope × List Value). IsRowOf x.0 x.1) (λ i. (sym c.requires.scope i, sym c.values.ensures.values i)) fits
-
 pub returns-in_err-fate_of : goal.returns-in_err-fate_of
 returns-in_err-fate_of c =
     let t = c.args.table.now in
-    let s = option_copied c.args.sets in
-    let d = c.args.condition.now in
+    let s = option_copied c.args.prepared.now.sets in
+    let d = c.args.prepared.now.condition.now in
     let p = err_from_is_err_and c.from_residual.result c.from_residual.ensures.1 in
     rw (p.1, p.2) (record {
       answer = λ ne. it_faults t c.args.rows.now.rows s d c.args.key.now c.and_holds_where_both_hold.ensures.held c.requires.rows c.requires.key c.in-Some.row.now (sym c.in-Some.ensures.row) _
@@ -38,8 +27,8 @@ returns-in_err-fate_of c =
 pub returns-then-is_same_key : goal.returns-then-is_same_key
 returns-then-is_same_key c =
     let t = c.args.table.now in
-    let s = option_copied c.args.sets in
-    let d = c.args.condition.now in
+    let s = option_copied c.args.prepared.now.sets in
+    let d = c.args.prepared.now.condition.now in
     let row = c.in-Some.row.now in
     let new = c.in-Becomes.new in
     let is : fate_of t s d row ≡ Ok (Becomes new) = ap (fate_of t s d) (sym c.values.ensures.values) ∙ c.in_ok-fate_of.ensures.answer ∙ ap (λ x. Ok x) c.in-Becomes.is in
@@ -54,8 +43,8 @@ returns-then-is_same_key c =
 pub returns-in-Stays : goal.returns-in-Stays
 returns-in-Stays c =
     let t = c.args.table.now in
-    let s = option_copied c.args.sets in
-    let d = c.args.condition.now in
+    let s = option_copied c.args.prepared.now.sets in
+    let d = c.args.prepared.now.condition.now in
     record {
       answer = it_stays t c.args.rows.now.rows s d c.args.key.now c.and_holds_where_both_hold.ensures.held c.requires.rows c.requires.key c.in-Some.row.now (sym c.in-Some.ensures.row)
           (ap (fate_of t s d) (sym c.values.ensures.values) ∙ c.in_ok-fate_of.ensures.answer ∙ ap (λ x. Ok x) c.in-Stays.is)
@@ -65,8 +54,8 @@ returns-in-Stays c =
 pub returns-in_ok-one_change-in-Goes : goal.returns-in_ok-one_change-in-Goes
 returns-in_ok-one_change-in-Goes c =
     let t = c.args.table.now in
-    let s = option_copied c.args.sets in
-    let d = c.args.condition.now in
+    let s = option_copied c.args.prepared.now.sets in
+    let d = c.args.prepared.now.condition.now in
     record {
       answer = it_goes t c.args.rows.now.rows s d c.args.key.now c.and_holds_where_both_hold.ensures.held c.requires.rows c.requires.key c.in-Some.row.now (sym c.in-Some.ensures.row)
           (ap (fate_of t s d) (sym c.values.ensures.values) ∙ c.in_ok-fate_of.ensures.answer ∙ ap (λ x. Ok x) c.in-Goes.is)
@@ -76,8 +65,8 @@ returns-in_ok-one_change-in-Goes c =
 pub returns-in_ok-push-in-Becomes : goal.returns-in_ok-push-in-Becomes
 returns-in_ok-push-in-Becomes c =
     let t = c.args.table.now in
-    let s = option_copied c.args.sets in
-    let d = c.args.condition.now in
+    let s = option_copied c.args.prepared.now.sets in
+    let d = c.args.prepared.now.condition.now in
     let new = c.in-Becomes.new in
     let is : fate_of t s d c.in-Some.row.now ≡ Ok (Becomes new) = ap (fate_of t s d) (sym c.values.ensures.values) ∙ c.in_ok-fate_of.ensures.answer ∙ ap (λ x. Ok x) c.in-Becomes.is in
     let picked = picked_by t c.args.rows.now.rows s d c.args.key.now c.and_holds_where_both_hold.ensures.held c.requires.rows c.requires.key c.in-Some.row.now (sym c.in-Some.ensures.row) (Ok (Becomes new)) is in

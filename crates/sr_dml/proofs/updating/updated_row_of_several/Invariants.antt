@@ -1,10 +1,10 @@
-use Rattle.std.proofs.Common.{◌≡◌, length}
+use Rattle.std.proofs.Common.{◌≡◌, map, length}
 use Rattle.sr_dml.specs.Edits.{prefixed}
-use Rattle.sr_dml.specs.Storing.{updated_row}
+use Rattle.sr_dml.specs.Preparing.{new_row, resolution_in}
 use Rattle.sr_dml.proofs.updating.updated_row_of_several.Given as goal
 
 abbrev pub invariant-columns : goal.invariant-columns
-invariant-columns l = prefixed l.values.items (updated_row l.scope l.row l.sets l.left l.olds) ≡ updated_row l.scope l.row l.sets l.columns l.row
+invariant-columns l = prefixed l.values.items (new_row l.row.values.now l.left l.olds (map resolution_in l.sets_left)) ≡ new_row l.row.values.now l.columns l.row.values.now (map resolution_in l.sets)
 
 abbrev pub decreases-columns : goal.decreases-columns
 decreases-columns l = length l.left

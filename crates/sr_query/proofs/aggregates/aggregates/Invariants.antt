@@ -1,16 +1,12 @@
-use Rattle.std.proofs.Common.{◌≡◌, length, IsTrue}
+use Rattle.std.proofs.Common.{◌≡◌, length}
 use Rattle.sr_dml.specs.Edits.{prefixed}
 use Rattle.sr_dml.specs.Sequences.{each}
-use Rattle.sr_query.specs.Checks.{all_pass, is_good_item}
 use Rattle.sr_query.specs.Rows.{aggregate}
 use Rattle.sr_query.specs.Walks.{found}
 use Rattle.sr_query.proofs.aggregates.aggregates.Given as goal
 
 abbrev pub invariant-items : goal.invariant-items
-invariant-items l = record {
-  answer : prefixed l.values.items (each (aggregate l.scope (found l.kept)) l.left) ≡ each (aggregate l.scope (found l.kept)) l.items;
-  good : IsTrue (all_pass (is_good_item l.scope) l.left);
-}
+invariant-items l = prefixed l.values.items (each (aggregate l.scope (found l.kept)) l.left) ≡ each (aggregate l.scope (found l.kept)) l.items
 
 abbrev pub decreases-items : goal.decreases-items
 decreases-items l = length l.left

@@ -18,14 +18,14 @@ walk-returns-in-Some-2-clause-kept t c =
     let bounds = c.args.combination.now.items in
     let joined = c.in-Some.joined.now in
     let after = c.in-Some.after.now in
-    let conditions = conditions_of c.args.select.now in
+    let conditions = conditions_of c.args.prepared.now.select.now in
     let begins : c.args.left.now ≡ joined ∷ after = search rules in
     let columns = ap (λ ls. columns_of bounds ++ columns_left ls) (sym begins) ∙ c.requires.scope in
     let sources = subst (AreJoined rows) begins c.requires.joined in
     let same : c.as_slice-2.result.now ≡ bounds = search rules in
     let fixed : fixed_key (columns_of bounds) (values_of bounds) joined.scope conditions joined.table.now.key ≡ Some c.in-Some-2.key =
     ap (λ bs. fixed_key (columns_of bs) (values_of bs) joined.scope conditions joined.table.now.key) (sym same) ∙ sym c.in_ok-key.ensures.key ∙ c.in-Some-2.is in
-    keeps_all rows c.args.scope.now conditions bounds joined after c.in-Some-2.key columns c.requires.fit sources.0 c.and_holds_where_both_hold.ensures.held fixed
+    keeps_all rows c.args.prepared.now.scope.now conditions bounds joined after c.in-Some-2.key columns c.requires.fit sources.0 c.and_holds_where_both_hold.ensures.held fixed
     c.walk_at.result (found c.args.kept.now.items) (found c.walk_at.new.kept.items) c.args.left.now begins c.walk_at.ensures.kept
 
 pub walk-returns-in-None-clause-kept : goal.walk-returns-in-None-clause-kept
@@ -33,7 +33,7 @@ walk-returns-in-None-clause-kept t c =
     let rows = c.args.rows.now.rows in
     let begins : c.args.left.now ≡ c.in-Some.joined.now ∷ c.in-Some.after.now = search rules in
     subst
-    (λ ls. Keeps c.walk_along.result c.args.scope.now (conditions_of c.args.select.now) (found c.args.kept.now.items)
+    (λ ls. Keeps c.walk_along.result c.args.prepared.now.scope.now (conditions_of c.args.prepared.now.select.now) (found c.args.kept.now.items)
     (combinations (values_of c.args.combination.now.items) (map (seen rows) ls)) (found c.walk_along.new.kept.items))
     (sym begins) c.walk_along.ensures.kept
 
@@ -48,10 +48,7 @@ walk_at-walk_row-requires t c = (
         row_of_source c.args.rows.now.rows c.args.joined.now c.args.key.now c.in-Some.row.now c.requires.source (sym c.in-Some.ensures.row),
         (
           c.requires.joined,
-          (
-            c.requires.good,
-            (c.requires.whole),
-          ),
+          (c.requires.prepared),
         ),
       ),
     ),
@@ -70,10 +67,7 @@ walk_along-walk_row-requires t c = (
             (subst (AreHeld c.args.rows.now.rows c.args.joined.now.table.now.name) c.in-Some.ensures.next c.rows.invariant.held).0,
         (
           c.requires.joined,
-          (
-            c.requires.good,
-            (c.rows.invariant.whole),
-          ),
+          (c.requires.prepared),
         ),
       ),
     ),
@@ -90,7 +84,7 @@ walk_along-returns-in_err-walk_row-clause-kept t c =
     let entries = map (λ (e : Entry). e.1) c.next.new.self in
     let later = over_each (λ row. combinations (values_of bounds ++ row) (map (seen rows) after)) entries in
     λ rest. rw (p.1, p.2) (λ ne. c.rows.invariant.kept rest
-    ∙ goes_on rows c.args.scope.now (conditions_of c.args.select.now) (found c.rows.kept.items) bounds c.rows.combination.items joined after
+    ∙ goes_on rows c.args.prepared.now.scope.now (conditions_of c.args.prepared.now.select.now) (found c.rows.kept.items) bounds c.rows.combination.items joined after
     c.rows.source c.next.new.self c.in-Some._key.now c.in-Some.row.now rest c.rows.invariant.same c.in-Some.ensures.next
     ∙ c.in_err-walk_row.ensures.kept (later ++ rest) ne)
 
@@ -98,8 +92,7 @@ pub walk_along-rows-init : goal.walk_along-rows-init
 walk_along-rows-init t c =
     record {
       same = refl;
-      whole = c.requires.whole;
-      kept = begins_walk c.args.rows.now.rows c.args.scope.now (conditions_of c.args.select.now) (found c.args.kept.now.items)
+      kept = begins_walk c.args.rows.now.rows c.args.prepared.now.scope.now (conditions_of c.args.prepared.now.select.now) (found c.args.kept.now.items)
           (values_of c.args.combination.now.items) c.args.joined.now c.args.after.now c.walk-source.result c.walk-source.ensures.rows;
       held = subst (AreHeld c.args.rows.now.rows c.args.joined.now.table.now.name) (sym c.walk-source.ensures.rows) (table_held c.args.rows.now.rows c.args.joined.now.table.now.name);
     }
@@ -108,16 +101,13 @@ pub walk_row-walk-requires : goal.walk_row-walk-requires
 walk_row-walk-requires t c = (
   omega arith,
   (
-    columns_on c.args.combination.now.items _ _ (columns_left c.args.after.now) c.args.scope.now c.in_ok-push.ensures.ok c.requires.scope,
+    columns_on c.args.combination.now.items _ _ (columns_left c.args.after.now) c.args.prepared.now.scope.now c.in_ok-push.ensures.ok c.requires.scope,
     (
       fit_on c.args.combination.now.items _ _ c.in_ok-push.ensures.ok c.requires.fit
           (subst (IsRowOf c.args.joined.now.scope) (sym c.values.ensures.values) c.requires.row),
       (
         c.requires.joined,
-        (
-          c.requires.good,
-          (c.requires.whole),
-        ),
+        (c.requires.prepared),
       ),
     ),
   ),
@@ -129,14 +119,14 @@ walk_row-returns-in_err-walk-clause-kept t c =
     let values = values_on c.args.combination.now.items _ _ c.in_ok-push.ensures.ok
     ∙ ap (λ v. values_of c.args.combination.now.items ++ v) c.values.ensures.values in
     λ rest. rw (p.1, p.2)
-    (λ ne. ap (λ vs. prefixed (found c.args.kept.now.items) (kept c.args.scope.now (conditions_of c.args.select.now)
+    (λ ne. ap (λ vs. prefixed (found c.args.kept.now.items) (kept c.args.prepared.now.scope.now (conditions_of c.args.prepared.now.select.now)
     (combinations vs (map (seen c.args.rows.now.rows) c.args.after.now) ++ rest))) (sym values) ∙ c.in_err-walk.ensures.kept rest ne)
 
 pub walk_row-returns-clause-kept : goal.walk_row-returns-clause-kept
 walk_row-returns-clause-kept t c =
     let values = values_on c.args.combination.now.items _ _ c.in_ok-push.ensures.ok
     ∙ ap (λ v. values_of c.args.combination.now.items ++ v) c.values.ensures.values in
-    λ rest. ap (λ vs. prefixed (found c.args.kept.now.items) (kept c.args.scope.now (conditions_of c.args.select.now)
+    λ rest. ap (λ vs. prefixed (found c.args.kept.now.items) (kept c.args.prepared.now.scope.now (conditions_of c.args.prepared.now.select.now)
     (combinations vs (map (seen c.args.rows.now.rows) c.args.after.now) ++ rest))) (sym values) ∙ c.in_ok-walk.ensures.kept rest
 
 pub walk_along-rows-preserved : goal.walk_along-rows-preserved
@@ -149,9 +139,8 @@ walk_along-rows-preserved t c =
     let later = over_each (λ row. combinations (values_of bounds ++ row) (map (seen rows) after)) entries in
     record {
       same = c.in_ok-walk_row.ensures.same ∙ c.rows.invariant.same;
-      whole = c.in_ok-walk_row.ensures.whole;
       kept = λ rest. c.rows.invariant.kept rest
-          ∙ goes_on rows c.args.scope.now (conditions_of c.args.select.now) (found c.rows.kept.items) bounds c.rows.combination.items joined after
+          ∙ goes_on rows c.args.prepared.now.scope.now (conditions_of c.args.prepared.now.select.now) (found c.rows.kept.items) bounds c.rows.combination.items joined after
           c.rows.source c.next.new.self c.in-Some._key.now c.in-Some.row.now rest c.rows.invariant.same c.in-Some.ensures.next
           ∙ c.in_ok-walk_row.ensures.kept (later ++ rest);
       held = (subst (AreHeld c.args.rows.now.rows c.args.joined.now.table.now.name) c.in-Some.ensures.next c.rows.invariant.held).1;

@@ -6,7 +6,7 @@ use Rattle.sr_rows.proofs.Cursors.{AreHeld}
 use Rattle.sr_dml.specs.Edits.{prefixed}
 use Rattle.sr_query.specs.Combinations.{combinations, kept, over_each}
 use Rattle.sr_query.specs.Sources.{conditions_of, rows_by_key}
-use Rattle.sr_query.specs.Walks.{AreCombinations, found, seen}
+use Rattle.sr_query.specs.Walks.{found, seen}
 use Rattle.sr_query.proofs.combining.+walking.Given as goal
 
 abbrev pub decreases-walk : goal.decreases-walk
@@ -24,12 +24,11 @@ decreases-walk_row l = 3 * length l.after.now + 1
 abbrev pub invariant-walk_along-rows : goal.invariant-walk_along-rows
 invariant-walk_along-rows l = record {
   same : l.combination.items ≡ l.fn.combination.items;
-  whole : AreCombinations l.scope l.kept.items;
   kept : (rest : List (List Value))
-      → prefixed (found l.fn.kept.items) (kept l.scope (conditions_of l.select)
+      → prefixed (found l.fn.kept.items) (kept l.prepared.scope.now (conditions_of l.prepared.select.now)
       (over_each (λ row. combinations (values_of l.fn.combination.items ++ row) (map (seen l.rows.rows) l.after))
       (rows_by_key l.rows.rows l.joined.table.now) ++ rest))
-      ≡ prefixed (found l.kept.items) (kept l.scope (conditions_of l.select)
+      ≡ prefixed (found l.kept.items) (kept l.prepared.scope.now (conditions_of l.prepared.select.now)
       (over_each (λ row. combinations (values_of l.fn.combination.items ++ row) (map (seen l.rows.rows) l.after))
       (map (λ (e : Entry). e.1) l.source) ++ rest));
   held : AreHeld l.rows.rows l.joined.table.now.name l.source;

@@ -6,14 +6,17 @@ use Rattle.sr_query.specs.Walks.{found, seen}
 use Rattle.sr_query.proofs.Whole.{from_nothing}
 use Rattle.sr_query.proofs.selecting.kept.Goals as goal
 
-pub returns-in_err-walk-clause-answer : goal.returns-in_err-walk-clause-answer
-returns-in_err-walk-clause-answer c =
-    let p = err_from_is_err_and c.from_residual.result c.from_residual.ensures.1 in
-    rw (p.1, p.2) (λ ne. from_nothing c.args.scope.now (conditions_of c.args.select.now) c.new-kept.result.items c.new-combination.result.items
-    (map (seen c.args.rows.now.rows) c.args.joined.now) _ c.new-kept.ensures.items c.new-combination.ensures.items (c.in_err-walk.ensures.kept [] ne))
+pub returns-in_err-walk : goal.returns-in_err-walk
+returns-in_err-walk c =
+    let p = err_from_is_err_and c.from_residual-in_err-walk.result c.from_residual-in_err-walk.ensures.1 in
+    record {
+      answer = rw (p.1, p.2) (λ ne. from_nothing c.args.scope.now (conditions_of c.args.select.now) c.new-kept.result.items c.new-combination.result.items
+          (map (seen c.args.rows.now.rows) c.args.joined.now) _ c.new-kept.ensures.items c.new-combination.ensures.items (c.in_err-walk.ensures.kept [] ne));
+    }
 
-pub returns-clause-answer : goal.returns-clause-answer
-returns-clause-answer c =
-    from_nothing c.args.scope.now (conditions_of c.args.select.now) c.new-kept.result.items c.new-combination.result.items
-    (map (seen c.args.rows.now.rows) c.args.joined.now) _ c.new-kept.ensures.items c.new-combination.ensures.items (c.in_ok-walk.ensures.kept [])
-    ∙ ap Ok (append-nil (found c.walk.new.kept.items))
+pub returns : goal.returns
+returns c = record {
+  answer = from_nothing c.args.scope.now (conditions_of c.args.select.now) c.new-kept.result.items c.new-combination.result.items
+      (map (seen c.args.rows.now.rows) c.args.joined.now) _ c.new-kept.ensures.items c.new-combination.ensures.items (c.in_ok-walk.ensures.kept [])
+      ∙ ap Ok (append-nil (found c.walk.new.kept.items));
+}

@@ -11,7 +11,7 @@ use Rattle.sr_query.specs.Selecting.{bad_in_select}
 use Rattle.sr_query.specs.Sources.{conditions_of}
 use Rattle.sr_query.specs.Walks.{columns_left, found, seen}
 use Rattle.sr_query.specs.declared.rank.Listed.{Listed}
-use Rattle.sr_query.proofs.Whole.{by_sources, good_conditions, good_items}
+use Rattle.sr_query.proofs.Whole.{by_sources}
 use Rattle.sr_query.proofs.selecting.selected.Goals as goal
 
 pub returns-in-Some : goal.returns-in-Some
@@ -42,11 +42,6 @@ returns-then-not-branch c =
           ∙ ap (λ b. in_order None (cond b None (Some s.source.table)) rest) bad ∙ ap (λ n. Err (BadValue n)) (sym c.in_ok-copy.ensures.equal);
     }
 
-pub kept-requires-clause-good : goal.kept-requires-clause-good
-kept-requires-clause-good c =
-    let good : is_good c.in_ok-scope.scope c.args.stmt.now ≡ true = search rules in
-    good_conditions c.in_ok-scope.scope c.args.stmt.now good
-
 pub returns-in_err-kept : goal.returns-in_err-kept
 returns-in_err-kept c =
     let scope : c.in_ok-scope.scope ≡ columns_left c.in_ok-joined.joined.items = search rules in
@@ -63,11 +58,6 @@ returns-in_err-kept c =
           ∙ ap (λ b. in_order None (cond b None (Some s.source.table)) rest) good
           ∙ ap (λ k. followed k (listed c.in_ok-scope.scope s.items s.order)) (c.in_err-kept.ensures.answer ne));
     }
-
-pub listed-requires-clause-good : goal.listed-requires-clause-good
-listed-requires-clause-good c =
-    let good : is_good c.in_ok-scope.scope c.args.stmt.now ≡ true = search rules in
-    good_items c.in_ok-scope.scope c.args.stmt.now good
 
 pub returns : goal.returns
 returns c =

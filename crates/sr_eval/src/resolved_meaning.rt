@@ -1,0 +1,244 @@
+//! What resolved expressions give over a row, or over a combination of rows.
+
+ghost use Rattle.std.specs.Prelude.{◌≡◌, Some, IfSome, slice_get, unwrap_or};
+ghost use Rattle.std.specs.Option.{option_map, option_copied};
+ghost use Rattle.sr_eval.specs.Bounds.{values_of};
+ghost use Rattle.sr_eval.specs.Comparisons.{comparison, test_of};
+ghost use Rattle.sr_eval.specs.Meanings.{Meaning, binary_meaning, of_both, cell_of, truth_of, IsValued, IsHeld};
+ghost use Rattle.sr_eval.specs.Meanings.Meaning.{value as a_value, truth as a_truth};
+ghost use Rattle.sr_eval.specs.Numbers.{arithmetic, function_of};
+ghost use Rattle.sr_eval.specs.Resolutions.{meaning_at};
+ghost use Rattle.sr_eval.specs.Resolving.{resolution_of};
+ghost use Rattle.sr_eval.specs.Worths.{meant};
+ghost use Rattle.sr_base.specs.declared.value.Value.TheVariants.{Null};
+
+use crate::bound::Bound;
+use crate::comparison::{Sign, comparison};
+use crate::fault::EvalFault;
+use crate::meaning::{binary_worth, unary_worth};
+use crate::number::{Arithmetic, calculated};
+use crate::resolved::{Resolved, ResolvedOperand};
+use crate::truth::Truth;
+use crate::untyped::copied;
+use crate::worth::Worth;
+use sr_ast::{Binary, Unary};
+use sr_base::Value;
+use std::alloc::Global;
+
+/// The value of a resolved expression over several sources, NULL in the place of a truth. `Overflow` exactly where a number passes the
+/// end of its type anywhere in the expression. A text is copied; nothing else takes memory.
+pub fn resolved_value(
+    alloc: Global,
+    resolved: &Resolved,
+    sources: &[Bound],
+) -> Result<Value, EvalFault>
+    ensures value { IsValued result (meaning_at (values_of sources.now) (resolution_of resolved.now)) }
+{
+    match meaning_at(resolved, sources) {
+        Some(Worth::Held(value)) => copied(alloc, value),
+        Some(Worth::Made(value)) => Ok(value),
+        Some(Worth::Judged(_)) => Ok(Value::Null),
+        None => Err(EvalFault::Overflow),
+    }
+}
+
+/// Whether a resolved expression is true over several sources: not where it is false or unknown, and not where it is no truth. `Overflow`
+/// exactly where a number passes the end of its type anywhere in it. It takes no memory.
+pub fn is_resolved_true(resolved: &Resolved, sources: &[Bound]) -> Result<bool, EvalFault>
+    ensures held { IsHeld result (meaning_at (values_of sources.now) (resolution_of resolved.now)) }
+{
+    match judged_at(resolved, sources) {
+        Some(truth) => Ok(truth == Truth::True),
+        None => Err(EvalFault::Overflow),
+    }
+}
+
+/// What a resolved expression gives over these sources. `None` where a number passes the end of its type.
+#[cycle(meaning_at)]
+fn meaning_at<'a>(resolved: &'a Resolved, sources: &[Bound<'a>]) -> Option<Worth<'a>>
+    ensures meaning { option_map meant result ≡ meaning_at (values_of sources.now) (resolution_of resolved.now) }
+{
+    match resolved {
+        Resolved::Literal(value) => Some(Worth::Held(value)),
+        Resolved::Place(place) => Some(place_worth(sources, *place)),
+        Resolved::Unary(operator, operand) => {
+            let operand = operand_meaning(operand, sources)?;
+            unary_worth(*operator, operand)
+        }
+        Resolved::Binary(operator, left, right) => {
+            if let Some(number) = calculated_lying(*operator, left, right, sources) {
+                return Some(Worth::Made(number?));
+            }
+            let left = operand_meaning(left, sources)?;
+            let right = operand_meaning(right, sources)?;
+            binary_worth(*operator, left, right)
+        }
+    }
+}
+
+/// What arithmetic gives of two values that lie in the expression or in a row. Other operators, and other operands, are not reckoned here.
+fn calculated_lying<'a>(
+    operator: Binary,
+    left: &'a ResolvedOperand,
+    right: &'a ResolvedOperand,
+    sources: &[Bound<'a>],
+) -> Option<Option<Value>>
+    ensures number { IfSome result (λ number. option_map a_value number ≡ of_both (binary_meaning operator) (meaning_at (values_of sources.now) left.now) (meaning_at (values_of sources.now) right.now)) }
+{
+    let operator = arithmetic_of(operator)?;
+    let value = lying_at(left.resolved(), sources)?;
+    let other = lying_at(right.resolved(), sources)?;
+    Some(calculated(operator, value, other))
+}
+
+/// The arithmetic that an operator is, if it is any.
+fn arithmetic_of(operator: Binary) -> Option<Arithmetic>
+    ensures arithmetic { IfSome result (λ found. (a b : Meaning) → binary_meaning operator a b ≡ option_map a_value (arithmetic (function_of found) (cell_of a) (cell_of b))) }
+{
+    match operator {
+        Binary::Add => Some(Arithmetic::Add),
+        Binary::Subtract => Some(Arithmetic::Subtract),
+        Binary::Multiply => Some(Arithmetic::Multiply),
+        Binary::Or
+        | Binary::And
+        | Binary::Equal
+        | Binary::Unequal
+        | Binary::Less
+        | Binary::AtMost
+        | Binary::Greater
+        | Binary::AtLeast => None,
+    }
+}
+
+#[cycle(meaning_at)]
+fn operand_meaning<'a>(operand: &'a ResolvedOperand, sources: &[Bound<'a>]) -> Option<Worth<'a>>
+    ensures meaning { option_map meant result ≡ meaning_at (values_of sources.now) operand.now }
+{
+    meaning_at(operand.resolved(), sources)
+}
+
+/// The value at a place, or NULL.
+fn place_worth<'a>(sources: &[Bound<'a>], place: usize) -> Worth<'a>
+    ensures { meant result ≡ a_value (unwrap_or (slice_get (values_of sources.now) place) Null) }
+{
+    match value_at_place(sources, place) {
+        Some(value) => Worth::Held(value),
+        None => Worth::Made(Value::Null),
+    }
+}
+
+/// The value at a place among the values of several sources, one source after the other. It passes over the sources before.
+#[tactic(auto, using(crate::proofs::Places::place_rules))]
+pub fn value_at_place<'a>(sources: &[Bound<'a>], place: usize) -> Option<&'a Value>
+    ensures { option_copied result ≡ slice_get (values_of sources.now) place }
+{
+    let Some((source, after)) = sources.split_first() else {
+        return None;
+    };
+    let count = source.values.len();
+    if place < count {
+        return value_at(source.values, place);
+    }
+    value_at_place(after, place - count)
+}
+
+/// The value at a place, if there is one.
+fn value_at<'a>(values: &'a [Value], place: usize) -> Option<&'a Value>
+    ensures { option_copied result ≡ slice_get values.now place }
+{
+    match values.get(place) {
+        Some(value) => Some(value),
+        None => None,
+    }
+}
+
+/// The value of a literal or at a place, where it lies. Other expressions have none that lies anywhere.
+fn lying_at<'a>(resolved: &'a Resolved, sources: &[Bound<'a>]) -> Option<&'a Value>
+    ensures value { IfSome (option_copied result) (λ v. meaning_at (values_of sources.now) (resolution_of resolved.now) ≡ Some (a_value v)) }
+{
+    match resolved {
+        Resolved::Literal(value) => Some(value),
+        Resolved::Place(place) => value_at_place(sources, *place),
+        Resolved::Unary(_, _) => None,
+        Resolved::Binary(_, _, _) => None,
+    }
+}
+
+/// The truth of a resolved expression over these sources; of a value it is unknown. `None` where a number passes the end of its type.
+///
+/// Values that lie in the expression or in a row are compared there.
+#[cycle(judging_at)]
+#[tactic(auto, using(crate::proofs::Judgements::not_judged, crate::proofs::Judgements::and_judged, crate::proofs::Judgements::or_judged))]
+fn judged_at<'a>(resolved: &'a Resolved, sources: &[Bound<'a>]) -> Option<Truth>
+    ensures truth { result ≡ option_map truth_of (meaning_at (values_of sources.now) (resolution_of resolved.now)) }
+{
+    match resolved {
+        Resolved::Literal(_) => Some(Truth::Unknown),
+        Resolved::Place(_) => Some(Truth::Unknown),
+        Resolved::Unary(Unary::Not, operand) => {
+            let truth = judged_operand(operand, sources)?;
+            Some(truth.negation())
+        }
+        Resolved::Unary(_, _) => judged_whole(resolved, sources),
+        Resolved::Binary(Binary::And, left, right) => {
+            let left = judged_operand(left, sources)?;
+            let right = judged_operand(right, sources)?;
+            Some(left.and(right))
+        }
+        Resolved::Binary(Binary::Or, left, right) => {
+            let left = judged_operand(left, sources)?;
+            let right = judged_operand(right, sources)?;
+            Some(left.or(right))
+        }
+        Resolved::Binary(Binary::Equal, left, right) => compared(Sign::Equal, left, right, sources),
+        Resolved::Binary(Binary::Unequal, left, right) => {
+            compared(Sign::Unequal, left, right, sources)
+        }
+        Resolved::Binary(Binary::Less, left, right) => compared(Sign::Less, left, right, sources),
+        Resolved::Binary(Binary::AtMost, left, right) => {
+            compared(Sign::AtMost, left, right, sources)
+        }
+        Resolved::Binary(Binary::Greater, left, right) => {
+            compared(Sign::Greater, left, right, sources)
+        }
+        Resolved::Binary(Binary::AtLeast, left, right) => {
+            compared(Sign::AtLeast, left, right, sources)
+        }
+        Resolved::Binary(_, _, _) => judged_whole(resolved, sources),
+    }
+}
+
+#[cycle(judging_at)]
+fn judged_operand<'a>(operand: &'a ResolvedOperand, sources: &[Bound<'a>]) -> Option<Truth>
+    ensures truth { result ≡ option_map truth_of (meaning_at (values_of sources.now) operand.now) }
+{
+    judged_at(operand.resolved(), sources)
+}
+
+/// The truth of what an expression gives.
+fn judged_whole<'a>(resolved: &'a Resolved, sources: &[Bound<'a>]) -> Option<Truth>
+    ensures truth { result ≡ option_map truth_of (meaning_at (values_of sources.now) (resolution_of resolved.now)) }
+{
+    let worth = meaning_at(resolved, sources)?;
+    Some(worth.truth())
+}
+
+/// How two operands compare.
+fn compared<'a>(
+    sign: Sign,
+    left: &'a ResolvedOperand,
+    right: &'a ResolvedOperand,
+    sources: &[Bound<'a>],
+) -> Option<Truth>
+    ensures truth { result ≡ option_map truth_of (of_both (λ a b. Some (a_truth (comparison (test_of sign) (cell_of a) (cell_of b)))) (meaning_at (values_of sources.now) left.now) (meaning_at (values_of sources.now) right.now)) }
+{
+    if let Some(value) = lying_at(left.resolved(), sources) {
+        if let Some(other) = lying_at(right.resolved(), sources) {
+            return Some(comparison(sign, value, other));
+        }
+    }
+    let null = Value::Null;
+    let value = operand_meaning(left, sources)?;
+    let other = operand_meaning(right, sources)?;
+    Some(comparison(sign, value.cell(&null), other.cell(&null)))
+}

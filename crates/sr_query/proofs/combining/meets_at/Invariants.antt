@@ -1,0 +1,11 @@
+use Rattle.std.proofs.Common.{◌≡◌, map, length}
+use Rattle.sr_eval.specs.Bounds.{values_of}
+use Rattle.sr_eval.specs.Resolving.{resolution_of}
+use Rattle.sr_query.specs.Preparing.{meets_at}
+use Rattle.sr_query.proofs.combining.meets_at.Given as goal
+
+abbrev pub invariant-conditions : goal.invariant-conditions
+invariant-conditions l = meets_at (values_of l.combination) (map resolution_of l.left) ≡ meets_at (values_of l.combination) (map resolution_of l.conditions)
+
+abbrev pub decreases-conditions : goal.decreases-conditions
+decreases-conditions l = length l.left
