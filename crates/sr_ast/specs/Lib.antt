@@ -9,3 +9,4 @@ pub mod Pages
 pub mod Printing
 pub mod Statements
 pub mod Terms
+pub mod Uses

@@ -319,7 +319,8 @@ fn kind_of(
     None
 }
 
-fn is_meant(alias: &Option<Name>, column: &Name, table: &Option<Name>, name: &Name) -> bool
+/// Whether a reference, with the name before its dot, means a column and its alias.
+pub fn is_meant(alias: &Option<Name>, column: &Name, table: &Option<Name>, name: &Name) -> bool
     ensures { result ≡ is_meant alias.now column.now table.now name.now }
 {
     if !is_same(column, name) {

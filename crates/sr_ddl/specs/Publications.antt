@@ -2,7 +2,8 @@
 use Rattle.std.specs.Prelude.{ℕ, Bool, false, not, ◌||◌, cond, nat_eq, nat_le, nat_lt, List}
 use Rattle.std.specs.Prelude.{[], ◌∷◌, ◌++◌, length, map, Option, Some, None, option_map, bytes_eq}
 use Rattle.std.specs.List.{list_any}
-use Rattle.sr_schema.specs.Expressions.{has_arithmetic, is_condition, is_operator}
+use Rattle.sr_ast.specs.Uses.{is_plain, gives_truth}
+use Rattle.sr_schema.specs.Expressions.{is_operator}
 use Rattle.sr_ast.specs.Classes.{class_in, unknown_in}
 use Rattle.sr_ast.specs.Exprs.{term_of}
 use Rattle.sr_ast.specs.Terms.Term.{literal, column}
@@ -52,7 +53,7 @@ absent_in a (Some t) = absent_in_table a t
 -- a WHERE with arithmetic, or that is no truth
 unfoldable pub is_bad_where : Table → Option Expr → Bool
 is_bad_where t None = false
-is_bad_where t (Some e) = has_arithmetic (term_of e) || not (is_condition (class_in (scope_of t) (term_of e)))
+is_bad_where t (Some e) = not (is_plain (term_of e)) || not (gives_truth (class_in (scope_of t) (term_of e)))
 
 -- a SUBSCRIBE BY that is no column and no literal
 abbrev pub is_bad_by : Option Expr → Bool

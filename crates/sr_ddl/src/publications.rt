@@ -24,12 +24,14 @@ ghost use Rattle.sr_ddl.specs.Publications.{
   key_outside_columns,
 };
 
-use sr_ast::{ArticleRule, CreatePublication, Expr, Scope};
+use sr_ast::{
+    ArticleRule, CreatePublication, Expr, Scope, class_in, gives_truth, is_plain, unknown_in,
+};
 use sr_base::{Copied, Name, NoMemory, Seq};
 use sr_schema::{
-    Article, Causes, Publication, Schema, Seen, Subscription, Table, class_in, column_names, first,
-    first_absent, first_absent_column, first_name, first_twice, has_arithmetic, is_condition,
-    is_empty, is_operator, key_names, limit_where, owned, paired, scope_of, unknown_in, where_true,
+    Article, Causes, Publication, Schema, Seen, Subscription, Table, column_names, first,
+    first_absent, first_absent_column, first_name, first_twice, is_empty, is_operator, key_names,
+    limit_where, owned, paired, scope_of, where_true,
 };
 use std::alloc::Global;
 
@@ -212,7 +214,7 @@ fn is_bad_where(alloc: Global, table: &Table, condition: &Option<Expr>) -> Resul
         None => Ok(false),
         Some(expr) => {
             let class = class_in(alloc, &scope_of(alloc, table)?, expr)?;
-            Ok(has_arithmetic(expr) || !is_condition(class))
+            Ok(!is_plain(expr) || !gives_truth(class))
         }
     }
 }

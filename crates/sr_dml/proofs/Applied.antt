@@ -19,7 +19,8 @@ use Rattle.sr_schema.specs.declared.table.Table.{Table}
 use Rattle.sr_schema.specs.declared.fault.DmlFault.{DmlFault}
 use Rattle.sr_dml.specs.declared.changes.Changes.{Changes}
 use Rattle.sr_dml.specs.Applying.{place_of, without_row, with_row, applied_in, applied}
-use Rattle.sr_dml.specs.Checks.{scope_of, unknown_condition, bad_condition}
+use Rattle.sr_dml.specs.Checks.{unknown_condition, bad_condition}
+use Rattle.sr_schema.specs.Members.{scope_of}
 use Rattle.sr_dml.specs.Conditions.{IsRow, TableFits, RowsFit}
 use Rattle.sr_dml.specs.Holding.{held}
 use Rattle.sr_dml.specs.FittingChanges.{FitsAt, ChangesFit}

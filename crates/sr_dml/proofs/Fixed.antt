@@ -21,7 +21,7 @@ use Rattle.sr_ast.specs.Classes.{is_meant, is_alias}
 use Rattle.sr_ast.specs.declared.expr.Expr.{Expr}
 use Rattle.sr_ast.specs.declared.operator.Binary.{Binary}
 use Rattle.sr_ast.specs.declared.operator.Binary.TheVariants as op
-use Rattle.sr_eval.specs.Uses.{is_plain}
+use Rattle.sr_ast.specs.Uses.{is_plain}
 use Rattle.sr_eval.specs.Comparisons.{tested}
 use Rattle.sr_eval.specs.Laws.{AndIsBoth}
 use Rattle.sr_eval.specs.Meanings.{Meaning, meaning, value_at, is_true}
@@ -34,7 +34,8 @@ use Rattle.sr_schema.specs.declared.table.Column.{Column}
 use Rattle.sr_schema.specs.declared.table.Table.{Table}
 use Rattle.sr_schema.specs.declared.fault.DmlFault.{DmlFault}
 use Rattle.sr_dml.specs.declared.fate.Fate.TheVariants.{Stays}
-use Rattle.sr_dml.specs.Checks.{Scope, scope_of}
+use Rattle.sr_dml.specs.Checks.{Scope}
+use Rattle.sr_schema.specs.Members.{scope_of}
 use Rattle.sr_dml.specs.Conditions.{IsRow, TableFits}
 use Rattle.sr_dml.specs.Edits.{with_pick, picks_of}
 use Rattle.sr_dml.specs.Fixing.{fixed_side, fixed_binary, fixed_in, fixed_column, with_value, fixed_key, only_key, one_pick}

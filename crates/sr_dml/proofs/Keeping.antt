@@ -21,7 +21,8 @@ use Rattle.sr_schema.specs.declared.fault.DmlFault.{DmlFault}
 use Rattle.sr_schema.specs.declared.fault.DmlFault.TheVariants as fault
 use Rattle.sr_dml.specs.declared.fate.Fate.{Fate}
 use Rattle.sr_dml.specs.declared.fate.Fate.TheVariants.{Stays, Goes, Becomes}
-use Rattle.sr_dml.specs.Checks.{Scope, scope_of}
+use Rattle.sr_dml.specs.Checks.{Scope}
+use Rattle.sr_schema.specs.Members.{scope_of}
 use Rattle.sr_dml.specs.Conditions.{IsRow}
 use Rattle.sr_dml.specs.Sequences.{each, front, followed}
 use Rattle.sr_dml.specs.Statements.{names_of, entry_of, inserted_rows, selected, fate_selected, fate_if, fate_of, fates_of, staying, becoming}

@@ -10,7 +10,8 @@ use Rattle.sr_eval.specs.Meanings.{Meaning, cell_of}
 use Rattle.sr_eval.proofs.Places.{resolved_meaning}
 use Rattle.sr_schema.specs.declared.table.Column.{Column}
 use Rattle.sr_schema.specs.declared.table.Table.{Table}
-use Rattle.sr_dml.specs.Checks.{Scope, scope_of}
+use Rattle.sr_dml.specs.Checks.{Scope}
+use Rattle.sr_schema.specs.Members.{scope_of}
 use Rattle.sr_dml.specs.Preparing.{resolved_in, sets_in, resolution_in, IsPrepared, selected_at, new_value, new_row, place_among, places_in, given_value, given_row}
 use Rattle.sr_dml.specs.Sequences.{each, front}
 use Rattle.sr_dml.specs.Statements.{tested, selected}

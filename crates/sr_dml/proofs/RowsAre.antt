@@ -18,7 +18,8 @@ use Rattle.sr_schema.specs.declared.table.Table.{Table}
 use Rattle.sr_schema.specs.declared.fault.DmlFault.{DmlFault}
 use Rattle.sr_dml.specs.declared.changes.Changes.{Changes}
 use Rattle.sr_dml.specs.Applying.{applied}
-use Rattle.sr_dml.specs.Checks.{scope_of, unknown_condition, bad_condition}
+use Rattle.sr_dml.specs.Checks.{unknown_condition, bad_condition}
+use Rattle.sr_schema.specs.Members.{scope_of}
 use Rattle.sr_dml.specs.Conditions.{TableFits}
 use Rattle.sr_dml.specs.Holding.{under, one_of, held}
 use Rattle.sr_dml.specs.Laws.{StandUnderKeys, RowsAreThoseAfter}

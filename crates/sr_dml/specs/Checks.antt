@@ -6,7 +6,8 @@ use Rattle.sr_base.specs.declared.value.Kind.{Kind}
 use Rattle.sr_ast.specs.Exprs.{term_of}
 use Rattle.sr_ast.specs.Classes.{class_in, unknown_in as unknown_in_term}
 use Rattle.sr_ast.specs.declared.expr.Expr.{Expr}
-use Rattle.sr_eval.specs.Uses.{gives_value, gives_truth}
+use Rattle.sr_ast.specs.Uses.{gives_value, gives_truth}
+use Rattle.sr_schema.specs.Members.{scope_of}
 use Rattle.sr_schema.specs.declared.table.Column.{Column}
 use Rattle.sr_schema.specs.declared.table.Table.{Table}
 use Rattle.sr_dml.specs.Sequences.{or_else}
@@ -14,10 +15,6 @@ use Rattle.sr_dml.specs.Sequences.{or_else}
 -- columns with their aliases and types
 abbrev pub Scope : Type 0
 Scope = List (Option (List ℕ) × List ℕ × Kind)
-
--- the columns of a table, which may stand alone or behind the table's name and a dot
-abbrev pub scope_of : Table → Scope
-scope_of table = map (λ c. (Some table.name, c.name, c.kind)) table.columns
 
 -- a name that is no column of the table
 abbrev pub no_column : List Column → List ℕ → Option (List ℕ)

@@ -10,7 +10,8 @@ use Rattle.sr_eval.specs.declared.resolved.Resolved.{Resolved}
 use Rattle.sr_schema.specs.declared.table.Column.{Column}
 use Rattle.sr_schema.specs.declared.table.Table.{Table}
 use Rattle.sr_schema.specs.declared.fault.DmlFault.{DmlFault}
-use Rattle.sr_dml.specs.Checks.{Scope, scope_of}
+use Rattle.sr_dml.specs.Checks.{Scope}
+use Rattle.sr_schema.specs.Members.{scope_of}
 use Rattle.sr_dml.specs.Sequences.{front}
 use Rattle.sr_dml.specs.Statements.{tested}
 use Rattle.sr_dml.specs.Storing.{constant, set_for, stored}

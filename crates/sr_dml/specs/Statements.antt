@@ -22,7 +22,8 @@ use Rattle.sr_schema.specs.declared.fault.DmlFault.TheVariants.{NoTable, NoColum
 use Rattle.sr_dml.specs.declared.changes.Changes.{Changes}
 use Rattle.sr_dml.specs.declared.fate.Fate.{Fate}
 use Rattle.sr_dml.specs.declared.fate.Fate.TheVariants.{Stays, Goes, Becomes}
-use Rattle.sr_dml.specs.Checks.{Scope, scope_of, no_column, unknown_in, unknown_set, unknown_condition, named_again, bad_row, bad_sets, bad_condition}
+use Rattle.sr_dml.specs.Checks.{Scope, no_column, unknown_in, unknown_set, unknown_condition, named_again, bad_row, bad_sets, bad_condition}
+use Rattle.sr_schema.specs.Members.{scope_of}
 use Rattle.sr_dml.specs.Holding.{held}
 use Rattle.sr_dml.specs.Sequences.{or_else, first_in, each, followed}
 use Rattle.sr_dml.specs.Storing.{inserted_row, updated_row}

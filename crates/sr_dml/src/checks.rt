@@ -1,12 +1,13 @@
 ghost use Rattle.std.specs.Prelude.{◌≡◌, [], IfOk};
-ghost use Rattle.sr_dml.specs.Checks.{unknown_in, unknown_set, bad_row, bad_sets, scope_of};
+ghost use Rattle.sr_dml.specs.Checks.{unknown_in, unknown_set, bad_row, bad_sets};
+ghost use Rattle.sr_schema.specs.Members.{scope_of};
 ghost use Rattle.sr_dml.specs.Sequences.{first_in};
 ghost use Rattle.sr_dml.specs.Statements.{names_of, unknown_in_insert, bad_in_insert};
 
-use crate::classes::{bad_value, unknown_in};
+use crate::classes::bad_value;
 use crate::lists::push;
 use crate::names::{is_among, named_again, no_column, unknown_name};
-use sr_ast::{Expr, Insert, Scope};
+use sr_ast::{Expr, Insert, Scope, unknown_in};
 use sr_base::{Copied, Name, NoMemory, Seq};
 use sr_schema::Table;
 use std::alloc::Global;

@@ -3,11 +3,11 @@ ghost use Rattle.sr_dml.specs.Statements.{deleted};
 ghost use Rattle.sr_rows.specs.Walks.{table_rows};
 
 use crate::changes::Changes;
-use crate::classes::{bad_condition, scope_of, unknown_condition};
+use crate::classes::{bad_condition, unknown_condition};
 use crate::moving::moved;
 use sr_ast::Delete;
 use sr_rows::Rows;
-use sr_schema::{DmlFault, Table};
+use sr_schema::{DmlFault, Table, scope_of};
 use std::alloc::Global;
 
 /// DELETE. It goes over the rows of the table; each that is selected takes logarithmic time for its key.

@@ -2,12 +2,11 @@ ghost use Rattle.std.specs.Prelude.{◌≡◌, Some, IfOk, slice_get};
 ghost use Rattle.sr_dates.specs.Fitting.{fitted};
 ghost use Rattle.sr_ast.specs.Exprs.{term_of};
 ghost use Rattle.sr_ast.specs.Classes.{is_meant};
-ghost use Rattle.sr_eval.specs.Uses.{is_plain, is_plain_unary, is_plain_binary};
 ghost use Rattle.sr_dml.specs.Fixing.{fixed_side, fixed_in, fixed_column, fixed_key};
 
 use crate::lists::push;
 use crate::names::{is_column, is_same};
-use sr_ast::{Binary, Expr, Operand, Unary};
+use sr_ast::{Binary, Expr, Operand};
 use sr_base::{Copied, Key, Kind, Name, NoMemory, Seq, Value};
 use sr_dates::fit;
 use sr_schema::{Column, Table};
@@ -160,56 +159,5 @@ fn is_meant(table: &Name, column: &Name, alias: &Option<Name>, name: &Name) -> b
     match alias {
         None => true,
         Some(alias) => is_same(table, alias),
-    }
-}
-
-/// Whether a condition has no arithmetic, so that it has a value on each row.
-#[cycle(plain)]
-pub(crate) fn is_plain(expr: &Expr) -> bool
-    ensures { result ≡ is_plain (term_of expr.now) }
-{
-    match expr {
-        Expr::Literal(_) => true,
-        Expr::Column(_, _) => true,
-        Expr::Unary(operator, operand) => { is_plain_unary(*operator) && is_plain_operand(operand) }
-        Expr::Binary(operator, left, right) => {
-            is_plain_binary(*operator) && is_plain_operand(left) && is_plain_operand(right)
-        }
-    }
-}
-
-#[cycle(plain)]
-fn is_plain_operand(operand: &Operand) -> bool
-    ensures { result ≡ is_plain operand.now }
-{
-    is_plain(operand.expr())
-}
-
-fn is_plain_unary(operator: Unary) -> bool
-    ensures { result ≡ is_plain_unary operator }
-{
-    match operator {
-        Unary::Negate => false,
-        Unary::Not => true,
-        Unary::IsNull => true,
-        Unary::IsNotNull => true,
-    }
-}
-
-fn is_plain_binary(operator: Binary) -> bool
-    ensures { result ≡ is_plain_binary operator }
-{
-    match operator {
-        Binary::Add => false,
-        Binary::Subtract => false,
-        Binary::Multiply => false,
-        Binary::Or => true,
-        Binary::And => true,
-        Binary::Equal => true,
-        Binary::Unequal => true,
-        Binary::Less => true,
-        Binary::AtMost => true,
-        Binary::Greater => true,
-        Binary::AtLeast => true,
     }
 }

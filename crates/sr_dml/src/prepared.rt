@@ -2,7 +2,7 @@
 
 ghost use Rattle.std.specs.Prelude.{◌≡◌, ◌<◌, length, map, IfOk, IfSome};
 ghost use Rattle.std.specs.Option.{option_copied};
-ghost use Rattle.sr_dml.specs.Checks.{scope_of};
+ghost use Rattle.sr_schema.specs.Members.{scope_of};
 ghost use Rattle.sr_dml.specs.Preparing.{IsPrepared, place_among, places_in, resolution_in, resolved_in, sets_in};
 
 use crate::lists::push;

@@ -1,6 +1,7 @@
 ghost use Rattle.std.specs.Prelude.{◌≡◌, [], map, None, IfOk};
 ghost use Rattle.std.specs.Option.{option_copied};
-ghost use Rattle.sr_dml.specs.Checks.{scope_of, bad_sets};
+ghost use Rattle.sr_dml.specs.Checks.{bad_sets};
+ghost use Rattle.sr_schema.specs.Members.{scope_of};
 ghost use Rattle.sr_dml.specs.Conditions.{Answers, TableFits};
 ghost use Rattle.sr_dml.specs.Statements.{unknown_in_update, bad_in_update, updated};
 ghost use Rattle.sr_dml.specs.Preparing.{new_row, new_value, resolution_in};
@@ -9,7 +10,7 @@ ghost use Rattle.sr_rows.specs.Walks.{table_rows};
 
 use crate::changes::Changes;
 use crate::checks::{bad_sets, unknown_in_sets};
-use crate::classes::{bad_condition, scope_of, unknown_condition};
+use crate::classes::{bad_condition, unknown_condition};
 use crate::lists::push;
 use crate::moving::moved;
 use crate::names::is_same;
@@ -18,7 +19,7 @@ use sr_ast::{Expr, Scope, Update};
 use sr_base::{Copied, Name, NoMemory, Row, Seq, Value};
 use sr_eval::{Bound, Resolved};
 use sr_rows::Rows;
-use sr_schema::{Column, DmlFault, Table};
+use sr_schema::{Column, DmlFault, Table, scope_of};
 use std::alloc::Global;
 
 /// UPDATE. It goes over the rows of the table; each that is selected takes its columns times the assignments, and logarithmic time

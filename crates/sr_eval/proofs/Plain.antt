@@ -7,7 +7,7 @@ use Rattle.sr_ast.specs.declared.operator.Unary.{Unary}
 use Rattle.sr_ast.specs.declared.operator.Unary.TheVariants.{Not, IsNull, IsNotNull, Negate}
 use Rattle.sr_ast.specs.declared.operator.Binary.{Binary}
 use Rattle.sr_ast.specs.declared.operator.Binary.TheVariants.{Or, And, Equal, Unequal, Less, AtMost, Greater, AtLeast, Add, Subtract, Multiply}
-use Rattle.sr_eval.specs.Uses.{is_plain, is_plain_unary, is_plain_binary}
+use Rattle.sr_ast.specs.Uses.{is_plain, is_plain_unary, is_plain_binary}
 use Rattle.sr_eval.specs.Meanings.{Meaning, meaning, unary_meaning, binary_meaning, of_one, of_both}
 use Rattle.sr_eval.specs.Laws.{PlainHaveValues}
 

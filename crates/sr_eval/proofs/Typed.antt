@@ -16,7 +16,7 @@ use Rattle.sr_ast.specs.declared.operator.Unary.{Unary}
 use Rattle.sr_ast.specs.declared.operator.Unary.TheVariants.{Not, IsNull, IsNotNull, Negate}
 use Rattle.sr_ast.specs.declared.operator.Binary.{Binary}
 use Rattle.sr_ast.specs.declared.operator.Binary.TheVariants.{Or, And, Equal, Unequal, Less, AtMost, Greater, AtLeast, Add, Subtract, Multiply}
-use Rattle.sr_eval.specs.Uses.{gives_value}
+use Rattle.sr_ast.specs.Uses.{gives_value}
 use Rattle.sr_eval.specs.Bounds.{IsRowOf}
 use Rattle.sr_eval.specs.declared.truth.Truth.{Truth as Known}
 use Rattle.sr_eval.specs.Numbers.{negated, arithmetic}

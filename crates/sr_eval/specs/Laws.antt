@@ -9,7 +9,7 @@ use Rattle.sr_ast.specs.Classes.{value_class, class_in}
 use Rattle.sr_ast.specs.declared.classes.Class.{Class}
 use Rattle.sr_ast.specs.declared.classes.Class.TheVariants.{Truth}
 use Rattle.sr_ast.specs.declared.operator.Binary.TheVariants.{And, Equal}
-use Rattle.sr_eval.specs.Uses.{is_plain}
+use Rattle.sr_ast.specs.Uses.{is_plain}
 use Rattle.sr_eval.specs.Bounds.{IsRowOf}
 use Rattle.sr_eval.specs.Meanings.{Meaning, meaning, is_true}
 use Rattle.sr_eval.specs.Resolutions.{resolved, meaning_at}

@@ -7,5 +7,4 @@ pub mod ResolutionFalls
 pub mod Resolutions
 pub mod Resolving
 pub mod Truths
-pub mod Uses
 pub mod Worths

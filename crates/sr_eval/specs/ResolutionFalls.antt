@@ -2,13 +2,22 @@
 use Rattle.std.specs.Prelude.{◌≤◌, max}
 use Rattle.std.proofs.Common.{arith}
 use Rattle.sr_eval.specs.Resolutions.{resolution_size}
-use Rattle.sr_eval.specs.Resolving.{resolution_of}
-use Rattle.sr_eval.specs.declared.resolved.ResolvedOperand.TheDeep.{deep-Resolved}
-use Rattle.sr_eval.specs.declared.resolved.Resolved.{Resolved}
-use Rattle.sr_eval.specs.declared.resolved.Resolved.TheVariants.{Literal, Place, Unary, Binary}
+use Rattle.sr_eval.specs.Resolving.{operation_of}
+use Rattle.sr_eval.specs.declared.resolved.Boxed.TheDeep.{deep-Operation}
+use Rattle.sr_eval.specs.declared.resolved.Operation.{Operation}
+use Rattle.sr_eval.specs.declared.resolved.Operation.TheVariants.{Unary, Binary}
+use Rattle.sr_eval.specs.declared.resolved.Resolved.TheVariants.{Literal, Place, Operated}
 
-pub operand_falls : (r : Resolved) → max (deep-Resolved r) 0 ≤ resolution_size (resolution_of r)
-operand_falls (Literal v) = omega arith
-operand_falls (Place n) = omega arith
-operand_falls (Unary op a) = omega arith
-operand_falls (Binary op a b) = omega arith
+pub operands_fall : (o : Operation) → max (deep-Operation o) 0 ≤ resolution_size (operation_of o)
+operands_fall (Unary op (Literal v)) = omega arith
+operands_fall (Unary op (Place n)) = omega arith
+operands_fall (Unary op (Operated r)) = omega arith
+operands_fall (Binary op (Literal v) (Literal w)) = omega arith
+operands_fall (Binary op (Literal v) (Place m)) = omega arith
+operands_fall (Binary op (Literal v) (Operated s)) = omega arith
+operands_fall (Binary op (Place n) (Literal w)) = omega arith
+operands_fall (Binary op (Place n) (Place m)) = omega arith
+operands_fall (Binary op (Place n) (Operated s)) = omega arith
+operands_fall (Binary op (Operated r) (Literal w)) = omega arith
+operands_fall (Binary op (Operated r) (Place m)) = omega arith
+operands_fall (Binary op (Operated r) (Operated s)) = omega arith

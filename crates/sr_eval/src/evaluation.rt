@@ -1,7 +1,7 @@
 ghost use Rattle.std.specs.Prelude.{◌≡◌, IsTrue};
 ghost use Rattle.sr_ast.specs.Exprs.{term_of};
 ghost use Rattle.sr_ast.specs.Classes.{class_in};
-ghost use Rattle.sr_eval.specs.Uses.{gives_value, gives_truth};
+ghost use Rattle.sr_ast.specs.Uses.{gives_value, gives_truth};
 ghost use Rattle.sr_eval.specs.Bounds.{IsRowOf, AreRows, columns_of, values_of};
 ghost use Rattle.sr_eval.specs.Meanings.{meaning, is_true, IsEvaluated, IsHeld};
 ghost use Rattle.sr_eval.specs.Worths.{meant};

@@ -25,6 +25,6 @@ pub use laws::{
     a_resolved_expression_means_the_same, a_value_is_of_its_class, and_holds_where_both_hold,
     null_equals_nothing, without_arithmetic_there_is_a_value,
 };
-pub use resolved::{Resolved, place_of, resolve};
+pub use resolved::{Boxed, Resolved, place_of, resolve};
 pub use resolved_meaning::{is_resolved_true, resolved_value, value_at_place};
 pub use untyped::{is_true_over, value_over};

@@ -1,7 +1,6 @@
-ghost use Rattle.std.specs.Prelude.{◌≡◌, Some, IfSome, bytes_eq, unwrap_or};
+ghost use Rattle.std.specs.Prelude.{◌≡◌, Some, IfSome, unwrap_or};
 ghost use Rattle.std.specs.Option.{option_map, option_copied};
 ghost use Rattle.sr_ast.specs.Exprs.{term_of};
-ghost use Rattle.sr_ast.specs.Classes.{is_meant};
 ghost use Rattle.sr_eval.specs.Bounds.{AreRows, columns_of, values_of};
 ghost use Rattle.sr_eval.specs.Meanings.{meaning, unary_meaning, binary_meaning, cell_of, value_at, found_at};
 ghost use Rattle.sr_eval.specs.Meanings.Meaning.{value as a_value, truth as a_truth};
@@ -14,7 +13,7 @@ use crate::comparison::{Sign, comparison, is_null};
 use crate::number::{Arithmetic, calculated, negated};
 use crate::truth::Truth;
 use crate::worth::Worth;
-use sr_ast::{Binary, Expr, Operand, Unary};
+use sr_ast::{Binary, Expr, Operand, Unary, is_meant};
 use sr_base::{Name, Value};
 
 /// What the expression gives over these sources. `None` where a number passes the end of its type.
@@ -101,32 +100,6 @@ fn value_in<'a>(source: &Bound<'a>, table: &Option<Name>, name: &Name) -> Option
         values_left = values_after;
     }
     None
-}
-
-pub(crate) fn is_meant(
-    alias: &Option<Name>,
-    column: &Name,
-    table: &Option<Name>,
-    name: &Name,
-) -> bool
-    ensures { result ≡ is_meant alias.now column.now table.now name.now }
-{
-    if !is_same(column, name) {
-        return false;
-    }
-    match table {
-        None => true,
-        Some(table) => match alias {
-            None => false,
-            Some(alias) => is_same(alias, table),
-        },
-    }
-}
-
-fn is_same(left: &Name, right: &Name) -> bool
-    ensures { result ≡ bytes_eq left.now right.now }
-{
-    left.bytes() == right.bytes()
 }
 
 pub(crate) fn unary_worth<'a>(operator: Unary, operand: Worth<'a>) -> Option<Worth<'a>>

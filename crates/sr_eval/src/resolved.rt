@@ -1,10 +1,9 @@
 ghost use Rattle.std.specs.Prelude.{◌≡◌, ◌<◌, length, IfOk, IfSome};
 ghost use Rattle.sr_ast.specs.Exprs.{term_of};
 ghost use Rattle.sr_eval.specs.Resolutions.{place_of, at_place, resolved};
-ghost use Rattle.sr_eval.specs.Resolving.{resolution_of};
+ghost use Rattle.sr_eval.specs.Resolving.{resolution_of, operation_of};
 
-use crate::meaning::is_meant;
-use sr_ast::{Binary, Expr, Operand, Scope, Unary};
+use sr_ast::{Binary, Expr, Operand, Scope, Unary, is_meant};
 use sr_base::{Copied, Kind, Name, NoMemory, Value};
 use std::alloc::Global;
 use std::marker::Model;
@@ -17,56 +16,63 @@ pub enum Resolved {
     Literal(Value),
     /// The value at a place among those of all sources, one source after the other.
     Place(usize),
-    /// An operator and its operand.
-    Unary(Unary, ResolvedOperand),
-    /// An operator between its operands.
-    Binary(Binary, ResolvedOperand, ResolvedOperand),
+    /// An operator with its operands.
+    Operated(Boxed),
 }
 
-/// An operand of a resolved expression, which stands in a box. Contracts see it as the resolution that it is.
+/// An operator with its operands, which stand in one box. Contracts see it as the resolution that it is.
 #[cycle(resolved)]
 #[derive(Drop)]
-pub struct ResolvedOperand {
-    resolved: Box<Resolved>,
+pub struct Boxed {
+    operation: Box<Operation>,
 }
 
-impl Model for ResolvedOperand {
+/// An operator with its operands.
+#[cycle(resolved)]
+#[derive(Drop)]
+pub(crate) enum Operation {
+    Unary(Unary, Resolved),
+    Binary(Binary, Resolved, Resolved),
+}
+
+impl Model for Boxed {
     ghost use Rattle.sr_eval.specs.Resolutions.{Resolution, resolution_code, resolution_size};
 
     ghost Value = { Resolution };
 
     ghost coded = { resolution_code };
 
-    ghost use Rattle.sr_eval.specs.Resolving.{resolution_of};
+    ghost use Rattle.sr_eval.specs.Resolving.{operation_of};
 
-    ghost view = { λ o. resolution_of o.resolved.value };
+    ghost view = { λ b. operation_of b.operation.value };
 
     ghost size = { resolution_size };
 
-    ghost use Rattle.sr_eval.specs.ResolutionFalls.{operand_falls};
+    ghost use Rattle.sr_eval.specs.ResolutionFalls.{operands_fall};
 
-    ghost size_decreases = { λ o h. operand_falls o.resolved.value };
+    ghost size_decreases = { λ b h. operands_fall b.operation.value };
 }
 
-impl ResolvedOperand {
-    /// The expression, in a box.
-    fn new(alloc: Global, resolved: Resolved) -> Result<ResolvedOperand, NoMemory>
-        ensures resolution { IfOk result (λ operand. operand ≡ resolution_of resolved) }
+impl Boxed {
+    /// The operator with its operands.
+    pub(crate) fn operation(&self) -> &Operation
+        ensures resolution { operation_of result.now ≡ self.now }
     {
-        Ok(ResolvedOperand {
-            resolved: Box::new(alloc, resolved)?,
-        })
-    }
-
-    /// The expression.
-    pub(crate) fn resolved(&self) -> &Resolved
-        ensures resolution { resolution_of result.now ≡ self.now }
-    {
-        &self.resolved
+        &self.operation
     }
 }
 
-/// Resolves the names of an expression among the columns of all sources. Each name looks at the columns up to its own, once.
+/// An operator with its operands, in a box.
+fn operated(alloc: Global, operation: Operation) -> Result<Resolved, NoMemory>
+    ensures resolution { IfOk result (λ made. resolution_of made ≡ operation_of operation) }
+{
+    Ok(Resolved::Operated(Boxed {
+        operation: Box::new(alloc, operation)?,
+    }))
+}
+
+/// Resolves the names of an expression among the columns of all sources. Each name looks at the columns up to its own, once, and each
+/// operator takes a block of memory.
 #[cycle(resolving)]
 pub fn resolve(alloc: Global, expr: &Expr, scope: &Scope) -> Result<Resolved, NoMemory>
     ensures resolved { IfOk result (λ made. resolution_of made ≡ resolved scope.now (term_of expr.now)) }
@@ -75,25 +81,22 @@ pub fn resolve(alloc: Global, expr: &Expr, scope: &Scope) -> Result<Resolved, No
         Expr::Literal(value) => Ok(Resolved::Literal(value.copy(alloc)?)),
         Expr::Column(table, name) => Ok(column(scope, table, name)),
         Expr::Unary(operator, operand) => {
-            Ok(Resolved::Unary(*operator, resolve_operand(alloc, operand, scope)?))
+            let operand = resolve_operand(alloc, operand, scope)?;
+            operated(alloc, Operation::Unary(*operator, operand))
         }
-        Expr::Binary(operator, left, right) => Ok(Resolved::Binary(
-            *operator,
-            resolve_operand(alloc, left, scope)?,
-            resolve_operand(alloc, right, scope)?,
-        )),
+        Expr::Binary(operator, left, right) => {
+            let left = resolve_operand(alloc, left, scope)?;
+            let right = resolve_operand(alloc, right, scope)?;
+            operated(alloc, Operation::Binary(*operator, left, right))
+        }
     }
 }
 
 #[cycle(resolving)]
-fn resolve_operand(
-    alloc: Global,
-    operand: &Operand,
-    scope: &Scope,
-) -> Result<ResolvedOperand, NoMemory>
-    ensures resolved { IfOk result (λ made. made ≡ resolved scope.now operand.now) }
+fn resolve_operand(alloc: Global, operand: &Operand, scope: &Scope) -> Result<Resolved, NoMemory>
+    ensures resolved { IfOk result (λ made. resolution_of made ≡ resolved scope.now operand.now) }
 {
-    ResolvedOperand::new(alloc, resolve(alloc, operand.expr(), scope)?)
+    resolve(alloc, operand.expr(), scope)
 }
 
 /// The place of a column, or NULL.

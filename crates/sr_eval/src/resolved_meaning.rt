@@ -17,7 +17,7 @@ use crate::comparison::{Sign, comparison};
 use crate::fault::EvalFault;
 use crate::meaning::{binary_worth, unary_worth};
 use crate::number::{Arithmetic, calculated};
-use crate::resolved::{Resolved, ResolvedOperand};
+use crate::resolved::{Boxed, Operation, Resolved};
 use crate::truth::Truth;
 use crate::untyped::copied;
 use crate::worth::Worth;
@@ -61,16 +61,26 @@ fn meaning_at<'a>(resolved: &'a Resolved, sources: &[Bound<'a>]) -> Option<Worth
     match resolved {
         Resolved::Literal(value) => Some(Worth::Held(value)),
         Resolved::Place(place) => Some(place_worth(sources, *place)),
-        Resolved::Unary(operator, operand) => {
-            let operand = operand_meaning(operand, sources)?;
+        Resolved::Operated(boxed) => operated_meaning(boxed, sources),
+    }
+}
+
+/// What an operator gives of its operands.
+#[cycle(meaning_at)]
+fn operated_meaning<'a>(boxed: &'a Boxed, sources: &[Bound<'a>]) -> Option<Worth<'a>>
+    ensures meaning { option_map meant result ≡ meaning_at (values_of sources.now) boxed.now }
+{
+    match boxed.operation() {
+        Operation::Unary(operator, operand) => {
+            let operand = meaning_at(operand, sources)?;
             unary_worth(*operator, operand)
         }
-        Resolved::Binary(operator, left, right) => {
+        Operation::Binary(operator, left, right) => {
             if let Some(number) = calculated_lying(*operator, left, right, sources) {
                 return Some(Worth::Made(number?));
             }
-            let left = operand_meaning(left, sources)?;
-            let right = operand_meaning(right, sources)?;
+            let left = meaning_at(left, sources)?;
+            let right = meaning_at(right, sources)?;
             binary_worth(*operator, left, right)
         }
     }
@@ -79,15 +89,15 @@ fn meaning_at<'a>(resolved: &'a Resolved, sources: &[Bound<'a>]) -> Option<Worth
 /// What arithmetic gives of two values that lie in the expression or in a row. Other operators, and other operands, are not reckoned here.
 fn calculated_lying<'a>(
     operator: Binary,
-    left: &'a ResolvedOperand,
-    right: &'a ResolvedOperand,
+    left: &'a Resolved,
+    right: &'a Resolved,
     sources: &[Bound<'a>],
 ) -> Option<Option<Value>>
-    ensures number { IfSome result (λ number. option_map a_value number ≡ of_both (binary_meaning operator) (meaning_at (values_of sources.now) left.now) (meaning_at (values_of sources.now) right.now)) }
+    ensures number { IfSome result (λ number. option_map a_value number ≡ of_both (binary_meaning operator) (meaning_at (values_of sources.now) (resolution_of left.now)) (meaning_at (values_of sources.now) (resolution_of right.now))) }
 {
     let operator = arithmetic_of(operator)?;
-    let value = lying_at(left.resolved(), sources)?;
-    let other = lying_at(right.resolved(), sources)?;
+    let value = lying_at(left, sources)?;
+    let other = lying_at(right, sources)?;
     Some(calculated(operator, value, other))
 }
 
@@ -108,13 +118,6 @@ fn arithmetic_of(operator: Binary) -> Option<Arithmetic>
         | Binary::Greater
         | Binary::AtLeast => None,
     }
-}
-
-#[cycle(meaning_at)]
-fn operand_meaning<'a>(operand: &'a ResolvedOperand, sources: &[Bound<'a>]) -> Option<Worth<'a>>
-    ensures meaning { option_map meant result ≡ meaning_at (values_of sources.now) operand.now }
-{
-    meaning_at(operand.resolved(), sources)
 }
 
 /// The value at a place, or NULL.
@@ -159,8 +162,7 @@ fn lying_at<'a>(resolved: &'a Resolved, sources: &[Bound<'a>]) -> Option<&'a Val
     match resolved {
         Resolved::Literal(value) => Some(value),
         Resolved::Place(place) => value_at_place(sources, *place),
-        Resolved::Unary(_, _) => None,
-        Resolved::Binary(_, _, _) => None,
+        Resolved::Operated(_) => None,
     }
 }
 
@@ -168,77 +170,82 @@ fn lying_at<'a>(resolved: &'a Resolved, sources: &[Bound<'a>]) -> Option<&'a Val
 ///
 /// Values that lie in the expression or in a row are compared there.
 #[cycle(judging_at)]
-#[tactic(auto, using(crate::proofs::Judgements::not_judged, crate::proofs::Judgements::and_judged, crate::proofs::Judgements::or_judged))]
 fn judged_at<'a>(resolved: &'a Resolved, sources: &[Bound<'a>]) -> Option<Truth>
     ensures truth { result ≡ option_map truth_of (meaning_at (values_of sources.now) (resolution_of resolved.now)) }
 {
     match resolved {
         Resolved::Literal(_) => Some(Truth::Unknown),
         Resolved::Place(_) => Some(Truth::Unknown),
-        Resolved::Unary(Unary::Not, operand) => {
-            let truth = judged_operand(operand, sources)?;
-            Some(truth.negation())
-        }
-        Resolved::Unary(_, _) => judged_whole(resolved, sources),
-        Resolved::Binary(Binary::And, left, right) => {
-            let left = judged_operand(left, sources)?;
-            let right = judged_operand(right, sources)?;
-            Some(left.and(right))
-        }
-        Resolved::Binary(Binary::Or, left, right) => {
-            let left = judged_operand(left, sources)?;
-            let right = judged_operand(right, sources)?;
-            Some(left.or(right))
-        }
-        Resolved::Binary(Binary::Equal, left, right) => compared(Sign::Equal, left, right, sources),
-        Resolved::Binary(Binary::Unequal, left, right) => {
-            compared(Sign::Unequal, left, right, sources)
-        }
-        Resolved::Binary(Binary::Less, left, right) => compared(Sign::Less, left, right, sources),
-        Resolved::Binary(Binary::AtMost, left, right) => {
-            compared(Sign::AtMost, left, right, sources)
-        }
-        Resolved::Binary(Binary::Greater, left, right) => {
-            compared(Sign::Greater, left, right, sources)
-        }
-        Resolved::Binary(Binary::AtLeast, left, right) => {
-            compared(Sign::AtLeast, left, right, sources)
-        }
-        Resolved::Binary(_, _, _) => judged_whole(resolved, sources),
+        Resolved::Operated(boxed) => judged_operation(boxed, sources),
     }
 }
 
+/// The truth of what an operator gives of its operands.
 #[cycle(judging_at)]
-fn judged_operand<'a>(operand: &'a ResolvedOperand, sources: &[Bound<'a>]) -> Option<Truth>
-    ensures truth { result ≡ option_map truth_of (meaning_at (values_of sources.now) operand.now) }
+#[tactic(auto, using(crate::proofs::Judgements::not_judged, crate::proofs::Judgements::and_judged, crate::proofs::Judgements::or_judged))]
+fn judged_operation<'a>(boxed: &'a Boxed, sources: &[Bound<'a>]) -> Option<Truth>
+    ensures truth { result ≡ option_map truth_of (meaning_at (values_of sources.now) boxed.now) }
 {
-    judged_at(operand.resolved(), sources)
+    match boxed.operation() {
+        Operation::Unary(Unary::Not, operand) => {
+            let truth = judged_at(operand, sources)?;
+            Some(truth.negation())
+        }
+        Operation::Unary(_, _) => judged_whole(boxed, sources),
+        Operation::Binary(Binary::And, left, right) => {
+            let left = judged_at(left, sources)?;
+            let right = judged_at(right, sources)?;
+            Some(left.and(right))
+        }
+        Operation::Binary(Binary::Or, left, right) => {
+            let left = judged_at(left, sources)?;
+            let right = judged_at(right, sources)?;
+            Some(left.or(right))
+        }
+        Operation::Binary(Binary::Equal, left, right) => {
+            compared(Sign::Equal, left, right, sources)
+        }
+        Operation::Binary(Binary::Unequal, left, right) => {
+            compared(Sign::Unequal, left, right, sources)
+        }
+        Operation::Binary(Binary::Less, left, right) => compared(Sign::Less, left, right, sources),
+        Operation::Binary(Binary::AtMost, left, right) => {
+            compared(Sign::AtMost, left, right, sources)
+        }
+        Operation::Binary(Binary::Greater, left, right) => {
+            compared(Sign::Greater, left, right, sources)
+        }
+        Operation::Binary(Binary::AtLeast, left, right) => {
+            compared(Sign::AtLeast, left, right, sources)
+        }
+        Operation::Binary(_, _, _) => judged_whole(boxed, sources),
+    }
 }
 
-/// The truth of what an expression gives.
-fn judged_whole<'a>(resolved: &'a Resolved, sources: &[Bound<'a>]) -> Option<Truth>
-    ensures truth { result ≡ option_map truth_of (meaning_at (values_of sources.now) (resolution_of resolved.now)) }
+/// The truth of what an operator gives that is no truth by itself.
+fn judged_whole<'a>(boxed: &'a Boxed, sources: &[Bound<'a>]) -> Option<Truth>
+    ensures truth { result ≡ option_map truth_of (meaning_at (values_of sources.now) boxed.now) }
 {
-    let worth = meaning_at(resolved, sources)?;
+    let worth = operated_meaning(boxed, sources)?;
     Some(worth.truth())
 }
 
 /// How two operands compare.
 fn compared<'a>(
     sign: Sign,
-    left: &'a ResolvedOperand,
-    right: &'a ResolvedOperand,
+    left: &'a Resolved,
+    right: &'a Resolved,
     sources: &[Bound<'a>],
 ) -> Option<Truth>
-    ensures truth { result ≡ option_map truth_of (of_both (λ a b. Some (a_truth (comparison (test_of sign) (cell_of a) (cell_of b)))) (meaning_at (values_of sources.now) left.now) (meaning_at (values_of sources.now) right.now)) }
+    ensures truth { result ≡ option_map truth_of (of_both (λ a b. Some (a_truth (comparison (test_of sign) (cell_of a) (cell_of b)))) (meaning_at (values_of sources.now) (resolution_of left.now)) (meaning_at (values_of sources.now) (resolution_of right.now))) }
 {
-    if let Some(value) = lying_at(left.resolved(), sources) {
-        if let Some(other) = lying_at(right.resolved(), sources) {
+    if let Some(value) = lying_at(left, sources) {
+        if let Some(other) = lying_at(right, sources) {
             return Some(comparison(sign, value, other));
         }
     }
     let null = Value::Null;
-    let value = operand_meaning(left, sources)?;
-    let other = operand_meaning(right, sources)?;
+    let value = meaning_at(left, sources)?;
+    let other = meaning_at(right, sources)?;
     Some(comparison(sign, value.cell(&null), other.cell(&null)))
 }

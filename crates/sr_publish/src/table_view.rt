@@ -2,7 +2,6 @@
 
 ghost use Rattle.std.specs.Prelude.{◌≡◌, true, Some, IfOk, filter_map};
 ghost use Rattle.std.specs.Option.{option_copied};
-ghost use Rattle.sr_ast.specs.Classes.{is_meant};
 ghost use Rattle.sr_ast.specs.Exprs.{term_of};
 ghost use Rattle.sr_eval.specs.Meanings.{found_at};
 ghost use Rattle.sr_publish.specs.Fits.{is_row};
@@ -15,7 +14,7 @@ use crate::articles::{columns_of, places_of, source_of};
 use crate::fits::is_row;
 use crate::subscribed::Subscribed;
 use crate::values::values_at;
-use sr_ast::{Expr, Scope};
+use sr_ast::{Expr, Scope, is_meant};
 use sr_base::{Copied, Name, NoMemory, Row, Seq, Value};
 use sr_catalog::Catalog;
 use sr_eval::{Bound, holds_plain};
@@ -312,18 +311,4 @@ fn found_at<'a>(
         values_left = values_after;
     }
     None
-}
-
-/// Whether a reference, with the name before its dot, means a column and its alias.
-fn is_meant(alias: &Option<Name>, column: &Name, table: &Option<Name>, name: &Name) -> bool
-    ensures { result ≡ is_meant alias.now column.now table.now name.now }
-{
-    if column.bytes() != name.bytes() {
-        return false;
-    }
-    match (alias, table) {
-        (_, None) => true,
-        (None, Some(_)) => false,
-        (Some(alias), Some(table)) => alias.bytes() == table.bytes(),
-    }
 }

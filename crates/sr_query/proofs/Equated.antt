@@ -1,6 +1,6 @@
 -- A condition that is true on a combination has the columns of the key equal to what it fixes for them.
-use Rattle.std.proofs.Common.{◌≡◌, ◌&&◌, ◌||◌, Bool, true, false, not, cond, ℕ, zero, suc, ℤ, List, [], ◌∷◌, ◌++◌, Option, Some, None}
-use Rattle.std.proofs.Common.{IsSome, is_some, unwrap_or, slice_get, ◌⊎◌, inl, inr, Result, Ok, refl, sym, ap, subst, ◌∙◌}
+use Rattle.std.proofs.Common.{◌≡◌, ◌&&◌, ◌||◌, Bool, true, false, cond, ℕ, zero, suc, ◌+◌, nat_eq, ℤ, List, [], ◌∷◌, ◌++◌, length, Option, Some, None}
+use Rattle.std.proofs.Common.{IsSome, unwrap_or, slice_get, ◌⊎◌, inl, inr, Result, Ok, refl, sym, ap, subst, arith, ◌∙◌}
 use Rattle.std.specs.Option.{option_map}
 use Rattle.std.specs.declared.cmp.Ordering.{Ordering}
 use Rattle.std.specs.declared.cmp.Ordering.TheVariants.{Less, Equal, Greater}
@@ -14,10 +14,9 @@ use Rattle.sr_base.specs.Order.{compared}
 use Rattle.sr_base.specs.declared.value.Kind.{Kind}
 use Rattle.sr_base.specs.declared.value.Value.{Value}
 use Rattle.sr_base.specs.declared.value.Value.TheVariants.{Null, Int, Big, Str, Date}
-use Rattle.sr_ast.specs.Classes.{is_meant}
 use Rattle.sr_ast.specs.Exprs.{term_of}
 use Rattle.sr_ast.specs.Terms.{Term}
-use Rattle.sr_ast.specs.Terms.Term.{literal, column, unary, binary}
+use Rattle.sr_ast.specs.Terms.Term.{literal as a_literal, column as a_column, unary as a_unary, binary as a_binary}
 use Rattle.sr_ast.specs.declared.expr.Expr.{Expr}
 use Rattle.sr_ast.specs.declared.operator.Unary.{Unary}
 use Rattle.sr_ast.specs.declared.operator.Unary.TheVariants.{Not, IsNull, IsNotNull, Negate}
@@ -26,20 +25,21 @@ use Rattle.sr_ast.specs.declared.operator.Binary.TheVariants as op
 use Rattle.sr_eval.specs.Bounds.{IsRowOf}
 use Rattle.sr_eval.specs.Comparisons.{tested}
 use Rattle.sr_eval.specs.Laws.{AndIsBoth}
-use Rattle.sr_eval.specs.Meanings.{Meaning, meaning, binary_meaning, of_both, value_at, found_at, is_true}
+use Rattle.sr_eval.specs.Meanings.{Meaning, meaning, binary_meaning, of_both, is_true}
 use Rattle.sr_eval.specs.Meanings.Meaning.{value, truth}
-use Rattle.sr_eval.specs.Resolutions.{place_of}
-use Rattle.sr_eval.specs.Uses.{is_plain, is_plain_unary, is_plain_binary}
+use Rattle.sr_eval.specs.Resolutions.{Resolution, place_of, meaning_at, at_place as at_resolution}
+use Rattle.sr_eval.specs.Resolutions.Resolution.{literal, place, unary, binary}
+use Rattle.sr_ast.specs.Uses.{is_plain}
 use Rattle.sr_eval.proofs.Plain.{plain_have_values}
-use Rattle.sr_eval.proofs.Sources.{value_at-append}
-use Rattle.sr_schema.specs.Expressions.{has_arithmetic, is_negation, is_arithmetic}
+use Rattle.sr_eval.proofs.Places.{resolved_meaning}
 use Rattle.sr_schema.specs.declared.fault.DmlFault.{DmlFault}
 use Rattle.sr_dml.specs.Checks.{Scope}
 use Rattle.sr_dml.specs.Fixing.{with_value}
 use Rattle.sr_dml.specs.Sequences.{or_else}
 use Rattle.sr_dml.specs.Statements.{key_of, tested as tested_meaning}
 use Rattle.sr_query.specs.Combinations.{meets, and_then}
-use Rattle.sr_query.specs.Lookups.{is_place, held_as, known_value, is_column, side, equated_binary, equated, equated_by, fixed_value, fixed_key}
+use Rattle.sr_query.specs.Equations.{Equation, of_column, of_sides, side_in, equations_binary, equations_in, equations}
+use Rattle.sr_query.specs.Lookups.{held_as, known_value, equated_one, equated, fixed_value, fixed_key}
 
 abbrev Key : Type 0
 Key = List Value
@@ -100,80 +100,35 @@ both_true : (a b : Bool) → (a && b) ≡ true → (a ≡ true) × (b ≡ true)
 both_true true b h = (refl, h)
 both_true false b h = cc
 
-both_are : (a b : Bool) → a ≡ true → b ≡ true → (a && b) ≡ true
-both_are true b h k = k
-both_are false b h k = cc
-
-neither : (a b : Bool) → (a || b) ≡ false → (a ≡ false) × (b ≡ false)
-neither true b h = cc
-neither false b h = (refl, h)
-
--- without arithmetic a condition has a value
-plain_unary : (o : Unary) → is_negation o ≡ false → is_plain_unary o ≡ true
-plain_unary Not h = refl
-plain_unary IsNull h = refl
-plain_unary IsNotNull h = refl
-plain_unary Negate h = cc
-
-plain_binary : (o : Binary) → is_arithmetic o ≡ false → is_plain_binary o ≡ true
-plain_binary op.Or h = refl
-plain_binary op.And h = refl
-plain_binary op.Equal h = refl
-plain_binary op.Unequal h = refl
-plain_binary op.Less h = refl
-plain_binary op.AtMost h = refl
-plain_binary op.Greater h = refl
-plain_binary op.AtLeast h = refl
-plain_binary op.Add h = cc
-plain_binary op.Subtract h = cc
-plain_binary op.Multiply h = cc
-
-plain : (t : Term) → has_arithmetic t ≡ false → is_plain t ≡ true
-plain (literal v) h = refl
-plain (column table name) h = refl
-plain (unary o a) h =
-    let parts = neither (is_negation o) (has_arithmetic a) h in
-    both_are (is_plain_unary o) (is_plain a) (plain_unary o parts.0) (plain a parts.1)
-plain (binary o a b) h =
-    let parts = neither (is_arithmetic o) (has_arithmetic a || has_arithmetic b) h in
-    let operands = neither (has_arithmetic a) (has_arithmetic b) parts.1 in
-    both_are (is_plain_binary o) (is_plain a && is_plain b) (plain_binary o parts.0)
-    (both_are (is_plain a) (is_plain b) (plain a operands.0) (plain b operands.1))
-
-same_place : (place : ℕ) (o : Option ℕ) → is_place place o ≡ true → o ≡ Some place
-same_place place None h = cc
-same_place place (Some found) h = ap Some (eqb-true found place h)
-
-is_missing : (o : Option Value) → not (is_some o) ≡ true → o ≡ None
-is_missing None h = refl
-is_missing (Some v) h = cc
-
-either : (x y : Option Value) (w u : Value) → or_else x y ≡ Some w → (x ≡ Some w → u ≡ w) → (y ≡ Some w → u ≡ w) → u ≡ w
-either None y w u h f g = g h
-either (Some x) y w u h f g = f h
-
+-- what stands at a place, or NULL where there is nothing
 abbrev pub at_place : Key → ℕ → Value
-at_place row place = unwrap_or (slice_get row place) Null
+at_place row n = unwrap_or (slice_get row n) Null
 
-value_at-place : (columns more : Scope) (row others : Key) (table : Option (List ℕ)) (name : List ℕ) (place : ℕ) → IsRowOf columns row
-    → place_of columns table name ≡ Some place → value_at (columns ++ more) (row ++ others) table name ≡ at_place row place
-value_at-place [] more row others table name place fits h = cc
-value_at-place (c ∷ columns) more [] others table name place fits h = absurd fits
-value_at-place (c ∷ columns) more (v ∷ row) others table name place fits h = go (is_meant c.0 c.1 table name) (place_of columns table name) h
-    (λ p. value_at-place columns more row others table name p fits.1) where
-      go : (b : Bool) (o : Option ℕ) → cond b (Some 0) (option_map suc o) ≡ Some place
-          → ((p : ℕ) → o ≡ Some p → value_at (columns ++ more) (row ++ others) table name ≡ at_place row p)
-          → cond b v (value_at (columns ++ more) (row ++ others) table name) ≡ at_place (v ∷ row) place
-      go true o k rest = let is : 0 ≡ place = cc in ap (at_place (v ∷ row)) is
-      go false None k rest = cc
-      go false (Some p) k rest = let is : suc p ≡ place = cc in rest p refl ∙ ap (at_place (v ∷ row)) is
-
-fits_at : (columns : Scope) (row : Key) (place : ℕ) (c : Option (List ℕ) × List ℕ × Kind) → IsRowOf columns row → slice_get columns place ≡ Some c
-    → fitted (at_place row place) c.2 ≡ Some (at_place row place)
-fits_at [] row place c fits there = cc
-fits_at (d ∷ columns) [] place c fits there = absurd fits
+fits_at : (columns : Scope) (row : Key) (n : ℕ) (c : Option (List ℕ) × List ℕ × Kind) → IsRowOf columns row → slice_get columns n ≡ Some c
+    → fitted (at_place row n) c.2 ≡ Some (at_place row n)
+fits_at [] row n c fits there = cc
+fits_at (d ∷ columns) [] n c fits there = absurd fits
 fits_at (d ∷ columns) (v ∷ row) zero c fits there = let is : d ≡ c = cc in subst (λ (x : Option (List ℕ) × List ℕ × Kind). fitted v x.2 ≡ Some v) is fits.0
-fits_at (d ∷ columns) (v ∷ row) (suc place) c fits there = fits_at columns row place c fits.1 there
+fits_at (d ∷ columns) (v ∷ row) (suc n) c fits there = fits_at columns row n c fits.1 there
+
+known_before : (values more : Key) (n : ℕ) (v : Value) → slice_get values n ≡ Some v → at_place (values ++ more) n ≡ v
+known_before [] more n v h = cc
+known_before (w ∷ values) more zero v h = cc
+known_before (w ∷ values) more (suc n) v h = known_before values more n v h
+
+-- a place of the next source is one of its row
+within : (columns : Scope) (row others : Key) (n : ℕ) (c : Option (List ℕ) × List ℕ × Kind) → IsRowOf columns row → slice_get columns n ≡ Some c
+    → at_place (row ++ others) n ≡ at_place row n
+within [] row others n c fits there = cc
+within (d ∷ columns) [] others n c fits there = absurd fits
+within (d ∷ columns) (v ∷ row) others zero c fits there = refl
+within (d ∷ columns) (v ∷ row) others (suc n) c fits there = within columns row others n c fits.1 there
+
+behind : (values more : Key) (n : ℕ) → at_place (values ++ more) (length values + n) ≡ at_place more n
+behind [] more n = ap (at_place more) (omega arith)
+behind (v ∷ values) more n =
+    let is : suc (length values) + n ≡ suc (length values + n) = omega arith in
+    ap (at_place (v ∷ (values ++ more))) is ∙ behind values more n
 
 false_stays : (o : Option Meaning) → IsSome o → is_true o ≡ false → tested_meaning o ≡ Ok false
 false_stays None s h = cc
@@ -183,140 +138,153 @@ true_goes : (o : Option Meaning) → is_true o ≡ true → tested_meaning o ≡
 true_goes None h = cc
 true_goes (Some m) h = ap (λ (b : Bool). let r : Result Bool DmlFault = Ok b in r) h
 
--- a combination: values of the sources before, a row of the next one, and values behind it
-module _ (before columns more : Scope) (values row others : Key) (known : IsRowOf before values) (fits : IsRowOf columns row) (and_is_both : AndIsBoth) where
-  abbrev columns_here : Scope
-  columns_here = before ++ (columns ++ more)
+-- values that fit a column alike
+abbrev AreAlike : Value → Value → Type 0
+AreAlike v w = (k : Kind) → fitted v k ≡ fitted w k
 
-  abbrev values_here : Key
-  values_here = values ++ (row ++ others)
-
+-- over the values of a combination
+module _ (scope : Scope) (all : Key) (and_is_both : AndIsBoth) where
   abbrev IsTrueHere : Term → Type 0
-  IsTrueHere t = is_true (meaning columns_here values_here t) ≡ true
+  IsTrueHere t = is_true (meaning scope all t) ≡ true
 
-  known_is : (t : Term) (v : Value) → known_value before values t ≡ Some v → meaning columns_here values_here t ≡ Some (value v)
-  known_is (literal w) v h = let is : w ≡ v = cc in ap (λ x. Some (value x)) is
-  known_is (column table name) v h =
-      ap (λ x. Some (value x)) (value_at-append before (columns ++ more) values (row ++ others) table name known
-      ∙ ap (λ o. unwrap_or o (value_at (columns ++ more) (row ++ others) table name)) h)
+  -- the value of a side
+  abbrev side_value : Resolution → Value
+  side_value (literal v) = v
+  side_value (place n) = at_place all n
+  side_value (unary o a) = Null
+  side_value (binary o a b) = Null
+
+  -- equations say what is so
+  abbrev AreSo : List Equation → Type 0
+  AreSo [] = Unit {0}
+  AreSo (e ∷ es) = AreAlike (at_place all e.0) (side_value e.1) × AreSo es
+
+  are_both : (es fs : List Equation) → AreSo es → AreSo fs → AreSo (es ++ fs)
+  are_both [] fs h k = k
+  are_both (e ∷ es) fs h k = (h.0, are_both es fs h.1 k)
+
+  side_is : (t : Term) (r : Resolution) → side_in scope t ≡ Some r → meaning scope all t ≡ Some (value (side_value r))
+  side_is (a_literal v) r h = let is : literal v ≡ r = cc in ap (λ x. Some (value (side_value x))) is
+  side_is (a_column table name) r h = go (place_of scope table name) refl h where
+    go : (o : Option ℕ) → place_of scope table name ≡ o → option_map place o ≡ Some r → meaning scope all (a_column table name) ≡ Some (value (side_value r))
+    go None e k = cc
+    go (Some n) e k =
+        let is : place n ≡ r = cc in
+        sym (resolved_meaning scope all (a_column table name)) ∙ ap (λ o. meaning_at all (at_resolution o)) e ∙ ap (λ x. Some (value (side_value x))) is
+  side_is (a_unary o a) r h = cc
+  side_is (a_binary o a b) r h = cc
+
+  column_is : (a b : Resolution) → AreAlike (side_value a) (side_value b) → AreSo (of_column a b)
+  column_is (literal v) b h = tt
+  column_is (place n) b h = (h, tt)
+  column_is (unary o a) b h = tt
+  column_is (binary o a c) b h = tt
+
+  sides_are : (a b : Term) (r s : Option Resolution) → side_in scope a ≡ r → side_in scope b ≡ s → IsTrueHere (a_binary op.Equal a b) → AreSo (of_sides r s)
+  sides_are a b None s f g t = tt
+  sides_are a b (Some r) None f g t = tt
+  sides_are a b (Some r) (Some s) f g t =
+      let alike : AreAlike (side_value r) (side_value s) = λ k. fitted_alike (side_value r) (side_value s) k
+      (equal_sides (meaning scope all a) (meaning scope all b) (side_value r) (side_value s) (side_is a r f) (side_is b s g) t) in
+      are_both (of_column r s) (of_column s r) (column_is r s alike) (column_is s r (λ k. sym (alike k)))
+
+  -- those of a condition that is true
+  binary_are : (o : Binary) (a b : Term) → (IsTrueHere a → AreSo (equations_in scope a)) → (IsTrueHere b → AreSo (equations_in scope b))
+      → IsTrueHere (a_binary o a b) → AreSo (equations_binary scope o a b (equations_in scope a) (equations_in scope b))
+  binary_are op.And a b f g t =
+      let both = both_true (is_true (meaning scope all a)) (is_true (meaning scope all b)) (sym (and_is_both scope all a b) ∙ t) in
+      are_both (equations_in scope a) (equations_in scope b) (f both.0) (g both.1)
+  binary_are op.Equal a b f g t = sides_are a b (side_in scope a) (side_in scope b) refl refl t
+  binary_are op.Or a b f g t = tt
+  binary_are op.Unequal a b f g t = tt
+  binary_are op.Less a b f g t = tt
+  binary_are op.AtMost a b f g t = tt
+  binary_are op.Greater a b f g t = tt
+  binary_are op.AtLeast a b f g t = tt
+  binary_are op.Add a b f g t = tt
+  binary_are op.Subtract a b f g t = tt
+  binary_are op.Multiply a b f g t = tt
+
+  are_so : (t : Term) → IsTrueHere t → AreSo (equations_in scope t)
+  are_so (a_literal v) t = tt
+  are_so (a_column table name) t = tt
+  are_so (a_unary o a) t = tt
+  are_so (a_binary o a b) t = binary_are o a b (are_so a) (are_so b) t
+
+  -- the conditions are not met, or their equations say what is so
+  by_conditions : (es : List Expr) → (meets scope es all ≡ Ok false) ⊎ AreSo (equations scope es)
+  by_conditions [] = inr tt
+  by_conditions (e ∷ es) = go (is_plain (term_of e)) refl (by_conditions es) where
+    go : (p : Bool) → is_plain (term_of e) ≡ p → (meets scope es all ≡ Ok false) ⊎ AreSo (equations scope es)
+        → (meets scope (e ∷ es) all ≡ Ok false) ⊎ AreSo (cond p (equations_in scope (term_of e) ++ equations scope es) [])
+    go false p rest = inr tt
+    go true p rest = on (is_true (meaning scope all (term_of e))) refl rest where
+      on : (b : Bool) → is_true (meaning scope all (term_of e)) ≡ b → (meets scope es all ≡ Ok false) ⊎ AreSo (equations scope es)
+          → (meets scope (e ∷ es) all ≡ Ok false) ⊎ AreSo (equations_in scope (term_of e) ++ equations scope es)
+      on false f later = inl (ap (λ r. and_then r (meets scope es all))
+          (false_stays (meaning scope all (term_of e)) (plain_have_values scope all (term_of e) p) f))
+      on true t (inl n) = inl (ap (λ r. and_then r (meets scope es all)) (true_goes (meaning scope all (term_of e)) t) ∙ n)
+      on true t (inr so) = inr (are_both (equations_in scope (term_of e)) (equations scope es) (are_so (term_of e) t) so)
+
+-- a combination: values of the sources before, a row of the next one, and values behind it
+module _ (scope columns : Scope) (values row others : Key) (fits : IsRowOf columns row) (and_is_both : AndIsBoth) where
+  abbrev all_here : Key
+  all_here = values ++ (row ++ others)
+
+  abbrev AreSoHere : List Equation → Type 0
+  AreSoHere es = AreSo scope all_here and_is_both es
+
+  known_is : (r : Resolution) (v : Value) → known_value values r ≡ Some v → side_value scope all_here and_is_both r ≡ v
+  known_is (literal w) v h = cc
+  known_is (place n) v h = known_before values (row ++ others) n v h
   known_is (unary o a) v h = cc
   known_is (binary o a b) v h = cc
 
-  module _ (place : ℕ) (c : Option (List ℕ) × List ℕ × Kind) (there : slice_get columns place ≡ Some c) where
-    column_is : (t : Term) → is_column before values columns place t ≡ true → meaning columns_here values_here t ≡ Some (value (at_place row place))
-    column_is (literal w) h = cc
-    column_is (column table name) h =
-        let parts = both_true (not (is_some (found_at before values table name))) (is_place place (place_of columns table name)) h in
-        ap (λ x. Some (value x))
-        (value_at-append before (columns ++ more) values (row ++ others) table name known
-        ∙ ap (λ o. unwrap_or o (value_at (columns ++ more) (row ++ others) table name)) (is_missing (found_at before values table name) parts.0)
-        ∙ value_at-place columns more row others table name place fits (same_place place (place_of columns table name) parts.1))
-    column_is (unary o a) h = cc
-    column_is (binary o a b) h = cc
-
+  module _ (n : ℕ) (c : Option (List ℕ) × List ℕ × Kind) (there : slice_get columns n ≡ Some c) where
     abbrev Holds : Value → Type 0
-    Holds v = at_place row place ≡ held_as c.2 v
+    Holds v = at_place row n ≡ held_as c.2 v
 
-    side_is : (a b : Term) (v : Value) → side before values columns place a b ≡ Some v
-        → (is_column before values columns place a ≡ true) × (known_value before values b ≡ Some v)
-    side_is a b v h = go (is_column before values columns place a) refl h where
-      go : (x : Bool) → is_column before values columns place a ≡ x → cond x (known_value before values b) None ≡ Some v
-          → (is_column before values columns place a ≡ true) × (known_value before values b ≡ Some v)
-      go true e k = (e, k)
-      go false e k = cc
+    one_is : (e : Equation) (v : Value) → AreAlike (at_place all_here e.0) (side_value scope all_here and_is_both e.1) → equated_one values n e ≡ Some v → Holds v
+    one_is e v so h = go (nat_eq e.0 (length values + n)) refl h where
+      go : (b : Bool) → nat_eq e.0 (length values + n) ≡ b → cond b (known_value values e.1) None ≡ Some v → Holds v
+      go false is k = cc
+      go true is k =
+          let here : at_place all_here e.0 ≡ at_place row n =
+          ap (at_place all_here) (eqb-true e.0 (length values + n) is) ∙ behind values (row ++ others) n ∙ within columns row others n c fits there in
+          held_is v (at_place row n) c.2 (fits_at columns row n c fits there)
+          (ap (λ x. fitted x c.2) (sym (known_is e.1 v k)) ∙ sym (so c.2) ∙ ap (λ x. fitted x c.2) here)
 
-    left_is : (a b : Term) (v : Value) → side before values columns place a b ≡ Some v → IsTrueHere (binary op.Equal a b) → Holds v
-    left_is a b v h t =
-        let sides = side_is a b v h in
-        held_is v (at_place row place) c.2 (fits_at columns row place c fits there)
-        (sym (fitted_alike (at_place row place) v c.2 (equal_sides (meaning columns_here values_here a) (meaning columns_here values_here b)
-        (at_place row place) v (column_is a sides.0) (known_is b v sides.1) t)))
+    equated_is : (es : List Equation) (v : Value) → AreSoHere es → equated values n es ≡ Some v → Holds v
+    equated_is [] v so h = cc
+    equated_is (e ∷ es) v so h = go (equated_one values n e) refl h (equated_is es v so.1) where
+      go : (o : Option Value) → equated_one values n e ≡ o → or_else o (equated values n es) ≡ Some v → (equated values n es ≡ Some v → Holds v) → Holds v
+      go None is k rest = rest k
+      go (Some w) is k rest = let same : w ≡ v = cc in one_is e v so.0 (is ∙ ap Some same)
 
-    right_is : (a b : Term) (v : Value) → side before values columns place b a ≡ Some v → IsTrueHere (binary op.Equal a b) → Holds v
-    right_is a b v h t =
-        let sides = side_is b a v h in
-        held_is v (at_place row place) c.2 (fits_at columns row place c fits there)
-        (fitted_alike v (at_place row place) c.2 (equal_sides (meaning columns_here values_here a) (meaning columns_here values_here b) v
-        (at_place row place) (known_is a v sides.1) (column_is b sides.0) t))
-
-    chosen : (x y : Option Value) (w : Value) → or_else x y ≡ Some w → (x ≡ Some w → Holds w) → (y ≡ Some w → Holds w) → Holds w
-    chosen None y w h f g = g h
-    chosen (Some x) y w h f g = f h
-
-    binary_is : (o : Binary) (a b : Term) (w : Value) → ((v : Value) → equated before values columns place a ≡ Some v → IsTrueHere a → Holds v)
-        → ((v : Value) → equated before values columns place b ≡ Some v → IsTrueHere b → Holds v)
-        → equated_binary before values columns place o a b (equated before values columns place a) (equated before values columns place b) ≡ Some w
-        → IsTrueHere (binary o a b) → Holds w
-    binary_is op.And a b w f g h t =
-        let both = both_true (is_true (meaning columns_here values_here a)) (is_true (meaning columns_here values_here b))
-        (sym (and_is_both columns_here values_here a b) ∙ t) in
-        chosen (equated before values columns place a) (equated before values columns place b) w h (λ e. f w e both.0) (λ e. g w e both.1)
-    binary_is op.Equal a b w f g h t = chosen (side before values columns place a b) (side before values columns place b a) w h (λ e. left_is a b w e t)
-        (λ e. right_is a b w e t)
-    binary_is op.Or a b w f g h t = cc
-    binary_is op.Unequal a b w f g h t = cc
-    binary_is op.Less a b w f g h t = cc
-    binary_is op.AtMost a b w f g h t = cc
-    binary_is op.Greater a b w f g h t = cc
-    binary_is op.AtLeast a b w f g h t = cc
-    binary_is op.Add a b w f g h t = cc
-    binary_is op.Subtract a b w f g h t = cc
-    binary_is op.Multiply a b w f g h t = cc
-
-    equated_is : (t : Term) (w : Value) → equated before values columns place t ≡ Some w → IsTrueHere t → Holds w
-    equated_is (literal v) w h t = cc
-    equated_is (column table name) w h t = cc
-    equated_is (unary o a) w h t = cc
-    equated_is (binary o a b) w h t = binary_is o a b w (equated_is a) (equated_is b) h t
-
-    -- the conditions are not met, or the column has what they make it equal to
-    by_conditions : (es : List Expr) (w : Value) → equated_by before values columns es place ≡ Some w → (meets columns_here es values_here ≡ Ok false) ⊎ Holds w
-    by_conditions [] w h = cc
-    by_conditions (e ∷ es) w h = go (has_arithmetic (term_of e)) refl h (by_conditions es w) where
-      go : (p : Bool) → has_arithmetic (term_of e) ≡ p
-          → cond p None (or_else (equated before values columns place (term_of e)) (equated_by before values columns es place)) ≡ Some w
-          → (equated_by before values columns es place ≡ Some w → (meets columns_here es values_here ≡ Ok false) ⊎ Holds w)
-          → (meets columns_here (e ∷ es) values_here ≡ Ok false) ⊎ Holds w
-      go true p k rest = cc
-      go false p k rest = on (is_true (meaning columns_here values_here (term_of e))) refl where
-        on : (b : Bool) → is_true (meaning columns_here values_here (term_of e)) ≡ b → (meets columns_here (e ∷ es) values_here ≡ Ok false) ⊎ Holds w
-        on false f = inl (ap (λ r. and_then r (meets columns_here es values_here))
-            (false_stays (meaning columns_here values_here (term_of e)) (plain_have_values columns_here values_here (term_of e) (plain (term_of e) p)) f))
-        on true t = first (equated before values columns place (term_of e)) refl k where
-          first : (o : Option Value) → equated before values columns place (term_of e) ≡ o → or_else o (equated_by before values columns es place) ≡ Some w
-              → (meets columns_here (e ∷ es) values_here ≡ Ok false) ⊎ Holds w
-          first (Some v) is m = let same : v ≡ w = cc in inr (equated_is (term_of e) w (is ∙ ap Some same) t)
-          first None is m = elim
-              (rest m) [
-                | inl n ↦ inl (ap (λ r. and_then r (meets columns_here es values_here)) (true_goes (meaning columns_here values_here (term_of e)) t)
-                    ∙ n)
-                | inr n ↦ inr n
-              ]
-
-  value_is : (es : List Expr) (place : ℕ) (o : Option (Option (List ℕ) × List ℕ × Kind)) (w : Value) → slice_get columns place ≡ o
-      → fixed_value before values columns es place o ≡ Some w → (meets columns_here es values_here ≡ Ok false) ⊎ (at_place row place ≡ w)
-  value_is es place None w there h = cc
-  value_is es place (Some c) w there h = go (equated_by before values columns es place) refl h where
-    go : (o : Option Value) → equated_by before values columns es place ≡ o → option_map (held_as c.2) o ≡ Some w
-        → (meets columns_here es values_here ≡ Ok false) ⊎ (at_place row place ≡ w)
+  value_is : (es : List Equation) (n : ℕ) (o : Option (Option (List ℕ) × List ℕ × Kind)) (w : Value) → AreSoHere es → slice_get columns n ≡ o
+      → fixed_value values es n o ≡ Some w → at_place row n ≡ w
+  value_is es n None w so there h = cc
+  value_is es n (Some c) w so there h = go (equated values n es) refl h where
+    go : (o : Option Value) → equated values n es ≡ o → option_map (held_as c.2) o ≡ Some w → at_place row n ≡ w
     go None e k = cc
-    go (Some v) e k = let same : held_as c.2 v ≡ w = cc in elim (by_conditions place c there es v e) [ inl n ↦ inl n | inr n ↦ inr (n ∙ same) ]
+    go (Some v) e k = let same : held_as c.2 v ≡ w = cc in equated_is n c there es v so e ∙ same
 
-  -- the conditions are not met, or the row stands under the key that they fix
-  pub key_is : (es : List Expr) (places : List ℕ) (key : Key) → fixed_key before values columns es places ≡ Some key
-      → (meets columns_here es values_here ≡ Ok false) ⊎ (key_of places row ≡ key)
-  key_is es [] key h = inr cc
-  key_is es (place ∷ places) key h = go (fixed_value before values columns es place (slice_get columns place)) (fixed_key before values columns es places)
-      (value_is es place (slice_get columns place)) (key_is es places) h where
-        go : (v : Option Value) (rest : Option Key)
-            → ((w : Value) → slice_get columns place ≡ slice_get columns place → v ≡ Some w → (meets columns_here es values_here ≡ Ok false) ⊎ (at_place row place ≡ w))
-            → ((ws : Key) → rest ≡ Some ws → (meets columns_here es values_here ≡ Ok false) ⊎ (key_of places row ≡ ws))
-            → with_value v rest ≡ Some key → (meets columns_here es values_here ≡ Ok false) ⊎ (key_of (place ∷ places) row ≡ key)
+  -- the row stands under the key that equations fix which say what is so
+  key_by : (es : List Equation) (places : List ℕ) (key : Key) → AreSoHere es → fixed_key values columns es places ≡ Some key → key_of places row ≡ key
+  key_by es [] key so h = cc
+  key_by es (n ∷ places) key so h = go (fixed_value values es n (slice_get columns n)) (fixed_key values columns es places) refl
+      (λ ws. key_by es places ws so) h where
+        go : (v : Option Value) (rest : Option Key) → fixed_value values es n (slice_get columns n) ≡ v
+            → ((ws : Key) → rest ≡ Some ws → key_of places row ≡ ws) → with_value v rest ≡ Some key → key_of (n ∷ places) row ≡ key
         go None rest f g k = cc
         go (Some w) None f g k = cc
         go (Some w) (Some ws) f g k =
             let is : w ∷ ws ≡ key = cc in
-            elim (f w refl refl) [
-              | inl n ↦ inl n
-              | inr here ↦ elim (g ws refl) [ inl n ↦ inl n | inr there ↦ inr ((λ i. here i ∷ there i) ∙ is) ]
-            ]
+            let here = value_is es n (slice_get columns n) w so refl f in
+            let there = g ws refl in
+            (λ i. here i ∷ there i) ∙ is
+
+  -- the conditions are not met, or the row stands under the key that they fix
+  pub key_is : (es : List Expr) (places : List ℕ) (key : Key) → fixed_key values columns (equations scope es) places ≡ Some key
+      → (meets scope es all_here ≡ Ok false) ⊎ (key_of places row ≡ key)
+  key_is es places key h = elim (by_conditions scope all_here and_is_both es) [ inl n ↦ inl n | inr so ↦ inr (key_by (equations scope es) places key so h) ]

@@ -8,10 +8,9 @@ use Rattle.std.specs.Ordering.{is_eq}
 use Rattle.sr_base.specs.Order.{key_cmp}
 use Rattle.sr_base.specs.declared.value.Value.{Value as Cell}
 use Rattle.sr_ast.specs.declared.expr.Expr.{Expr}
-use Rattle.sr_eval.specs.Bounds.{AreRows, columns_of, values_of}
+use Rattle.sr_eval.specs.Bounds.{values_of}
 use Rattle.sr_eval.specs.declared.bound.Bound.{Bound}
 use Rattle.sr_eval.specs.Laws.{AndIsBoth}
-use Rattle.sr_eval.proofs.Sources.{row_of_all}
 use Rattle.sr_rows.specs.Marks.{RowMap, rows_of_table}
 use Rattle.sr_rows.specs.Walks.{Entry, table_rows, Rises}
 use Rattle.sr_rows.proofs.Listing.{each_found, get-table_rows, table_rows-rise}
@@ -23,9 +22,10 @@ use Rattle.sr_dml.specs.Holding.{under, one_of}
 use Rattle.sr_dml.proofs.Folding.{itself}
 use Rattle.sr_dml.proofs.Outcomes.{above_same, row_under}
 use Rattle.sr_query.specs.Combinations.{combinations, kept, meets, over_each, with_kept, Keeps}
+use Rattle.sr_query.specs.Equations.{equations}
 use Rattle.sr_query.specs.Lookups.{fixed_key, over_one}
 use Rattle.sr_query.specs.Sources.{Origin}
-use Rattle.sr_query.specs.Walks.{IsJoined, columns_left, seen}
+use Rattle.sr_query.specs.Walks.{IsJoined, seen}
 use Rattle.sr_query.specs.declared.joined.Joined.{Joined}
 use Rattle.sr_query.proofs.Combined.{row_of_source}
 use Rattle.sr_query.proofs.Equated.{key_is}
@@ -91,9 +91,8 @@ module _ (scope : Scope) (conditions : List Expr) where
 
 -- the same of a source whose key is fixed
 module _ (rows : RowMap) (scope : Scope) (conditions : List Expr) (bounds : List Bound) (joined : Joined) (after : List Joined) (key : Key)
-    (columns : columns_of bounds ++ (joined.scope ++ columns_left after) ≡ scope) (fit : AreRows bounds) (source : IsJoined rows joined)
-    (and_is_both : AndIsBoth)
-    (fixed : fixed_key (columns_of bounds) (values_of bounds) joined.scope conditions joined.table.now.key ≡ Some key) where
+    (source : IsJoined rows joined) (and_is_both : AndIsBoth)
+    (fixed : fixed_key (values_of bounds) joined.scope (equations scope conditions) joined.table.now.key ≡ Some key) where
   abbrev entries : List Entry
   entries = table_rows rows joined.table.now.name
 
@@ -101,9 +100,8 @@ module _ (rows : RowMap) (scope : Scope) (conditions : List Expr) (bounds : List
       → IsOut scope conditions (values_of bounds ++ row)
   other_is_out k row held apart others =
       ap (meets scope conditions) (append_assoc (values_of bounds) row others)
-      ∙ ap (λ s. meets s conditions (values_of bounds ++ (row ++ others))) (sym columns)
-      ∙ elim (key_is (columns_of bounds) joined.scope (columns_left after) (values_of bounds) row others (row_of_all bounds fit)
-      (row_of_source rows joined k row source held) and_is_both conditions joined.table.now.key key fixed) [
+      ∙ elim (key_is scope joined.scope (values_of bounds) row others (row_of_source rows joined k row source held) and_is_both conditions
+      joined.table.now.key key fixed) [
         | inl n ↦ n
         | inr h ↦
             let is : key ≡ k = sym h ∙ (source.fits k row held).1 in

@@ -1,54 +1,51 @@
--- The column that a reference means, by its place.
-use Rattle.std.proofs.Common.{◌≡◌, Bool, true, false, cond, ℕ, List, [], ◌∷◌, ◌++◌, map, Option, Some, None, unwrap_or, slice_get, refl, ap, subst, ◌∙◌}
-use Rattle.std.specs.Option.{option_and_then}
+-- Columns by their places.
+use Rattle.std.proofs.Common.{◌≡◌, ◌≤◌, ◌<◌, ◌+◌, ◌-◌, Bool, true, false, ℕ, nat_eq, ne_eqb, List, [], ◌∷◌, ◌++◌, length, map, Option, unwrap_or, arith, refl, ap, ◌∙◌}
+use Rattle.std.proofs.lemmas.Bool.{eq-eqb, eqb-true, eqb-false}
+use Rattle.std.proofs.lemmas.List.{length-append}
 use Rattle.sr_base.specs.declared.value.Value.{Value}
 use Rattle.sr_base.specs.declared.value.Value.TheVariants.{Null}
-use Rattle.sr_ast.specs.Classes.{is_meant}
 use Rattle.sr_ast.specs.declared.query.OrderBy.{OrderBy}
-use Rattle.sr_eval.specs.Bounds.{IsRowOf, AreRows, columns_of, values_of}
+use Rattle.sr_eval.specs.Bounds.{values_of}
 use Rattle.sr_eval.specs.declared.bound.Bound.{Bound}
-use Rattle.sr_eval.specs.Meanings.{value_at, found_at}
+use Rattle.sr_eval.specs.Meanings.{value_at}
 use Rattle.sr_eval.specs.Resolutions.{place_of}
 use Rattle.sr_eval.proofs.Places.{found_at-place, value_found}
 use Rattle.sr_dml.specs.Checks.{Scope}
-use Rattle.sr_dml.specs.Sequences.{or_else}
 use Rattle.sr_query.specs.Orders.{rank_of, ranks_of, at_place, placed_in, ranks_at}
 
 abbrev Key : Type 0
 Key = List Value
 
--- a column of several sources is one of the first, or else one of those behind it
-found_more : (b : Bool) (v : Value) (o p : Option Value) (q : Option Value) → q ≡ or_else o p → cond b (Some v) q ≡ or_else (cond b (Some v) o) p
-found_more true v o p q e = refl
-found_more false v o p q e = e
+-- a place of the next source among those of all is none of the first source, and else it is behind the rest
+in_row : (row others : Key) (among_all place : ℕ) → among_all < length row → nat_eq among_all (length (row ++ others) + place) ≡ false
+in_row row others among_all place h =
+    let count = length-append row others in
+    ne_eqb among_all (length (row ++ others) + place) (λ e. omega arith)
 
-found_at-append : (columns more : Scope) (row others : Key) (table : Option (List ℕ)) (name : List ℕ) → IsRowOf columns row
-    → found_at (columns ++ more) (row ++ others) table name ≡ or_else (found_at columns row table name) (found_at more others table name)
-found_at-append [] more [] others table name fits = refl
-found_at-append [] more (v ∷ row) others table name fits = absurd fits
-found_at-append (c ∷ columns) more [] others table name fits = absurd fits
-found_at-append (c ∷ columns) more (v ∷ row) others table name fits = found_more (is_meant c.0 c.1 table name) v _ _ _
-    (found_at-append columns more row others table name fits.1)
+past_row : (row others : Key) (among_all place : ℕ) → length row ≤ among_all
+    → nat_eq among_all (length (row ++ others) + place) ≡ nat_eq (among_all - length row) (length others + place)
+past_row row others among_all place h = go (nat_eq (among_all - length row) (length others + place)) refl where
+  go : (b : Bool) → nat_eq (among_all - length row) (length others + place) ≡ b → nat_eq among_all (length (row ++ others) + place) ≡ b
+  go true is =
+      let count = length-append row others in
+      let same = eqb-true (among_all - length row) (length others + place) is in
+      eq-eqb among_all (length (row ++ others) + place) (omega arith)
+  go false is =
+      let count = length-append row others in
+      ne_eqb among_all (length (row ++ others) + place) (λ e. eqb-false (among_all - length row) (length others + place) is (omega arith))
 
-pub found_among : (sources : List Bound) (source : Bound) (after : List Bound) (table : Option (List ℕ)) (name : List ℕ) → sources ≡ source ∷ after
-    → AreRows sources
-    → found_at (columns_of sources) (values_of sources) table name ≡ or_else (found_at source.scope.now source.values.now table name)
-    (found_at (columns_of after) (values_of after) table name)
-found_among sources source after table name begins fit =
-    let rows : AreRows (source ∷ after) = subst AreRows begins fit in
-    rw begins (found_at-append source.scope.now (columns_of after) source.values.now (values_of after) table name rows.0)
+pub next_first : (sources : List Bound) (source : Bound) (after : List Bound) (among_all place : ℕ) → sources ≡ source ∷ after
+    → among_all < length source.values.now → nat_eq among_all (length (values_of sources) + place) ≡ false
+next_first sources source after among_all place begins h = rw begins (in_row source.values.now (values_of after) among_all place h)
 
--- a column is found by its place
-pub no_place : (columns : Scope) (row : Key) (table : Option (List ℕ)) (name : List ℕ) → place_of columns table name ≡ None → found_at columns row table name ≡ None
-no_place columns row table name h = found_at-place columns row table name ∙ ap (option_and_then (slice_get row)) h
+pub next_behind : (sources : List Bound) (source : Bound) (after : List Bound) (among_all place : ℕ) → sources ≡ source ∷ after
+    → length source.values.now ≤ among_all
+    → nat_eq among_all (length (values_of sources) + place) ≡ nat_eq (among_all - length source.values.now) (length (values_of after) + place)
+next_behind sources source after among_all place begins h = rw begins (past_row source.values.now (values_of after) among_all place h)
 
-pub at_found_place : (columns : Scope) (row : Key) (table : Option (List ℕ)) (name : List ℕ) (place : ℕ) → place_of columns table name ≡ Some place
-    → found_at columns row table name ≡ slice_get row place
-at_found_place columns row table name place h = found_at-place columns row table name ∙ ap (option_and_then (slice_get row)) h
+pub ruleset next_rules = (next_first, next_behind)
 
-pub ruleset found_rules = (found_among, no_place, at_found_place)
-
--- its value is the one at its place, or NULL
+-- the value of a column is the one at its place, or NULL
 value_placed : (columns : Scope) (row : Key) (table : Option (List ℕ)) (name : List ℕ)
     → value_at columns row table name ≡ at_place row (place_of columns table name)
 value_placed columns row table name = value_found columns row table name ∙ ap (λ o. unwrap_or o Null) (found_at-place columns row table name)

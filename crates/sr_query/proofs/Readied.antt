@@ -1,5 +1,5 @@
 -- A statement that is made ready does what it does by its names.
-use Rattle.std.proofs.Common.{◌≡◌, map, List, [], ◌∷◌, Option, Result, refl, sym, ap, ◌∙◌}
+use Rattle.std.proofs.Common.{◌≡◌, ℕ, map, List, [], ◌∷◌, Option, Result, refl, sym, ap, ◌∙◌}
 use Rattle.std.proofs.lemmas.List.{append-nil, append_assoc, map-append}
 use Rattle.sr_base.specs.declared.value.Value.{Value}
 use Rattle.sr_ast.specs.Exprs.{term_of}
@@ -18,6 +18,8 @@ use Rattle.sr_dml.specs.Checks.{Scope}
 use Rattle.sr_dml.specs.Sequences.{front, each}
 use Rattle.sr_dml.specs.Statements.{tested}
 use Rattle.sr_query.specs.Combinations.{meets, and_then}
+use Rattle.sr_query.specs.Equations.{equation_of, equations}
+use Rattle.sr_query.specs.Lookups.{fixed_key}
 use Rattle.sr_query.specs.Orders.{ranks_of, placed_in}
 use Rattle.sr_query.specs.Preparing.{resolved_in, IsPrepared, meets_at, value_by, resolved_item, resolved_items, row_by, placed_row}
 use Rattle.sr_query.specs.Rows.{valued, value_in, item_value, row_of, with_ranks, listed_row}
@@ -38,7 +40,12 @@ meets_same scope values (e ∷ es) =
 
 pub met_by : (p : Prepared) (values : List Value) → IsPrepared p
     → meets_at values (map resolution_of p.conditions) ≡ meets p.scope.now (conditions_of p.select.now) values
-met_by p values h = ap (meets_at values) h ∙ meets_same p.scope.now values (conditions_of p.select.now)
+met_by p values h = ap (meets_at values) h.conditions ∙ meets_same p.scope.now values (conditions_of p.select.now)
+
+-- the key that they fix for a source
+pub fixed_by : (p : Prepared) (values : List Value) (columns : Scope) (places : List ℕ) → IsPrepared p
+    → fixed_key values columns (map equation_of p.equations) places ≡ fixed_key values columns (equations p.scope.now (conditions_of p.select.now)) places
+fixed_by p values columns places h = ap (λ es. fixed_key values columns es places) h.equations
 
 -- the value of an expression
 value_same : (scope : Scope) (e : Expr) (values : List Value) → value_by (resolved_in scope e) values ≡ value_in scope e values

@@ -1,5 +1,6 @@
 pub mod Checks
 pub mod Combinations
+pub mod Equations
 pub mod Held
 pub mod Lookups
 pub mod Orders

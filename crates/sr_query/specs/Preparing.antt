@@ -16,6 +16,7 @@ use Rattle.sr_dml.specs.Checks.{Scope}
 use Rattle.sr_dml.specs.Sequences.{each}
 use Rattle.sr_dml.specs.Statements.{tested}
 use Rattle.sr_query.specs.Combinations.{and_then}
+use Rattle.sr_query.specs.Equations.{equation_of, equations}
 use Rattle.sr_query.specs.Orders.{ranks_at}
 use Rattle.sr_query.specs.Rows.{valued, with_ranks}
 use Rattle.sr_query.specs.Sources.{conditions_of}
@@ -29,9 +30,10 @@ use Rattle.sr_query.specs.declared.rank.Listed.{Listed}
 abbrev pub resolved_in : Scope → Expr → Resolution
 resolved_in scope e = resolved scope (term_of e)
 
--- the conditions of a statement are made ready
-abbrev pub IsPrepared : Prepared → Type 0
-IsPrepared p = map resolution_of p.conditions ≡ map (resolved_in p.scope.now) (conditions_of p.select.now)
+-- the conditions of a statement are made ready, and so are their equations
+pub record IsPrepared (p : Prepared) : Type 0 where
+  pub conditions : map resolution_of p.conditions ≡ map (resolved_in p.scope.now) (conditions_of p.select.now)
+  pub equations : map equation_of p.equations ≡ equations p.scope.now (conditions_of p.select.now)
 
 -- whether a combination meets resolved conditions: they are tested in order, up to the first that is not true
 abbrev pub meets_at : List Cell → List Resolution → Result Bool DmlFault

@@ -5,9 +5,9 @@ ghost use Rattle.sr_query.specs.Checks.{all_pass, is_good_item, are_good_items, 
 ghost use Rattle.sr_query.specs.Checks.{are_together, is_good};
 ghost use Rattle.sr_query.specs.Sources.{conditions_of};
 
-use crate::classes::{class_in, gives_number, gives_truth, gives_value};
+use crate::classes::gives_number;
 use crate::names::{are_distinct, is_ambiguous, means_two};
-use sr_ast::{Expr, Item, Items, Join, OrderBy, Scope, Select};
+use sr_ast::{Expr, Item, Items, Join, OrderBy, Scope, Select, class_in, gives_truth, gives_value};
 use sr_base::NoMemory;
 use std::alloc::Global;
 

@@ -46,7 +46,7 @@ pub(crate) fn walk<'a>(
         return keep(alloc, prepared, combination.as_slice(), kept);
     };
     and_holds_where_both_hold();
-    match fixed_key(alloc, prepared.select, combination.as_slice(), joined)? {
+    match fixed_key(alloc, prepared, combination.as_slice(), joined)? {
         Some(key) => walk_at(
             alloc,
             rows,

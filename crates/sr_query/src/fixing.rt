@@ -1,37 +1,39 @@
-ghost use Rattle.std.specs.Prelude.{◌≡◌, IfOk, slice_get};
+ghost use Rattle.std.specs.Prelude.{◌≡◌, ◌+◌, IfOk, length, map, nat_eq, slice_get};
 ghost use Rattle.std.specs.Option.{option_copied};
-ghost use Rattle.sr_ast.specs.Exprs.{term_of};
-ghost use Rattle.sr_eval.specs.Bounds.{AreRows, columns_of, values_of};
-ghost use Rattle.sr_query.specs.Lookups.{held_as, known_value, is_column, side, equated, equated_by, fixed_value, fixed_key};
+ghost use Rattle.sr_eval.specs.Bounds.{values_of};
+ghost use Rattle.sr_query.specs.Equations.{equation_of, equations, side_of};
+ghost use Rattle.sr_query.specs.Lookups.{equated, equated_one, fixed_key, fixed_value, held_as, known_value};
+ghost use Rattle.sr_query.specs.Preparing.{IsPrepared};
 ghost use Rattle.sr_query.specs.Sources.{conditions_of};
 
+use crate::equations::{Equation, Side};
 use crate::joined::Joined;
 use crate::lists::push;
-use crate::referring::value_among;
-use sr_ast::{Binary, Expr, Operand, Select};
-use sr_base::{Copied, Key, Kind, Name, NoMemory, Seq, Value};
+use crate::prepared::Prepared;
+use sr_ast::Scope;
+use sr_base::{Copied, Key, Kind, NoMemory, Seq, Value};
 use sr_dates::fit;
-use sr_eval::{Bound, place_of};
-use sr_schema::has_arithmetic;
+use sr_eval::{Bound, value_at_place};
 use std::alloc::Global;
 
-/// The key that the conditions fix for a source, once those before it have their rows. It goes over the conditions once for each column of
-/// the key.
-pub(crate) fn fixed_key<'a>(
+/// The key that the conditions fix for a source, once those before it have their rows. It goes over the equations once for each column of
+/// the key. No name is looked for.
+#[tactic(auto, using(crate::proofs::Readied::fixed_by))]
+pub(crate) fn fixed_key(
     alloc: Global,
-    select: &'a Select,
-    before: &[Bound<'a>],
+    prepared: &Prepared,
+    before: &[Bound],
     joined: &Joined,
 ) -> Result<Option<Key>, NoMemory>
-    requires fit { AreRows before.now }
-    ensures key { IfOk result (λ found. found ≡ fixed_key (columns_of before.now) (values_of before.now) joined.now.scope
-        (conditions_of select.now) joined.now.table.now.key) }
+    requires prepared { IsPrepared prepared.now }
+    ensures key { IfOk result (λ found. found ≡ fixed_key (values_of before.now) joined.now.scope
+        (equations prepared.now.scope.now (conditions_of prepared.now.select.now)) joined.now.table.now.key) }
 {
-    let columns = joined.scope.as_slice();
+    let equations = prepared.equations.as_slice();
     let mut values = Vec::new(alloc);
     let mut left = joined.table.key.as_slice();
     'places: while let Some((place, others)) = left.split_first() {
-        let Some(value) = fixed_value(alloc, select, before, columns, *place)? else {
+        let Some(value) = fixed_value(alloc, equations, before, &joined.scope, *place)? else {
             return Ok(None);
         };
         push(&mut values, value)?;
@@ -40,22 +42,21 @@ pub(crate) fn fixed_key<'a>(
     Ok(Some(Key::new(alloc, Seq::from_vec(values))?))
 }
 
-/// The value that the conditions fix for the column at a place.
+/// The value that the equations fix for the column at a place. Only a text is copied.
 fn fixed_value<'a>(
     alloc: Global,
-    select: &'a Select,
+    equations: &[Equation<'a>],
     before: &[Bound<'a>],
-    columns: &[(Option<Name>, Name, Kind)],
+    columns: &Scope,
     place: usize,
 ) -> Result<Option<Value>, NoMemory>
-    requires fit { AreRows before.now }
-    ensures value { IfOk result (λ found. found ≡ fixed_value (columns_of before.now) (values_of before.now) columns.now (conditions_of select.now) place
+    ensures value { IfOk result (λ found. found ≡ fixed_value (values_of before.now) (map equation_of equations.now) place
         (slice_get columns.now place)) }
 {
-    let Some(column) = columns.get(place) else {
+    let Some(column) = columns.as_slice().get(place) else {
         return Ok(None);
     };
-    let Some(value) = equated_by(select, before, columns, place) else {
+    let Some(value) = equated(equations, before, place) else {
         return Ok(None);
     };
     Ok(Some(held_as(column.2, value.copy(alloc)?)))
@@ -71,128 +72,50 @@ fn held_as(kind: Kind, value: Value) -> Value
     }
 }
 
-/// What the first of the conditions makes the column at a place equal to that does. It goes over the conditions up to the first with
-/// arithmetic.
-fn equated_by<'a>(
-    select: &'a Select,
-    before: &[Bound<'a>],
-    columns: &[(Option<Name>, Name, Kind)],
-    place: usize,
-) -> Option<&'a Value>
-    requires fit { AreRows before.now }
-    ensures { option_copied result ≡ equated_by (columns_of before.now) (values_of before.now) columns.now (conditions_of select.now) place }
+/// What the first of the equations makes the column at a place equal to that does. It looks at each up to that one, and copies nothing.
+fn equated<'a>(equations: &[Equation<'a>], before: &[Bound<'a>], place: usize) -> Option<&'a Value>
+    ensures { option_copied result ≡ equated (values_of before.now) place (map equation_of equations.now) }
 {
-    let mut left = select.joins.as_slice();
-    'joins: while let Some((join, rest)) = left.split_first() {
-        if has_arithmetic(&join.condition) {
-            return None;
-        }
-        if let Some(value) = equated(&join.condition, before, columns, place) {
-            return Some(value);
-        }
-        left = rest;
-    }
-    let Some(condition) = &select.condition else {
+    let Some((equation, rest)) = equations.split_first() else {
         return None;
     };
-    if has_arithmetic(condition) {
+    match equated_one(equation, before, place) {
+        Some(value) => Some(value),
+        None => equated(rest, before, place),
+    }
+}
+
+/// What an equation makes the column at a place equal to, if it is of this column and the other side is known.
+fn equated_one<'a>(equation: &Equation<'a>, before: &[Bound<'a>], place: usize) -> Option<&'a Value>
+    ensures { option_copied result ≡ equated_one (values_of before.now) place (equation_of equation.now) }
+{
+    if !is_column(before, equation.place, place) {
         return None;
     }
-    equated(condition, before, columns, place)
+    known_value(equation.other, before)
 }
 
-/// What a condition makes the column at a place equal to. It looks at each equation of the conjunction.
-#[cycle(equating)]
-fn equated<'a>(
-    expr: &'a Expr,
-    before: &[Bound<'a>],
-    columns: &[(Option<Name>, Name, Kind)],
-    place: usize,
-) -> Option<&'a Value>
-    requires fit { AreRows before.now }
-    ensures { option_copied result ≡ equated (columns_of before.now) (values_of before.now) columns.now place (term_of expr.now) }
+/// Whether a place among the columns of all sources is the one at a place of the next source. It passes over the sources before.
+#[tactic(auto, using(crate::proofs::Places::next_rules))]
+fn is_column(before: &[Bound], among_all: usize, place: usize) -> bool
+    ensures { result ≡ nat_eq among_all (length (values_of before.now) + place) }
 {
-    match expr {
-        Expr::Binary(Binary::And, left, right) => {
-            match equated_operand(left, before, columns, place) {
-                Some(value) => Some(value),
-                None => equated_operand(right, before, columns, place),
-            }
-        }
-        Expr::Binary(Binary::Equal, left, right) => {
-            match side(left.expr(), right.expr(), before, columns, place) {
-                Some(value) => Some(value),
-                None => side(right.expr(), left.expr(), before, columns, place),
-            }
-        }
-        Expr::Binary(_, _, _) => None,
-        Expr::Unary(_, _) => None,
-        Expr::Column(_, _) => None,
-        Expr::Literal(_) => None,
-    }
-}
-
-#[cycle(equating)]
-fn equated_operand<'a>(
-    operand: &'a Operand,
-    before: &[Bound<'a>],
-    columns: &[(Option<Name>, Name, Kind)],
-    place: usize,
-) -> Option<&'a Value>
-    requires fit { AreRows before.now }
-    ensures { option_copied result ≡ equated (columns_of before.now) (values_of before.now) columns.now place operand.now }
-{
-    equated(operand.expr(), before, columns, place)
-}
-
-/// The other side of an equation, where the first one is the column at a place and the other is known.
-fn side<'a>(
-    first: &Expr,
-    other: &'a Expr,
-    before: &[Bound<'a>],
-    columns: &[(Option<Name>, Name, Kind)],
-    place: usize,
-) -> Option<&'a Value>
-    requires fit { AreRows before.now }
-    ensures { option_copied result ≡ side (columns_of before.now) (values_of before.now) columns.now place (term_of first.now) (term_of other.now) }
-{
-    if !is_column(first, before, columns, place) {
-        return None;
-    }
-    known_value(other, before)
-}
-
-/// Whether an expression is the column at a place of the next source.
-fn is_column(
-    expr: &Expr,
-    before: &[Bound],
-    columns: &[(Option<Name>, Name, Kind)],
-    place: usize,
-) -> bool
-    requires fit { AreRows before.now }
-    ensures { result ≡ is_column (columns_of before.now) (values_of before.now) columns.now place (term_of expr.now) }
-{
-    let Expr::Column(table, name) = expr else {
-        return false;
+    let Some((source, after)) = before.split_first() else {
+        return among_all == place;
     };
-    if value_among(before, table, name).is_some() {
+    let count = source.values.len();
+    if among_all < count {
         return false;
     }
-    match place_of(columns, table, name) {
-        Some(found) => found == place,
-        None => false,
-    }
+    is_column(after, among_all - count, place)
 }
 
-/// A value that the sources before give.
-fn known_value<'a>(expr: &'a Expr, before: &[Bound<'a>]) -> Option<&'a Value>
-    requires fit { AreRows before.now }
-    ensures { option_copied result ≡ known_value (columns_of before.now) (values_of before.now) (term_of expr.now) }
+/// A value that the sources before give, or a literal. It passes over the sources before a column's own.
+fn known_value<'a>(side: Side<'a>, before: &[Bound<'a>]) -> Option<&'a Value>
+    ensures { option_copied result ≡ known_value (values_of before.now) (side_of side.entry) }
 {
-    match expr {
-        Expr::Literal(value) => Some(value),
-        Expr::Column(table, name) => value_among(before, table, name),
-        Expr::Unary(_, _) => None,
-        Expr::Binary(_, _, _) => None,
+    match side {
+        Side::Literal(value) => Some(value),
+        Side::Place(place) => value_at_place(before, place),
     }
 }

@@ -8,6 +8,7 @@ mod aggregates;
 mod checks;
 mod classes;
 mod combining;
+mod equations;
 mod fixing;
 mod items;
 mod joined;
@@ -19,7 +20,6 @@ mod parts;
 mod placing;
 mod prepared;
 mod rank;
-mod referring;
 mod selecting;
 mod unknown;
 

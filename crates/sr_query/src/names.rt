@@ -8,34 +8,13 @@ ghost use Rattle.sr_ast.specs.declared.query.Join.{Join as OfJoin};
 ghost use Rattle.sr_query.specs.Checks.{means_two, is_ambiguous, are_distinct};
 ghost use Rattle.sr_query.specs.Sources.{alias_of, sources_of};
 
-use sr_ast::{Expr, Join, Operand, Select, Source};
+use sr_ast::{Expr, Join, Operand, Select, Source, is_meant};
 use sr_base::{Kind, Name};
 
 fn is_same(left: &Name, right: &Name) -> bool
     ensures { result ≡ bytes_eq left.now right.now }
 {
     left.bytes() == right.bytes()
-}
-
-/// Whether a reference, with the name before its dot, means a column and its alias.
-pub(crate) fn is_meant(
-    alias: &Option<Name>,
-    column: &Name,
-    table: &Option<Name>,
-    name: &Name,
-) -> bool
-    ensures { result ≡ is_meant alias.now column.now table.now name.now }
-{
-    if !is_same(column, name) {
-        return false;
-    }
-    match table {
-        None => true,
-        Some(table) => match alias {
-            None => false,
-            Some(alias) => is_same(alias, table),
-        },
-    }
 }
 
 /// Whether a reference means one of these columns. It looks at each.

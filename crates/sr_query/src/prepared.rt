@@ -5,18 +5,21 @@ ghost use Rattle.sr_eval.specs.Resolving.{resolution_of};
 ghost use Rattle.sr_query.specs.Preparing.{resolved_in};
 ghost use Rattle.sr_query.specs.Sources.{conditions_of};
 
+use crate::equations::Equation;
 use crate::lists::push;
 use sr_ast::{Scope, Select};
 use sr_base::{NoMemory, Seq};
 use sr_eval::{Resolved, resolve};
 use std::alloc::Global;
 
-/// A statement, the columns of all of its sources, and its conditions in the order of their tests, their names resolved.
+/// A statement, the columns of all of its sources, and its conditions in the order of their tests, their names resolved: each as it is
+/// tested, and the equations that they make.
 #[derive(Drop)]
 pub(crate) struct Prepared<'a> {
     pub select: &'a Select,
     pub scope: &'a Scope,
     pub conditions: Seq<Resolved>,
+    pub equations: Seq<Equation<'a>>,
 }
 
 /// The conditions of a statement: each ON and then WHERE. Each name looks at the columns of all sources up to its own, once for a statement;

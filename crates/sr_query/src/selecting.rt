@@ -11,6 +11,7 @@ ghost use Rattle.sr_query.specs.Walks.{AreJoined, columns_left, found, seen};
 use crate::aggregates::listed;
 use crate::checks::is_good;
 use crate::combining::walk;
+use crate::equations::equations_of;
 use crate::joined::{Combination, Joined};
 use crate::joining::{joined_sources, scope_of};
 use crate::ordering::ordered;
@@ -93,6 +94,7 @@ fn kept<'a>(
         select,
         scope,
         conditions: conditions_of(alloc, scope, select)?,
+        equations: equations_of(alloc, scope, select)?,
     };
     let mut combination = Vec::new(alloc);
     let mut kept = Vec::new(alloc);

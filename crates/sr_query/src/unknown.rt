@@ -6,9 +6,7 @@ ghost use Rattle.sr_dml.specs.Sequences.{first_in};
 ghost use Rattle.sr_query.specs.Checks.{unknown_in_item, unknown_in_items, unknown_in_order, unknown_in_select};
 ghost use Rattle.sr_query.specs.Sources.{conditions_of};
 
-use crate::classes::unknown_in;
-use crate::names::is_meant;
-use sr_ast::{Item, Items, OrderBy, Scope, Select};
+use sr_ast::{Item, Items, OrderBy, Scope, Select, is_meant, unknown_in};
 use sr_base::{Copied, Kind, Name, NoMemory};
 use std::alloc::Global;
 

@@ -4,7 +4,8 @@ use Rattle.std.specs.List.{AllByRecursion}
 use Rattle.sr_base.specs.declared.value.Value.{Value as Cell}
 use Rattle.sr_ast.specs.declared.query.Dml.{Dml}
 use Rattle.sr_ast.specs.declared.query.Dml.TheVariants as dml
-use Rattle.sr_dml.specs.Checks.{scope_of, unknown_condition, bad_condition}
+use Rattle.sr_dml.specs.Checks.{unknown_condition, bad_condition}
+use Rattle.sr_schema.specs.Members.{scope_of}
 use Rattle.sr_dml.specs.Holding.{is_same_row, held}
 use Rattle.sr_dml.specs.Laws.{IsDifference}
 use Rattle.sr_dml.specs.Sequences.{followed}

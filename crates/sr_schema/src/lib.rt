@@ -25,9 +25,7 @@ mod user;
 
 pub use causes::Causes;
 pub use columns::{column_names, first_absent_column, key_names, scope_of};
-pub use exprs::{
-    add_refs, class_in, has_arithmetic, is_condition, is_operator, is_value, unknown_in,
-};
+pub use exprs::{add_refs, is_operator};
 pub use fault::{DdlFault, DmlFault};
 pub use firsts::{
     Seen, first, first_absent, first_name, first_twice, first_twice_of, is_empty, is_full,

@@ -18,7 +18,8 @@ use Rattle.sr_schema.specs.Catalogs.{Lists}
 use Rattle.sr_schema.specs.Causes.{no_cause}
 use Rattle.sr_schema.specs.Firsts.{first_of, first_among, where_true, has, first_twice, first_absent}
 use Rattle.sr_schema.specs.Names.{named, taken}
-use Rattle.sr_schema.specs.Expressions.{is_condition, refs, is_value}
+use Rattle.sr_ast.specs.Uses.{gives_truth, gives_value}
+use Rattle.sr_schema.specs.Expressions.{refs}
 use Rattle.sr_schema.specs.Members.{key_names, table_name, has_column, trigger_name}
 use Rattle.sr_schema.specs.declared.causes.Causes.{Causes}
 use Rattle.sr_schema.specs.declared.table.Table.{Table}
@@ -135,10 +136,10 @@ wanted cs (Some t) = cond (nat_eq (length cs) 0) (length t.columns) (length cs)
 
 -- a part with a wrong target, a wrong count of values, an undeclared variable or a wrong class
 unfoldable pub is_bad_part : CreateTrigger → List Table → Table → Scope → Part → Bool
-is_bad_part g tables t scope (assigned a n v) = not (is_target g t a n) || is_bad_expr is_value g.variables scope v
+is_bad_part g tables t scope (assigned a n v) = not (is_target g t a n) || is_bad_expr gives_value g.variables scope v
 is_bad_part g tables t scope (inserted into cs vs) =
-    not (nat_eq (length vs) (wanted cs (named table_name into tables))) || list_any (is_bad_expr is_value g.variables scope) vs
-is_bad_part g tables t scope (tested e) = is_bad_expr is_condition g.variables scope e
+    not (nat_eq (length vs) (wanted cs (named table_name into tables))) || list_any (is_bad_expr gives_value g.variables scope) vs
+is_bad_part g tables t scope (tested e) = is_bad_expr gives_truth g.variables scope e
 
 -- ---- CREATE TRIGGER
 

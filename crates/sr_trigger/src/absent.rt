@@ -10,9 +10,9 @@ ghost use Rattle.sr_trigger.specs.Triggers.{absent_behind, absent_ref, absent_of
 
 use crate::looking::{Look, first_in};
 use crate::scopes::trigger_scope;
-use sr_ast::{CreateTrigger, Expr, Image, Scope};
+use sr_ast::{CreateTrigger, Expr, Image, Scope, unknown_in};
 use sr_base::{Copied, Name, NoMemory};
-use sr_schema::{Schema, Table, add_refs, first_absent_column, first_name, is_taken, unknown_in};
+use sr_schema::{Schema, Table, add_refs, first_absent_column, first_name, is_taken};
 use std::alloc::Global;
 
 /// What a trigger names that is not there.

@@ -4,7 +4,7 @@ ghost use Rattle.std.specs.Prelude.{◌≡◌, map, nat_eq, option_map, is_some,
 ghost use Rattle.std.specs.List.{list_any};
 ghost use Rattle.std.specs.Option.{option_copied};
 ghost use Rattle.sr_ast.specs.Exprs.{term_of};
-ghost use Rattle.sr_schema.specs.Expressions.{is_condition, is_value};
+ghost use Rattle.sr_ast.specs.Uses.{gives_truth, gives_value};
 ghost use Rattle.sr_schema.specs.Firsts.{where_true, first_twice};
 ghost use Rattle.sr_trigger.specs.Triggers.{
   variable_name,
@@ -21,11 +21,11 @@ ghost use Rattle.sr_trigger.specs.Triggers.{
 
 use crate::looking::{Look, first_in};
 use crate::scopes::trigger_scope;
-use sr_ast::{CreateTrigger, Expr, Image, Scope};
+use sr_ast::{CreateTrigger, Expr, Image, Scope, class_in, gives_truth, gives_value};
 use sr_base::{Kind, Name, NoMemory};
 use sr_schema::{
-    Schema, Table, add_refs, class_in, first_name, first_twice_of, is_condition, is_taken,
-    is_value, item_named, key_names, owned, where_true,
+    Schema, Table, add_refs, first_name, first_twice_of, is_taken, item_named, key_names, owned,
+    where_true,
 };
 use std::alloc::Global;
 
@@ -208,11 +208,11 @@ fn is_bad_value(
     scope: &Scope,
     expr: &Expr,
 ) -> Result<bool, NoMemory>
-    ensures { IfOk result (λ bad. bad ≡ is_bad_expr is_value variables.now scope.now (term_of expr.now)) }
+    ensures { IfOk result (λ bad. bad ≡ is_bad_expr gives_value variables.now scope.now (term_of expr.now)) }
 {
     let undeclared = has_undeclared(alloc, variables, expr)?;
     let class = class_in(alloc, scope, expr)?;
-    Ok(undeclared || !is_value(class))
+    Ok(undeclared || !gives_value(class))
 }
 
 fn is_bad_condition(
@@ -221,11 +221,11 @@ fn is_bad_condition(
     scope: &Scope,
     expr: &Expr,
 ) -> Result<bool, NoMemory>
-    ensures { IfOk result (λ bad. bad ≡ is_bad_expr is_condition variables.now scope.now (term_of expr.now)) }
+    ensures { IfOk result (λ bad. bad ≡ is_bad_expr gives_truth variables.now scope.now (term_of expr.now)) }
 {
     let undeclared = has_undeclared(alloc, variables, expr)?;
     let class = class_in(alloc, scope, expr)?;
-    Ok(undeclared || !is_condition(class))
+    Ok(undeclared || !gives_truth(class))
 }
 
 fn has_bad_value(
@@ -234,7 +234,7 @@ fn has_bad_value(
     scope: &Scope,
     values: &[Expr],
 ) -> Result<bool, NoMemory>
-    ensures { IfOk result (λ bad. bad ≡ list_any (is_bad_expr is_value variables.now scope.now) (map term_of values.now)) }
+    ensures { IfOk result (λ bad. bad ≡ list_any (is_bad_expr gives_value variables.now scope.now) (map term_of values.now)) }
 {
     let mut rest = values;
     'values: while let Some((value, after)) = rest.split_first() {

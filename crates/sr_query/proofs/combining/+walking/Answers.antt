@@ -5,6 +5,7 @@ use Rattle.sr_rows.specs.Walks.{Entry}
 use Rattle.sr_rows.proofs.Cursors.{AreHeld, table_held}
 use Rattle.sr_dml.specs.Edits.{prefixed}
 use Rattle.sr_query.specs.Combinations.{combinations, kept, over_each, Keeps}
+use Rattle.sr_query.specs.Equations.{equations}
 use Rattle.sr_query.specs.Lookups.{fixed_key}
 use Rattle.sr_query.specs.Sources.{conditions_of}
 use Rattle.sr_query.specs.Walks.{AreJoined, columns_left, found, seen}
@@ -20,12 +21,12 @@ walk-returns-in-Some-2-clause-kept t c =
     let after = c.in-Some.after.now in
     let conditions = conditions_of c.args.prepared.now.select.now in
     let begins : c.args.left.now ≡ joined ∷ after = search rules in
-    let columns = ap (λ ls. columns_of bounds ++ columns_left ls) (sym begins) ∙ c.requires.scope in
     let sources = subst (AreJoined rows) begins c.requires.joined in
     let same : c.as_slice-2.result.now ≡ bounds = search rules in
-    let fixed : fixed_key (columns_of bounds) (values_of bounds) joined.scope conditions joined.table.now.key ≡ Some c.in-Some-2.key =
-    ap (λ bs. fixed_key (columns_of bs) (values_of bs) joined.scope conditions joined.table.now.key) (sym same) ∙ sym c.in_ok-key.ensures.key ∙ c.in-Some-2.is in
-    keeps_all rows c.args.prepared.now.scope.now conditions bounds joined after c.in-Some-2.key columns c.requires.fit sources.0 c.and_holds_where_both_hold.ensures.held fixed
+    let scope = c.args.prepared.now.scope.now in
+    let fixed : fixed_key (values_of bounds) joined.scope (equations scope conditions) joined.table.now.key ≡ Some c.in-Some-2.key =
+    ap (λ bs. fixed_key (values_of bs) joined.scope (equations scope conditions) joined.table.now.key) (sym same) ∙ sym c.in_ok-key.ensures.key ∙ c.in-Some-2.is in
+    keeps_all rows scope conditions bounds joined after c.in-Some-2.key sources.0 c.and_holds_where_both_hold.ensures.held fixed
     c.walk_at.result (found c.args.kept.now.items) (found c.walk_at.new.kept.items) c.args.left.now begins c.walk_at.ensures.kept
 
 pub walk-returns-in-None-clause-kept : goal.walk-returns-in-None-clause-kept
