@@ -63,7 +63,7 @@ all_stopped old new before seen now users purge bag count written between writte
   ended = ended_behind new before seen now written between written' gathered.lines broken.lines fault gathered.told (record { disk = gathered.site.disk_faults; mail = gathered.steady }) (of_mail before seen gathered.site) broken.ended;
   did = λ told publisher es database once.
       let all = gathered.did told publisher es database in
-      in_turns bag seen gathered.lines broken.lines all
+      in_turns bag seen gathered.lines broken.lines between all gathered.told
       (broken.did (told_then before seen (of_mail before seen gathered.site) told) publisher es all.gathering.comes all.database (holds_all bag all.gathering.comes all.bag_is users) once) refl;
 }
 

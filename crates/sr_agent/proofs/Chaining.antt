@@ -51,7 +51,7 @@ with_puts-append [] more before = refl
 with_puts-append (commit r ∷ items) more before = with_puts-append items more before
 with_puts-append (put address name bytes ∷ items) more before = with_puts-append items more (sent address name bytes true ∷ before)
 
-pub deliveries_more : (middle new : View) (before seen now : Seen) (publisher : Name) (es : List Recorded) (limit : ℕ) (done : List Partner) (partner : Partner) (earlier lines : List Line)
+abbrev pub deliveries_more : (middle new : View) (before seen now : Seen) (publisher : Name) (es : List Recorded) (limit : ℕ) (done : List Partner) (partner : Partner) (earlier lines : List Line)
     (took : TookDeliveries middle before seen publisher es limit done earlier) → TookDelivery new seen now publisher (after_deliveries publisher es took.deliveries) limit partner lines
     → TookDeliveries new before now publisher es limit (done ++ partner ∷ []) (earlier ++ lines)
 deliveries_more middle new before seen now publisher es limit done partner earlier lines took one =

@@ -16,6 +16,7 @@ use Rattle.sr_receive.specs.Entering.{IsReady}
 use Rattle.sr_schema.specs.Catalogs.{Lists}
 use Rattle.sr_send.specs.Letters.{address_in, letters, noted_letters, sent_note}
 use Rattle.sr_send.specs.Passes.{AreAll, HasSent, PutAndBegan, PutInPart, SendCause, sent_end, waiting}
+use Rattle.sr_send.specs.Posting.{IsDeviceFault}
 use Rattle.sr_send.specs.declared.fault.SendFault.{SendFault}
 use Rattle.sr_send.specs.declared.fault.SendFault.TheVariants as sends
 use Rattle.sr_send.specs.declared.sending.Sent.{Sent}
@@ -112,9 +113,9 @@ took_delivery old new before now publisher es limit partner sent told database h
 -- ---- a pass that a fault ended
 
 part_of : (old new : View) (before now : Seen) (publisher : Name) (es : List Recorded) (limit : ℕ) (partner : Partner) (why : SendFault) → IsDatabase old publisher es before
-    → SendCause old new before now partner.user limit partner.ask why → PutInPart old before now publisher es partner.user (book_in old.books partner.user) limit partner.ask
+    → SendCause old new before now partner.user limit partner.ask why → IsDeviceFault before now why → PutInPart old before now publisher es partner.user (book_in old.books partner.user) limit partner.ask
     → BrokeInDelivery old new before now publisher es limit partner [] (fault_of_send why)
-part_of old new before now publisher es limit partner why database cause part =
+part_of old new before now publisher es limit partner why database cause devices part =
     let user = partner.user in
     let book = book_in old.books user in
     let book_is : book ≡ books_of user es = database.is.books user in
@@ -127,6 +128,7 @@ part_of old new before now publisher es limit partner why database cause part =
       stop = record {
         why = why;
         cause = cause;
+        devices = devices;
         fault_is = refl;
         messages = messages;
         left = part.left;
@@ -140,11 +142,11 @@ part_of old new before now publisher es limit partner why database cause part =
     }
 
 note_of : (old new : View) (before now : Seen) (publisher : Name) (es : List Recorded) (limit : ℕ) (partner : Partner) (why : SendFault) (sent : Offset) (count : ℕ) → IsDatabase old publisher es before
-    → SendCause old new before now partner.user limit partner.ask why
+    → SendCause old new before now partner.user limit partner.ask why → IsDeviceFault before now why
     → PutAndBegan before now (address_in old.catalog partner.user) publisher es partner.user (book_in old.books partner.user) limit partner.ask sent count
     (commit (sent_note partner.user (book_in old.books partner.user) sent count) ∷ [])
     → BrokeInDelivery old new before now publisher es limit partner [] (fault_of_send why)
-note_of old new before now publisher es limit partner why sent count database cause part =
+note_of old new before now publisher es limit partner why sent count database cause devices part =
     let user = partner.user in
     let book = book_in old.books user in
     let book_is : book ≡ books_of user es = database.is.books user in
@@ -159,6 +161,7 @@ note_of old new before now publisher es limit partner why sent count database ca
       stop = record {
         why = why;
         cause = cause;
+        devices = devices;
         fault_is = refl;
         messages = messages;
         left = [];
@@ -177,17 +180,17 @@ note_of old new before now publisher es limit partner why sent count database ca
     }
 
 broke_delivery : (old new : View) (before now : Seen) (publisher : Name) (es : List Recorded) (limit : ℕ) (partner : Partner) (why : SendFault) → IsTrue before.told → IsDatabase old publisher es before
-    → SendCause old new before now partner.user limit partner.ask why → BrokeInDelivery old new before now publisher es limit partner [] (fault_of_send why)
-broke_delivery old new before now publisher es limit partner sends.Disk told database (rose, inl part) =
-    part_of old new before now publisher es limit partner sends.Disk database (rose, inl part) (part.part told publisher es database)
-broke_delivery old new before now publisher es limit partner sends.Disk told database (rose, inr note) =
-    note_of old new before now publisher es limit partner sends.Disk note.sent note.count database (rose, inr note) (note.part told publisher es database)
-broke_delivery old new before now publisher es limit partner sends.Mail told database cause = part_of old new before now publisher es limit partner sends.Mail database cause (cause.1.part told publisher es database)
-broke_delivery old new before now publisher es limit partner (sends.Full end need) told database cause =
-    part_of old new before now publisher es limit partner (sends.Full end need) database cause (cause.1.part told publisher es database)
-broke_delivery old new before now publisher es limit partner (sends.Long size longest) told database cause =
-    part_of old new before now publisher es limit partner (sends.Long size longest) database cause (cause.1.part told publisher es database)
-broke_delivery old new before now publisher es limit partner sends.Memory told database cause = part_of old new before now publisher es limit partner sends.Memory database cause (cause.part told publisher es database)
+    → SendCause old new before now partner.user limit partner.ask why → IsDeviceFault before now why → BrokeInDelivery old new before now publisher es limit partner [] (fault_of_send why)
+broke_delivery old new before now publisher es limit partner sends.Disk told database (rose, inl part) devices =
+    part_of old new before now publisher es limit partner sends.Disk database (rose, inl part) devices (part.part told publisher es database)
+broke_delivery old new before now publisher es limit partner sends.Disk told database (rose, inr note) devices =
+    note_of old new before now publisher es limit partner sends.Disk note.sent note.count database (rose, inr note) devices (note.part told publisher es database)
+broke_delivery old new before now publisher es limit partner sends.Mail told database cause devices = part_of old new before now publisher es limit partner sends.Mail database cause devices (cause.1.part told publisher es database)
+broke_delivery old new before now publisher es limit partner (sends.Full end need) told database cause devices =
+    part_of old new before now publisher es limit partner (sends.Full end need) database cause devices (cause.1.part told publisher es database)
+broke_delivery old new before now publisher es limit partner (sends.Long size longest) told database cause devices =
+    part_of old new before now publisher es limit partner (sends.Long size longest) database cause devices (cause.1.part told publisher es database)
+broke_delivery old new before now publisher es limit partner sends.Memory told database cause devices = part_of old new before now publisher es limit partner sends.Memory database cause devices (cause.part told publisher es database)
 
 -- ---- how it ends
 
@@ -256,17 +259,17 @@ if_fault holds fault (Ok x) is so = tt
 if_fault holds fault (Err e) is so = subst holds (sym is) so
 
 broken_send : (old new : View) (before now : Seen) (limit : ℕ) (partner : Partner) (written : Output) (why : SendFault) → IsReady old before → SendCause old new before now partner.user limit partner.ask why
-    → DeliveryBroken old new before now limit partner written written (fault_of_send why)
-broken_send old new before now limit partner written why ready cause = record {
+    → IsDeviceFault before now why → DeliveryBroken old new before now limit partner written written (fault_of_send why)
+broken_send old new before now limit partner written why ready cause devices = record {
   lines = [];
   ended = ended_send old new before now written partner.user limit partner.ask why ready cause;
-  did = λ told publisher es database. inr (broke_delivery old new before now publisher es limit partner why told database cause);
+  did = λ told publisher es database. inr (broke_delivery old new before now publisher es limit partner why told database cause devices);
 }
 
 pub send_answer : {T : Type 0} (old new : View) (before now : Seen) (limit : ℕ) (partner : Partner) (written : Output) (why : SendFault) (result : Result T AgentFault) → IsErrAnd result (λ e. e ≡ fault_of_send why)
-    → IsReady old before → SendCause old new before now partner.user limit partner.ask why → IfErr result (DeliveryBroken old new before now limit partner written written)
-send_answer old new before now limit partner written why result is ready cause =
-    if_fault (DeliveryBroken old new before now limit partner written written) (fault_of_send why) result is (broken_send old new before now limit partner written why ready cause)
+    → IsReady old before → SendCause old new before now partner.user limit partner.ask why → IsDeviceFault before now why → IfErr result (DeliveryBroken old new before now limit partner written written)
+send_answer old new before now limit partner written why result is ready cause devices =
+    if_fault (DeliveryBroken old new before now limit partner written written) (fault_of_send why) result is (broken_send old new before now limit partner written why ready cause devices)
 
 -- ---- what was told of it
 

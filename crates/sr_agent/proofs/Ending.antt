@@ -1,18 +1,23 @@
 -- How a step ends that was told, or could not be.
-use Rattle.std.proofs.Common.{◌≡◌, ℕ, List, [], ◌++◌, Result, Ok, Err, IfErr, IfOk, OnOk, refl, sym, ap, subst, inl, inr, ◌∙◌, arith}
+use Rattle.std.proofs.Common.{◌≡◌, ℕ, Bool, List, [], ◌++◌, Result, Ok, Err, IfErr, IfOk, OnOk, refl, sym, ap, subst, inl, inr, ◌∙◌, arith}
 use Rattle.std.proofs.lemmas.List.{append-nil}
+use Rattle.sr_book.specs.Entries.{Name}
 use Rattle.sr_database.specs.Views.{View}
+use Rattle.sr_history.specs.Recorded.{Recorded}
 use Rattle.sr_receive.specs.Passes.{IsDeviceFault}
+use Rattle.sr_gather.specs.Letters.{Came}
 use Rattle.sr_gather.specs.declared.fault.ReceiveFault.{ReceiveFault}
 use Rattle.sr_gather.specs.declared.fault.ReceiveFault.TheVariants as receives
 use Rattle.sr_site.specs.Causes.{Stays}
 use Rattle.sr_site.specs.Seen.{Seen}
 use Rattle.sr_site.specs.Streams.{Output}
+use Rattle.sr_standing.specs.Items.{Item}
 use Rattle.sr_agent.specs.Ends.{Ended, IsUsableEnd}
 use Rattle.sr_agent.specs.Faults.{fault_of_receive}
 use Rattle.sr_agent.specs.Lines.{Line, lines_text}
 use Rattle.sr_agent.specs.Steps.{TellCause, Told}
-use Rattle.sr_agent.specs.Stops.{IsFaultOr, IsUntold}
+use Rattle.sr_agent.specs.Stops.{IsFaultOr, IsUntold, RemovedInPart, TurnStop, begun, behind_letters, in_letters, untouched}
+use Rattle.sr_agent.specs.Turns.{Turn}
 use Rattle.sr_agent.specs.declared.fault.AgentFault.{AgentFault}
 use Rattle.sr_agent.specs.declared.fault.AgentFault.TheVariants.{Disk, Mail, Sink, Full, Long, Memory}
 
@@ -90,3 +95,25 @@ ended_either new before now written written' lines why (Ok count) first fault id
     ended_told new before now written written' lines why fault idle stays device usable (one ∙ is) tells
 ended_either new before now written written' lines why (Err refused) first fault idle stays device usable tells cause is one other =
     ended_untold new before now written written' lines why fault idle stays (subst (λ (f : AgentFault). TellCause (lines_text lines) written written' f) (sym other) cause)
+
+-- ---- a turn that a fault ended, behind other lines
+
+removed_so : (publisher : Name) (es : List Recorded) (comes : List Came) (t : Turn) (between now : Seen) (fault : AgentFault) (purge : Bool) (one all : Type 0) → (one → all)
+    → RemovedInPart publisher es comes t between now fault purge one → RemovedInPart publisher es comes t between now fault purge all
+removed_so publisher es comes t between now fault purge one all so (untouched same why) = untouched same why
+removed_so publisher es comes t between now fault purge one all so (begun on told why cause is) = begun on (so told) why cause is
+
+pub turn_stopped : (publisher : Name) (es : List Recorded) (comes : List Came) (user : Name) (db new : View) (seen now : Seen) (items : List Item) (lines : List Line) (fault : AgentFault) (purge : Bool) (one all : Type 0)
+    → (one → all) → TurnStop publisher es comes user db new seen now items lines fault purge one → TurnStop publisher es comes user db new seen now items lines fault purge all
+turn_stopped publisher es comes user db new seen now items lines fault purge one all so (in_letters stop) = in_letters stop
+turn_stopped publisher es comes user db new seen now items lines fault purge one all so (behind_letters stop) = behind_letters (record {
+  turn = stop.turn;
+  user_is = stop.user_is;
+  is = stop.is;
+  between = stop.between;
+  database = stop.database;
+  mail = stop.mail;
+  removed = removed_so publisher es comes stop.turn stop.between now fault purge one all so stop.removed;
+  items_are = stop.items_are;
+  lines_are = stop.lines_are;
+})

@@ -138,7 +138,7 @@ broke_on middle new old before seen now publisher es limit done partner others e
   earlier = earlier ++ lines;
   took = deliveries_more middle new before seen now publisher es limit done partner earlier lines took untold.took;
   told = [];
-  stop = inl (record { same = refl; still = refl; none = refl; why = untold.why });
+  stop = inl (record { last = untold.took.delivery; earlier = took.deliveries; put = refl; same = refl; still = refl; none = refl; why = untold.why });
   lines_are = sym (append-nil (earlier ++ lines));
 }
 broke_on middle new old before seen now publisher es limit done partner others earlier lines fault took (inr broke) = record {

@@ -32,7 +32,7 @@ use Rattle.sr_site.specs.Causes.{Stays}
 use Rattle.sr_site.specs.Seen.{Seen}
 use Rattle.sr_site.specs.Streams.{Output}
 use Rattle.sr_standing.specs.Items.{commit}
-use Rattle.sr_agent.specs.Ends.{IsUsableEnd}
+use Rattle.sr_agent.specs.Ends.{HasTold, IsUsableEnd}
 use Rattle.sr_agent.specs.Faults.{fault_of_receive}
 use Rattle.sr_agent.specs.Lines.{Line, lines_text, report_lines}
 use Rattle.sr_agent.specs.Shares.{HasSome, TookLetters, ToldLetters, Turned}
@@ -164,9 +164,9 @@ letters_told old new before middle user bag bag' written written' none shown rep
 
 -- the turn was had, and no file was removed yet
 pub turned_untold : (old new : View) (before middle : Seen) (user : Name) (bag bag' : List Share) (ask : Bool) (lines : List Line) (fault : AgentFault) → TookLetters old new before middle user bag bag' ask lines → IsUntold fault
-    → IsTrue before.told → (publisher : Name) (es : List Recorded) (comes : List Came) → IsDatabase old publisher es before → Has bag user (letters_from user comes) []
-    → BrokeInTurn old new before middle publisher es comes user lines fault
-turned_untold old new before middle user bag bag' ask lines fault took why told publisher es comes database has =
+    → (purge : Bool) (whole : Type 0) → IsTrue before.told → (publisher : Name) (es : List Recorded) (comes : List Came) → IsDatabase old publisher es before → Has bag user (letters_from user comes) []
+    → BrokeInTurn old new before middle publisher es comes purge user lines fault whole
+turned_untold old new before middle user bag bag' ask lines fault took why purge whole told publisher es comes database has =
     let turned = took.did told publisher es comes database has in
     record {
       items = map commit (turn_entries publisher es comes turned.turn);
@@ -213,8 +213,8 @@ by_cause new before middle written written' lines why fault idle stays device us
 broken_in : (old new : View) (before middle : Seen) (user : Name) (bag bag' : List Share) (written written' : Output) (reports : List Report) (why : ReceiveFault) (fault : AgentFault) → HasSome bag user
     → ReceiveCause old new before middle user bag bag' [] reports why
     → ((fault ≡ fault_of_receive why) × Told (lines_text (report_lines reports)) written written') ⊎ TellCause (lines_text (report_lines reports)) written written' fault
-    → TurnBroken old new before middle user bag written written' fault
-broken_in old new before middle user bag bag' written written' reports why fault some cause said =
+    → (purge : Bool) → TurnBroken old new before middle user bag purge written written' fault
+broken_in old new before middle user bag bag' written written' reports why fault some cause said purge =
     let here = cause.passed some.letters some.lost some.has in
     let part = reached_part old new before middle user some.letters some.lost here.0 reports why here.2 in
     let by = by_cause new before middle written written' (report_lines reports) why fault part.reached.idle part.reached.stays cause.why (usable_part old new before middle why part) said in
@@ -245,8 +245,8 @@ broken_in old new before middle user bag bag' written written' reports why fault
 broken_behind : (old new : View) (before middle : Seen) (user : Name) (bag bag' : List Share) (written written' : Output) (reports : List Report) (answer : Received) (fault : AgentFault) → IsReady old before → IsUser old user
     → HasSome bag user → HasReceived old new before middle user bag bag' [] reports answer
     → ((front behind : List Report) → IsParted reports answer.ask front behind → TellCause (lines_text (turn_said user answer front behind)) written written' fault)
-    → TurnBroken old new before middle user bag written written' fault
-broken_behind old new before middle user bag bag' written written' reports answer fault ready is_user some received cause =
+    → (purge : Bool) → TurnBroken old new before middle user bag purge written written' fault
+broken_behind old new before middle user bag bag' written written' reports answer fault ready is_user some received cause purge =
     let parts = some_parted old new before middle user bag bag' reports answer some received in
     let lines = turn_said user answer parts.0 parts.1 in
     let all = took old new before middle user bag bag' reports parts.0 parts.1 answer ready is_user some received parts.2 in
@@ -254,24 +254,24 @@ broken_behind old new before middle user bag bag' written written' reports answe
     record {
       lines = lines;
       ended = untold_end new before middle written written' lines fault all.ready.idle all.stays why;
-      did = turned_untold old new before middle user bag bag' answer.ask lines fault all (untold_is (lines_text lines) written written' fault why);
+      did = turned_untold old new before middle user bag bag' answer.ask lines fault all (untold_is (lines_text lines) written written' fault why) purge (HasTold lines written written');
     }
 
 broken_of : (old new : View) (before middle : Seen) (user : Name) (bag bag' : List Share) (written written' : Output) (reports : List Report) (outcome : Result Received ReceiveFault) (fault : AgentFault) → IsReady old before
     → IsUser old user → HasSome bag user → IfOk outcome (HasReceived old new before middle user bag bag' [] reports) → IfErr outcome (ReceiveCause old new before middle user bag bag' [] reports)
-    → OutcomeCause user outcome reports written written' fault → TurnBroken old new before middle user bag written written' fault
-broken_of old new before middle user bag bag' written written' reports (Ok answer) fault ready is_user some received stopped cause =
-    broken_behind old new before middle user bag bag' written written' reports answer fault ready is_user some received cause
-broken_of old new before middle user bag bag' written written' reports (Err why) fault ready is_user some received stopped cause =
-    broken_in old new before middle user bag bag' written written' reports why fault some stopped cause
+    → OutcomeCause user outcome reports written written' fault → (purge : Bool) → TurnBroken old new before middle user bag purge written written' fault
+broken_of old new before middle user bag bag' written written' reports (Ok answer) fault ready is_user some received stopped cause purge =
+    broken_behind old new before middle user bag bag' written written' reports answer fault ready is_user some received cause purge
+broken_of old new before middle user bag bag' written written' reports (Err why) fault ready is_user some received stopped cause purge =
+    broken_in old new before middle user bag bag' written written' reports why fault some stopped cause purge
 
 pub letters_broken : (old new : View) (before middle : Seen) (user : Name) (bag bag' : List Share) (written written' : Output) (none shown reports : List Report) (outcome : Result Received ReceiveFault)
     (result : Result (Received × ℕ) AgentFault) → none ≡ [] → shown ≡ reports → IsReady old before → IsUser old user → HasSome bag user → IfOk outcome (HasReceived old new before middle user bag bag' none reports)
     → IfErr outcome (ReceiveCause old new before middle user bag bag' none reports) → IfErr result (OutcomeCause user outcome shown written written')
-    → IfErr result (TurnBroken old new before middle user bag written written')
-letters_broken old new before middle user bag bag' written written' none shown reports outcome (Ok answer) is_none is ready is_user some received stopped cause = tt
-letters_broken old new before middle user bag bag' written written' none shown reports outcome (Err fault) is_none is ready is_user some received stopped cause =
+    → (purge : Bool) → IfErr result (TurnBroken old new before middle user bag purge written written')
+letters_broken old new before middle user bag bag' written written' none shown reports outcome (Ok answer) is_none is ready is_user some received stopped cause purge = tt
+letters_broken old new before middle user bag bag' written written' none shown reports outcome (Err fault) is_none is ready is_user some received stopped cause purge =
     broken_of old new before middle user bag bag' written written' reports outcome fault ready is_user some
     (subst (λ (rs : List Report). IfOk outcome (HasReceived old new before middle user bag bag' rs reports)) is_none received)
     (subst (λ (rs : List Report). IfErr outcome (ReceiveCause old new before middle user bag bag' rs reports)) is_none stopped)
-    (subst (λ (rs : List Report). OutcomeCause user outcome rs written written' fault) is cause)
+    (subst (λ (rs : List Report). OutcomeCause user outcome rs written written' fault) is cause) purge

@@ -16,15 +16,17 @@ use Rattle.sr_site.specs.Streams.{Output, OutputStays}
 use Rattle.sr_standing.specs.Items.{Item, commit}
 use Rattle.sr_standing.specs.Trails.{Went}
 use Rattle.sr_standing.proofs.Joining.{joined}
-use Rattle.sr_agent.specs.Ends.{CountEnd, Ended, Wrote}
+use Rattle.sr_agent.specs.Ends.{CountEnd, Ended, HasTold, Wrote}
 use Rattle.sr_agent.specs.Lines.{Line, lines_text}
 use Rattle.sr_agent.specs.Steps.{Told, TurnBroken, TurnsBroken}
 use Rattle.sr_agent.specs.Turns.{turns_entries}
 use Rattle.sr_agent.specs.declared.fault.AgentFault.{AgentFault}
 use Rattle.sr_agent.specs.declared.fault.AgentFault.TheVariants.{Disk, Mail, Sink, Full, Long, Memory}
 use Rattle.sr_agent.specs.declared.progress.Progress.{Progress}
+use Rattle.sr_agent.proofs.Ending.{turn_stopped}
 use Rattle.sr_agent.proofs.Joints.{commits_of}
 use Rattle.sr_agent.proofs.Ordering.{IsTurning, lines_append, sink_on}
+use Rattle.sr_agent.proofs.Written.{told_before, told_behind}
 
 -- ---- ends, behind what was told before
 
@@ -68,7 +70,7 @@ ended_on new before seen now a b c one two fault steady stays told ended = recor
 
 pub turning_stop : (old db new : View) (before seen now : Seen) (users : List Name) (user : Name) (rest : List Name) (bag bag' : List Share) (purge : Bool) (progress progress' : Progress)
     (written written' written'' : Output) (fault : AgentFault) → IsTurning old db before seen users (user ∷ rest) bag bag' purge progress progress' written written'
-    → TurnBroken db new seen now user bag' written' written'' fault → TurnsBroken old new before now users bag purge written written'' fault
+    → TurnBroken db new seen now user bag' purge written' written'' fault → TurnsBroken old new before now users bag purge written written'' fault
 turning_stop old db new before seen now users user rest bag bag' purge progress progress' written written' written'' fault so one = record {
   lines = so.lines ++ one.lines;
   ended = ended_on new before seen now written written' written'' so.lines one.lines fault so.steady so.stays so.told one.ended;
@@ -88,8 +90,10 @@ turning_stop old db new before seen now users user rest bag bag' purge progress 
         took = first.took;
         told = one.lines;
         items = next.items;
-        stop = next.stop;
+        stop = turn_stopped publisher (es ++ entries) comes user db new seen now next.items one.lines fault purge (HasTold one.lines written' written'') (HasTold (so.lines ++ one.lines) written written'')
+            (told_behind so.lines one.lines written written' written'' so.told) next.stop;
         went = joined before seen now publisher es (map commit entries) next.items first.took.went (subst (λ (rs : List Recorded). Went seen now publisher (es ++ rs) next.items) (sym (commits_of entries)) next.went);
         lines_are = refl;
+        earlier_told = told_before so.lines one.lines written written' written'' fault so.told one.ended.wrote;
       };
 }

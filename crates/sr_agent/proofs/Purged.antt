@@ -24,7 +24,7 @@ use Rattle.sr_site.specs.Happenings.{Happening, removed}
 use Rattle.sr_site.specs.Seen.{Seen}
 use Rattle.sr_site.specs.Streams.{Output}
 use Rattle.sr_standing.specs.Items.{commit}
-use Rattle.sr_agent.specs.Ends.{IsUsableEnd}
+use Rattle.sr_agent.specs.Ends.{HasTold, IsUsableEnd}
 use Rattle.sr_agent.specs.Faults.{fault_of_receive}
 use Rattle.sr_agent.specs.Lines.{Line, alarms}
 use Rattle.sr_agent.specs.Shares.{HasSome, ToldLetters, Turned}
@@ -42,6 +42,7 @@ use Rattle.sr_agent.proofs.Letters.{turned_untold}
 use Rattle.sr_agent.proofs.Removing.{are_removed}
 use Rattle.sr_agent.proofs.Turning.{took_and_purged, took_quietly}
 use Rattle.sr_agent.proofs.Values.{publisher_is}
+use Rattle.sr_agent.proofs.Written.{has_told}
 
 pub on_ok : {A E : Type 0} (P : Type 0) (result : Result A E) → P → OnOk result P
 on_ok P (Ok x) p = p
@@ -119,11 +120,11 @@ turn_done purge old new before middle now user bag bag' answer count progress pr
 -- ---- there was no memory to note that he had his turn
 
 pub turn_unadded : (old new : View) (before middle : Seen) (user : Name) (bag bag' : List Share) (answer : Received) (count : ℕ) (written written' : Output) (fault : AgentFault)
-    → ToldLetters old new before middle user bag bag' answer count written written' → fault ≡ Memory → TurnBroken old new before middle user bag written written' fault
-turn_unadded old new before middle user bag bag' answer count written written' fault letters is = record {
+    → ToldLetters old new before middle user bag bag' answer count written written' → fault ≡ Memory → (purge : Bool) → TurnBroken old new before middle user bag purge written written' fault
+turn_unadded old new before middle user bag bag' answer count written written' fault letters is purge = record {
   lines = letters.lines;
   ended = (ended_told new before middle written written' letters.lines receives.Memory fault letters.took.ready.idle letters.took.stays letters.took.steady.disk tt is letters.told).ended;
-  did = turned_untold old new before middle user bag bag' answer.ask letters.lines fault letters.took (inr is);
+  did = turned_untold old new before middle user bag bag' answer.ask letters.lines fault letters.took (inr is) purge (HasTold letters.lines written written');
 }
 
 -- ---- dead files were removed in part
@@ -172,9 +173,10 @@ cause_in new before middle now publisher es comes user bag' ask lines why turned
     (subst (λ (p : Name). PurgeCause p (book_in new.books user) (files_in (share_of bag' user)) middle now why) (publisher_is new publisher rs turned.behind.database.is) cause))
 
 broken_turn : (new : View) (before middle now : Seen) (publisher : Name) (es : List Recorded) (comes : List Came) (user : Name) (bag' : List Share) (ask : Bool) (lines : List Line) (old : View) (why : ReceiveFault) (fault : AgentFault)
-    → IsTrue middle.told → Turned new before middle publisher es comes user bag' ask lines → PurgeCause new.catalog.publisher (book_in new.books user) (files_in (share_of bag' user)) middle now why → fault ≡ fault_of_receive why
-    → BrokeInTurn old new before now publisher es comes user lines fault
-broken_turn new before middle now publisher es comes user bag' ask lines old why fault told turned cause is =
+    (purge : Bool) (whole : Type 0) → purge ≡ true → whole → IsTrue middle.told → Turned new before middle publisher es comes user bag' ask lines
+    → PurgeCause new.catalog.publisher (book_in new.books user) (files_in (share_of bag' user)) middle now why → fault ≡ fault_of_receive why
+    → BrokeInTurn old new before now publisher es comes purge user lines fault whole
+broken_turn new before middle now publisher es comes user bag' ask lines old why fault purge whole on all told turned cause is =
     let entries = turn_entries publisher es comes turned.turn in
     let part = part_of new.catalog.publisher (book_in new.books user) (files_in (share_of bag' user)) middle now why cause in
     let quietly = removed_some new.catalog.publisher part.done part.left middle.happened now.happened (part.happened told) in
@@ -187,16 +189,16 @@ broken_turn new before middle now publisher es comes user bag' ask lines old why
         between = middle;
         database = turned.behind.database;
         mail = turned.behind.mail;
-        removed = begun why (cause_in new before middle now publisher es comes user bag' ask lines why turned cause) is;
+        removed = begun on all why (cause_in new before middle now publisher es comes user bag' ask lines why turned cause) is;
         items_are = refl;
         lines_are = turned.lines_are;
       });
       went = went_still before middle now publisher es entries turned.behind.went (went_quiet new publisher (es ++ entries) middle now quietly.more part.stays quietly.is quietly.quiet turned.behind.database);
     }
 
-broken_end : (old new : View) (before middle now : Seen) (user : Name) (bag bag' : List Share) (answer : Received) (count : ℕ) (written written' : Output) (fault : AgentFault)
-    → ToldLetters old new before middle user bag bag' answer count written written' → PurgeEnd new user bag' middle now fault → TurnBroken old new before now user bag written written' fault
-broken_end old new before middle now user bag bag' answer count written written' fault letters end =
+broken_end : (old new : View) (before middle now : Seen) (user : Name) (bag bag' : List Share) (purge : Bool) (answer : Received) (count : ℕ) (written written' : Output) (fault : AgentFault)
+    → ToldLetters old new before middle user bag bag' answer count written written' → PurgeEnd purge new user bag' middle now fault → TurnBroken old new before now user bag purge written written' fault
+broken_end old new before middle now user bag bag' purge answer count written written' fault letters end =
     let took = letters.took in
     let address = new.catalog.publisher in
     let book = book_in new.books user in
@@ -207,14 +209,15 @@ broken_end old new before middle now user bag bag' answer count written written'
       ended = (ended_told new before now written written' letters.lines end.why fault took.ready.idle (stays_on before middle now took.stays (of_mail middle now part.stays))
           (device_of address book files before middle now end.why took.steady end.cause) (usable_of new address book files middle now end.why took.ready.usable end.cause) end.fault_is letters.told).ended;
       did = λ told publisher es comes database has.
-          broken_turn new before middle now publisher es comes user bag' answer.ask letters.lines old end.why fault (told_then before middle took.stays told) (took.did told publisher es comes database has) end.cause end.fault_is;
+          broken_turn new before middle now publisher es comes user bag' answer.ask letters.lines old end.why fault purge (HasTold letters.lines written written') end.asked_for (has_told letters.lines written written' letters.told)
+          (told_then before middle took.stays told) (took.did told publisher es comes database has) end.cause end.fault_is;
     }
 
-pub turn_broken : {A : Type 0} (old new : View) (before middle now : Seen) (user : Name) (bag bag' : List Share) (answer : Received) (count : ℕ) (written written' : Output) (result : Result A AgentFault)
-    → ToldLetters old new before middle user bag bag' answer count written written' → IfErr result (PurgeEnd new user bag' middle now) → IfErr result (TurnBroken old new before now user bag written written')
-turn_broken old new before middle now user bag bag' answer count written written' (Ok x) letters end = tt
-turn_broken old new before middle now user bag bag' answer count written written' (Err fault) letters end =
-    broken_end old new before middle now user bag bag' answer count written written' fault letters end
+pub turn_broken : {A : Type 0} (old new : View) (before middle now : Seen) (user : Name) (bag bag' : List Share) (purge : Bool) (answer : Received) (count : ℕ) (written written' : Output) (result : Result A AgentFault)
+    → ToldLetters old new before middle user bag bag' answer count written written' → IfErr result (PurgeEnd purge new user bag' middle now) → IfErr result (TurnBroken old new before now user bag purge written written')
+turn_broken old new before middle now user bag bag' purge answer count written written' (Ok x) letters end = tt
+turn_broken old new before middle now user bag bag' purge answer count written written' (Err fault) letters end =
+    broken_end old new before middle now user bag bag' purge answer count written written' fault letters end
 
 pub if_err : {A : Type 0} (P : AgentFault → Type 0) (fault : AgentFault) (result : Result A AgentFault) → IsErrAnd result (λ f. f ≡ fault) → P fault → IfErr result P
 if_err P fault (Ok x) is p = tt

@@ -17,38 +17,39 @@ use Rattle.sr_site.specs.Streams.{Output}
 use Rattle.sr_standing.specs.Items.{Item, commit}
 use Rattle.sr_standing.specs.Trails.{Went}
 use Rattle.sr_standing.proofs.Joining.{joined}
-use Rattle.sr_agent.specs.Agents.{CameSoFar, RanAgent, RanInPart, RanWhole}
+use Rattle.sr_agent.specs.Agents.{AreTold, CameSoFar, RanAgent, RanInPart, RanWhole}
 use Rattle.sr_agent.specs.Deliveries.{Delivery, after_deliveries, deliveries_items, deliveries_lines}
-use Rattle.sr_agent.specs.Ends.{Ended}
+use Rattle.sr_agent.specs.Ends.{Ended, HasTold}
 use Rattle.sr_agent.specs.Lines.{Line, alarms, lines_text}
-use Rattle.sr_agent.specs.Runs.{IsSending, Receives, Run, Sends, after_receiving, after_run, asked, comes_of, lines_of, nothing_done, run_lines, taken_entries, trail_of}
+use Rattle.sr_agent.specs.Runs.{IsSending, Receives, Run, Sends, after_receiving, after_run, asked, comes_of, lines_of, nothing_done, received_lines, run_lines, taken_entries, trail_of}
 use Rattle.sr_agent.specs.Steps.{AreOnce, BrokeInDeliveries, BrokeInGathering, BrokeInReceiving, BrokeInTurns, BrokenWhere, DeliveriesBroken, DeliveriesDone, HasGatheredAll, IsForWant, IsInNextDelivery, IsNothingSent, IsUntoldThere, MadePass, PassBroken, ReceivingBroken, SendingBroken, SendingDone, SentPartWhere, SentWhere, TookDeliveries, Told, told_in_part, gathered_in_part, in_mail, in_turns}
-use Rattle.sr_agent.specs.Stops.{DeliveryStop, GatheringStop, IsSendingUpTo, IsUntold, StopsAt, TurnStop, at_first, gathering, receiving, in_turn, sending, in_delivery}
-use Rattle.sr_agent.specs.Turns.{gathering_lines, partners, turns_entries, turns_lines}
+use Rattle.sr_agent.specs.Stops.{DeliveryStop, GatheringStop, IsSendingUpTo, IsUntold, StopsAt, TurnStop, at_first, gathering, behind_gathering, in_turn, sending, in_delivery}
+use Rattle.sr_agent.specs.Turns.{Turn, gathering_lines, partners, turns_entries, turns_lines}
 use Rattle.sr_agent.specs.declared.fault.AgentFault.{AgentFault}
 use Rattle.sr_agent.specs.declared.fault.AgentFault.TheVariants.{Memory}
 use Rattle.sr_agent.specs.declared.options.Options.{Options}
 use Rattle.sr_agent.specs.declared.partner.Partner.{Partner}
 use Rattle.sr_agent.specs.declared.progress.Progress.{Progress}
+use Rattle.sr_agent.proofs.Ending.{turn_stopped}
 use Rattle.sr_agent.proofs.Joints.{commits_of}
 use Rattle.sr_agent.proofs.Made.{HasMade, are_users, made_where, names_of_history, names_once}
 use Rattle.sr_agent.proofs.Reaching.{Reaches, came_alone, came_behind, gathered_run, reaches_mail, reaches_none, reaches_turns, took_none, went_behind_mail, with_deliveries}
 use Rattle.sr_agent.proofs.Wholes.{Received, history_is}
-use Rattle.sr_agent.proofs.Written.{alarms_on, ended_at_once, ended_behind, still_site, still_steady, still_told, told_on}
+use Rattle.sr_agent.proofs.Written.{alarms_on, ended_at_once, ended_behind, still_site, still_steady, still_told, told_before, told_behind, told_on}
 
 -- ---- the receive pass ended by a fault
 
 -- nothing was done
-in_part_at_once : (view : View) (seen : Seen) (publisher : Name) (es : List Recorded) (options : Options) (fault : AgentFault) → IsDatabase view publisher es seen → IsUntold fault
-    → RanInPart view seen seen publisher es options [] fault
-in_part_at_once view seen publisher es options fault database untold =
+in_part_at_once : (view : View) (seen : Seen) (written : Output) (publisher : Name) (es : List Recorded) (options : Options) (fault : AgentFault) → IsDatabase view publisher es seen → IsUntold fault
+    → RanInPart view seen seen written written publisher es options [] fault
+in_part_at_once view seen written publisher es options fault database untold =
     let came = came_alone view seen seen publisher es options nothing_done (reaches_none view seen publisher es options database) in
-    record { run = nothing_done; db = view; seen = seen; came = came; items = []; told = []; stops = at_first refl refl refl refl refl untold; went = came.went; lines_are = refl }
+    record { run = nothing_done; db = view; seen = seen; came = came; items = []; told = []; stops = at_first refl refl refl refl refl untold; went = came.went; lines_are = refl; turns_told = tt }
 
 -- the mail was gathered, and not told
-in_part_untold : (view : View) (before now : Seen) (publisher : Name) (es : List Recorded) (options : Options) (bag : List Share) (lines : List Line) (fault : AgentFault) → options.receive ≡ true
-    → HasGatheredAll view before now publisher es bag lines → IsUntold fault → RanInPart view before now publisher es options lines fault
-in_part_untold view before now publisher es options bag lines fault on gathered untold =
+in_part_untold : (view : View) (before now : Seen) (written written' : Output) (publisher : Name) (es : List Recorded) (options : Options) (bag : List Share) (lines : List Line) (fault : AgentFault) → options.receive ≡ true
+    → HasGatheredAll view before now publisher es bag lines → IsUntold fault → RanInPart view before now written written' publisher es options lines fault
+in_part_untold view before now written written' publisher es options bag lines fault on gathered untold =
     let run = gathered_run gathered.gathering [] in
     let came = came_alone view before now publisher es options run (reaches_mail view before now publisher es options bag lines gathered) in
     record {
@@ -58,17 +59,18 @@ in_part_untold view before now publisher es options bag lines fault on gathered 
       came = came;
       items = [];
       told = [];
-      stops = receiving (partners publisher es)
+      stops = behind_gathering (partners publisher es)
           (record { asked_for = on; done = []; parts = refl; receiving = record { gathering = gathered.gathering; gathered_is = refl; is = gathered.is; are = tt; whose = refl }; none = refl })
-          refl refl refl refl untold;
+          refl refl refl refl refl untold;
       went = came.went;
       lines_are = gathered.lines_are ∙ sym (append-nil (gathering_lines gathered.gathering)) ∙ sym (append-nil (gathering_lines gathered.gathering ++ []));
+      turns_told = tt;
     }
 
 -- it was gathered in part
-in_part_gathering : (view : View) (before now : Seen) (publisher : Name) (es : List Recorded) (options : Options) (lines : List Line) (fault : AgentFault) → options.receive ≡ true → IsDatabase view publisher es before
-    → GatheringStop publisher es before now lines fault → Went before now publisher es [] → RanInPart view before now publisher es options lines fault
-in_part_gathering view before now publisher es options lines fault on database stop went = record {
+in_part_gathering : (view : View) (before now : Seen) (written written' : Output) (publisher : Name) (es : List Recorded) (options : Options) (lines : List Line) (fault : AgentFault) → options.receive ≡ true → IsDatabase view publisher es before
+    → GatheringStop publisher es before now lines fault → Went before now publisher es [] → RanInPart view before now written written' publisher es options lines fault
+in_part_gathering view before now written written' publisher es options lines fault on database stop went = record {
   run = nothing_done;
   db = view;
   seen = before;
@@ -78,13 +80,18 @@ in_part_gathering view before now publisher es options lines fault on database s
   stops = gathering on refl refl refl stop;
   went = went;
   lines_are = refl;
+  turns_told = tt;
 }
 
 -- and a turn was broken
-in_part_turn : (old new : View) (before seen now : Seen) (publisher : Name) (es : List Recorded) (options : Options) (bag : List Share) (users : List Name) (first behind : List Line) (fault : AgentFault)
-    → options.receive ≡ true → users ≡ partners publisher es → (gathered : HasGatheredAll old before seen publisher es bag first)
-    → BrokeInTurns old new seen now publisher es gathered.gathering.comes options.purge users behind fault → RanInPart new before now publisher es options (first ++ behind) fault
-in_part_turn old new before seen now publisher es options bag users first behind fault on users_are gathered broke =
+are_told : (turns : List Turn) (lines : List Line) (written written' : Output) → HasTold lines written written' → AreTold turns lines written written'
+are_told [] lines written written' told = tt
+are_told (t ∷ earlier) lines written written' told = told
+
+in_part_turn : (old new : View) (before seen now : Seen) (written between written' : Output) (publisher : Name) (es : List Recorded) (options : Options) (bag : List Share) (users : List Name) (first behind : List Line)
+    (fault : AgentFault) → options.receive ≡ true → users ≡ partners publisher es → (gathered : HasGatheredAll old before seen publisher es bag first) → Told (lines_text first) written between
+    → BrokeInTurns old new seen now publisher es gathered.gathering.comes options.purge users between written' behind fault → RanInPart new before now written written' publisher es options (first ++ behind) fault
+in_part_turn old new before seen now written between written' publisher es options bag users first behind fault on users_are gathered told broke =
     let g = gathered.gathering in
     let run = gathered_run g broke.took.turns in
     let added = turns_entries publisher es g.comes broke.took.turns in
@@ -104,25 +111,31 @@ in_part_turn old new before seen now publisher es options bag users first behind
             receiving = record { gathering = g; gathered_is = refl; is = gathered.is; are = broke.took.are; whose = broke.took.whose };
             none = refl;
           })
-          (subst (λ (rs : List Recorded). TurnStop publisher rs g.comes broke.user broke.db new broke.seen now broke.items broke.told fault) (sym (append-nil (es ++ added)) ∙ history_is es added []) broke.stop);
+          (subst (λ (rs : List Recorded). TurnStop publisher rs g.comes broke.user broke.db new broke.seen now broke.items broke.told fault options.purge (HasTold (first ++ behind) written written'))
+          (sym (append-nil (es ++ added)) ∙ history_is es added [])
+          (turn_stopped publisher (es ++ added) g.comes broke.user broke.db new broke.seen now broke.items broke.told fault options.purge (HasTold behind between written') (HasTold (first ++ behind) written written')
+          (told_behind first behind written between written' told) broke.stop));
       went = subst (λ (items : List Item). Went before now publisher es (items ++ broke.items)) (sym (append-nil (map commit added)))
           (went_behind_mail before seen now publisher es (map commit added ++ broke.items) gathered.went broke.went);
       lines_are =
           ap (λ (ls : List Line). ls ++ behind) gathered.lines_are
           ∙ ap (λ (ls : List Line). gathering_lines g ++ ls) (broke.lines_are ∙ ap (λ (ls : List Line). ls ++ broke.told) (broke.took.lines_are ∙ sym (append-nil (turns_lines publisher es g.comes broke.took.turns))))
           ∙ sym (append_assoc (gathering_lines g) (turns_lines publisher es g.comes broke.took.turns ++ []) broke.told);
+      turns_told = are_told broke.took.turns (received_lines publisher es run) written written'
+          (subst (λ (ls : List Line). HasTold ls written written') (ap (λ (ls : List Line). ls ++ broke.earlier) gathered.lines_are ∙ ap (λ (ls : List Line). gathering_lines g ++ ls) broke.took.lines_are)
+          (told_behind first broke.earlier written between written' told broke.earlier_told));
     }
 
-in_part_received : (old new : View) (before now : Seen) (publisher : Name) (es : List Recorded) (options : Options) (users : List Name) (lines : List Line) (fault : AgentFault) → options.receive ≡ true
-    → users ≡ partners publisher es → IsDatabase old publisher es before → BrokeInReceiving old new before now publisher es options.purge users lines fault
-    → RanInPart new before now publisher es options lines fault
-in_part_received old new before now publisher es options users lines fault on users_are database (in_mail same (told_in_part bag gathered untold)) =
-    subst (λ (v : View). RanInPart v before now publisher es options lines fault) (sym same) (in_part_untold old before now publisher es options bag lines fault on gathered untold)
-in_part_received old new before now publisher es options users lines fault on users_are database (in_mail same (gathered_in_part stop went)) =
-    subst (λ (v : View). RanInPart v before now publisher es options lines fault) (sym same) (in_part_gathering old before now publisher es options lines fault on database stop went)
-in_part_received old new before now publisher es options users lines fault on users_are database (in_turns bag seen first behind gathered broke lines_are) =
-    subst (λ (ls : List Line). RanInPart new before now publisher es options ls fault) (sym lines_are)
-    (in_part_turn old new before seen now publisher es options bag users first behind fault on users_are gathered broke)
+in_part_received : (old new : View) (before now : Seen) (written written' : Output) (publisher : Name) (es : List Recorded) (options : Options) (users : List Name) (lines : List Line) (fault : AgentFault) → options.receive ≡ true
+    → users ≡ partners publisher es → IsDatabase old publisher es before → BrokeInReceiving old new before now publisher es options.purge users written written' lines fault
+    → RanInPart new before now written written' publisher es options lines fault
+in_part_received old new before now written written' publisher es options users lines fault on users_are database (in_mail same (told_in_part bag gathered untold)) =
+    subst (λ (v : View). RanInPart v before now written written' publisher es options lines fault) (sym same) (in_part_untold old before now written written' publisher es options bag lines fault on gathered untold)
+in_part_received old new before now written written' publisher es options users lines fault on users_are database (in_mail same (gathered_in_part stop went)) =
+    subst (λ (v : View). RanInPart v before now written written' publisher es options lines fault) (sym same) (in_part_gathering old before now written written' publisher es options lines fault on database stop went)
+in_part_received old new before now written written' publisher es options users lines fault on users_are database (in_turns bag seen first behind between gathered told broke lines_are) =
+    subst (λ (ls : List Line). RanInPart new before now written written' publisher es options ls fault) (sym lines_are)
+    (in_part_turn old new before seen now written between written' publisher es options bag users first behind fault on users_are gathered told broke)
 
 -- a run that ended at once for want of memory
 pub ran_none : (view : View) (seen : Seen) (written : Output) (options : Options) → view.pending ≡ [] → RanAgent view view seen seen written written options (Err Memory)
@@ -130,7 +143,7 @@ ran_none view seen written options pending = record {
   lines = [];
   ended = ended_at_once view seen written pending;
   count = tt;
-  did = λ told publisher es database. in_part_at_once view seen publisher es options Memory database (inr refl);
+  did = λ told publisher es database. in_part_at_once view seen written publisher es options Memory database (inr refl);
 }
 
 broken_where : (b : Bool) (old new : View) (before now : Seen) (options : Options) (users : List Name) (written written' : Output) (fault : AgentFault) → options.receive ≡ b → old.pending ≡ []
@@ -145,7 +158,7 @@ broken_where true old new before now options users written written' fault on pen
   ended = broken.ended;
   count = tt;
   did = λ told publisher es database.
-      in_part_received old new before now publisher es options users broken.lines fault on (names_of_history old publisher es users database.is users_are) database
+      in_part_received old new before now written written' publisher es options users broken.lines fault on (names_of_history old publisher es users database.is users_are) database
       (broken.did told publisher es database (names_once old publisher es users database.is users_are));
 }
 
@@ -188,15 +201,16 @@ sending_to publisher es options run deliveries asks done left on receives asks_a
   sending = sends;
 }
 
-stops_there : (publisher : Name) (es : List Recorded) (options : Options) (run : Run) (deliveries : List Delivery) (left : List Partner) (db new : View) (seen now : Seen) (told : List Line) (fault : AgentFault)
-    → IsSendingUpTo publisher es options (with_deliveries run deliveries) left → IsUntoldThere db new seen now told fault
-    → StopsAt publisher es options (with_deliveries run deliveries) db new seen now [] told fault
-stops_there publisher es options run deliveries left db new seen now told fault up_to there = sending left up_to there.same there.still refl there.none there.why
+stops_there : (publisher : Name) (es : List Recorded) (options : Options) (run : Run) (deliveries : List Delivery) (left : List Partner) (db new : View) (seen now : Seen) (told : List Line) (fault : AgentFault) (whole : Type 0)
+    → IsSendingUpTo publisher es options (with_deliveries run deliveries) left → IsUntoldThere deliveries db new seen now told fault
+    → StopsAt publisher es options (with_deliveries run deliveries) db new seen now [] told fault whole
+stops_there publisher es options run deliveries left db new seen now told fault whole up_to there = sending left up_to there.last there.earlier there.put there.same there.still refl there.none there.why
 
-in_part_sent : (middle new : View) (before seen now : Seen) (publisher : Name) (es : List Recorded) (options : Options) (asks : List Partner) (earlier lines : List Line) (fault : AgentFault) → options.send ≡ true
+in_part_sent : (middle new : View) (before seen now : Seen) (written written' : Output) (publisher : Name) (es : List Recorded) (options : Options) (asks : List Partner) (earlier lines : List Line) (fault : AgentFault)
+    → options.send ≡ true → HasTold earlier written written'
     → (received : Received middle before seen publisher es options asks earlier) → BrokeInDeliveries middle new seen now publisher (after_receiving publisher es received.run) options.length asks lines fault
-    → RanInPart new before now publisher es options (earlier ++ lines) fault
-in_part_sent middle new before seen now publisher es options asks earlier lines fault on received broke =
+    → RanInPart new before now written written' publisher es options (earlier ++ lines) fault
+in_part_sent middle new before seen now written written' publisher es options asks earlier lines fault on told received broke =
     let run = received.run in
     let ds = broke.took.deliveries in
     let whole = with_deliveries run ds in
@@ -206,6 +220,7 @@ in_part_sent middle new before seen now publisher es options asks earlier lines 
     let up_to = sending_to publisher es options run ds asks broke.done broke.left on received.receives received.asks_are broke.parts (record { are = broke.took.are; whom = broke.took.whom }) in
     let lines_are = ap (λ (ls : List Line). earlier ++ ls) broke.lines_are ∙ sym (append_assoc earlier broke.earlier broke.told)
     ∙ ap (λ (ls : List Line). ls ++ broke.told) (lines_on publisher es run ds earlier broke.earlier received.lines_are broke.took.lines_are) in
+    let turns_told = are_told run.turns (received_lines publisher es run) written written' (subst (λ (ls : List Line). HasTold ls written written') received.lines_are told) in
     elim broke.stop [
       | inl there ↦ record {
         run = whole;
@@ -214,10 +229,11 @@ in_part_sent middle new before seen now publisher es options asks earlier lines 
         came = came;
         items = [];
         told = broke.told;
-        stops = stops_there publisher es options run ds broke.left broke.db new broke.seen now broke.told fault up_to there;
+        stops = stops_there publisher es options run ds broke.left broke.db new broke.seen now broke.told fault (HasTold (earlier ++ lines) written written') up_to there;
         went = subst (λ (s : Seen). Went before s publisher es (trail_of publisher es whole ++ [])) (sym there.still)
             (subst (λ (items : List Item). Went before broke.seen publisher es items) (sym (append-nil (trail_of publisher es whole))) came.went);
         lines_are = lines_are;
+        turns_told = turns_told;
       }
       | inr next ↦ record {
         run = whole;
@@ -232,6 +248,7 @@ in_part_sent middle new before seen now publisher es options asks earlier lines 
         went = joined before broke.seen now publisher es (trail_of publisher es whole) next.broke.items came.went
             (subst (λ (rs : List Recorded). Went broke.seen now publisher rs next.broke.items) (history_is es added put) next.broke.went);
         lines_are = lines_are;
+        turns_told = turns_told;
       }
     ]
 
@@ -245,7 +262,8 @@ sent_part_where true old middle new before seen now options users asks count wri
   count = tt;
   did = λ told publisher es database.
       let received = made.did told publisher es database (names_of_history old publisher es users database.is users_are) (names_once old publisher es users database.is users_are) in
-      in_part_sent middle new before seen now publisher es options asks made.lines broken.lines fault on received
+      in_part_sent middle new before seen now written written' publisher es options asks made.lines broken.lines fault on
+      (told_before made.lines broken.lines written between written' fault made.told broken.ended.wrote) received
       (broken.did (subst (λ (b : Bool). IsTrue b) (sym made.stays.told) told) publisher (after_receiving publisher es received.run) received.database);
 }
 

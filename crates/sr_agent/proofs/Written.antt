@@ -6,13 +6,13 @@ use Rattle.std.proofs.lemmas.Grind.{flat_map-append}
 use Rattle.std.proofs.lemmas.List.Sums.{sum_by-append}
 use Rattle.sr_database.specs.Views.{View}
 use Rattle.sr_receive.specs.Passes.{AreSteady as IsSteady}
-use Rattle.sr_session.specs.Said.{WroteFront}
+use Rattle.sr_session.specs.Said.{IsFront, WroteFront}
 use Rattle.sr_session.proofs.Stretches.{outputs_on}
 use Rattle.sr_site.specs.Causes.{Rose, Stays}
 use Rattle.sr_site.specs.Growing.{stays_on}
 use Rattle.sr_site.specs.Seen.{Seen}
 use Rattle.sr_site.specs.Streams.{Output, OutputStays}
-use Rattle.sr_agent.specs.Ends.{CountEnd, Ended, IsUsableEnd, Wrote}
+use Rattle.sr_agent.specs.Ends.{CountEnd, Ended, HasTold, IsUsableEnd, Wrote}
 use Rattle.sr_agent.specs.Lines.{Line, alarms, is_alarm_line, line_text, lines_text}
 use Rattle.sr_agent.specs.Steps.{Told}
 use Rattle.sr_agent.specs.declared.fault.AgentFault.{AgentFault}
@@ -73,6 +73,32 @@ counts_behind before seen now written between written' Memory steady same ends =
 
 pub told_output : (old new : Output) → OutputStays old new → IsTrue old.told → IsTrue new.told
 told_output old new stays told = subst (λ (b : Bool). IsTrue b) (sym stays.told) told
+
+-- ---- lines that were written whole, whatever came behind them
+
+pub has_told : (lines : List Line) (old new : Output) → Told (lines_text lines) old new → HasTold lines old new
+has_told lines old new told tells = ([], told.taken tells ∙ sym (append-nil (old.taken ++ lines_text lines)))
+
+wrote_on : (lines : List Line) (old new : List ℕ) (fault : AgentFault) → Wrote (lines_text lines) old new (Err fault) → IsFront old new
+wrote_on lines old new Disk wrote = (lines_text lines, wrote)
+wrote_on lines old new Mail wrote = (lines_text lines, wrote)
+wrote_on lines old new Sink wrote = (wrote.written, wrote.new_is)
+wrote_on lines old new (Full end need) wrote = (lines_text lines, wrote)
+wrote_on lines old new (Long size limit) wrote = (lines_text lines, wrote)
+wrote_on lines old new Memory wrote = (wrote.written, wrote.new_is)
+
+-- a step that a fault ended leaves those before it
+pub told_before : (first behind : List Line) (written between written' : Output) (fault : AgentFault) → Told (lines_text first) written between
+    → (IsTrue between.told → Wrote (lines_text behind) between.taken written'.taken (Err fault)) → HasTold first written written'
+told_before first behind written between written' fault told wrote tells =
+    let more = wrote_on behind between.taken written'.taken fault (wrote (told_output written between told.stays tells)) in
+    (more.0, more.1 ∙ ap (λ (l : List ℕ). l ++ more.0) (told.taken tells))
+
+-- and lines behind them
+pub told_behind : (first behind : List Line) (written between written' : Output) → Told (lines_text first) written between → HasTold behind between written' → HasTold (first ++ behind) written written'
+told_behind first behind written between written' told has tells =
+    let more = has (told_output written between told.stays tells) in
+    (more.0, more.1 ∙ ap (λ (l : List ℕ). l ++ more.0) (all_behind first behind written.taken between.taken (between.taken ++ lines_text behind) (told.taken tells) refl))
 
 -- a step that a fault ended, behind steps that were told whole
 pub ended_behind : (new : View) (before seen now : Seen) (written between written' : Output) (first behind : List Line) (fault : AgentFault) → Told (lines_text first) written between → IsSteady before seen

@@ -1,5 +1,5 @@
 -- What a run of the agent promises.
-use Rattle.std.specs.Prelude.{◌≡◌, ℕ, List, ◌++◌, IsTrue, IfOk, Result, Ok, Err}
+use Rattle.std.specs.Prelude.{◌≡◌, ⊤, ℕ, List, [], ◌∷◌, ◌++◌, IsTrue, IfOk, Result, Ok, Err}
 use Rattle.sr_book.specs.Entries.{Name}
 use Rattle.sr_database.specs.Databases.{IsDatabase}
 use Rattle.sr_database.specs.Views.{View}
@@ -11,10 +11,11 @@ use Rattle.sr_site.specs.Streams.{Output}
 use Rattle.sr_standing.specs.Items.{Item}
 use Rattle.sr_standing.specs.Trails.{Went}
 use Rattle.sr_agent.specs.Deliveries.{with_puts}
-use Rattle.sr_agent.specs.Ends.{Ended}
+use Rattle.sr_agent.specs.Ends.{Ended, HasTold}
 use Rattle.sr_agent.specs.Lines.{Line, alarms}
-use Rattle.sr_agent.specs.Runs.{Run, IsRun, after_run, received_mail, run_lines, sent_items, trail_of}
+use Rattle.sr_agent.specs.Runs.{Run, IsRun, after_run, received_lines, received_mail, run_lines, sent_items, trail_of}
 use Rattle.sr_agent.specs.Stops.{StopsAt}
+use Rattle.sr_agent.specs.Turns.{Turn}
 use Rattle.sr_agent.specs.declared.fault.AgentFault.{AgentFault}
 use Rattle.sr_agent.specs.declared.options.Options.{Options}
 
@@ -41,21 +42,28 @@ pub record RanWhole (new : View) (before now : Seen) (publisher : Name) (es : Li
   pub came : CameSoFar new before now publisher es options run
   pub lines_are : lines ≡ run_lines publisher es run
 
+-- where partners had their turns, these lines were written whole
+abbrev pub AreTold : List Turn → List Line → Output → Output → Type 0
+AreTold [] lines written written' = ⊤
+AreTold (t ∷ earlier) lines written written' = HasTold lines written written'
+
 -- a fault ended it: the first steps of a run were done, and then what was begun of the next
-pub record RanInPart (new : View) (before now : Seen) (publisher : Name) (es : List Recorded) (options : Options) (lines : List Line) (fault : AgentFault) : Type 0 where
+pub record RanInPart (new : View) (before now : Seen) (written written' : Output) (publisher : Name) (es : List Recorded) (options : Options) (lines : List Line) (fault : AgentFault) : Type 0 where
   pub run : Run
   pub db : View
   pub seen : Seen
   pub came : CameSoFar db before seen publisher es options run
   pub items : List Item
   pub told : List Line
-  pub stops : StopsAt publisher es options run db new seen now items told fault
+  pub stops : StopsAt publisher es options run db new seen now items told fault (HasTold lines written written')
   pub went : Went before now publisher es (trail_of publisher es run ++ items)
   pub lines_are : lines ≡ run_lines publisher es run ++ told
+  -- the lines of each turn that was made were written whole, and all before them: only then are its dead files removed
+  pub turns_told : AreTold run.turns (received_lines publisher es run) written written'
 
-abbrev pub Did : View → Seen → Seen → Name → List Recorded → Options → List Line → Result ℕ AgentFault → Type 0
-Did new before now publisher es options lines (Ok count) = RanWhole new before now publisher es options lines
-Did new before now publisher es options lines (Err fault) = RanInPart new before now publisher es options lines fault
+abbrev pub Did : View → Seen → Seen → Output → Output → Name → List Recorded → Options → List Line → Result ℕ AgentFault → Type 0
+Did new before now written written' publisher es options lines (Ok count) = RanWhole new before now publisher es options lines
+Did new before now written written' publisher es options lines (Err fault) = RanInPart new before now written written' publisher es options lines fault
 
 -- ---- the whole of it
 
@@ -63,4 +71,4 @@ pub record RanAgent (old new : View) (before now : Seen) (written written' : Out
   pub lines : List Line
   pub ended : Ended new before now written written' lines result
   pub count : IfOk result (λ n. n ≡ alarms lines)
-  pub did : IsTrue before.told → (publisher : Name) (es : List Recorded) → IsDatabase old publisher es before → Did new before now publisher es options lines result
+  pub did : IsTrue before.told → (publisher : Name) (es : List Recorded) → IsDatabase old publisher es before → Did new before now written written' publisher es options lines result

@@ -1,7 +1,7 @@
 -- How a run, or a step of one, ends: what was written, what the counts of faults tell, and what is left of the database.
 use Rattle.std.specs.Prelude.{◌≡◌, ⊤, ℕ, true, List, [], ◌++◌, IsTrue, Result, Ok, Err}
 use Rattle.sr_database.specs.Views.{View}
-use Rattle.sr_session.specs.Said.{WroteFront}
+use Rattle.sr_session.specs.Said.{IsFront, WroteFront}
 use Rattle.sr_site.specs.Causes.{Rose, Stays}
 use Rattle.sr_site.specs.Seen.{Seen}
 use Rattle.sr_site.specs.Streams.{Output, OutputStays}
@@ -18,6 +18,10 @@ Wrote said old new (Err Sink) = WroteFront said old new
 Wrote said old new (Err (Full end need)) = new ≡ old ++ said
 Wrote said old new (Err (Long size limit)) = new ≡ old ++ said
 Wrote said old new (Err Memory) = WroteFront said old new
+
+-- behind what was written before, these lines were written whole, whatever came behind them
+abbrev pub HasTold : List Line → Output → Output → Type 0
+HasTold lines written written' = IsTrue written.told → IsFront (written.taken ++ lines_text lines) written'.taken
 
 -- a fault of a device comes only where its count rose, and where none came no count did
 abbrev pub CountEnd : Seen → Seen → Output → Output → Result ℕ AgentFault → Type 0

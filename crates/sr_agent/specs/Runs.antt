@@ -57,6 +57,10 @@ trail_of publisher es run = map commit (taken_entries publisher es run) ++ sent_
 abbrev pub after_run : Name → List Recorded → Run → List Recorded
 after_run publisher es run = es ++ commits (trail_of publisher es run)
 
+-- the lines of the receive pass
+abbrev pub received_lines : Name → List Recorded → Run → List Line
+received_lines publisher es run = lines_of run.gathered ++ turns_lines publisher es (comes_of run.gathered) run.turns
+
 -- the lines: reports of the folder; for each partner what came of his letters; then for each what was sent to him
 abbrev pub run_lines : Name → List Recorded → Run → List Line
 run_lines publisher es run =

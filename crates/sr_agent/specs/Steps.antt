@@ -25,7 +25,7 @@ use Rattle.sr_site.specs.Streams.{Output, OutputStays}
 use Rattle.sr_standing.specs.Items.{Item, commit, commits}
 use Rattle.sr_standing.specs.Trails.{Went}
 use Rattle.sr_agent.specs.Deliveries.{Delivery, AreDeliveries, IsDelivery, after_deliveries, deliveries_items, deliveries_lines, delivery_items, delivery_line, sent_to, with_puts}
-use Rattle.sr_agent.specs.Ends.{Ended}
+use Rattle.sr_agent.specs.Ends.{Ended, HasTold}
 use Rattle.sr_agent.specs.Faults.{fault_of_receive}
 use Rattle.sr_agent.specs.Lines.{Line, alarms, lines_text, received, report_lines}
 use Rattle.sr_agent.specs.Runs.{quiet}
@@ -139,7 +139,9 @@ abbrev pub PurgedWhere : Bool → View → Name → List Share → Seen → Seen
 PurgedWhere false view user bag before now = now ≡ before
 PurgedWhere true view user bag before now = (count : ℕ) × HasPurged view.catalog.publisher (book_in view.books user) (files_in (share_of bag user)) before now count
 
-pub record PurgeEnd (view : View) (user : Name) (bag : List Share) (before now : Seen) (fault : AgentFault) : Type 0 where
+-- they are to be removed, and were in part
+pub record PurgeEnd (purge : Bool) (view : View) (user : Name) (bag : List Share) (before now : Seen) (fault : AgentFault) : Type 0 where
+  pub asked_for : purge ≡ true
   pub why : ReceiveFault
   pub cause : PurgeCause view.catalog.publisher (book_in view.books user) (files_in (share_of bag user)) before now why
   pub fault_is : fault ≡ fault_of_receive why
@@ -171,17 +173,17 @@ pub record TurnDone (old new : View) (before now : Seen) (user : Name) (bag bag'
   pub did : IsTrue before.told → (publisher : Name) (es : List Recorded) (comes : List Came) → IsDatabase old publisher es before → Has bag user (letters_from user comes) []
       → TookTurn new before now publisher es comes purge user ask lines
 
-pub record BrokeInTurn (old new : View) (before now : Seen) (publisher : Name) (es : List Recorded) (comes : List Came) (user : Name) (lines : List Line) (fault : AgentFault) : Type 0 where
+pub record BrokeInTurn (old new : View) (before now : Seen) (publisher : Name) (es : List Recorded) (comes : List Came) (purge : Bool) (user : Name) (lines : List Line) (fault : AgentFault) (whole : Type 0) : Type 0 where
   pub items : List Item
-  pub stop : TurnStop publisher es comes user old new before now items lines fault
+  pub stop : TurnStop publisher es comes user old new before now items lines fault purge whole
   pub went : Went before now publisher es items
 
 -- a fault ended it
-pub record TurnBroken (old new : View) (before now : Seen) (user : Name) (bag : List Share) (written written' : Output) (fault : AgentFault) : Type 0 where
+pub record TurnBroken (old new : View) (before now : Seen) (user : Name) (bag : List Share) (purge : Bool) (written written' : Output) (fault : AgentFault) : Type 0 where
   pub lines : List Line
   pub ended : Ended new before now written written' lines (Err fault)
   pub did : IsTrue before.told → (publisher : Name) (es : List Recorded) (comes : List Came) → IsDatabase old publisher es before → Has bag user (letters_from user comes) []
-      → BrokeInTurn old new before now publisher es comes user lines fault
+      → BrokeInTurn old new before now publisher es comes purge user lines fault (HasTold lines written written')
 
 -- ---- turns of partners in order
 
@@ -217,7 +219,7 @@ pub record TurnsDone (old new : View) (before now : Seen) (users : List Name) (b
   pub did : IsTrue before.told → (publisher : Name) (es : List Recorded) (comes : List Came) → IsDatabase old publisher es before → HoldsAll bag comes users → AreOnce users
       → TookTurns new before now publisher es comes purge users asks lines
 
-pub record BrokeInTurns (old new : View) (before now : Seen) (publisher : Name) (es : List Recorded) (comes : List Came) (purge : Bool) (users : List Name) (lines : List Line) (fault : AgentFault) : Type 0 where
+pub record BrokeInTurns (old new : View) (before now : Seen) (publisher : Name) (es : List Recorded) (comes : List Came) (purge : Bool) (users : List Name) (written written' : Output) (lines : List Line) (fault : AgentFault) : Type 0 where
   pub done : List Name
   pub user : Name
   pub left : List Name
@@ -229,15 +231,17 @@ pub record BrokeInTurns (old new : View) (before now : Seen) (publisher : Name) 
   pub took : TookTurns db before seen publisher es comes purge done asks earlier
   pub told : List Line
   pub items : List Item
-  pub stop : TurnStop publisher (after_turns publisher es comes took.turns) comes user db new seen now items told fault
+  pub stop : TurnStop publisher (after_turns publisher es comes took.turns) comes user db new seen now items told fault purge (HasTold lines written written')
   pub went : Went before now publisher es (map commit (turns_entries publisher es comes took.turns) ++ items)
   pub lines_are : lines ≡ earlier ++ told
+  -- the lines of the turns before it
+  pub earlier_told : HasTold earlier written written'
 
 pub record TurnsBroken (old new : View) (before now : Seen) (users : List Name) (bag : List Share) (purge : Bool) (written written' : Output) (fault : AgentFault) : Type 0 where
   pub lines : List Line
   pub ended : Ended new before now written written' lines (Err fault)
   pub did : IsTrue before.told → (publisher : Name) (es : List Recorded) (comes : List Came) → IsDatabase old publisher es before → HoldsAll bag comes users → AreOnce users
-      → BrokeInTurns old new before now publisher es comes purge users lines fault
+      → BrokeInTurns old new before now publisher es comes purge users written written' lines fault
 
 -- ---- the receive pass
 
@@ -262,15 +266,17 @@ pub record ReceivingDone (old new : View) (before now : Seen) (users : List Name
   pub did : IsTrue before.told → (publisher : Name) (es : List Recorded) → IsDatabase old publisher es before → AreOnce users → TookAll new before now publisher es purge users progress.partners.items lines
 
 -- it was gathered and could not be told, or in part; or all of it was told, and a turn was broken
-pub data BrokeInReceiving (old new : View) (before now : Seen) (publisher : Name) (es : List Recorded) (purge : Bool) (users : List Name) (lines : List Line) (fault : AgentFault) : Type 0 where
-  in_mail : new ≡ old → BrokeInGathering old before now publisher es lines fault → BrokeInReceiving old new before now publisher es purge users lines fault
-  in_turns : (bag : List Share) (seen : Seen) (first behind : List Line) (gathered : HasGatheredAll old before seen publisher es bag first)
-      → BrokeInTurns old new seen now publisher es gathered.gathering.comes purge users behind fault → lines ≡ first ++ behind → BrokeInReceiving old new before now publisher es purge users lines fault
+pub data BrokeInReceiving (old new : View) (before now : Seen) (publisher : Name) (es : List Recorded) (purge : Bool) (users : List Name) (written written' : Output) (lines : List Line) (fault : AgentFault) : Type 0 where
+  in_mail : new ≡ old → BrokeInGathering old before now publisher es lines fault → BrokeInReceiving old new before now publisher es purge users written written' lines fault
+  in_turns : (bag : List Share) (seen : Seen) (first behind : List Line) (between : Output) (gathered : HasGatheredAll old before seen publisher es bag first) → Told (lines_text first) written between
+      → BrokeInTurns old new seen now publisher es gathered.gathering.comes purge users between written' behind fault → lines ≡ first ++ behind
+      → BrokeInReceiving old new before now publisher es purge users written written' lines fault
 
 pub record ReceivingBroken (old new : View) (before now : Seen) (users : List Name) (purge : Bool) (written written' : Output) (fault : AgentFault) : Type 0 where
   pub lines : List Line
   pub ended : Ended new before now written written' lines (Err fault)
-  pub did : IsTrue before.told → (publisher : Name) (es : List Recorded) → IsDatabase old publisher es before → AreOnce users → BrokeInReceiving old new before now publisher es purge users lines fault
+  pub did : IsTrue before.told → (publisher : Name) (es : List Recorded) → IsDatabase old publisher es before → AreOnce users
+      → BrokeInReceiving old new before now publisher es purge users written written' lines fault
 
 -- ---- a delivery
 
@@ -332,7 +338,10 @@ pub record DeliveriesDone (old new : View) (before now : Seen) (limit : ℕ) (pa
   pub did : IsTrue before.told → (publisher : Name) (es : List Recorded) → IsDatabase old publisher es before → TookDeliveries new before now publisher es limit partners lines
 
 -- what was put last could not be told
-pub record IsUntoldThere (db new : View) (seen now : Seen) (told : List Line) (fault : AgentFault) : Type 0 where
+pub record IsUntoldThere (deliveries : List Delivery) (db new : View) (seen now : Seen) (told : List Line) (fault : AgentFault) : Type 0 where
+  pub last : Delivery
+  pub earlier : List Delivery
+  pub put : deliveries ≡ last ∷ earlier
   pub same : new ≡ db
   pub still : now ≡ seen
   pub none : told ≡ []
@@ -355,7 +364,7 @@ pub record BrokeInDeliveries (old new : View) (before now : Seen) (publisher : N
   pub earlier : List Line
   pub took : TookDeliveries db before seen publisher es limit done earlier
   pub told : List Line
-  pub stop : IsUntoldThere db new seen now told fault ⊎ IsInNextDelivery publisher (after_deliveries publisher es took.deliveries) limit left db new seen now told fault
+  pub stop : IsUntoldThere took.deliveries db new seen now told fault ⊎ IsInNextDelivery publisher (after_deliveries publisher es took.deliveries) limit left db new seen now told fault
   pub lines_are : lines ≡ earlier ++ told
 
 pub record DeliveriesBroken (old new : View) (before now : Seen) (limit : ℕ) (partners : List Partner) (written written' : Output) (fault : AgentFault) : Type 0 where

@@ -1,5 +1,5 @@
 -- Where a run ends before its end: how far it came, the step at which a fault came, and what was done of that.
-use Rattle.std.specs.Prelude.{◌≡◌, ◌⊎◌, ⊤, ℕ, true, List, [], ◌∷◌, ◌++◌, length, map}
+use Rattle.std.specs.Prelude.{◌≡◌, ◌⊎◌, ⊤, ℕ, Bool, true, List, [], ◌∷◌, ◌++◌, length, map}
 use Rattle.sr_book.specs.Entries.{Name}
 use Rattle.sr_database.specs.Databases.{IsDatabase}
 use Rattle.sr_database.specs.Views.{View}
@@ -17,11 +17,12 @@ use Rattle.sr_gather.specs.declared.fault.ReceiveFault.{ReceiveFault}
 use Rattle.sr_gather.specs.declared.report.Report.{Report}
 use Rattle.sr_send.specs.Letters.{letters, sent_note}
 use Rattle.sr_send.specs.Passes.{AreAll, SendCause, sent_end}
+use Rattle.sr_send.specs.Posting.{IsDeviceFault}
 use Rattle.sr_send.specs.declared.fault.SendFault.{SendFault}
 use Rattle.sr_site.specs.Happenings.{mail_in}
 use Rattle.sr_site.specs.Seen.{Seen}
 use Rattle.sr_standing.specs.Items.{Item, commit}
-use Rattle.sr_agent.specs.Deliveries.{folder_of}
+use Rattle.sr_agent.specs.Deliveries.{Delivery, folder_of}
 use Rattle.sr_agent.specs.Faults.{fault_of_receive, fault_of_send}
 use Rattle.sr_agent.specs.Lines.{Line, report_lines}
 use Rattle.sr_agent.specs.Runs.{Run, IsReceiving, IsSending, Receives, after_run, asked, comes_of, nothing_done}
@@ -64,28 +65,31 @@ pub record ReceivingStop (publisher : Name) (es : List Recorded) (comes : List C
   pub items_are : items ≡ map commit (entries ++ begun)
   pub lines_are : lines ≡ report_lines told
 
--- behind a turn no file was removed yet, or the dead ones by the book with its entries were being removed
-pub data RemovedInPart (publisher : Name) (es : List Recorded) (comes : List Came) (t : Turn) (between now : Seen) (fault : AgentFault) : Type 0 where
-  untouched : now ≡ between → IsUntold fault → RemovedInPart publisher es comes t between now fault
-  begun : (why : ReceiveFault) → PurgeCause publisher (books_of t.user (es ++ turn_entries publisher es comes t)) (files_of comes t) between now why → fault ≡ fault_of_receive why
-      → RemovedInPart publisher es comes t between now fault
+-- behind a turn no file was removed yet; or files are to be removed, all its lines were told, and the dead ones by the book with its entries were
+-- being removed
+pub data RemovedInPart (publisher : Name) (es : List Recorded) (comes : List Came) (t : Turn) (between now : Seen) (fault : AgentFault) (purge : Bool) (whole : Type 0) : Type 0 where
+  untouched : now ≡ between → IsUntold fault → RemovedInPart publisher es comes t between now fault purge whole
+  begun : purge ≡ true → whole → (why : ReceiveFault) → PurgeCause publisher (books_of t.user (es ++ turn_entries publisher es comes t)) (files_of comes t) between now why → fault ≡ fault_of_receive why
+      → RemovedInPart publisher es comes t between now fault purge whole
 
 -- a partner had his turn; its lines were not all told, or his dead files were being removed
-pub record BehindTurnStop (publisher : Name) (es : List Recorded) (comes : List Came) (user : Name) (new : View) (seen now : Seen) (items : List Item) (lines : List Line) (fault : AgentFault) : Type 0 where
+pub record BehindTurnStop (publisher : Name) (es : List Recorded) (comes : List Came) (user : Name) (new : View) (seen now : Seen) (items : List Item) (lines : List Line) (fault : AgentFault) (purge : Bool)
+    (whole : Type 0) : Type 0 where
   pub turn : Turn
   pub user_is : turn.user ≡ user
   pub is : IsTurn publisher es comes turn
   pub between : Seen
   pub database : IsDatabase new publisher (es ++ turn_entries publisher es comes turn) between
   pub mail : mail_in between.happened ≡ mail_after publisher turn.acts (mail_in seen.happened)
-  pub removed : RemovedInPart publisher es comes turn between now fault
+  pub removed : RemovedInPart publisher es comes turn between now fault purge whole
   pub items_are : items ≡ map commit (turn_entries publisher es comes turn)
   pub lines_are : lines ≡ turn_lines publisher es comes turn
 
 -- a partner's turn
-pub data TurnStop (publisher : Name) (es : List Recorded) (comes : List Came) (user : Name) (db new : View) (seen now : Seen) (items : List Item) (lines : List Line) (fault : AgentFault) : Type 0 where
-  in_letters : ReceivingStop publisher es comes user db new seen now items lines fault → TurnStop publisher es comes user db new seen now items lines fault
-  behind_letters : BehindTurnStop publisher es comes user new seen now items lines fault → TurnStop publisher es comes user db new seen now items lines fault
+pub data TurnStop (publisher : Name) (es : List Recorded) (comes : List Came) (user : Name) (db new : View) (seen now : Seen) (items : List Item) (lines : List Line) (fault : AgentFault) (purge : Bool)
+    (whole : Type 0) : Type 0 where
+  in_letters : ReceivingStop publisher es comes user db new seen now items lines fault → TurnStop publisher es comes user db new seen now items lines fault purge whole
+  behind_letters : BehindTurnStop publisher es comes user new seen now items lines fault purge whole → TurnStop publisher es comes user db new seen now items lines fault purge whole
 
 -- the note of messages was begun, which comes behind the last of them, or not
 abbrev pub IsBegunNote : Name → List Recorded → Name → List Message → List Message → List Recorded → Type 0
@@ -97,6 +101,7 @@ IsBegunNote publisher es user messages left (r ∷ other ∷ rs) = ⊥
 pub record DeliveryStop (publisher : Name) (es : List Recorded) (limit : ℕ) (partner : Partner) (db new : View) (seen now : Seen) (items : List Item) (fault : AgentFault) : Type 0 where
   pub why : SendFault
   pub cause : SendCause db new seen now partner.user limit partner.ask why
+  pub devices : IsDeviceFault seen now why
   pub fault_is : fault ≡ fault_of_send why
   pub messages : List Message
   pub left : List Message
@@ -123,20 +128,22 @@ pub record IsSendingUpTo (publisher : Name) (es : List Recorded) (options : Opti
   pub parts : asked options.receive publisher es run ≡ done ++ left
   pub sending : IsSending publisher es options.length run done
 
--- ---- a run that a fault ended, behind these first steps of it
+-- ---- a run that a fault ended, behind these first steps of it; whether all lines up to there were written
 
-pub data StopsAt (publisher : Name) (es : List Recorded) (options : Options) (run : Run) (db new : View) (seen now : Seen) (items : List Item) (lines : List Line) (fault : AgentFault) : Type 0 where
+pub data StopsAt (publisher : Name) (es : List Recorded) (options : Options) (run : Run) (db new : View) (seen now : Seen) (items : List Item) (lines : List Line) (fault : AgentFault) (whole : Type 0) : Type 0 where
   -- nothing was done yet
-  at_first : run ≡ nothing_done → new ≡ db → now ≡ seen → items ≡ [] → lines ≡ [] → IsUntold fault → StopsAt publisher es options run db new seen now items lines fault
+  at_first : run ≡ nothing_done → new ≡ db → now ≡ seen → items ≡ [] → lines ≡ [] → IsUntold fault → StopsAt publisher es options run db new seen now items lines fault whole
   -- the mail was being gathered
-  gathering : options.receive ≡ true → run ≡ nothing_done → new ≡ db → items ≡ [] → GatheringStop publisher es seen now lines fault → StopsAt publisher es options run db new seen now items lines fault
-  -- what was gathered, or a partner's turn, was told in part, and no other turn was begun
-  receiving : (left : List Name) → IsReceivingUpTo publisher es options run left → new ≡ db → now ≡ seen → items ≡ [] → lines ≡ [] → IsUntold fault → StopsAt publisher es options run db new seen now items lines fault
+  gathering : options.receive ≡ true → run ≡ nothing_done → new ≡ db → items ≡ [] → GatheringStop publisher es seen now lines fault → StopsAt publisher es options run db new seen now items lines fault whole
+  -- what was gathered was told in part, and no partner had his turn
+  behind_gathering : (left : List Name) → IsReceivingUpTo publisher es options run left → run.turns ≡ [] → new ≡ db → now ≡ seen → items ≡ [] → lines ≡ [] → IsUntold fault
+      → StopsAt publisher es options run db new seen now items lines fault whole
   -- the next partner had his turn
-  in_turn : (user : Name) (left : List Name) → IsReceivingUpTo publisher es options run (user ∷ left) → TurnStop publisher (after_run publisher es run) (comes_of run.gathered) user db new seen now items lines fault
-      → StopsAt publisher es options run db new seen now items lines fault
+  in_turn : (user : Name) (left : List Name) → IsReceivingUpTo publisher es options run (user ∷ left)
+      → TurnStop publisher (after_run publisher es run) (comes_of run.gathered) user db new seen now items lines fault options.purge whole → StopsAt publisher es options run db new seen now items lines fault whole
   -- what was put for a partner was not told, and nothing was put for any other
-  sending : (left : List Partner) → IsSendingUpTo publisher es options run left → new ≡ db → now ≡ seen → items ≡ [] → lines ≡ [] → IsUntold fault → StopsAt publisher es options run db new seen now items lines fault
+  sending : (left : List Partner) → IsSendingUpTo publisher es options run left → (last : Delivery) (earlier : List Delivery) → run.deliveries ≡ last ∷ earlier → new ≡ db → now ≡ seen → items ≡ [] → lines ≡ []
+      → IsUntold fault → StopsAt publisher es options run db new seen now items lines fault whole
   -- the next partner was being sent to
   in_delivery : (partner : Partner) (left : List Partner) → IsSendingUpTo publisher es options run (partner ∷ left) → lines ≡ []
-      → DeliveryStop publisher (after_run publisher es run) options.length partner db new seen now items fault → StopsAt publisher es options run db new seen now items lines fault
+      → DeliveryStop publisher (after_run publisher es run) options.length partner db new seen now items fault → StopsAt publisher es options run db new seen now items lines fault whole

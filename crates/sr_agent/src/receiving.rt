@@ -1,6 +1,6 @@
 //! The receive pass.
 
-ghost use Rattle.std.specs.Prelude.{◌≡◌, true, Ok, Err, IfErr, IfOk, OnOk};
+ghost use Rattle.std.specs.Prelude.{◌≡◌, Bool, true, Ok, Err, IfErr, IfOk, OnOk};
 ghost use Rattle.std.specs.List.{AllByRecursion};
 ghost use Rattle.sr_receive.specs.Entering.{IsReady};
 ghost use Rattle.sr_agent.specs.Shares.{HasSome, HoldsSome, ToldLetters};
@@ -148,7 +148,7 @@ fn receive_from<S: Site, O: Sink>(
     ensures keeps { OnOk result (KeepsPartners db.old db.new) }
     ensures holds { OnOk result (HasSome bag.new user.now) }
     ensures done { OnOk result (TurnDone db.old db.new (S.seen site.old) (S.seen site.new) user.now bag.old bag.new purges progress.old progress.new (O.seen sink.old) (O.seen sink.new)) }
-    ensures broken { IfErr result (TurnBroken db.old db.new (S.seen site.old) (S.seen site.new) user.now bag.old (O.seen sink.old) (O.seen sink.new)) }
+    ensures broken { IfErr result (TurnBroken db.old db.new (S.seen site.old) (S.seen site.new) user.now bag.old purges (O.seen sink.old) (O.seen sink.new)) }
 {
     let (received, alarms) = take_letters(alloc, db, site, user, bag, sink)?;
     progress.add(alloc, user, received.ask, alarms)?;
@@ -168,7 +168,7 @@ fn take_letters<S: Site, O: Sink>(
     requires user { IsUser db.old user.now }
     requires holds { HasSome bag.old user.now }
     ensures told { IfOk result (λ told. ToldLetters db.old db.new (S.seen site.old) (S.seen site.new) user.now bag.old bag.new told.0 told.1 (O.seen sink.old) (O.seen sink.new)) }
-    ensures broken { IfErr result (TurnBroken db.old db.new (S.seen site.old) (S.seen site.new) user.now bag.old (O.seen sink.old) (O.seen sink.new)) }
+    ensures broken { (purge : Bool) → IfErr result (TurnBroken db.old db.new (S.seen site.old) (S.seen site.new) user.now bag.old purge (O.seen sink.old) (O.seen sink.new)) }
 {
     let mut reports = Vec::new(alloc);
     let outcome = receive(alloc, db, site, user, bag, &mut reports);
@@ -212,7 +212,7 @@ fn purge_where<S: Site>(
     requires usable { db.now.log.usable ≡ true }
     requires user { IsUser db.now user.now }
     ensures purged { OnOk result (PurgedWhere purges db.now user.now bag.now (S.seen site.old) (S.seen site.new)) }
-    ensures cause { IfErr result (PurgeEnd db.now user.now bag.now (S.seen site.old) (S.seen site.new)) }
+    ensures cause { IfErr result (PurgeEnd purges db.now user.now bag.now (S.seen site.old) (S.seen site.new)) }
 {
     if purges {
         purge(alloc, db, site, user, bag)?;

@@ -32,10 +32,10 @@ pub of_disk : (before now : Seen) → DiskStays before now → Stays before now
 of_disk before now stays = record { told = stays.told; first = stays.first; grows = stays.grows; disk = stays.later; mail = omega (arith, stays.mail_faults) }
 
 -- the agent attaches nothing
-did_attach : (new : View) (before now : Seen) (publisher : Name) (es : List Recorded) (options : Options) (lines : List Line) (result : Result ℕ AgentFault) → Did new before now publisher es options lines result
-    → attaches_in now.happened ≡ attaches_in before.happened
-did_attach new before now publisher es options lines (Ok count) did = told_attaches before now publisher es (trail_of publisher es did.run) did.came.went
-did_attach new before now publisher es options lines (Err fault) did = told_attaches before now publisher es (trail_of publisher es did.run ++ did.items) did.went
+did_attach : (new : View) (before now : Seen) (written written' : Output) (publisher : Name) (es : List Recorded) (options : Options) (lines : List Line) (result : Result ℕ AgentFault)
+    → Did new before now written written' publisher es options lines result → attaches_in now.happened ≡ attaches_in before.happened
+did_attach new before now written written' publisher es options lines (Ok count) did = told_attaches before now publisher es (trail_of publisher es did.run) did.came.went
+did_attach new before now written written' publisher es options lines (Err fault) did = told_attaches before now publisher es (trail_of publisher es did.run ++ did.items) did.went
 
 -- ---- a run on a database that was opened
 
@@ -44,7 +44,7 @@ module _ (name mail : List ℕ) (options : Options) (before middle now : Seen) (
   agent_tried result ran has = tried_more name mail before middle now opened.no_mail opened.attached ran.ended.site.grows attaches
     where
       attaches : AttachesStay middle now
-      attaches told = let there = has told in did_attach view' middle now there.publisher there.es options ran.lines result (ran.did told there.publisher there.es there.is)
+      attaches told = let there = has told in did_attach view' middle now output written there.publisher there.es options ran.lines result (ran.did told there.publisher there.es there.is)
 
   pub agent_stays : (result : Result ℕ AgentFault) → RanAgent view view' middle now output written options result → Stays before now
   agent_stays result ran = stays_on before middle now (of_disk before middle opened.no_mail) ran.ended.site

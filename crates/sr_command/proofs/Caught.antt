@@ -1,9 +1,10 @@
 -- That a run of the agent which came to its end caught up with each partner.
-use Rattle.std.proofs.Common.{◌≡◌, ℕ, ◌≤◌, Bool, true, List, Ok, subst, ◌∙◌, inl, inr, arith}
+use Rattle.std.proofs.Common.{◌≡◌, ℕ, ◌≤◌, Bool, true, List, Ok, ap, subst, ◌∙◌, inl, inr, arith}
 use Rattle.std.specs.Prelude.{IsTrue}
 use Rattle.sr_agent.specs.Agents.{RanWhole}
+use Rattle.sr_agent.specs.Deliveries.{with_puts}
 use Rattle.sr_agent.specs.Lines.{Line}
-use Rattle.sr_agent.specs.Runs.{IsRun, Receives, Run}
+use Rattle.sr_agent.specs.Runs.{IsRun, Receives, Run, received_mail, sent_items}
 use Rattle.sr_agent.specs.Turns.{partners, users_in}
 use Rattle.sr_agent.specs.declared.options.Options.{Options}
 use Rattle.sr_book.specs.Entries.{Name}
@@ -15,6 +16,7 @@ use Rattle.sr_schema.specs.declared.fault.DdlFault.{DdlFault}
 use Rattle.sr_schema.specs.declared.fault.DdlFault.TheVariants as ddl
 use Rattle.sr_script.specs.declared.refusal.Refusal.{Refusal}
 use Rattle.sr_script.specs.declared.refusal.Refusal.TheVariants.{Ddl, Dml}
+use Rattle.sr_site.specs.Happenings.{Happening, mail_in}
 use Rattle.sr_site.specs.Seen.{Seen}
 use Rattle.sr_site.specs.Streams.{Output}
 use Rattle.sr_standing.specs.Standing.{StandsAs}
@@ -76,13 +78,14 @@ each_partner publisher es options run is receives =
     done.whose
 
 whole_caught_up : (view : View) (before : Seen) (publisher : Name) (es : List Recorded) (options : Options) (lines : List Line) (old new : Outside) → IsTrue options.receive → StandsAs publisher es old.site.files
-    → RanWhole view before new.site publisher es options lines → HasCaughtUp options old new
-whole_caught_up view before publisher es options lines old new receives stood whole = record {
+    → mail_in before.happened ≡ mail_in old.site.happened → RanWhole view before new.site publisher es options lines → HasCaughtUp options old new
+whole_caught_up view before publisher es options lines old new receives stood no_mail whole = record {
   publisher = publisher;
   es = es;
   run = whole.run;
   stood = stood;
   is = whole.is;
+  mail = whole.came.mail ∙ ap (λ (l : List Happening). with_puts (sent_items publisher es whole.run) (received_mail publisher es options.purge whole.run l)) no_mail;
   each = each_partner publisher es options whole.run whole.is receives;
   caught_up = all_caught_up publisher es options whole.run whole.is receives;
   stands = record { base = view.log.base; stands = whole.came.database.held.stands };
@@ -90,7 +93,7 @@ whole_caught_up view before publisher es options lines old new receives stood wh
 
 ran_caught_up : (name mail : List ℕ) (options : Options) (old new : Outside) (count : ℕ) → IsTrue old.site.told → IsTrue options.receive → AgentRan name mail options old new (Ok count) → HasCaughtUp options old new
 ran_caught_up name mail options old new count told receives on =
-    whole_caught_up on.view' on.opened on.is.publisher on.is.es options on.ran.lines old new receives (on.is.stood told)
+    whole_caught_up on.view' on.opened on.is.publisher on.is.es options on.ran.lines old new receives (on.is.stood told) on.is.no_mail.mail
     (on.ran.did (on.is.no_mail.told ∙ told) on.is.publisher on.is.es (on.is.database told))
 
 agent_caught_up : (name mail : List ℕ) (options : Options) (old new : Outside) (status : ℕ) → RanAgentOrder name mail options old new status → CatchesUp (Agent name mail options) old new status

@@ -1,6 +1,7 @@
 -- What a run of the agent that came to its end has left undone for no partner.
 use Rattle.std.specs.Prelude.{◌≡◌, ⊤, ℕ, ◌≤◌, List, [], ◌∷◌, ◌++◌, IsTrue}
 use Rattle.std.specs.List.{AllByRecursion}
+use Rattle.sr_agent.specs.Agents.{MailDone}
 use Rattle.sr_agent.specs.Runs.{Run, IsRun, after_run, comes_of}
 use Rattle.sr_agent.specs.Turns.{Turn, after_turns, ending, letters_of, partners, turn_entries, users_in}
 use Rattle.sr_agent.specs.declared.options.Options.{Options}
@@ -35,13 +36,15 @@ abbrev pub AreCaughtUp : Name → List Recorded → List Came → List Turn → 
 AreCaughtUp publisher es comes [] = ⊤
 AreCaughtUp publisher es comes (t ∷ earlier) = AreCaughtUp publisher es comes earlier × IsCaughtUp publisher (after_turns publisher es comes earlier) comes t
 
--- the files stood for a history, and stand for that with what a run added, in which each partner had his turn and is caught up
+-- the files stood for a history, and stand for that with what a run added, in which each partner had his turn and is caught up; just what the
+-- run did happened to the mail
 pub record HasCaughtUp (options : Options) (old new : Outside) : Type 0 where
   pub publisher : Name
   pub es : List Recorded
   pub run : Run
   pub stood : StandsAs publisher es old.site.files
   pub is : IsRun publisher es options run
+  pub mail : MailDone publisher es options run old.site new.site
   pub each : users_in run.turns ≡ partners publisher es
   pub caught_up : AreCaughtUp publisher es (comes_of run.gathered) run.turns
   pub stands : StandsAs publisher (after_run publisher es run) new.site.files

@@ -72,12 +72,12 @@ BytesCause text (Statement number fault) = ⊥
 BytesCause text Sink = ⊥
 BytesCause text Mail = ⊥
 
--- why no script is read
+-- why no script is read: only where the source refused did its count change
 abbrev pub ReadCause : Input → Input → Fault → Type 0
 ReadCause old new Words = ⊥
-ReadCause old new (Database fault) = fault ≡ store.Memory
+ReadCause old new (Database fault) = (fault ≡ store.Memory) × (new.faults ≡ old.faults)
 ReadCause old new Source = Rose old.faults new.faults
-ReadCause old new TooLong = IsTrue old.told → most_script < length old.left
+ReadCause old new TooLong = (IsTrue old.told → most_script < length old.left) × (new.faults ≡ old.faults)
 ReadCause old new (Script at) = IsNoScript old new at
 ReadCause old new (Statement number fault) = ⊥
 ReadCause old new Sink = ⊥
@@ -93,7 +93,7 @@ OpenedCause before now (store.Full end need) = ⊥
 OpenedCause before now (store.Long size limit) = ⊥
 OpenedCause before now store.Memory = ⊤
 
--- nothing was read of the source, but where there was no memory to read all of it
+-- nothing was read of the source, but where there was no memory to read all of it: then no read failed
 abbrev pub IsUnread : Input → Input → DatabaseFault → Type 0
 IsUnread old new store.Missing = new ≡ old
 IsUnread old new store.Exists = new ≡ old
@@ -101,7 +101,7 @@ IsUnread old new (store.Damaged file at) = new ≡ old
 IsUnread old new store.Disk = new ≡ old
 IsUnread old new (store.Full end need) = new ≡ old
 IsUnread old new (store.Long size limit) = new ≡ old
-IsUnread old new store.Memory = ⊤
+IsUnread old new store.Memory = new.faults ≡ old.faults
 
 -- a database was opened
 pub record HasOpened (name : List ℕ) (before now : Seen) : Type 0 where
@@ -113,7 +113,7 @@ abbrev pub BeginCause : List ℕ → Outside → Outside → Fault → Type 0
 BeginCause name old new Words = ⊥
 BeginCause name old new (Database fault) = OpenedCause old.site new.site fault × IsUnread old.input new.input fault
 BeginCause name old new Source = Rose old.input.faults new.input.faults × HasOpened name old.site new.site
-BeginCause name old new TooLong = (IsTrue old.input.told → most_script < length old.input.left) × HasOpened name old.site new.site
+BeginCause name old new TooLong = (IsTrue old.input.told → most_script < length old.input.left) × (new.input.faults ≡ old.input.faults) × HasOpened name old.site new.site
 BeginCause name old new (Script at) = IsNoScript old.input new.input at × HasOpened name old.site new.site
 BeginCause name old new (Statement number fault) = ⊥
 BeginCause name old new Sink = ⊥

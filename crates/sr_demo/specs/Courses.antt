@@ -8,7 +8,7 @@ use Rattle.sr_drawn.specs.declared.deeds.Drawn.{Drawn}
 use Rattle.sr_drawn.specs.declared.office.Office.{Office}
 use Rattle.sr_drawn.specs.declared.office.Office.TheVariants.{Cons, R1, R2, R3}
 use Rattle.sr_tally.specs.declared.offices.Offices.{Offices}
-use Rattle.sr_demo.specs.declared.scripts.TheConstants.{CONSOLIDATED, REMOTE, LAST_OF_CONS, LAST_OF_R1, LAST_OF_R2, LAST_OF_R3}
+use Rattle.sr_demo.specs.Scripts.{consolidated, remote, last_of_cons, last_of_r1, last_of_r2, last_of_r3}
 
 -- ---- runs, one after the other
 
@@ -37,10 +37,10 @@ StopsAmong (task ∷ tasks) old status line = Stopped task old status line ⊎ B
 -- ---- making
 
 unfoldable pub first_script : Office → List ℕ
-first_script Cons = CONSOLIDATED.now
-first_script R1 = REMOTE.now
-first_script R2 = REMOTE.now
-first_script R3 = REMOTE.now
+first_script Cons = consolidated
+first_script R1 = remote
+first_script R2 = remote
+first_script R3 = remote
 
 -- a database is made, and runs its first script
 unfoldable pub made_at : Office → List Task
@@ -150,10 +150,10 @@ pub record BlocksStop (seed statements : ℕ) (made : Offices) (status : ℕ) (l
 
 -- the last transactions of a database
 unfoldable pub last_script : Office → List ℕ
-last_script Cons = LAST_OF_CONS.now
-last_script R1 = LAST_OF_R1.now
-last_script R2 = LAST_OF_R2.now
-last_script R3 = LAST_OF_R3.now
+last_script Cons = last_of_cons
+last_script R1 = last_of_r1
+last_script R2 = last_of_r2
+last_script R3 = last_of_r3
 
 abbrev pub last_at : Office → Task
 last_at office = script_of office (last_script office)

@@ -46,7 +46,7 @@ pub const LAST_OF_R2: &[u8] = b"INSERT INTO cust VALUES (-5, 'r2', 0); COMMIT;\n
 pub const LAST_OF_R3: &[u8] = b"INSERT INTO cust VALUES (-6, 'r3', 0); COMMIT;\n";
 
 /// The script that a database begins with.
-#[tactic(auto, unfolding(crate::specs::Courses::first_script))]
+#[tactic(auto, unfolding(crate::specs::Courses::first_script, crate::specs::Scripts::consolidated, crate::specs::Scripts::remote))]
 pub(crate) fn first_script(office: Office) -> &'static [u8]
     ensures script { result.now ≡ first_script office }
 {
@@ -57,7 +57,7 @@ pub(crate) fn first_script(office: Office) -> &'static [u8]
 }
 
 /// The script that a database ends with.
-#[tactic(auto, unfolding(crate::specs::Courses::last_script))]
+#[tactic(auto, unfolding(crate::specs::Courses::last_script, crate::specs::Scripts::last_of_cons, crate::specs::Scripts::last_of_r1, crate::specs::Scripts::last_of_r2, crate::specs::Scripts::last_of_r3))]
 pub(crate) fn last_script(office: Office) -> &'static [u8]
     ensures script { result.now ≡ last_script office }
 {

@@ -16,14 +16,16 @@ use Rattle.sr_site.specs.Files.{Files}
 use Rattle.sr_site.specs.Happenings.{Happening}
 use Rattle.sr_site.specs.Images.{MayLeave}
 use Rattle.sr_site.specs.Seen.{Seen}
+use Rattle.sr_site.specs.Streams.{Output}
 use Rattle.sr_standing.specs.Items.{Item, commit, put, commits, Letter, puts, puts_in}
 use Rattle.sr_standing.specs.Standing.{StandsAs}
 use Rattle.sr_standing.specs.Trails.{AtEach, IsOnTrail, LacksLast, Went}
 use Rattle.sr_agent.specs.Agents.{Did}
 use Rattle.sr_agent.specs.Deliveries.{Delivery, AreDeliveries, deliveries_items, folder_of}
+use Rattle.sr_agent.specs.Ends.{HasTold}
 use Rattle.sr_agent.specs.Lines.{Line}
 use Rattle.sr_agent.specs.Runs.{Run, Sends, after_receiving, after_run, comes_of, sent_items, taken_entries, trail_of}
-use Rattle.sr_agent.specs.Stops.{DeliveryStop, IsBegunNote, StopsAt, at_first, gathering, receiving, in_turn, sending, in_delivery, TurnStop, in_letters, behind_letters}
+use Rattle.sr_agent.specs.Stops.{DeliveryStop, IsBegunNote, StopsAt, at_first, gathering, behind_gathering, in_turn, sending, in_delivery, TurnStop, in_letters, behind_letters}
 use Rattle.sr_agent.specs.Turns.{turn_entries}
 use Rattle.sr_agent.specs.declared.fault.AgentFault.{AgentFault}
 use Rattle.sr_agent.specs.declared.options.Options.{Options}
@@ -142,28 +144,28 @@ module _ (publisher : Name) (es : List Recorded) where
           backs = subst (λ (l : List Item). Backs publisher es [] (trail ++ l)) (sym stop.items_are) (backs_more publisher es [] trail (files ++ map commit stop.notes) first behind);
         }
 
-    turn_back : (whose : Name) (db new : View) (seen : Seen) (items : List Item) (lines : List Line) (fault : AgentFault) → run.deliveries ≡ []
-        → TurnStop publisher there (comes_of run.gathered) whose db new seen now items lines fault → Went before now publisher es (trail ++ items) → BacksOn before now
-    turn_back whose db new seen items lines fault none (in_letters stop) went = with_commits items (stop.entries ++ stop.begun) none stop.items_are went
-    turn_back whose db new seen items lines fault none (behind_letters stop) went =
+    turn_back : (whose : Name) (db new : View) (seen : Seen) (items : List Item) (lines : List Line) (fault : AgentFault) (whole : Type 0) → run.deliveries ≡ []
+        → TurnStop publisher there (comes_of run.gathered) whose db new seen now items lines fault options.purge whole → Went before now publisher es (trail ++ items) → BacksOn before now
+    turn_back whose db new seen items lines fault whole none (in_letters stop) went = with_commits items (stop.entries ++ stop.begun) none stop.items_are went
+    turn_back whose db new seen items lines fault whole none (behind_letters stop) went =
         with_commits items (turn_entries publisher there (comes_of run.gathered) stop.turn) none stop.items_are went
 
-    stop_back : (db new : View) (seen : Seen) (items : List Item) (lines : List Line) (fault : AgentFault) → StopsAt publisher es options run db new seen now items lines fault
+    stop_back : (db new : View) (seen : Seen) (items : List Item) (lines : List Line) (fault : AgentFault) (whole : Type 0) → StopsAt publisher es options run db new seen now items lines fault whole
         → Went before now publisher es (trail ++ items) → BacksOn before now
-    stop_back db new seen items lines fault (at_first is_run is_new is_now is_items is_lines untold) went = with_none items (inl (ap (λ (r : Run). r.deliveries) is_run)) is_items went
-    stop_back db new seen items lines fault (gathering asked_for is_run is_new is_items stop) went = with_none items (inl (ap (λ (r : Run). r.deliveries) is_run)) is_items went
-    stop_back db new seen items lines fault (receiving left upto is_new is_now is_items is_lines untold) went = with_none items (inl upto.none) is_items went
-    stop_back db new seen items lines fault (in_turn whose left upto stop) went = turn_back whose db new seen items lines fault upto.none stop went
-    stop_back db new seen items lines fault (sending left upto is_new is_now is_items is_lines untold) went = with_none items (inr upto.sending.are) is_items went
-    stop_back db new seen items lines fault (in_delivery partner left upto is_lines stop) went = with_delivery partner db new seen items fault (inr upto.sending.are) stop went
+    stop_back db new seen items lines fault whole (at_first is_run is_new is_now is_items is_lines untold) went = with_none items (inl (ap (λ (r : Run). r.deliveries) is_run)) is_items went
+    stop_back db new seen items lines fault whole (gathering asked_for is_run is_new is_items stop) went = with_none items (inl (ap (λ (r : Run). r.deliveries) is_run)) is_items went
+    stop_back db new seen items lines fault whole (behind_gathering left upto none is_new is_now is_items is_lines untold) went = with_none items (inl upto.none) is_items went
+    stop_back db new seen items lines fault whole (in_turn whose left upto stop) went = turn_back whose db new seen items lines fault whole upto.none stop went
+    stop_back db new seen items lines fault whole (sending left upto newest earlier newest_is is_new is_now is_items is_lines untold) went = with_none items (inr upto.sending.are) is_items went
+    stop_back db new seen items lines fault whole (in_delivery partner left upto is_lines stop) went = with_delivery partner db new seen items fault (inr upto.sending.are) stop went
 
-  did_back : (options : Options) (new : View) (before now : Seen) (lines : List Line) (result : Result ℕ AgentFault) → Did new before now publisher es options lines result → BacksOn before now
-  did_back options new before now lines (Ok count) ran = record {
+  did_back : (options : Options) (new : View) (before now : Seen) (written written' : Output) (lines : List Line) (result : Result ℕ AgentFault) → Did new before now written written' publisher es options lines result → BacksOn before now
+  did_back options new before now written written' lines (Ok count) ran = record {
     trail = trail_of publisher es ran.run;
     went = ran.came.went;
     backs = trail_back options.length ran.run (sent_either options.send options ran.run ran.is.sends);
   }
-  did_back options new before now lines (Err fault) ran = stop_back options ran.run before now ran.db new ran.seen ran.items ran.told fault ran.stops ran.went
+  did_back options new before now written written' lines (Err fault) ran = stop_back options ran.run before now ran.db new ran.seen ran.items ran.told fault (HasTold lines written written') ran.stops ran.went
 
   -- ---- at each moment
 
@@ -195,12 +197,12 @@ module _ (publisher : Name) (es : List Recorded) where
       each_moment [] on = at_moment [] on
       each_moment (step ∷ more) on = (at_moment (step ∷ more) on.0, each_moment more on.1)
 
-  went_back : (before now : Seen) (trail : List Item) → Backs publisher es [] trail → Went before now publisher es trail → BacksPuts publisher before now
+  pub went_back : (before now : Seen) (trail : List Item) → Backs publisher es [] trail → Went before now publisher es trail → BacksPuts publisher before now
   unfolding Went
   went_back before now trail backs went = record { more = went.more; is = went.is; moments = each_moment trail backs before.first before.happened went.more went.moments }
 
-  pub run_backs : (options : Options) (new : View) (before now : Seen) (lines : List Line) (result : Result ℕ AgentFault) → Did new before now publisher es options lines result
+  pub run_backs : (options : Options) (new : View) (before now : Seen) (written written' : Output) (lines : List Line) (result : Result ℕ AgentFault) → Did new before now written written' publisher es options lines result
       → BacksPuts publisher before now
-  run_backs options new before now lines result did =
-      let back = did_back options new before now lines result did in
+  run_backs options new before now written written' lines result did =
+      let back = did_back options new before now written written' lines result did in
       went_back before now back.trail back.backs back.went

@@ -15,3 +15,6 @@ pub mod Backed
 pub mod Lasting
 pub mod OwnActs
 pub mod Opened
+pub mod Silent
+pub mod Decisions
+pub mod Deciders

@@ -38,12 +38,12 @@ use Rattle.sr_prefix.proofs.Whole.{did_on}
 own_publisher : (view : View) (publisher : Name) (es : List Recorded) (seen : Seen) → IsDatabase view publisher es seen → (state_of publisher es).catalog.publisher ≡ publisher
 own_publisher view publisher es seen database = ap (λ (c : Lists). c.publisher) (sym database.is.catalog) ∙ publisher_is view publisher es database.is
 
-pub run_kept : (publisher user : Name) (es us : List Recorded) (options : Options) (old new : View) (before now : Seen) (lines : List Line) (result : Result ℕ AgentFault) → IsTrue before.told
-    → IsDatabase old publisher es before → Stored user us → ArePartners publisher user es us → NoneForged publisher user us before now → Did new before now publisher es options lines result
+pub run_kept : (publisher user : Name) (es us : List Recorded) (options : Options) (old new : View) (before now : Seen) (written written' : Output) (lines : List Line) (result : Result ℕ AgentFault) → IsTrue before.told
+    → IsDatabase old publisher es before → Stored user us → ArePartners publisher user es us → NoneForged publisher user us before now → Did new before now written written' publisher es options lines result
     → RestsThroughout (StandInStep publisher user us) before now
-run_kept publisher user es us options old new before now lines result told database stored partners none did =
+run_kept publisher user es us options old new before now written written' lines result told database stored partners none did =
     let all = mail_since (Unforged publisher user us) before.happened now.happened none.more none.is none.each in
-    let kept = did_on publisher user us es options stored (own_publisher old publisher es before database) (on_layers publisher user us es partners.took) new before now lines result told all did in
+    let kept = did_on publisher user us es options stored (own_publisher old publisher es before database) (on_layers publisher user us es partners.took) new before now written written' lines result told all did in
     went_rests publisher user us es before now kept.trail partners kept.along kept.went
 
 -- ---- every site has an image
@@ -61,7 +61,7 @@ torn_same place count bytes = record { before = refl; behind = refl; longer = om
 cut_same : (to : ℕ) (bytes : List ℕ) → IsCutInPart to bytes bytes
 cut_same to bytes = record { before = refl; least = omega arith; most = omega arith }
 
-some_image : (first : Files) (happened : List Happening) → (image : Files) × MayLeave first happened image
+pub some_image : (first : Files) (happened : List Happening) → (image : Files) × MayLeave first happened image
 some_image first [] = (first, refl)
 some_image first (attached name folder done ∷ before) = some_image first before
 some_image first (wrote file place bytes done after ∷ before) =
@@ -93,7 +93,7 @@ both_rest P before first (step ∷ more) h k = (subst P (ap (λ (l : List Happen
 abbrev Leaves : (Files → Type 0) → Files → List Happening → Type 0
 Leaves holds first moment = (image : Files) → MayLeave first moment image → holds image
 
-rests_on : (holds : Files → Type 0) (before middle now : Seen) → middle.first ≡ before.first → RestsThroughout holds before middle → RestsThroughout holds middle now → RestsThroughout holds before now
+pub rests_on : (holds : Files → Type 0) (before middle now : Seen) → middle.first ≡ before.first → RestsThroughout holds before middle → RestsThroughout holds middle now → RestsThroughout holds before now
 rests_on holds before middle now same one two =
     let at : Throughout (Leaves holds before.first) (one.more ++ before.happened) two.more
     = subst (λ (l : List Happening). Throughout (Leaves holds before.first) l two.more) one.is
@@ -105,7 +105,7 @@ rests_on holds before middle now same one two =
     }
 
 -- what is left stays left, where nothing was changed
-rests_still : (holds : Files → Type 0) (before middle : Seen) → IsSettled holds before → RestsThroughout (IsImage before) before middle → RestsThroughout holds before middle
+pub rests_still : (holds : Files → Type 0) (before middle : Seen) → IsSettled holds before → RestsThroughout (IsImage before) before middle → RestsThroughout holds before middle
 rests_still holds before middle settled still = record {
   more = still.more;
   is = still.is;
@@ -113,7 +113,7 @@ rests_still holds before middle settled still = record {
 }
 
 -- an image of a later moment at which nothing was changed was one before
-was_image : (before middle : Seen) (image : Files) → middle.first ≡ before.first → RestsThroughout (IsImage before) before middle → IsImage middle image → IsImage before image
+pub was_image : (before middle : Seen) (image : Files) → middle.first ≡ before.first → RestsThroughout (IsImage before) before middle → IsImage middle image → IsImage before image
 was_image before middle image same still there =
     let last : Leaves (IsImage before) before.first (still.more ++ before.happened) = now_rests (Leaves (IsImage before) before.first) before.happened still.more still.moments in
     let then : MayLeave before.first (still.more ++ before.happened) image
@@ -149,7 +149,7 @@ agent_kept publisher user owner es us options view new before opened now written
     let all : AllSince (Unforged publisher user us) before.happened now.happened = record { more = none.more; is = none.is; each = none.each } in
     let each = since_parts (Unforged publisher user us) before.happened opened.happened now.happened still.more later.more all still.is later.is in
     let behind : NoneForged publisher user us opened now = record { more = later.more; is = later.is; each = each.0 } in
-    let ran_on = run_kept publisher user es us options view new opened now ran.lines result still_told own stored there.partners behind (ran.did still_told publisher es own) in
+    let ran_on = run_kept publisher user es us options view new opened now written written' ran.lines result still_told own stored there.partners behind (ran.did still_told publisher es own) in
     rests_on (StandInStep publisher user us) before opened now same (rests_still (StandInStep publisher user us) before opened settled still) ran_on
 
 -- a run of a script on one

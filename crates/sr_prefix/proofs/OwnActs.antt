@@ -179,7 +179,7 @@ own_ends script count new acts broken (Err session.Memory) end own = with_none a
 
 -- ---- entries
 
-abbrev IsLocal : Recorded → Type 0
+abbrev pub IsLocal : Recorded → Type 0
 IsLocal r = sees r ≡ local
 
 entry_local : (a : Act) → IsOwn a → AllByRecursion IsLocal (entry_in a)
@@ -201,16 +201,21 @@ broken_local (r ∷ broken) own = (own.0, broken_local broken own.1)
 
 -- ---- a run of a script
 
+-- all entries of it are the database's own
+pub script_locals : (old new : View) (before now : Seen) (written written' : Output) (statements : List Stmt) (result : Result ℕ SessionFault)
+    → (ran : RanScript old new before now written written' statements result) → AllByRecursion IsLocal (entries_of ran.acts ++ ran.broken)
+script_locals old new before now written written' statements result ran =
+    let own : AreOwn (ran.acts ++ map commits ran.broken)
+    = own_ends (script_of (committed old) statements) (length statements) new ran.acts ran.broken result ran.ends (own_ran 0 (at_beginning (committed old)) statements) in
+    AllByRecursion-append IsLocal (entries_of ran.acts) ran.broken (entries_local ran.acts (AllByRecursion-front IsOwn ran.acts (map commits ran.broken) own))
+    (broken_local ran.broken (AllByRecursion-back IsOwn ran.acts (map commits ran.broken) own))
+
 pub script_kept : (publisher user : Name) (es us : List Recorded) (old new : View) (before now : Seen) (written written' : Output) (statements : List Stmt) (result : Result ℕ SessionFault)
     → IsTrue before.told → IsDatabase old publisher es before → ArePartners publisher user es us → RanScript old new before now written written' statements result
     → RestsThroughout (StandInStep publisher user us) before now
 script_kept publisher user es us old new before now written written' statements result told database partners ran =
-    let own : AreOwn (ran.acts ++ map commits ran.broken)
-    = own_ends (script_of (committed old) statements) (length statements) new ran.acts ran.broken result ran.ends (own_ran 0 (at_beginning (committed old)) statements) in
     let entries : List Recorded = entries_of ran.acts ++ ran.broken in
-    let locals : AllByRecursion IsLocal entries
-    = AllByRecursion-append IsLocal (entries_of ran.acts) ran.broken (entries_local ran.acts (AllByRecursion-front IsOwn ran.acts (map commits ran.broken) own))
-    (broken_local ran.broken (AllByRecursion-back IsOwn ran.acts (map commits ran.broken) own)) in
+    let locals : AllByRecursion IsLocal entries = script_locals old new before now written written' statements result ran in
     let along : Along (IsOn publisher user us) es entries = own_along publisher user us es entries locals (on_layers publisher user us es partners.took) in
     went_rests publisher user us es before now (map commit entries) partners
     (subst (λ (rs : List Recorded). Along (IsOn publisher user us) es rs) (sym (commits_of entries)) along) (ran.reached.went told publisher es database)

@@ -32,7 +32,7 @@ pub commits_letters : (address : Name) (count : ℕ) (messages : List Message) �
 commits_letters address count [] = refl
 commits_letters address count (m ∷ messages) = commits_letters address (count + 1) messages
 
-commits_noted : (address user : Name) (book : Book) (end : Offset) (m : Message) (messages : List Message)
+pub commits_noted : (address user : Name) (book : Book) (end : Offset) (m : Message) (messages : List Message)
     → commits (noted_letters address user book end (m ∷ messages)) ≡ sent_note user book end (length (m ∷ messages)) ∷ []
 commits_noted address user book end m messages =
     commits-append (letters address book.send_count (m ∷ messages)) (commit (sent_note user book end (length (m ∷ messages))) ∷ [])

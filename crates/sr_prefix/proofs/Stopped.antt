@@ -49,7 +49,7 @@ module _ (holds : List Recorded → Type 0) (es : List Recorded) where
   none_begun entries rest h =
       along_front holds es (entries ++ []) rest (subst (λ (l : List Recorded). Along holds es l) (ap (λ (l : List Recorded). l ++ rest) (sym (append-nil entries))) h)
 
-  begun_on : (why : ReceiveFault) (entries refused rest : List Recorded) → Along holds es (entries ++ (refused ++ rest)) → Along holds es (entries ++ begun_by why refused)
+  pub begun_on : (why : ReceiveFault) (entries refused rest : List Recorded) → Along holds es (entries ++ (refused ++ rest)) → Along holds es (entries ++ begun_by why refused)
   begun_on Disk entries refused rest h =
       along_front holds es (entries ++ refused) rest (subst (λ (l : List Recorded). Along holds es l) (sym (append_assoc entries refused rest)) h)
   begun_on Mail entries refused rest h = none_begun entries (refused ++ rest) h

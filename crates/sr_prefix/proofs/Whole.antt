@@ -22,16 +22,18 @@ use Rattle.sr_send.specs.declared.fault.SendFault.{SendFault}
 use Rattle.sr_send.specs.declared.fault.SendFault.TheVariants as sends
 use Rattle.sr_site.specs.Happenings.{Happening, Grows, mail_in}
 use Rattle.sr_site.specs.Seen.{Seen}
+use Rattle.sr_site.specs.Streams.{Output}
 use Rattle.sr_standing.specs.Items.{Item, commit, commits}
 use Rattle.sr_standing.specs.Trails.{Went}
 use Rattle.sr_standing.proofs.Going.{told_same}
 use Rattle.sr_standing.proofs.Joining.{joined}
 use Rattle.sr_agent.specs.Agents.{CameSoFar, Did, RanInPart, RanWhole}
 use Rattle.sr_agent.specs.Deliveries.{folder_of, with_puts}
+use Rattle.sr_agent.specs.Ends.{HasTold}
 use Rattle.sr_agent.specs.Lines.{Line}
 use Rattle.sr_agent.specs.Runs.{Run, IsReceiving, after_run, comes_of, mail_of, received_mail, sent_items, trail_of}
 use Rattle.sr_agent.specs.Stops.{BehindTurnStop, DeliveryStop, IsBegunNote, ReceivingStop, RemovedInPart, untouched, begun}
-use Rattle.sr_agent.specs.Stops.{StopsAt, at_first, gathering, receiving, in_turn, sending, in_delivery, TurnStop, in_letters, behind_letters}
+use Rattle.sr_agent.specs.Stops.{StopsAt, at_first, gathering, behind_gathering, in_turn, sending, in_delivery, TurnStop, in_letters, behind_letters}
 use Rattle.sr_agent.specs.Turns.{Gathering, Turn, beginning, files_of, letters_of, turn_entries, turns_mail}
 use Rattle.sr_agent.specs.declared.fault.AgentFault.{AgentFault}
 use Rattle.sr_agent.specs.declared.options.Options.{Options}
@@ -67,10 +69,11 @@ purge_goes address files between now t es (receives.Full end need) cause = absur
 purge_goes address files between now t es (receives.Long size limit) cause = absurd cause
 purge_goes address files between now t es receives.Memory cause = grows_on between.happened now.happened cause.stays.grows
 
-removed_goes : (publisher : Name) (es : List Recorded) (comes : List Came) (t : Turn) (between now : Seen) (fault : AgentFault) → RemovedInPart publisher es comes t between now fault
+removed_goes : (publisher : Name) (es : List Recorded) (comes : List Came) (t : Turn) (between now : Seen) (fault : AgentFault) (purge : Bool) (whole : Type 0)
+    → RemovedInPart publisher es comes t between now fault purge whole
     → GoesOn (mail_in between.happened) (mail_in now.happened)
-removed_goes publisher es comes t between now fault (untouched same untold) = record { more = []; is = ap (λ (s : Seen). mail_in s.happened) same }
-removed_goes publisher es comes t between now fault (begun why cause is) = purge_goes publisher (files_of comes t) between now t (es ++ turn_entries publisher es comes t) why cause
+removed_goes publisher es comes t between now fault purge whole (untouched same untold) = record { more = []; is = ap (λ (s : Seen). mail_in s.happened) same }
+removed_goes publisher es comes t between now fault purge whole (begun on all why cause is) = purge_goes publisher (files_of comes t) between now t (es ++ turn_entries publisher es comes t) why cause
 
 -- and files may have been put
 either_grows : (old new : View) (before now : Seen) (user : Name) (limit : ℕ) (ask : Bool) → Unnoted old new before now user limit ask ⊎ NoteRefused old new before now user limit ask
@@ -169,12 +172,12 @@ module _ (publisher user : Name) (us es : List Recorded) (options : Options) (st
         = part_on publisher user us db new seen now there whose (letters_from whose comes) stop.why still stored came.database (last so_far) his so_far.since stop.lost [] stop.told stop.part in
         with_more (map commit went.entries) went.entries so_far (commits_of went.entries) went.along (joined before seen now publisher es trail (map commit went.entries) came.went went.went)
 
-    behind_letters_on : (whose : Name) (items : List Item) (lines : List Line) (fault : AgentFault) → CameOn seen now run → KnowsLetters publisher user us (comes_of run.gathered)
-        → BehindTurnStop publisher there (comes_of run.gathered) whose new seen now items lines fault → Went before now publisher es (trail ++ items) → KeptOn before now
-    behind_letters_on whose items lines fault so_far knows stop went =
+    behind_letters_on : (whose : Name) (items : List Item) (lines : List Line) (fault : AgentFault) (whole : Type 0) → CameOn seen now run → KnowsLetters publisher user us (comes_of run.gathered)
+        → BehindTurnStop publisher there (comes_of run.gathered) whose new seen now items lines fault options.purge whole → Went before now publisher es (trail ++ items) → KeptOn before now
+    behind_letters_on whose items lines fault whole so_far knows stop went =
         let comes : List Came = comes_of run.gathered in
         let then : List Happening = mail_in seen.happened in
-        let goes = removed_goes publisher there comes stop.turn stop.between now fault stop.removed in
+        let goes = removed_goes publisher there comes stop.turn stop.between now fault options.purge whole stop.removed in
         let second : List Happening = goes.more ++ mail_after publisher stop.turn.acts [] in
         let is : mail_in now.happened ≡ second ++ then
         = goes.is ∙ ap (λ (l : List Happening). goes.more ++ l) (stop.mail ∙ acts_mail_on publisher stop.turn.acts [] then)
@@ -186,13 +189,13 @@ module _ (publisher user : Name) (us es : List Recorded) (options : Options) (st
         (turn_on publisher user us there comes stop.turn stored (last so_far) knows stop.is hold.0) went
 
     -- where the mail stands then: it goes on from what it was
-    turn_goes : (whose : Name) (items : List Item) (lines : List Line) (fault : AgentFault) → TurnStop publisher there (comes_of run.gathered) whose db new seen now items lines fault
-        → GoesOn (mail_in seen.happened) (mail_in now.happened)
-    turn_goes whose items lines fault (in_letters stop) = grows_on seen.happened now.happened stop.reached.stays.grows
-    turn_goes whose items lines fault (behind_letters stop) =
+    turn_goes : (whose : Name) (items : List Item) (lines : List Line) (fault : AgentFault) (whole : Type 0)
+        → TurnStop publisher there (comes_of run.gathered) whose db new seen now items lines fault options.purge whole → GoesOn (mail_in seen.happened) (mail_in now.happened)
+    turn_goes whose items lines fault whole (in_letters stop) = grows_on seen.happened now.happened stop.reached.stays.grows
+    turn_goes whose items lines fault whole (behind_letters stop) =
         let comes : List Came = comes_of run.gathered in
         let then : List Happening = mail_in seen.happened in
-        let goes = removed_goes publisher there comes stop.turn stop.between now fault stop.removed in
+        let goes = removed_goes publisher there comes stop.turn stop.between now fault options.purge whole stop.removed in
         record {
           more = goes.more ++ mail_after publisher stop.turn.acts [];
           is =
@@ -200,10 +203,10 @@ module _ (publisher user : Name) (us es : List Recorded) (options : Options) (st
               ∙ sym (append_assoc goes.more (mail_after publisher stop.turn.acts []) then);
         }
 
-    turn_stop_on : (whose : Name) (items : List Item) (lines : List Line) (fault : AgentFault) → CameOn seen now run → KnowsLetters publisher user us (comes_of run.gathered)
-        → TurnStop publisher there (comes_of run.gathered) whose db new seen now items lines fault → Went before now publisher es (trail ++ items) → KeptOn before now
-    turn_stop_on whose items lines fault so_far knows (in_letters stop) went = in_letters_on whose items lines fault so_far knows stop
-    turn_stop_on whose items lines fault so_far knows (behind_letters stop) went = behind_letters_on whose items lines fault so_far knows stop went
+    turn_stop_on : (whose : Name) (items : List Item) (lines : List Line) (fault : AgentFault) (whole : Type 0) → CameOn seen now run → KnowsLetters publisher user us (comes_of run.gathered)
+        → TurnStop publisher there (comes_of run.gathered) whose db new seen now items lines fault options.purge whole → Went before now publisher es (trail ++ items) → KeptOn before now
+    turn_stop_on whose items lines fault whole so_far knows (in_letters stop) went = in_letters_on whose items lines fault so_far knows stop
+    turn_stop_on whose items lines fault whole so_far knows (behind_letters stop) went = behind_letters_on whose items lines fault whole so_far knows stop went
 
     -- ---- as messages were put
 
@@ -227,30 +230,30 @@ module _ (publisher user : Name) (us es : List Recorded) (options : Options) (st
 
     -- ---- each of them
 
-    pub stop_on : (items : List Item) (lines : List Line) (fault : AgentFault) → StopsAt publisher es options run db new seen now items lines fault → Went before now publisher es (trail ++ items)
-        → KeptOn before now
-    stop_on items lines fault (at_first is_run is_new is_now is_items is_lines untold) went =
+    pub stop_on : (items : List Item) (lines : List Line) (fault : AgentFault) (whole : Type 0) → StopsAt publisher es options run db new seen now items lines fault whole
+        → Went before now publisher es (trail ++ items) → KeptOn before now
+    stop_on items lines fault whole (at_first is_run is_new is_now is_items is_lines untold) went =
         with_none items (came_on db before seen now run all came (inl (ap (λ (r : Run). r.turns) is_run)) (same_mail is_now)) is_items went
-    stop_on items lines fault (gathering asked_for is_run is_new is_items stop) went =
+    stop_on items lines fault whole (gathering asked_for is_run is_new is_items stop) went =
         with_none items
         (came_on db before seen now run all came (inl (ap (λ (r : Run). r.turns) is_run)) (grows_on seen.happened now.happened stop.part.stays.grows)) is_items went
-    stop_on items lines fault (receiving left upto is_new is_now is_items is_lines untold) went =
+    stop_on items lines fault whole (behind_gathering left upto none is_new is_now is_items is_lines untold) went =
         with_none items (came_on db before seen now run all came (inr (upto.done, upto.receiving)) (same_mail is_now)) is_items went
-    stop_on items lines fault (in_turn whose left upto stop) went =
-        let so_far = came_on db before seen now run all came (inr (upto.done, upto.receiving)) (turn_goes whose items lines fault stop) in
-        turn_stop_on whose items lines fault so_far (in_turn_on upto.done upto.receiving so_far) stop went
-    stop_on items lines fault (sending left upto is_new is_now is_items is_lines untold) went =
+    stop_on items lines fault whole (in_turn whose left upto stop) went =
+        let so_far = came_on db before seen now run all came (inr (upto.done, upto.receiving)) (turn_goes whose items lines fault whole stop) in
+        turn_stop_on whose items lines fault whole so_far (in_turn_on upto.done upto.receiving so_far) stop went
+    stop_on items lines fault whole (sending left upto newest earlier newest_is is_new is_now is_items is_lines untold) went =
         with_none items (came_on db before seen now run all came (received_either options.receive publisher es run upto.received) (same_mail is_now)) is_items went
-    stop_on items lines fault (in_delivery partner left upto is_lines stop) went =
+    stop_on items lines fault whole (in_delivery partner left upto is_lines stop) went =
         let grows : Grows seen.happened now.happened = send_grows db new seen now partner.user options.length partner.ask stop.why stop.cause in
         let so_far = came_on db before seen now run all came (received_either options.receive publisher es run upto.received) (grows_on seen.happened now.happened grows) in
         delivery_on partner items fault so_far stop went
 
-  part_ran : (new : View) (before now : Seen) (lines : List Line) (fault : AgentFault) → IsTrue before.told → AllSince (Unforged publisher user us) (mail_in before.happened) (mail_in now.happened)
-      → RanInPart new before now publisher es options lines fault → KeptOn before now
-  part_ran new before now lines fault told all ran = stop_on ran.run ran.db new before ran.seen now told all ran.came ran.items ran.told fault ran.stops ran.went
+  part_ran : (new : View) (before now : Seen) (written written' : Output) (lines : List Line) (fault : AgentFault) → IsTrue before.told → AllSince (Unforged publisher user us) (mail_in before.happened) (mail_in now.happened)
+      → RanInPart new before now written written' publisher es options lines fault → KeptOn before now
+  part_ran new before now written written' lines fault told all ran = stop_on ran.run ran.db new before ran.seen now told all ran.came ran.items ran.told fault (HasTold lines written written') ran.stops ran.went
 
-  pub did_on : (new : View) (before now : Seen) (lines : List Line) (result : Result ℕ AgentFault) → IsTrue before.told → AllSince (Unforged publisher user us) (mail_in before.happened) (mail_in now.happened)
-      → Did new before now publisher es options lines result → KeptOn before now
-  did_on new before now lines (Ok count) told all ran = whole_on new before now lines all ran
-  did_on new before now lines (Err fault) told all ran = part_ran new before now lines fault told all ran
+  pub did_on : (new : View) (before now : Seen) (written written' : Output) (lines : List Line) (result : Result ℕ AgentFault) → IsTrue before.told → AllSince (Unforged publisher user us) (mail_in before.happened) (mail_in now.happened)
+      → Did new before now written written' publisher es options lines result → KeptOn before now
+  did_on new before now written written' lines (Ok count) told all ran = whole_on new before now lines all ran
+  did_on new before now written written' lines (Err fault) told all ran = part_ran new before now written written' lines fault told all ran

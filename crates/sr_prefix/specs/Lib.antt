@@ -3,3 +3,4 @@ pub mod Partners
 pub mod Forging
 pub mod Keeping
 pub mod Puts
+pub mod Decided

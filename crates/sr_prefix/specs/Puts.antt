@@ -7,7 +7,7 @@ use Rattle.sr_msgform.specs.Messages.{message_spelling}
 use Rattle.sr_msgform.specs.declared.message.Message.{Message}
 use Rattle.sr_site.specs.Files.{Files}
 use Rattle.sr_site.specs.Happenings.{Happening}
-use Rattle.sr_site.specs.Images.{MayLeave}
+use Rattle.sr_site.specs.Images.{IsSettled, MayLeave}
 use Rattle.sr_site.specs.Seen.{Seen}
 use Rattle.sr_standing.specs.Items.{Letter, puts_in}
 use Rattle.sr_standing.specs.Standing.{StandsAs}
@@ -34,3 +34,12 @@ pub record BacksPuts (publisher : Name) (before now : Seen) : Type 0 where
   pub more : List Happening
   pub is : now.happened ≡ more ++ before.happened
   pub moments : AtEach (λ since. (image : Files) → MayLeave before.first (since ++ before.happened) image → StandBehind publisher (puts_in since) image) more
+
+-- files stand for a history of this publisher
+pub record StandForOne (publisher : Name) (files : Files) : Type 0 where
+  pub es : List Recorded
+  pub stands : StandsAs publisher es files
+
+-- where every crash leaves a history of this publisher, at each moment it leaves one of which all messages are true that were put until then
+abbrev pub PutsTrue : Name → Seen → Seen → Type 0
+PutsTrue publisher before now = IsSettled (StandForOne publisher) before → BacksPuts publisher before now

@@ -12,6 +12,7 @@ ghost use Rattle.sr_history.specs.Fitting.{Stored};
 ghost use Rattle.sr_history.specs.Recorded.{Recorded};
 ghost use Rattle.sr_site.specs.Images.{RestsThroughout};
 ghost use Rattle.sr_site.specs.Seen.{Seen};
+ghost use Rattle.sr_site.specs.Streams.{Output};
 ghost use Rattle.sr_prefix.specs.Forging.{NoneForged};
 ghost use Rattle.sr_prefix.specs.Partners.{ArePartners, StandInStep};
 
@@ -19,7 +20,7 @@ ghost use Rattle.sr_prefix.specs.Partners.{ArePartners, StandInStep};
 /// gives it, and nothing that the run fetched of the partner's letters is forged, so it is of each history for which a crash leaves the files:
 /// at each moment of the run, to its end or to the fault that ended it.
 pub fn a_run_keeps_partners_in_step()
-    ensures did { (publisher user : Name) (es us : List Recorded) (options : Choices) (old new : View) (before now : Seen) (lines : List ALine) (result : Result ℕ AFault)
+    ensures did { (publisher user : Name) (es us : List Recorded) (options : Choices) (old new : View) (before now : Seen) (written written' : Output) (lines : List ALine) (result : Result ℕ AFault)
         → IsTrue before.told → IsDatabase old publisher es before → Stored user us → ArePartners publisher user es us → NoneForged publisher user us before now
-        → Did new before now publisher es options lines result → RestsThroughout (StandInStep publisher user us) before now }
+        → Did new before now written written' publisher es options lines result → RestsThroughout (StandInStep publisher user us) before now }
 {}

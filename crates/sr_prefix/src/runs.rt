@@ -16,6 +16,7 @@ ghost use Rattle.sr_site.specs.Causes.{Stays};
 ghost use Rattle.sr_site.specs.Images.{IsImage, RestsThroughout};
 ghost use Rattle.sr_site.specs.Seen.{Seen};
 ghost use Rattle.sr_site.specs.Streams.{Output};
+ghost use Rattle.sr_prefix.specs.Decided.{KeepsDecided};
 ghost use Rattle.sr_prefix.specs.Keeping.{KeepsPartner};
 
 /// A whole run keeps each partner: one that changes nothing; one that opens a database and runs the agent on it; one that opens it and runs a script.
@@ -28,4 +29,16 @@ pub fn whole_runs_keep_partners()
     ensures script { (publisher user owner : Name) (es us : List Recorded) (view new : View) (before opened now : Seen) (written written' : Output) (statements : List Statement)
         (result : Result ℕ ScriptFault) → IsTrue before.told → Stays before now → RestsThroughout (IsImage before) before opened → IsDatabase view owner es opened
         → RanScript view new opened now written written' statements result → KeepsPartner publisher user us before now }
+{}
+
+/// A whole run takes nothing but as judging has it, each op in the state that those before it leave: one that changes nothing, one of the agent, one of
+/// a script. So where every crash left a history of which that is so, every crash leaves one at each moment.
+pub fn whole_runs_keep_what_is_decided()
+    ensures untouched { (publisher : Name) (before now : Seen) → RestsThroughout (IsImage before) before now → KeepsDecided publisher before now }
+    ensures agent { (publisher owner : Name) (es : List Recorded) (options : Choices) (view new : View) (before opened now : Seen) (written written' : Output) (result : Result ℕ AFault)
+        → IsTrue before.told → Stays before now → RestsThroughout (IsImage before) before opened → IsDatabase view owner es opened
+        → RanAgent view new opened now written written' options result → KeepsDecided publisher before now }
+    ensures script { (publisher owner : Name) (es : List Recorded) (view new : View) (before opened now : Seen) (written written' : Output) (statements : List Statement)
+        (result : Result ℕ ScriptFault) → IsTrue before.told → Stays before now → RestsThroughout (IsImage before) before opened → IsDatabase view owner es opened
+        → RanScript view new opened now written written' statements result → KeepsDecided publisher before now }
 {}

@@ -1,12 +1,13 @@
-ghost use Rattle.std.specs.Prelude.{◌≡◌, ◌+◌, ◌<◌, ◌≤◌, length, max, OnOk, IfOk, IfErr};
+ghost use Rattle.std.specs.Prelude.{◌≡◌, ◌+◌, ◌<◌, ◌≤◌, length, max, OnOk, IfOk, IfErr, IsTrue};
 ghost use Rattle.std.specs.Option.{option_copied, option_and_then};
 ghost use Rattle.sr_ast.specs.Terms.Term.{unary, binary};
 ghost use Rattle.sr_ast.specs.Exprs.{term_of};
 ghost use Rattle.sr_reader.specs.Reading.{Reading, Anywhere, mapped};
 ghost use Rattle.sr_reader.specs.Productions.{Named, ReadsLevel};
+ghost use Rattle.sr_reader.specs.Alone.{IsAlone, is_operand, is_loose};
 ghost use Rattle.sr_reader.specs.declared.reader.Broken.TheVariants.{Memory};
 ghost use Rattle.sr_grammar.specs.Levels.{tightness};
-ghost use Rattle.sr_grammar.specs.Going.{Stop, expression_goes, is_dot};
+ghost use Rattle.sr_grammar.specs.Going.{Stop, expression_goes, goes_on, is_dot};
 ghost use Rattle.sr_grammar.specs.Literals.{IsLiteral, IsDateText, number_value, negated, negative_meant};
 ghost use Rattle.sr_grammar.specs.Expressions.{IsExpr, IsDeep, IsNullTest, tighter, joins, compares, depth};
 ghost use Rattle.sr_grammar.specs.Expressions.Tightness.{negation, comparison, signed, operand};
@@ -55,6 +56,69 @@ fn inside(room: Room) -> Room
     Room {
         depth: room.depth - 1,
         parentheses: room.parentheses,
+    }
+}
+
+/// Whether an operand of one symbol is next, behind which no expression of a level goes on. Most expressions are such: what goes over
+/// the levels down to it reads no more than the operand.
+fn is_alone(reader: &Reader, level: Level) -> bool
+    ensures alone { IsTrue result → IsAlone (tightness level) reader.now }
+{
+    let Some(first) = reader.peek() else {
+        return false;
+    };
+    if !is_operand(first) {
+        return false;
+    }
+    match reader.second() {
+        None => true,
+        Some(second) => !goes_on(level, second),
+    }
+}
+
+/// Whether a symbol is an operand by itself.
+fn is_operand(symbol: &Symbol) -> bool
+    ensures { result ≡ is_operand symbol.now }
+{
+    match symbol {
+        Symbol::Number(_) => true,
+        Symbol::Text(_) => true,
+        Symbol::Name(_) => true,
+        _ => false,
+    }
+}
+
+/// Whether an expression of a level goes on with a symbol.
+fn goes_on(level: Level, symbol: &Symbol) -> bool
+    ensures { result ≡ goes_on (tightness level) symbol.now }
+{
+    match symbol {
+        Symbol::Sign(Sign::Dot | Sign::Times) => true,
+        Symbol::Sign(Sign::Plus | Sign::Minus) => match level {
+            Level::Product => false,
+            _ => true,
+        },
+        Symbol::Sign(
+            Sign::Equal | Sign::Unequal | Sign::Less | Sign::AtMost | Sign::Greater | Sign::AtLeast,
+        ) => is_loose(level),
+        Symbol::Keyword(Keyword::Is | Keyword::And) => is_loose(level),
+        Symbol::Keyword(Keyword::Or) => match level {
+            Level::Or => true,
+            _ => false,
+        },
+        _ => false,
+    }
+}
+
+/// Whether comparisons stand between the operators of a level.
+fn is_loose(level: Level) -> bool
+    ensures { result ≡ is_loose level }
+{
+    match level {
+        Level::Or => true,
+        Level::And => true,
+        Level::Sum => false,
+        Level::Product => false,
     }
 }
 
@@ -123,6 +187,10 @@ fn chain(reader: &mut Reader, level: Level, room: Room) -> Result<Sized, Broken>
     ensures shorter { length reader.new ≤ length reader.old }
     ensures progress { OnOk result (length reader.new < length reader.old) }
 {
+    if is_alone(reader, level) {
+        let operand = primary(reader, room)?;
+        return Ok(operand);
+    }
     let mut left = part(reader, level, room)?;
     'more: while let Some(operator) = operator_at(level, reader.peek()) {
         if left.depth >= room.depth {

@@ -100,6 +100,14 @@ impl Reader {
         self.left.last()
     }
 
+    /// The symbol behind the next one.
+    pub fn second(&self) -> Option<&Symbol>
+        ensures second { option_copied result ≡ first (behind self.now) }
+    {
+        let (_next, rest) = self.left.as_slice().split_last()?;
+        rest.last()
+    }
+
     /// Takes the next symbol away.
     pub fn skip(&mut self)
         ensures rest { self.new ≡ behind self.old }

@@ -1,3 +1,4 @@
+mod Cases
 mod Completing
 mod Demonstrations
 mod Ended

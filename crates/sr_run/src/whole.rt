@@ -3,7 +3,9 @@ ghost use Rattle.sr_files.specs.declared.fault.DatabaseFault.TheVariants.{Memory
 ghost use Rattle.sr_book.specs.Entries.{Name};
 ghost use Rattle.sr_history.specs.Fitting.{Stored};
 ghost use Rattle.sr_history.specs.Recorded.{Recorded};
+ghost use Rattle.sr_prefix.specs.Decided.{KeepsDecided};
 ghost use Rattle.sr_prefix.specs.Keeping.{KeepsPartner};
+ghost use Rattle.sr_prefix.specs.Puts.{PutsTrue};
 ghost use Rattle.sr_site.specs.Causes.{Stays, Rose};
 ghost use Rattle.sr_command.specs.Orders.{MayOrder};
 ghost use Rattle.sr_command.specs.Outside.{outside};
@@ -33,8 +35,10 @@ use std::mem::forget;
 /// for, it is 0, 1, 8 or 9; the demonstration's is 0, 8, or that of a run inside it. No run asks for the time.
 ///
 /// Whatever files lie in the mail folder, none forged, what the database took from a partner stays a beginning of what the partner's log gives it, in
-/// commit order and each once; so it is at each moment of the run, for whatever a crash leaves then, to its end or to the fault that ended it.
-#[tactic(auto, using(crate::proofs::Statuses::of_runs, crate::proofs::Completing::run_complete, crate::proofs::Completing::run_caught_up, crate::proofs::Partners::partners_kept))]
+/// commit order and each once; so it is at each moment of the run, for whatever a crash leaves then, to its end or to the fault that ended it. And what
+/// the run has put until then is true of it: no message confirms more than was durably taken, or carries what the log does not give. What became of each op that was taken
+/// is as judging has it, in the state that those before it left: a conflict is decided by the triggers of the database above, and by nothing else.
+#[tactic(auto, using(crate::proofs::Statuses::of_runs, crate::proofs::Completing::run_complete, crate::proofs::Completing::run_caught_up, crate::proofs::Partners::partners_kept, crate::proofs::Partners::puts_true, crate::proofs::Partners::decided_kept))]
 pub fn run<S: Site, I: Source, O: Sink>(
     alloc: Global,
     words: &[Text],
@@ -52,6 +56,8 @@ pub fn run<S: Site, I: Source, O: Sink>(
     ensures complete { IsComplete (asked_of words.now) (outside (S.seen site.old) (I.seen input.old) (O.seen output.old)) (outside (S.seen site.new) (I.seen input.new) (O.seen output.new)) result }
     ensures caught_up { CatchesUp (asked_of words.now) (outside (S.seen site.old) (I.seen input.old) (O.seen output.old)) (outside (S.seen site.new) (I.seen input.new) (O.seen output.new)) result }
     ensures partners { (publisher user : Name) (us : List Recorded) → IsTrue (S.seen site.old).told → Stored user us → KeepsPartner publisher user us (S.seen site.old) (S.seen site.new) }
+    ensures puts { (publisher : Name) → IsTrue (S.seen site.old).told → PutsTrue publisher (S.seen site.old) (S.seen site.new) }
+    ensures decided { (publisher : Name) → IsTrue (S.seen site.old).told → KeepsDecided publisher (S.seen site.old) (S.seen site.new) }
     ensures amiss { result ≡ 1 → HasAlarms (asked_of words.now) (outside (S.seen site.old) (I.seen input.old) (O.seen output.old)) (outside (S.seen site.new) (I.seen input.new) (O.seen output.new)) }
 {
     done(alloc, words, site, input, output, now)

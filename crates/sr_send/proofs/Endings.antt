@@ -84,7 +84,7 @@ held_short aim old seen =
       cut = λ pushed earlier made.
           cut_along old.cutter.head aim.head old.cutter.limit aim.limit aim.prev pushed (earlier ++ held) made.head_is made.limit_is (finishes old.cutter aim.prev pushed earlier made.given);
       posted = posted_none seen;
-      cause = tt;
+      cause = refl;
       ends = ends_same seen;
     }
 
@@ -218,10 +218,10 @@ completed_bodyless aim book ask old middle new before seen now at emptied alone 
 
 fault_behind : (before middle now : Seen) (fault : SendFault) → IsSteady before middle → PutFault middle now fault → PutFault before now fault
 fault_behind before middle now Disk steady cause = cause
-fault_behind before middle now Mail steady cause = rose_from before.mail_faults middle.mail_faults now.mail_faults steady.mail cause
+fault_behind before middle now Mail steady cause = (rose_from before.mail_faults middle.mail_faults now.mail_faults steady.mail cause.0, cause.1 ∙ steady.disk)
 fault_behind before middle now (Full end need) steady cause = cause
 fault_behind before middle now (Long size limit) steady cause = cause
-fault_behind before middle now Memory steady cause = tt
+fault_behind before middle now Memory steady cause = cause ∙ steady.disk
 
 pub last_stopped : (aim : Aim) (book : Book) (ask : Bool) (old middle : Post) (before seen now : Seen) (fault : SendFault) → aim.prev ≡ offset_from book.log_sent → Emptied aim old middle before seen → IsDueAlone aim.prev middle.end book ask
     → IsPartSent aim (aim.count + middle.put) seen now (bodyless aim.head aim.prev ∷ []) fault → LastStop aim book ask old before now fault
@@ -280,7 +280,7 @@ nothing_put db aim book ask user seen good = inl (record {
   front = record { begins = λ rest. cut_there aim.head aim.limit (has_room aim good) aim.prev rest };
   posted = posted_none seen;
   begins = λ told publisher es database. record { rest = unsent publisher es user aim.prev.0; parts = refl };
-  cause = tt;
+  cause = inl refl;
   ends = ends_same seen;
 })
 
@@ -289,7 +289,7 @@ nothing_put db aim book ask user seen good = inl (record {
 -- nothing is too long where there is nothing
 pub bodyless_refused : (aim : Aim) (count : ℕ) (seen : Seen) (messages : List Message) (e : TooLong) → CutCause [] e → IsPartSent aim count seen seen messages (fault_of_cut e)
 bodyless_refused aim count seen messages (long.Transaction need) cause = absurd cc
-bodyless_refused aim count seen messages long.Memory cause = record { done = []; left = messages; parts = refl; posted = posted_none seen; cause = tt; ends = ends_same seen }
+bodyless_refused aim count seen messages long.Memory cause = record { done = []; left = messages; parts = refl; posted = posted_none seen; cause = refl; ends = ends_same seen }
 
 pub not_due : (due : Bool) (P : Type 0) → (IsTrue due ↔ P) → due ≡ false → ¬ P
 not_due due P same is_not holds =

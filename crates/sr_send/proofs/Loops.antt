@@ -67,11 +67,12 @@ step_on db aim scan scan' old new after end entry before middle now behind read 
 }
 
 pub fault_from : (before middle now : Seen) (added : List Transaction) (fault : SendFault) → IsSteady before middle → StopFault middle now added fault → StopFault before now added fault
-fault_from before middle now added Disk steady cause = rose_from before.disk_faults middle.disk_faults now.disk_faults steady.disk cause
-fault_from before middle now added Mail steady cause = rose_from before.mail_faults middle.mail_faults now.mail_faults steady.mail cause
+fault_from before middle now added Disk steady cause = (rose_from before.disk_faults middle.disk_faults now.disk_faults steady.disk cause.0, cause.1 ∙ steady.mail)
+fault_from before middle now added Mail steady cause = (rose_from before.mail_faults middle.mail_faults now.mail_faults steady.mail cause.0, cause.1 ∙ steady.disk)
 fault_from before middle now added (Full end need) steady cause = cause
-fault_from before middle now added (Long size limit) steady cause = cause
-fault_from before middle now added Memory steady cause = tt
+fault_from before middle now added (Long size limit) steady cause = (steady_on before middle now steady cause.0, cause.1, cause.2)
+fault_from before middle now added Memory steady (inl disk) = inl (disk ∙ steady.disk)
+fault_from before middle now added Memory steady (inr mail) = inr (mail ∙ steady.mail)
 
 stop_from : (aim : Aim) (old : Post) (before middle now : Seen) (added : List Transaction) (fault : SendFault) → Posted before middle [] → IsSteady before middle → PushStop aim old middle now added fault
     → PushStop aim old before now added fault
@@ -99,24 +100,24 @@ step_stopped db aim scan old after end entry before middle now fault read steady
   stop = stop_from aim old before middle now stop.added fault read steady stop.stop;
 }
 
-pub next_fault : (before now : Seen) (fault : SendFault) → NextFault before now fault → StopFault before now [] fault
-next_fault before now Disk cause = cause
-next_fault before now Mail cause = absurd cause
-next_fault before now (Full end need) cause = absurd cause
-next_fault before now (Long size limit) cause = absurd cause
-next_fault before now Memory cause = tt
+pub next_fault : (before now : Seen) (fault : SendFault) → now.mail_faults ≡ before.mail_faults → NextFault before now fault → StopFault before now [] fault
+next_fault before now Disk mail cause = (cause, mail)
+next_fault before now Mail mail cause = absurd cause
+next_fault before now (Full end need) mail cause = absurd cause
+next_fault before now (Long size limit) mail cause = absurd cause
+next_fault before now Memory mail cause = inr mail
 
 -- no entry was read
-pub step_unread : (db : View) (aim : Aim) (scan : Scan) (old : Post) (after : Offset) (before now : Seen) (fault : SendFault) → IsAim aim → Posted before now [] → NextFault before now fault
-    → StepStop db aim scan old after before now fault
-step_unread db aim scan old after before now fault good read cause = record {
+pub step_unread : (db : View) (aim : Aim) (scan : Scan) (old : Post) (after : Offset) (before now : Seen) (fault : SendFault) → IsAim aim → Posted before now [] → now.mail_faults ≡ before.mail_faults
+    → NextFault before now fault → StepStop db aim scan old after before now fault
+step_unread db aim scan old after before now fault good read mail cause = record {
   added = [];
   found = λ told publisher done left database at. inl refl;
   stop = record {
     messages = [];
     front = nothing_put aim old [] good;
     posted = read;
-    cause = next_fault before now fault cause;
+    cause = next_fault before now fault mail cause;
     ends = ends_none before now read.mail;
   };
 }
@@ -187,11 +188,11 @@ under_end db aim user scan post post' after first before now under at_end = reco
 -- the first that is too long of all that was pushed
 pub long_of : (aim : Aim) (post : Post) (pushed added : List Transaction) (messages : List Message) (first before now : Seen) (fault : SendFault) → HasMade aim post pushed messages → IsSteady first before → StopFault before now added fault
     → StopFault first now (pushed ++ added) fault
-long_of aim post pushed added messages first before now Disk made steady cause = rose_from first.disk_faults before.disk_faults now.disk_faults steady.disk cause
-long_of aim post pushed added messages first before now Mail made steady cause = rose_from first.mail_faults before.mail_faults now.mail_faults steady.mail cause
+long_of aim post pushed added messages first before now Disk made steady cause = fault_from first before now added Disk steady cause
+long_of aim post pushed added messages first before now Mail made steady cause = fault_from first before now added Mail steady cause
 long_of aim post pushed added messages first before now (Full end need) made steady cause = cause
-long_of aim post pushed added messages first before now (Long size limit) made steady cause = (cause.0, long-behind pushed added made.fits ∙ cause.1)
-long_of aim post pushed added messages first before now Memory made steady cause = tt
+long_of aim post pushed added messages first before now (Long size limit) made steady cause = (steady_on first before now steady cause.0, cause.1, long-behind pushed added made.fits ∙ cause.2)
+long_of aim post pushed added messages first before now Memory made steady cause = fault_from first before now added Memory steady cause
 
 front_at : (publisher : Name) (es : List Recorded) (user : Name) (sent : ℕ) (after : Offset) (scan : Scan) (pushed added : List Transaction) (db : View) (seen : Seen) → IsDatabase db publisher es seen → (read : HasRead publisher es user sent after scan pushed)
     → (added ≡ []) ⊎ IsNextFound scan sent read.done read.left added → IsFrontOf (pushed ++ added) (unsent publisher es user sent)

@@ -85,15 +85,15 @@ putting_more address count put total number m left messages before middle now p 
 
 put_fault : (before middle now : Seen) (fault : SendFault) → IsSteady before middle → PutFault middle now fault → PutFault before now fault
 put_fault before middle now Disk steady cause = cause
-put_fault before middle now Mail steady cause = rose_from before.mail_faults middle.mail_faults now.mail_faults steady.mail cause
+put_fault before middle now Mail steady cause = (rose_from before.mail_faults middle.mail_faults now.mail_faults steady.mail cause.0, cause.1 ∙ steady.disk)
 put_fault before middle now (Full end need) steady cause = cause
 put_fault before middle now (Long size limit) steady cause = cause
-put_fault before middle now Memory steady cause = tt
+put_fault before middle now Memory steady cause = cause ∙ steady.disk
 
 -- ends before the next, for want of memory
 pub putting_short : (aim : Aim) (put total : ℕ) (left messages : List Message) (before now : Seen) → IsPutting aim.address aim.count put messages left total before now
     → IsPartSent aim (aim.count + put) before now messages Memory
-putting_short aim put total left messages before now p = record { done = p.done; left = left; parts = p.parts; posted = p.posted; cause = tt; ends = ends_steady before now p.steady }
+putting_short aim put total left messages before now p = record { done = p.done; left = left; parts = p.parts; posted = p.posted; cause = p.steady.disk; ends = ends_steady before now p.steady }
 
 -- ends at the next
 pub putting_stop : (aim : Aim) (put total number : ℕ) (m : Message) (left messages : List Message) (before middle now : Seen) (fault : SendFault) → IsPutting aim.address aim.count put messages (m ∷ left) total before middle

@@ -30,9 +30,10 @@ use Rattle.sr_send.specs.Aims.{aim_at}
 use Rattle.sr_send.specs.Letters.{head_of, address_in, AreMessages, letters, sent_note, noted_letters}
 use Rattle.sr_send.specs.Notes.{Noted, NoteCause}
 use Rattle.sr_send.specs.Passes.{waiting, AreAll, sent_end, Passed, HasSent, PutInPart, Unnoted, PutAndBegan, NoteRefused, NoteFull, HasLongEncoding, SendCause}
-use Rattle.sr_send.specs.Posting.{PutAlone, Posted, NoneFailed, EndsAtPut}
+use Rattle.sr_send.specs.Posting.{PutAlone, Posted, NoneFailed, EndsAtPut, IsSteady, IsDeviceFault, PutFault}
 use Rattle.sr_send.specs.Steps.{PutAll}
-use Rattle.sr_send.specs.Stops.{ReadStop, EndStop, PutStop}
+use Rattle.sr_send.specs.Stops.{StopFault, ReadStop, EndStop, PutStop}
+use Rattle.sr_send.specs.declared.aim.Aim.{Aim}
 use Rattle.sr_send.specs.declared.fault.SendFault.{SendFault}
 use Rattle.sr_send.specs.declared.fault.SendFault.TheVariants.{Disk, Mail, Full, Long, Memory}
 use Rattle.sr_send.specs.declared.sending.Sent.{Sent}
@@ -112,22 +113,22 @@ module _ (db : View) (user : Name) (book : Book) (limit : ℕ) (ask : Bool) (is 
   -- the first encoding that is too long
   long_part : (before now : Seen) (size longest : ℕ) → ReadStop db (aim_at db user book limit ask) user before now (Long size longest) → HasLongEncoding db before user size longest
   long_part before now size longest stop = record {
-    limit_is = stop.cause.0;
+    limit_is = stop.cause.1;
     first = λ told publisher es database.
         let begins = stop.begins told publisher es database in
-        subst (λ (b : Book). first_long (waiting publisher es user b) ≡ Some size) is (ap first_long begins.parts ∙ still_long stop.pushed begins.rest size stop.cause.1);
+        subst (λ (b : Book). first_long (waiting publisher es user b) ≡ Some size) is (ap first_long begins.parts ∙ still_long stop.pushed begins.rest size stop.cause.2);
   }
 
   read_cause : (before now : Seen) (fault : SendFault) → ReadStop db (aim_at db user book limit ask) user before now fault → SendCause db db before now user limit ask fault
-  read_cause before now Disk stop = (stop.cause, inl (unnoted before now stop.posted.stays (read_part before now Disk stop)))
-  read_cause before now Mail stop = (stop.cause, unnoted before now stop.posted.stays (read_part before now Mail stop))
+  read_cause before now Disk stop = (stop.cause.0, inl (unnoted before now stop.posted.stays (read_part before now Disk stop)))
+  read_cause before now Mail stop = (stop.cause.0, unnoted before now stop.posted.stays (read_part before now Mail stop))
   read_cause before now (Full end need) stop = absurd stop.cause
   read_cause before now (Long size longest) stop = (long_part before now size longest stop, unnoted before now stop.posted.stays (read_part before now (Long size longest) stop))
   read_cause before now Memory stop = unnoted before now stop.posted.stays (read_part before now Memory stop)
 
   end_cause : (before now : Seen) (fault : SendFault) → EndStop db (aim_at db user book limit ask) book ask user before now fault → SendCause db db before now user limit ask fault
   end_cause before now Disk stop = absurd stop.cause
-  end_cause before now Mail stop = (stop.cause, unnoted before now stop.posted.stays (end_part before now Mail stop))
+  end_cause before now Mail stop = (stop.cause.0, unnoted before now stop.posted.stays (end_part before now Mail stop))
   end_cause before now (Full end need) stop = absurd stop.cause
   end_cause before now (Long size longest) stop = absurd stop.cause
   end_cause before now Memory stop = unnoted before now stop.posted.stays (end_part before now Memory stop)
@@ -308,6 +309,33 @@ module _ (db : View) (user : Name) (book : Book) (limit : ℕ) (ask : Bool) (is 
     note_stopped (Full end need) some stays cause = (full_note end need some cause.0 stays cause.1.site, unnoted_then cause.1)
     note_stopped (Long size longest) some stays cause = absurd cause
     note_stopped Memory some stays cause = unnoted_then cause
+
+-- ---- which device refused
+
+stop_device : (before now : Seen) (pushed : List Transaction) (fault : SendFault) → StopFault before now pushed fault → IsDeviceFault before now fault
+stop_device before now pushed Disk cause = cause
+stop_device before now pushed Mail cause = cause
+stop_device before now pushed (Full end need) cause = absurd cause
+stop_device before now pushed (Long size longest) cause = cause.0
+stop_device before now pushed Memory cause = cause
+
+put_device : (before now : Seen) (fault : SendFault) → PutFault before now fault → IsDeviceFault before now fault
+put_device before now Disk cause = absurd cause
+put_device before now Mail cause = cause
+put_device before now (Full end need) cause = absurd cause
+put_device before now (Long size longest) cause = absurd cause
+put_device before now Memory cause = inl cause
+
+pub pass_device : (db : View) (aim : Aim) (book : Book) (ask : Bool) (user : Name) (before now : Seen) (fault : SendFault) → PutStop db aim book ask user before now fault → IsDeviceFault before now fault
+pass_device db aim book ask user before now fault (inl stop) = stop_device before now stop.pushed fault stop.cause
+pass_device db aim book ask user before now fault (inr stop) = put_device before now fault stop.cause
+
+pub note_device : (old new : View) (before middle now : Seen) (r : Recorded) (fault : SendFault) → IsSteady before middle → DiskStays middle now → NoteCause old new middle now r fault → IsDeviceFault before now fault
+note_device old new before middle now r Disk steady stays cause = (rose_from before.disk_faults middle.disk_faults now.disk_faults steady.disk cause.0.rose, stays.mail_faults ∙ steady.mail)
+note_device old new before middle now r Mail steady stays cause = absurd cause
+note_device old new before middle now r (Full end need) steady stays cause = subst (λ (seen : Seen). IsSteady before seen) (sym cause.1.site) steady
+note_device old new before middle now r (Long size longest) steady stays cause = absurd cause
+note_device old new before middle now r Memory steady stays cause = inr (stays.mail_faults ∙ steady.mail)
 
 -- a user who is granted has a book
 pub has_book : (found : Option Book) (o : Option User) (b : Book) → found ≡ option_map (λ _. b) o → IsSome o → ((book : Book) → found ≡ Some book → ⊥) → ⊥

@@ -193,9 +193,9 @@ put_as before now address name bytes done number m name_is bytes_are stays happe
     ∙ ap (λ (b : List ℕ). sent address (file_name_of m.from number) b done ∷ before.happened) bytes_are)
 
 pub not_begun : (seen : Seen) (item : Item) → IsPartPut seen seen item Memory
-not_begun seen item = record { posted = inl (posted_none seen); cause = tt; ends = ends_same seen }
+not_begun seen item = record { posted = inl (posted_none seen); cause = refl; ends = ends_same seen }
 
 pub part_begun : (before now : Seen) (item : Item) (fault : MailFault) (result : Result (Unit {0}) MailFault) → result ≡ Err fault → Posted before now (item ∷ []) → EndsAtPut before now
-    → (IsErrOf result mail.Failed → Rose before.mail_faults now.mail_faults) → IsPartPut before now item (fault_of_mail fault)
-part_begun before now item mail.Failed result is posted ends cause = record { posted = inr posted; cause = cause is; ends = ends }
-part_begun before now item mail.Memory result is posted ends cause = record { posted = inr posted; cause = tt; ends = ends }
+    → MailStays before now → (IsErrOf result mail.Failed → Rose before.mail_faults now.mail_faults) → IsPartPut before now item (fault_of_mail fault)
+part_begun before now item mail.Failed result is posted ends stays cause = record { posted = inr posted; cause = (cause is, stays.disk_faults); ends = ends }
+part_begun before now item mail.Memory result is posted ends stays cause = record { posted = inr posted; cause = stays.disk_faults; ends = ends }

@@ -81,11 +81,11 @@ pub nothing_put : (aim : Aim) (old : Post) (added : List Transaction) → IsAim 
 nothing_put aim old added good pushed earlier made = front_more aim pushed added (earlier ++ []) (made_front aim old pushed earlier good made)
 
 pub stopped_short : (aim : Aim) (old : Post) (seen : Seen) (added : List Transaction) → IsAim aim → PushStop aim old seen seen added Memory
-stopped_short aim old seen added good = record { messages = []; front = nothing_put aim old added good; posted = posted_none seen; cause = tt; ends = ends_same seen }
+stopped_short aim old seen added good = record { messages = []; front = nothing_put aim old added good; posted = posted_none seen; cause = inl refl; ends = ends_same seen }
 
 cut_fault : (seen : Seen) (t : Transaction) (e : TooLong) → CutCause (t ∷ []) e → StopFault seen seen (t ∷ []) (fault_of_cut e)
-cut_fault seen t (long.Transaction need) cause = (refl, cause)
-cut_fault seen t long.Memory cause = tt
+cut_fault seen t (long.Transaction need) cause = (same_counts seen, refl, cause)
+cut_fault seen t long.Memory cause = inl refl
 
 pub stopped_long : (aim : Aim) (old : Post) (seen : Seen) (t : Transaction) (e : TooLong) → IsAim aim → CutCause (t ∷ []) e → PushStop aim old seen seen (t ∷ []) (fault_of_cut e)
 stopped_long aim old seen t e good cause = record { messages = []; front = nothing_put aim old (t ∷ []) good; posted = posted_none seen; cause = cut_fault seen t e cause; ends = ends_same seen }
@@ -95,7 +95,7 @@ put_fault before now added Disk cause = absurd cause
 put_fault before now added Mail cause = cause
 put_fault before now added (Full end need) cause = absurd cause
 put_fault before now added (Long size limit) cause = absurd cause
-put_fault before now added Memory cause = tt
+put_fault before now added Memory cause = inl cause
 
 part_front : (aim : Aim) (old : Post) (cutter : Cutting) (t : Transaction) (closed done left : List Message) → IsAim aim → IsCutBy old.cutter cutter t closed → closed ≡ done ++ left
     → (pushed : List Transaction) (earlier : List Message) → HasMade aim old pushed earlier → IsCutFront aim (pushed ++ t ∷ []) (earlier ++ done)

@@ -106,10 +106,11 @@ walk_end db sent at first before now walked read steady = record {
   part = walked.part;
 }
 
-pub begin_stopped : (first before now : Seen) (fault : SendFault) → Posted first before [] → IsSteady first before → Posted before now [] → NextFault before now fault → BeginStop first now fault
-begin_stopped first before now fault posted steady read cause = record {
+pub begin_stopped : (first before now : Seen) (fault : SendFault) → Posted first before [] → IsSteady first before → Posted before now [] → now.mail_faults ≡ before.mail_faults → NextFault before now fault
+    → BeginStop first now fault
+begin_stopped first before now fault posted steady read mail cause = record {
   posted = read_on first before now posted read;
-  cause = fault_from first before now [] fault steady (next_fault before now fault cause);
+  cause = fault_from first before now [] fault steady (next_fault before now fault mail cause);
   ends = ends_on first before now steady (ends_none before now read.mail);
 }
 
@@ -279,7 +280,7 @@ later_stopped db sent at first before now fault walked stop = record {
 pub begin_short : (db : View) (sent : ℕ) (at : Offset) (first before now : Seen) → Walked db sent at first before → Posted before now [] → IsSteady before now → BeginStop first now Memory
 begin_short db sent at first before now walked read steady = record {
   posted = read_on first before now walked.posted read;
-  cause = tt;
+  cause = inl (steady.disk ∙ walked.steady.disk);
   ends = ends_on first before now walked.steady (ends_steady before now steady);
 }
 

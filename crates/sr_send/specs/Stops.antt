@@ -19,7 +19,7 @@ use Rattle.sr_site.specs.Seen.{Seen}
 use Rattle.sr_standing.specs.Items.{Item}
 use Rattle.sr_send.specs.Aims.{HasMade, IsCutFront}
 use Rattle.sr_send.specs.Letters.{AreMessages, letters}
-use Rattle.sr_send.specs.Posting.{Posted, EndsAtPut, PutFault}
+use Rattle.sr_send.specs.Posting.{Posted, EndsAtPut, IsDeviceFault, PutFault}
 use Rattle.sr_send.specs.Steps.{IsScanned}
 use Rattle.sr_send.specs.Unsent.{unsent}
 use Rattle.sr_send.specs.declared.aim.Aim.{Aim}
@@ -44,11 +44,11 @@ pub record IsPartSent (aim : Aim) (count : ℕ) (before now : Seen) (messages : 
 
 -- why a pass ends at these transactions: a device refused, the encoding of one is longer than 64 MiB, or there was no memory
 abbrev pub StopFault : Seen → Seen → List Transaction → SendFault → Type 0
-StopFault before now pushed Disk = Rose before.disk_faults now.disk_faults
-StopFault before now pushed Mail = Rose before.mail_faults now.mail_faults
+StopFault before now pushed Disk = IsDeviceFault before now Disk
+StopFault before now pushed Mail = IsDeviceFault before now Mail
 StopFault before now pushed (Full end need) = ⊥
-StopFault before now pushed (Long size limit) = (limit ≡ longest_transaction) × (first_long pushed ≡ Some size)
-StopFault before now pushed Memory = ⊤
+StopFault before now pushed (Long size limit) = IsDeviceFault before now (Long size limit) × (limit ≡ longest_transaction) × (first_long pushed ≡ Some size)
+StopFault before now pushed Memory = IsDeviceFault before now Memory
 
 -- why the next entry is not read
 abbrev pub NextFault : Seen → Seen → SendFault → Type 0

@@ -8,6 +8,7 @@ ghost use Rattle.sr_schema.specs.Members.{user_name};
 ghost use Rattle.sr_schema.specs.Names.{named};
 ghost use Rattle.sr_send.specs.Aims.{IsAim, HasMade, aim_at};
 ghost use Rattle.sr_send.specs.Passes.{HasSent, SendCause};
+ghost use Rattle.sr_send.specs.Posting.{IsDeviceFault};
 ghost use Rattle.sr_send.specs.Steps.{PutAll};
 ghost use Rattle.sr_send.specs.Stops.{PutStop};
 
@@ -40,9 +41,9 @@ pub struct Sent {
 /// nothing is done. Of the mail nothing is listed, fetched or removed.
 /// The log is read from what he was sent on, where no statement ran there, which the kinds of its entries tell; else from its base.
 ///
-/// `Disk` and `Mail` come only where that device's count of faults rose; `Full` exactly where the note has no room in the log; `Long` where the encoding
-/// of a transaction is longer than 64 MiB, with that of the first such. After a fault the messages that were put are the first of those of the pass,
-/// and stay. After `Disk` of the note the database is not used again; else it is as it was.
+/// `Disk` and `Mail` come only where that device's count of faults rose, and that of the other stayed; `Full` exactly where the note has no room in the
+/// log; `Long` where the encoding of a transaction is longer than 64 MiB, with that of the first such. After a fault the messages that were put are the
+/// first of those of the pass, and stay. After `Disk` of the note the database is not used again; else it is as it was.
 pub fn send<S: Site>(
     alloc: Global,
     db: &mut Database,
@@ -60,6 +61,7 @@ pub fn send<S: Site>(
     requires stands { IsTrue (S.seen site.old).told → HasDatabase db.old (S.seen site.old) }
     ensures sent { IfOk result (HasSent db.old db.new (S.seen site.old) (S.seen site.new) user.now length ask) }
     ensures cause { IfErr result (SendCause db.old db.new (S.seen site.old) (S.seen site.new) user.now length ask) }
+    ensures devices { IfErr result (IsDeviceFault (S.seen site.old) (S.seen site.new)) }
 {
     let Some(book) = db.book(user) else {
         return Err(SendFault::Memory);

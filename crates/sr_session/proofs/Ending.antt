@@ -1,5 +1,5 @@
 -- A script's end: what is pending is rolled back, and the last lines are written.
-use Rattle.std.proofs.Common.{◌≡◌, true, ℕ, List, [], ◌∷◌, ◌++◌, Result, Ok, Err, length, map, refl, sym, ap, subst, ◌∙◌, append_assoc, le_refl}
+use Rattle.std.proofs.Common.{◌≡◌, true, ℕ, List, [], ◌∷◌, ◌++◌, Result, Ok, Err, length, map, take, refl, sym, ap, subst, ◌∙◌, le_refl}
 use Rattle.std.specs.Prelude.{IsTrue}
 use Rattle.std.proofs.lemmas.List.{append-nil}
 use Rattle.sr_ast.specs.declared.stmt.Stmt.{Stmt}
@@ -9,14 +9,14 @@ use Rattle.sr_logfile.specs.Log.{Log}
 use Rattle.sr_site.specs.Causes.{Rose}
 use Rattle.sr_site.specs.Seen.{Seen}
 use Rattle.sr_site.specs.Streams.{Output, OutputStays}
-use Rattle.sr_database.specs.Causes.{IsTooFar, IsTooLong}
+use Rattle.sr_database.specs.Causes.{IsTooFar}
 use Rattle.sr_database.specs.Databases.{IsOf}
 use Rattle.sr_database.specs.Views.{View, committed}
 use Rattle.sr_files.specs.declared.fault.DatabaseFault.{DatabaseFault}
 use Rattle.sr_files.specs.declared.fault.DatabaseFault.TheVariants as store
 use Rattle.sr_script.specs.Acts.{Act, commits, text_from}
 use Rattle.sr_script.specs.Scripts.{Ran as Script, ran}
-use Rattle.sr_session.specs.Ends.{StopsAt, StoreEnd, IsDone, EndsAs, SinkEnd}
+use Rattle.sr_session.specs.Ends.{StoreEnd, IsDone, EndsAs, SinkEnd}
 use Rattle.sr_session.specs.Ends.{Wrote as LinesOf}
 use Rattle.sr_session.specs.Reached.{IsBroken, Reached}
 use Rattle.sr_session.specs.Running.{Ran, Keeps, counted, IsNoSink}
@@ -27,6 +27,8 @@ use Rattle.sr_session.specs.declared.fault.SessionFault.TheVariants.{Statement, 
 use Rattle.sr_session.proofs.Commits.{came_none}
 use Rattle.sr_session.proofs.Reaching.{database_along}
 use Rattle.sr_session.proofs.Stretches.{outputs_on, said_flush, front_said}
+use Rattle.sr_session.proofs.Taking.{no_broken, front_of_store}
+use Rattle.sr_session.proofs.Timely.{in_time_on}
 
 -- ---- a value that keeps its log and its history
 
@@ -73,6 +75,7 @@ ran_none view seen written statements usable none = record {
   reached = (came_none view seen [] [] usable refl).reached;
   ends = (refl, ((ran (committed view) statements).acts, refl));
   lines = λ told. sym (append-nil written.taken);
+  in_time = λ told. record { done = 0; begun = ((ran (committed view) (take 1 statements)).acts, refl); wrote = ([], sym (append-nil (written.taken ++ []) ∙ append-nil written.taken)) };
   sink = refl;
   pending = none;
   stays = record { told = refl; later = le_refl written.faults };
@@ -133,6 +136,9 @@ ended old middle new before now written taken taken' kept statements result run 
   reached = reached_kept old middle new before now run.acts run.broken same run.reached;
   ends = ends_kept (ran (committed old) statements) (length statements) middle new run.acts run.broken (counted (length statements) result) same.log run.ends;
   lines = λ told. lines_written (text_from old.log.end run.acts) kept written taken taken' result (length statements) quiet (run.lines told) (wrote.said (told_there written taken run.stays told));
+  in_time = λ told.
+      in_time_on (committed old) old.log.end statements (run.acts ++ map commits run.broken) written.taken taken.taken taken'.taken (run.in_time told)
+      (kept, wrote.said (told_there written taken run.stays told));
   sink = sink_steady written taken taken' result (length statements) quiet run.sink wrote.steady;
   pending = none;
   stays = outputs_on written taken taken' run.stays wrote.stays;
@@ -148,26 +154,11 @@ ended_already old middle new before now written taken kept statements run same n
   reached = reached_kept old middle new before now run.acts run.broken same run.reached;
   ends = run.ends;
   lines = run.lines;
+  in_time = run.in_time;
   sink = run.sink;
   pending = none;
   stays = run.stays;
 }
-
-no_broken : (acts whole : List Act) (broken : List Recorded) → broken ≡ [] → IsFront acts whole → IsFront (acts ++ map commits broken) whole
-no_broken acts whole broken none front =
-    subst (λ (rs : List Recorded). IsFront (acts ++ map commits rs) whole) (sym none) (front.0, front.1 ∙ ap (λ l. l ++ front.0) (sym (append-nil acts)))
-
-front_of_stop : (refuses : Recorded → Type 0) (acts whole : List Act) → StopsAt refuses acts whole → IsFront acts whole
-front_of_stop refuses acts whole at = (commits at.entry ∷ at.front.0, at.front.1 ∙ append_assoc acts (commits at.entry ∷ []) at.front.0)
-
-front_of_store : (new : View) (acts whole : List Act) (broken : List Recorded) (fault : DatabaseFault) → StoreEnd new acts whole broken fault → IsFront (acts ++ map commits broken) whole
-front_of_store new acts whole broken store.Missing end = absurd end
-front_of_store new acts whole broken store.Exists end = absurd end
-front_of_store new acts whole broken (store.Damaged file at) end = absurd end
-front_of_store new acts whole broken store.Disk end = subst (λ (rs : List Recorded). IsFront (acts ++ map commits rs) whole) (sym end.why) end.front
-front_of_store new acts whole broken (store.Full at need) end = no_broken acts whole broken end.0 (front_of_stop (λ r. IsTooFar new.log (entry_of r) at need) acts whole end.1)
-front_of_store new acts whole broken (store.Long size limit) end = no_broken acts whole broken end.0 (front_of_stop (λ r. IsTooLong (entry_of r) size limit) acts whole end.1)
-front_of_store new acts whole broken store.Memory end = absurd end
 
 front_done : (script : Script) (acts : List Act) (broken : List Recorded) → IsDone script acts broken → IsFront (acts ++ map commits broken) script.acts
 front_done script acts broken done = no_broken acts script.acts broken done.none ([], done.acts_are ∙ sym (append-nil acts))
@@ -206,6 +197,9 @@ ended_sink old middle new before now written taken taken' kept statements result
   reached = reached_kept old middle new before now run.acts run.broken same run.reached;
   ends = front_of_end (ran (committed old) statements) (length statements) middle run.acts run.broken (counted (length statements) result) run.ends;
   lines = λ told. lines_front (text_from old.log.end run.acts) kept written taken taken' result quiet (run.lines told) (failed.front (told_there written taken run.stays told));
+  in_time = λ told.
+      let more = failed.front (told_there written taken run.stays told) in
+      in_time_on (committed old) old.log.end statements (run.acts ++ map commits run.broken) written.taken taken.taken taken'.taken (run.in_time told) (more.written, more.new_is);
   sink = sink_rose written taken taken' result (length statements) quiet run.sink failed.rose;
   pending = none;
   stays = outputs_on written taken taken' run.stays failed.stays;

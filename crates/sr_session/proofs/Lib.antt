@@ -13,4 +13,5 @@ pub mod States
 pub mod Stretches
 pub mod Synced
 pub mod Taking
+pub mod Timely
 pub mod Transactions

@@ -1,5 +1,5 @@
 -- Statements one after the other.
-use Rattle.std.proofs.Common.{◌≡◌, ◌+◌, ℕ, List, [], ◌∷◌, ◌++◌, Option, None, Result, Ok, Err, length, codes, refl, sym, ap, subst, ◌∙◌, append_assoc, le_refl, arith}
+use Rattle.std.proofs.Common.{◌≡◌, ◌+◌, true, false, ℕ, List, [], ◌∷◌, ◌++◌, Option, None, Result, Ok, Err, length, map, take, codes, refl, sym, ap, subst, ◌∙◌, append_assoc, le_refl, arith}
 use Rattle.std.specs.Prelude.{IsTrue, IsErrAnd, ◌≢◌, ◌-◌}
 use Rattle.std.specs.List.{AllByRecursion}
 use Rattle.std.proofs.lemmas.List.{append-nil}
@@ -13,19 +13,20 @@ use Rattle.sr_site.specs.Causes.{Rose}
 use Rattle.sr_site.specs.Seen.{Seen}
 use Rattle.sr_site.specs.Streams.{Output, OutputStays}
 use Rattle.sr_database.specs.Views.{View, committed}
-use Rattle.sr_script.specs.Acts.{Act, rolled_back, line, text_from}
+use Rattle.sr_script.specs.Acts.{Act, commits, rolled_back, line, text_from}
 use Rattle.sr_script.specs.Acts.{end_behind as acts_end}
 use Rattle.sr_script.specs.Meaning.{Stepped, goes, stops, done_by}
 use Rattle.sr_script.specs.Scripts.{Ran as Script, End, refused, last_acts, led, going_on, ran_from, ran}
-use Rattle.sr_script.specs.Works.{Work}
+use Rattle.sr_script.specs.Works.{Work, at_beginning}
 use Rattle.sr_script.proofs.Joins.{text_from-append}
+use Rattle.sr_session.specs.Due.{said_from, is_due, due, WroteInTime}
 use Rattle.sr_session.specs.Ends.{StoreEnd}
 use Rattle.sr_session.specs.Faults.{session_fault}
 use Rattle.sr_session.specs.Reached.{Reached}
 use Rattle.sr_session.specs.Ready.{AreUsers, IsReady, work_of}
 use Rattle.sr_session.specs.Running.{Under, Ran, RanStatements}
 use Rattle.sr_session.specs.Said.{IsFront, WroteFront, Said}
-use Rattle.sr_session.specs.Steps.{acts_in, Came, Took}
+use Rattle.sr_session.specs.Steps.{acts_in, Came, IsDoneStep, Took}
 use Rattle.sr_session.specs.declared.fault.SessionFault.{SessionFault}
 use Rattle.sr_session.specs.declared.fault.SessionFault.TheVariants.{Sink, Memory}
 use Rattle.sr_session.specs.declared.fault.StepFault.{StepFault}
@@ -34,7 +35,8 @@ use Rattle.sr_session.proofs.Dispatch.{ready_on}
 use Rattle.sr_session.proofs.Commits.{came_none}
 use Rattle.sr_session.proofs.Quiet.{came_still}
 use Rattle.sr_session.proofs.Reaching.{reached_on}
-use Rattle.sr_session.proofs.Taking.{end_behind, end_longer, front_behind, front_longer}
+use Rattle.sr_session.proofs.Taking.{end_behind, end_longer, front_behind, front_longer, no_broken, front_of_store}
+use Rattle.sr_session.proofs.Timely.{due_step, due_kept, due_written, one_front, timely}
 
 -- ---- what a script does, one statement further
 
@@ -92,54 +94,86 @@ outputs_on one two three first second = record { told = second.told ∙ first.to
 abbrev start_of : State → List Change → Option Passthrough → Work
 start_of s p region = record { state = s; pending = p; region = region }
 
-led_none : (r : Script) → led [] r ≡ r
-led_none r = refl
-
 -- ---- one statement
 
--- it is done
+-- what a script does goes on behind it
+going_step : (old view new : View) (first seen now : Seen) (written taken : Output) (lines lines' : List ℕ) (region region' : Option Passthrough) (all left : List Stmt) (s : Stmt)
+    → (under : Under old view first seen written taken lines region all (s ∷ left)) → (took : IsDoneStep (done_by (work_of view region) s) view new seen now lines lines' region')
+    → (more : List Stmt) → ran (committed old) ((under.firsts ++ s ∷ []) ++ more) ≡ led (under.acts ++ took.acts) (ran_from (under.done + 1) (work_of new region') more)
+going_step old view new first seen now written taken lines lines' region region' all left s under took more =
+    ap (λ (l : List Stmt). ran (committed old) l) (append_assoc under.firsts (s ∷ []) more)
+    ∙ under.going (s ∷ more)
+    ∙ ap (λ m. led under.acts (going_on (under.done + 1) (follow (under.done + 1) more) m)) took.is
+    ∙ led_twice under.acts took.acts (ran_from (under.done + 1) (work_of new region') more)
+
+-- it is done, and its lines are kept
 pub under_step : (old view new : View) (first seen now : Seen) (written taken : Output) (lines lines' : List ℕ) (region region' : Option Passthrough) (all left : List Stmt) (s : Stmt)
     → Under old view first seen written taken lines region all (s ∷ left) → Took (done_by (work_of view region) s) view new seen now lines lines' region' (Ok tt) → AreUsers (committed new) region'
-    → Under old new first now written taken lines' region' all left
-under_step old view new first seen now written taken lines lines' region region' all left s under took users = record {
+    → is_due s lines' ≡ false → Under old new first now written taken lines' region' all left
+under_step old view new first seen now written taken lines lines' region region' all left s under took users kept = record {
   done = under.done + 1;
   count = omega (arith, under.count);
+  firsts = under.firsts ++ s ∷ [];
+  all_are = under.all_are ∙ sym (append_assoc under.firsts (s ∷ []) left);
   acts = under.acts ++ took.acts;
   reached = reached_on old view new first seen now under.acts took.acts [] under.reached took.came.reached;
   ready = ready_on view new seen now took.acts took.came.reached under.ready;
   users = users;
-  going =
-      under.going
-      ∙ ap (λ m. led under.acts (going_on (under.done + 1) (follow (under.done + 1) left) m)) took.is
-      ∙ led_twice under.acts took.acts (ran_from (under.done + 1) (work_of new region') left);
+  going = going_step old view new first seen now written taken lines lines' region region' all left s under took;
+  whole = under.whole;
+  due_are = λ more.
+      due_step old view new first seen now written taken lines lines' region region' all left s under took more
+      ∙ due_kept under.whole lines' new.log.end (work_of new region') (is_due s lines') more kept;
+  wrote = under.wrote;
   said = λ told. came_said old view new first seen now written.taken taken.taken lines lines' under.acts took.acts [] under.reached took.came (under.said told);
   sink = under.sink;
   stays = under.stays;
   normal = under.normal.1;
 }
 
--- its lines are written
-pub under_flush : (old view : View) (first seen : Seen) (written taken taken' : Output) (lines : List ℕ) (region : Option Passthrough) (all left : List Stmt)
-    → Under old view first seen written taken lines region all left → (IsTrue taken.told → taken'.taken ≡ taken.taken ++ lines) → OutputStays taken taken' → taken'.faults ≡ taken.faults
-    → Under old view first seen written taken' [] region all left
-under_flush old view first seen written taken taken' lines region all left under said stays same = record {
-  done = under.done;
-  count = under.count;
-  acts = under.acts;
-  reached = under.reached;
-  ready = under.ready;
-  users = under.users;
-  going = under.going;
-  said = λ told. said_flush (text_from old.log.end under.acts) lines written.taken taken.taken taken'.taken (under.said told) (said (subst (λ b. IsTrue b) (sym under.stays.told) told));
+told_on : (before now : Output) → OutputStays before now → IsTrue before.told → IsTrue now.told
+told_on before now stays told = subst (λ b. IsTrue b) (sym stays.told) told
+
+-- it is done, and all lines are written
+pub under_flush : (old view new : View) (first seen now : Seen) (written taken taken' : Output) (lines lines' : List ℕ) (region region' : Option Passthrough) (all left : List Stmt) (s : Stmt)
+    → Under old view first seen written taken lines region all (s ∷ left) → Took (done_by (work_of view region) s) view new seen now lines lines' region' (Ok tt) → AreUsers (committed new) region'
+    → is_due s lines' ≡ true → (IsTrue taken.told → taken'.taken ≡ taken.taken ++ lines') → OutputStays taken taken' → taken'.faults ≡ taken.faults
+    → Under old new first now written taken' [] region' all left
+under_flush old view new first seen now written taken taken' lines lines' region region' all left s under took users flushed said stays same = record {
+  done = under.done + 1;
+  count = omega (arith, under.count);
+  firsts = under.firsts ++ s ∷ [];
+  all_are = under.all_are ∙ sym (append_assoc under.firsts (s ∷ []) left);
+  acts = under.acts ++ took.acts;
+  reached = reached_on old view new first seen now under.acts took.acts [] under.reached took.came.reached;
+  ready = ready_on view new seen now took.acts took.came.reached under.ready;
+  users = users;
+  going = going_step old view new first seen now written taken lines lines' region region' all left s under took;
+  whole = under.whole ++ lines';
+  due_are = λ more.
+      due_step old view new first seen now written taken lines lines' region region' all left s under took more
+      ∙ due_written under.whole lines' new.log.end (work_of new region') (is_due s lines') more flushed;
+  wrote = λ told. said (told_on written taken under.stays told) ∙ ap (λ l. l ++ lines') (under.wrote told) ∙ append_assoc written.taken under.whole lines';
+  said = λ told.
+      said_flush (text_from old.log.end (under.acts ++ took.acts)) lines' written.taken taken.taken taken'.taken
+      (came_said old view new first seen now written.taken taken.taken lines lines' under.acts took.acts [] under.reached took.came (under.said told)) (said (told_on written taken under.stays told));
   sink = same ∙ under.sink;
   stays = outputs_on written taken taken' under.stays stays;
-  normal = under.normal;
+  normal = under.normal.1;
 }
 
 -- ---- a statement that ends the script
 
+all_of : (l : List ℕ) → IsFront l l
+all_of l = ([], sym (append-nil l))
+
 abbrev numbered : ℕ → StepFault → Result (Unit {0}) SessionFault
 numbered number fault = Err (session_fault number fault)
+
+-- what a script does is what was done, and then what is left does
+going_all : (old view : View) (first seen : Seen) (written taken : Output) (lines : List ℕ) (region : Option Passthrough) (all left : List Stmt)
+    → (under : Under old view first seen written taken lines region all left) → ran (committed old) all ≡ led under.acts (ran_from under.done (work_of view region) left)
+going_all old view first seen written taken lines region all left under = ap (λ (l : List Stmt). ran (committed old) l) under.all_are ∙ under.going left
 
 -- what a script does goes on behind what was done and what its next statement does
 whole_acts : (old view : View) (first seen : Seen) (written taken : Output) (lines : List ℕ) (region : Option Passthrough) (all left : List Stmt) (s : Stmt)
@@ -147,17 +181,26 @@ whole_acts : (old view : View) (first seen : Seen) (written taken : Output) (lin
     → (more : List Act) × ((ran (committed old) all).acts ≡ under.acts ++ (acts_in (done_by (work_of view region) s) ++ more))
 whole_acts old view first seen written taken lines region all left s under =
     let rest = first_acts (under.done + 1) (follow (under.done + 1) left) (done_by (work_of view region) s) in
-    (rest.0, ap (λ (r : Script). r.acts) under.going ∙ ap (λ l. under.acts ++ l) rest.1)
+    (rest.0, ap (λ (r : Script). r.acts) (going_all old view first seen written taken lines region all (s ∷ left) under) ∙ ap (λ l. under.acts ++ l) rest.1)
 
 number_is : (done number : ℕ) (s : Stmt) (left : List Stmt) (all : ℕ) → done + length (s ∷ left) ≡ all → number ≡ all - length left → number ≡ done + 1
 number_is done number s left all count is = omega (arith, count, is)
+
+-- it ends within a statement, with the lines kept
+timely_fault : (old view : View) (first seen : Seen) (written taken : Output) (lines : List ℕ) (region : Option Passthrough) (all left : List Stmt) (s : Stmt)
+    → (under : Under old view first seen written taken lines region all (s ∷ left)) → (acts : List Act) (broken : List Recorded)
+    → IsFront (acts ++ map commits broken) (acts_in (done_by (work_of view region) s)) → IsTrue written.told
+    → WroteInTime (committed old) old.log.end all ((under.acts ++ acts) ++ map commits broken) written.taken taken.taken
+timely_fault old view first seen written taken lines region all left s under acts broken front told =
+    timely old view first seen written taken lines region all (s ∷ left) under ((under.acts ++ acts) ++ map commits broken) taken.taken
+    (one_front under.acts acts broken (under.done + 1) (follow (under.done + 1) []) (done_by (work_of view region) s) front) (all_of taken.taken) told
 
 pub ran_fault : (old view new : View) (first seen now : Seen) (written taken : Output) (lines lines' : List ℕ) (region region' : Option Passthrough) (all left : List Stmt) (s : Stmt) (number : ℕ) (fault : StepFault)
     → Under old view first seen written taken lines region all (s ∷ left) → Took (done_by (work_of view region) s) view new seen now lines lines' region' (Err fault)
     → number ≡ length all - length left → Ran old new first now written taken lines' all (numbered number fault)
 ran_fault old view new first seen now written taken lines lines' region region' all left s number (step.Refused fault) under took is =
     let script : ran (committed old) all ≡ led under.acts (going_on (under.done + 1) (follow (under.done + 1) left) (stops took.acts fault)) =
-    under.going ∙ ap (λ m. led under.acts (going_on (under.done + 1) (follow (under.done + 1) left) m)) took.is in
+    going_all old view first seen written taken lines region all (s ∷ left) under ∙ ap (λ m. led under.acts (going_on (under.done + 1) (follow (under.done + 1) left) m)) took.is in
     record {
       acts = under.acts ++ took.acts;
       broken = [];
@@ -167,6 +210,9 @@ ran_fault old view new first seen now written taken lines lines' region region' 
         ap (λ (r : Script). r.end) script ∙ ap (λ n. refused n fault) (sym (number_is under.done number s left (length all) under.count is)),
       );
       lines = λ told. came_said old view new first seen now written.taken taken.taken lines lines' under.acts took.acts [] under.reached took.came (under.said told);
+      in_time =
+          timely_fault old view first seen written taken lines region all left s under took.acts []
+          (no_broken took.acts (acts_in (done_by (work_of view region) s)) [] refl ([], ap acts_in took.is ∙ sym (append-nil took.acts)));
       sink = under.sink;
       stays = under.stays;
     }
@@ -179,6 +225,9 @@ ran_fault old view new first seen now written taken lines lines' region region' 
       ends = subst (λ (acts : List Act). StoreEnd new (under.acts ++ took.acts) acts took.broken fault) (sym whole.1)
           (end_behind under.acts took.acts (acts_in (done_by (work_of view region) s) ++ whole.0) new took.broken fault (end_longer took.acts (acts_in (done_by (work_of view region) s)) whole.0 new took.broken fault took.end));
       lines = λ told. came_said old view new first seen now written.taken taken.taken lines lines' under.acts took.acts took.broken under.reached took.came (under.said told);
+      in_time =
+          timely_fault old view first seen written taken lines region all left s under took.acts took.broken
+          (front_of_store new took.acts (acts_in (done_by (work_of view region) s)) took.broken fault took.end);
       sink = under.sink;
       stays = under.stays;
     }
@@ -194,27 +243,39 @@ ran_fault old view new first seen now written taken lines lines' region region' 
             (front_behind under.acts took.acts (acts_in (done_by (work_of view region) s) ++ whole.0) (front_longer took.acts (acts_in (done_by (work_of view region) s)) whole.0 took.front)),
       );
       lines = λ told. came_said old view new first seen now written.taken taken.taken lines lines' under.acts took.acts [] under.reached took.came (under.said told);
+      in_time =
+          timely_fault old view first seen written taken lines region all left s under took.acts []
+          (no_broken took.acts (acts_in (done_by (work_of view region) s)) [] refl took.front);
       sink = under.sink;
       stays = under.stays;
     }
 
 -- ---- a sink that fails
 
-pub ran_sink : (old view : View) (first seen : Seen) (written taken taken' : Output) (lines kept : List ℕ) (region : Option Passthrough) (all left : List Stmt)
-    → Under old view first seen written taken lines region all left → (IsTrue taken.told → WroteFront lines taken.taken taken'.taken) → OutputStays taken taken' → Rose taken.faults taken'.faults
-    → Ran old view first seen written taken' kept all (Err Sink)
-ran_sink old view first seen written taken taken' lines kept region all left under wrote stays rose = record {
-  acts = under.acts;
-  broken = [];
-  reached = under.reached;
-  ends = (
-    (ran_from under.done (work_of view region) left).acts,
-    ap (λ (r : Script). r.acts) under.going ∙ ap (λ l. l ++ (ran_from under.done (work_of view region) left).acts) (sym (append-nil under.acts)),
-  );
-  lines = λ told. front_said (text_from old.log.end under.acts) lines written.taken taken.taken taken'.taken (under.said told) (wrote (subst (λ b. IsTrue b) (sym under.stays.told) told));
-  sink = subst (λ (count : ℕ). Rose count taken'.faults) under.sink rose;
-  stays = outputs_on written taken taken' under.stays stays;
-}
+pub ran_sink : (old view new : View) (first seen now : Seen) (written taken taken' : Output) (lines lines' kept : List ℕ) (region region' : Option Passthrough) (all left : List Stmt) (s : Stmt)
+    → Under old view first seen written taken lines region all (s ∷ left) → Took (done_by (work_of view region) s) view new seen now lines lines' region' (Ok tt)
+    → (IsTrue taken.told → WroteFront lines' taken.taken taken'.taken) → OutputStays taken taken' → Rose taken.faults taken'.faults
+    → Ran old new first now written taken' kept all (Err Sink)
+ran_sink old view new first seen now written taken taken' lines lines' kept region region' all left s under took wrote stays rose =
+    let script = ap (λ (l : List Stmt). (ran (committed old) l).acts) (under.all_are ∙ sym (append_assoc under.firsts (s ∷ []) left))
+    ∙ ap (λ (r : Script). r.acts) (going_step old view new first seen now written taken lines lines' region region' all left s under took left) in
+    let meant = done_by (work_of view region) s in
+    record {
+      acts = under.acts ++ took.acts;
+      broken = [];
+      reached = reached_on old view new first seen now under.acts took.acts [] under.reached took.came.reached;
+      ends = no_broken (under.acts ++ took.acts) (ran (committed old) all).acts [] refl ((ran_from (under.done + 1) (work_of new region') left).acts, script);
+      lines = λ told.
+          front_said (text_from old.log.end (under.acts ++ took.acts)) lines' written.taken taken.taken taken'.taken
+          (came_said old view new first seen now written.taken taken.taken lines lines' under.acts took.acts [] under.reached took.came (under.said told)) (wrote (told_on written taken under.stays told));
+      in_time = λ told.
+          let more = wrote (told_on written taken under.stays told) in
+          timely old view first seen written taken lines region all (s ∷ left) under ((under.acts ++ took.acts) ++ []) taken'.taken
+          (one_front under.acts took.acts [] (under.done + 1) (follow (under.done + 1) []) meant (no_broken took.acts (acts_in meant) [] refl ([], ap acts_in took.is ∙ sym (append-nil took.acts))))
+          (more.written, more.new_is) told;
+      sink = subst (λ (count : ℕ). Rose count taken'.faults) under.sink rose;
+      stays = outputs_on written taken taken' under.stays stays;
+    }
 
 -- with the answer that tells it
 pub stopped_by_sink : (old view : View) (first seen : Seen) (written taken : Output) (kept : List ℕ) (region : Option Passthrough) (all : List Stmt) (told : SessionFault) (result : Result (Unit {0}) SessionFault)
@@ -225,6 +286,14 @@ stopped_by_sink old view first seen written taken kept region all told (Err faul
 
 -- ---- the script's end
 
+-- it ends with what was done
+timely_here : (old view : View) (first seen : Seen) (written taken : Output) (lines : List ℕ) (region : Option Passthrough) (all left : List Stmt)
+    → (under : Under old view first seen written taken lines region all left) → IsTrue written.told
+    → WroteInTime (committed old) old.log.end all (under.acts ++ []) written.taken taken.taken
+timely_here old view first seen written taken lines region all left under =
+    let acts = (ran_from under.done (work_of view region) (take 1 left)).acts in
+    timely old view first seen written taken lines region all left under (under.acts ++ []) taken.taken (front_behind under.acts [] acts (acts, refl)) (all_of taken.taken)
+
 -- nothing is open
 pub ran_closed : (old view : View) (first seen : Seen) (written taken : Output) (lines : List ℕ) (region : Option Passthrough) (all : List Stmt)
     → Under old view first seen written taken lines region all [] → view.pending ≡ [] → Ran old view first seen written taken lines all (Ok tt)
@@ -233,11 +302,12 @@ ran_closed old view first seen written taken lines region all under none = recor
   broken = [];
   reached = under.reached;
   ends = (
-    record { acts_are = ap (λ (r : Script). r.acts) under.going ∙ ap (λ (p : List Change). under.acts ++ last_acts p) none ∙ append-nil under.acts; none = refl },
-    ap (λ (r : Script). r.end) under.going,
+    record { acts_are = ap (λ (r : Script). r.acts) (going_all old view first seen written taken lines region all [] under) ∙ ap (λ (p : List Change). under.acts ++ last_acts p) none ∙ append-nil under.acts; none = refl },
+    ap (λ (r : Script). r.end) (going_all old view first seen written taken lines region all [] under),
     refl,
   );
   lines = under.said;
+  in_time = timely_here old view first seen written taken lines region all [] under;
   sink = under.sink;
   stays = under.stays;
 }
@@ -256,11 +326,13 @@ ran_open old view first seen written taken lines lines' region all under some sa
       broken = [];
       reached = reached_on old view view first seen seen under.acts (rolled_back ∷ []) [] under.reached came.reached;
       ends = (
-        record { acts_are = ap (λ (r : Script). r.acts) under.going ∙ ap (λ l. under.acts ++ l) (last_open view.pending some); none = refl },
-        ap (λ (r : Script). r.end) under.going,
+        record { acts_are = ap (λ (r : Script). r.acts) (going_all old view first seen written taken lines region all [] under) ∙ ap (λ l. under.acts ++ l) (last_open view.pending some); none = refl },
+        ap (λ (r : Script). r.end) (going_all old view first seen written taken lines region all [] under),
         refl,
       );
       lines = λ told. came_said old view view first seen seen written.taken taken.taken lines lines' under.acts (rolled_back ∷ []) [] under.reached came (under.said told);
+      in_time = timely old view first seen written taken lines region all [] under ((under.acts ++ rolled_back ∷ []) ++ []) taken.taken
+          ([], ap (λ l. under.acts ++ l) (last_open view.pending some) ∙ sym (append-nil ((under.acts ++ rolled_back ∷ []) ++ []) ∙ append-nil (under.acts ++ rolled_back ∷ []))) (all_of taken.taken);
       sink = under.sink;
       stays = under.stays;
     }
@@ -272,27 +344,35 @@ ran_short old view first seen written taken lines region all left under = record
   acts = under.acts;
   broken = [];
   reached = under.reached;
-  ends = (refl, ((ran_from under.done (work_of view region) left).acts, ap (λ (r : Script). r.acts) under.going));
+  ends = (refl, ((ran_from under.done (work_of view region) left).acts, ap (λ (r : Script). r.acts) (going_all old view first seen written taken lines region all left under)));
   lines = under.said;
+  in_time = timely_here old view first seen written taken lines region all left under;
   sink = under.sink;
   stays = under.stays;
 }
 
 -- ---- the script's beginning
 
+start_is : (view : View) (region : Option Passthrough) → view.pending ≡ [] → region ≡ None → at_beginning (committed view) ≡ work_of view region
+start_is view region none outside =
+    ap (λ (p : List Change). start_of (committed view) p None) (sym none) ∙ ap (λ (r : Option Passthrough). start_of (committed view) view.pending r) (sym outside)
+
 pub under_start : (view : View) (seen : Seen) (written : Output) (lines : List ℕ) (region : Option Passthrough) (all : List Stmt) → IsReady view seen → view.pending ≡ [] → region ≡ None → lines ≡ []
     → AllByRecursion IsNormal all → Under view view seen seen written written lines region all all
 under_start view seen written lines region all ready none outside empty normal = record {
   done = 0;
   count = omega arith;
+  firsts = [];
+  all_are = refl;
   acts = [];
   reached = (came_none view seen [] [] ready.usable refl).reached;
   ready = ready;
   users = subst (λ (r : Option Passthrough). AreUsers (committed view) r) (sym outside) tt;
-  going =
-      ap (λ (p : List Change). ran_from 0 (start_of (committed view) p None) all) (sym none)
-      ∙ ap (λ (r : Option Passthrough). ran_from 0 (start_of (committed view) view.pending r) all) (sym outside)
-      ∙ sym (led_none (ran_from 0 (work_of view region) all));
+  going = λ more. ap (λ (w : Work). ran_from 0 w more) (start_is view region none outside);
+  whole = [];
+  due_are = λ more.
+      ap (λ (w : Work). due [] (said_from view.log.end w more)) (start_is view region none outside) ∙ ap (λ l. due l (said_from view.log.end (work_of view region) more)) (sym empty);
+  wrote = λ told. sym (append-nil written.taken);
   said = λ told. record { written = []; new_is = sym (append-nil written.taken); all = sym empty };
   sink = refl;
   stays = record { told = refl; later = le_refl written.faults };

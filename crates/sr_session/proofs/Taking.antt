@@ -1,5 +1,6 @@
 -- What was done of a step, with acts before it.
-use Rattle.std.proofs.Common.{◌≡◌, ℕ, List, [], ◌∷◌, ◌++◌, Option, Result, Ok, Err, refl, sym, ap, subst, ◌∙◌, append_assoc}
+use Rattle.std.proofs.Common.{◌≡◌, ℕ, List, [], ◌∷◌, ◌++◌, Option, Result, Ok, Err, map, refl, sym, ap, subst, ◌∙◌, append_assoc}
+use Rattle.std.proofs.lemmas.List.{append-nil}
 use Rattle.sr_ast.specs.declared.stmt.Passthrough.{Passthrough}
 use Rattle.sr_history.specs.Recorded.{Recorded, entry_of}
 use Rattle.sr_site.specs.Seen.{Seen}
@@ -56,6 +57,23 @@ end_longer acts whole more new broken store.Disk end = stops_longer (λ r. broke
 end_longer acts whole more new broken (store.Full at need) end = (end.0, stops_longer (λ r. IsTooFar new.log (entry_of r) at need) acts whole more end.1)
 end_longer acts whole more new broken (store.Long size limit) end = (end.0, stops_longer (λ r. IsTooLong (entry_of r) size limit) acts whole more end.1)
 end_longer acts whole more new broken store.Memory end = end
+
+-- an end's acts, with the entry whose commit was refused, are a front
+pub no_broken : (acts whole : List Act) (broken : List Recorded) → broken ≡ [] → IsFront acts whole → IsFront (acts ++ map commits broken) whole
+no_broken acts whole broken none front =
+    subst (λ (rs : List Recorded). IsFront (acts ++ map commits rs) whole) (sym none) (front.0, front.1 ∙ ap (λ l. l ++ front.0) (sym (append-nil acts)))
+
+front_of_stop : (refuses : Recorded → Type 0) (acts whole : List Act) → StopsAt refuses acts whole → IsFront acts whole
+front_of_stop refuses acts whole at = (commits at.entry ∷ at.front.0, at.front.1 ∙ append_assoc acts (commits at.entry ∷ []) at.front.0)
+
+pub front_of_store : (new : View) (acts whole : List Act) (broken : List Recorded) (fault : DatabaseFault) → StoreEnd new acts whole broken fault → IsFront (acts ++ map commits broken) whole
+front_of_store new acts whole broken store.Missing end = absurd end
+front_of_store new acts whole broken store.Exists end = absurd end
+front_of_store new acts whole broken (store.Damaged file at) end = absurd end
+front_of_store new acts whole broken store.Disk end = subst (λ (rs : List Recorded). IsFront (acts ++ map commits rs) whole) (sym end.why) end.front
+front_of_store new acts whole broken (store.Full at need) end = no_broken acts whole broken end.0 (front_of_stop (λ r. IsTooFar new.log (entry_of r) at need) acts whole end.1)
+front_of_store new acts whole broken (store.Long size limit) end = no_broken acts whole broken end.0 (front_of_stop (λ r. IsTooLong (entry_of r) size limit) acts whole end.1)
+front_of_store new acts whole broken store.Memory end = absurd end
 
 -- a step behind acts that were done
 pub took_after : (acts : List Act) (meant : Stepped) (a b c : View) (first second third : Seen) (l0 l1 l2 : List ℕ) (region : Option Passthrough) (result : Result (Unit {0}) StepFault)

@@ -1,3 +1,4 @@
+pub mod Due
 pub mod Ends
 pub mod Faults
 pub mod Reached

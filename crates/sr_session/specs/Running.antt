@@ -1,15 +1,17 @@
 -- A script on the way, and where it ended before its last lines were written.
-use Rattle.std.specs.Prelude.{◌≡◌, ◌+◌, ⊤, ℕ, List, [], length, Option, IsTrue, Result, Ok, Err}
+use Rattle.std.specs.Prelude.{◌≡◌, ◌+◌, ⊤, ℕ, List, [], ◌++◌, length, map, Option, IsTrue, Result, Ok, Err}
 use Rattle.std.specs.List.{AllByRecursion}
 use Rattle.sr_ast.specs.declared.stmt.Passthrough.{Passthrough}
 use Rattle.sr_ast.specs.declared.stmt.Stmt.{Stmt}
 use Rattle.sr_grammar.specs.NormalForms.{IsNormal}
 use Rattle.sr_history.specs.Recorded.{Recorded}
 use Rattle.sr_database.specs.Views.{View, committed}
-use Rattle.sr_script.specs.Acts.{Act, text_from}
+use Rattle.sr_script.specs.Acts.{Act, commits, text_from}
 use Rattle.sr_script.specs.Scripts.{ran, ran_from, led}
+use Rattle.sr_script.specs.Works.{at_beginning}
 use Rattle.sr_site.specs.Seen.{Seen}
 use Rattle.sr_site.specs.Streams.{Output, OutputStays}
+use Rattle.sr_session.specs.Due.{said_from, due, WroteInTime}
 use Rattle.sr_session.specs.Ends.{EndsAs, SinkEnd}
 use Rattle.sr_session.specs.Reached.{Reached}
 use Rattle.sr_session.specs.Ready.{AreUsers, IsReady, work_of}
@@ -17,16 +19,21 @@ use Rattle.sr_session.specs.Said.{WroteFront, Said}
 use Rattle.sr_session.specs.declared.fault.SessionFault.{SessionFault}
 use Rattle.sr_session.specs.declared.fault.SessionFault.TheVariants.{Statement, Store, Sink, Memory}
 
--- some statements are done and these are left: what the script does is what was done, and then what these do. Its lines were written, or are
--- kept
+-- some statements are done and these are left: what the script does is what was done, and then what these do, and so for any others. Its
+-- lines were written as they were due, or are kept
 pub record Under (old view : View) (first seen : Seen) (written taken : Output) (lines : List ℕ) (region : Option Passthrough) (all left : List Stmt) : Type 0 where
   pub done : ℕ
   pub count : done + length left ≡ length all
+  pub firsts : List Stmt
+  pub all_are : all ≡ firsts ++ left
   pub acts : List Act
   pub reached : Reached old view first seen acts []
   pub ready : IsReady view seen
   pub users : AreUsers (committed view) region
-  pub going : ran (committed old) all ≡ led acts (ran_from done (work_of view region) left)
+  pub going : (more : List Stmt) → ran (committed old) (firsts ++ more) ≡ led acts (ran_from done (work_of view region) more)
+  pub whole : List ℕ
+  pub due_are : (more : List Stmt) → due [] (said_from old.log.end (at_beginning (committed old)) (firsts ++ more)) ≡ whole ++ due lines (said_from view.log.end (work_of view region) more)
+  pub wrote : IsTrue written.told → taken.taken ≡ written.taken ++ whole
   pub said : IsTrue written.told → Said (text_from old.log.end acts) lines written.taken taken.taken
   pub sink : taken.faults ≡ written.faults
   pub stays : OutputStays written taken
@@ -52,6 +59,7 @@ pub record Ran (old new : View) (before now : Seen) (written written' : Output) 
   pub reached : Reached old new before now acts broken
   pub ends : EndsAs (ran (committed old) statements) (length statements) new acts broken (counted (length statements) result)
   pub lines : IsTrue written.told → Keeps (text_from old.log.end acts) written.taken written'.taken kept result
+  pub in_time : IsTrue written.told → WroteInTime (committed old) old.log.end statements (acts ++ map commits broken) written.taken written'.taken
   pub sink : SinkEnd written written' (counted (length statements) result)
   pub stays : OutputStays written written'
 

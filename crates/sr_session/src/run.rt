@@ -22,7 +22,7 @@ use std::alloc::Global;
 /// Each transaction, each statement on the catalog and each SYNCHRONIZE is one entry of the log; a statement in a passthrough region is one too. A refused
 /// statement rolls the open transaction back and ends the script, and what was committed before it stands. A transaction that is open at the
 /// end is rolled back. Lines are kept in memory and written behind each COMMIT, and whenever 64 KiB of them are kept: a line that tells of an
-/// entry is written once that entry stands.
+/// entry is written once that entry stands. Where such a write fails the script ends: no statement is begun behind it.
 ///
 /// `Statement` comes exactly where the meaning of the script refuses the statement of that number; `Store` where the next entry is not
 /// committed, by the disk, for want of room, or since it is too long; `Sink` where a line was not written. After each of these nothing is

@@ -5,6 +5,7 @@ ghost use Rattle.std.specs.List.{AllByRecursion};
 ghost use Rattle.sr_grammar.specs.NormalForms.{IsNormal};
 ghost use Rattle.sr_site.specs.Causes.{Rose};
 ghost use Rattle.sr_site.specs.Streams.{OutputStays};
+ghost use Rattle.sr_session.specs.Due.{is_due};
 ghost use Rattle.sr_session.specs.Ready.{IsReady};
 ghost use Rattle.sr_session.specs.Running.{Ran, RanStatements};
 ghost use Rattle.sr_session.specs.Said.{WroteFront};
@@ -75,11 +76,18 @@ fn run_statements<S: Site, O: Sink>(
             Err(fault) => return Err(SessionFault::at(number, fault)),
         }
         left = rest;
-        if matches!(statement, Stmt::Commit) || session.lines.len() >= KEPT {
+        if is_due(statement, session) {
             flush(session, sink)?;
         }
     }
     Ok(())
+}
+
+/// Whether the lines that are kept behind a statement are written before the next one is begun.
+fn is_due(statement: &Stmt, session: &Session) -> bool
+    ensures due { result ≡ is_due statement.now session.now.lines.items }
+{
+    matches!(statement, Stmt::Commit) || session.lines.len() >= KEPT
 }
 
 /// Writes the lines that are kept. None is kept after it.

@@ -10,8 +10,9 @@ returns-in_err-add-clause-broken g c =
     let middle = g.S.Held.seen c.take_letters.new.site in
     let written = g.O.Sink.seen c.args.sink.now in
     let written' = g.O.Sink.seen c.take_letters.new.sink in
-    if_err (TurnBroken c.args.db.now c.take_letters.new.db before middle c.args.user.now c.args.bag.now written written') Memory c.from_residual-in_err-add.result c.from_residual-in_err-add.ensures.1
-    (turn_unadded c.args.db.now c.take_letters.new.db before middle c.args.user.now c.args.bag.now c.take_letters.new.bag c.in_ok-received.received c.in_ok-received.alarms written written' Memory c.in_ok-received.ensures.told refl)
+    if_err (TurnBroken c.args.db.now c.take_letters.new.db before middle c.args.user.now c.args.bag.now c.args.purges written written') Memory c.from_residual-in_err-add.result c.from_residual-in_err-add.ensures.1
+    (turn_unadded c.args.db.now c.take_letters.new.db before middle c.args.user.now c.args.bag.now c.take_letters.new.bag c.in_ok-received.received c.in_ok-received.alarms written written' Memory c.in_ok-received.ensures.told refl
+    c.args.purges)
 
 pub returns-clause-ready : goal.returns-clause-ready
 returns-clause-ready g c =
@@ -27,4 +28,4 @@ returns-clause-done g c =
 pub returns-clause-broken : goal.returns-clause-broken
 returns-clause-broken g c =
     turn_broken c.args.db.now c.take_letters.new.db (g.S.Held.seen c.args.site.now) (g.S.Held.seen c.take_letters.new.site) (g.S.Held.seen c.purge_where.new.site) c.args.user.now c.args.bag.now c.take_letters.new.bag
-    c.in_ok-received.received c.in_ok-received.alarms (g.O.Sink.seen c.args.sink.now) (g.O.Sink.seen c.take_letters.new.sink) c.purge_where.result c.in_ok-received.ensures.told c.purge_where.ensures.cause
+    c.args.purges c.in_ok-received.received c.in_ok-received.alarms (g.O.Sink.seen c.args.sink.now) (g.O.Sink.seen c.take_letters.new.sink) c.purge_where.result c.in_ok-received.ensures.told c.purge_where.ensures.cause

@@ -4,7 +4,7 @@ use Rattle.sr_agent.proofs.sending.send_to.Goals as goal
 pub returns-in_err-sent-clause-broken : goal.returns-in_err-sent-clause-broken
 returns-in_err-sent-clause-broken g c =
     send_answer c.args.db.now c.send.new.db (g.S.Held.seen c.args.site.now) (g.S.Held.seen c.send.new.site) c.args.length c.args.partner.now (g.O.Sink.seen c.args.sink.now) c.in_err-sent.field-0.0 c.from_residual.result
-    c.from_residual.ensures.1 c.requires.ready c.in_err-sent.ensures.cause
+    c.from_residual.ensures.1 c.requires.ready c.in_err-sent.ensures.cause c.in_err-sent.ensures.devices
 
 pub returns-clause-ready : goal.returns-clause-ready
 returns-clause-ready g c =

@@ -3,6 +3,7 @@ use Rattle.sr_ast.specs.Exprs.{term_of}
 use Rattle.sr_reader.proofs.Readings.{IsDeep-joined}
 use Rattle.sr_reader.proofs.Refusing.{shallower, part_at, chain_missed, chain_begun, chain_whole, chain_full, chain_next_missed, chain_next, sum_missed, against_full, against_missed, against_read, tested_full, tested_missed, tested_read, sum_alone, no_denial_reads, denial_missed, denial_read, denial_full, no_minus_reads, below_read, minus_full, minus_missed, minus_read, within_missed, within_open, within_read, within_full, named_reads, literal_reads}
 use Rattle.sr_reader.proofs.Parts.{cast, handed_mapped, no_memory_mapped, valued}
+use Rattle.sr_reader.proofs.Alone.{alone_read, alone_missed}
 use Rattle.sr_reader.proofs.Constants.{stayed}
 use Rattle.sr_reader.proofs.exprs.+exprs.Goals as goal
 
@@ -16,8 +17,14 @@ chain-more-preserved t c = record {
   less = search rules;
 }
 
+pub chain-returns-in_err-operand-clause-reads : goal.chain-returns-in_err-operand-clause-reads
+chain-returns-in_err-operand-clause-reads t c = handed_mapped _ c.from_residual.result (alone_missed c.args.level (c.if-is_alone.ensures.alone refl) c.requires.room.0 c.in_err-operand.ensures.reads) (search rules)
+
+pub chain-returns-then-is_alone-clause-reads : goal.chain-returns-then-is_alone-clause-reads
+chain-returns-then-is_alone-clause-reads t c = alone_read c.args.level c.in_ok-operand.operand (c.if-is_alone.ensures.alone refl) c.in_ok-operand.ensures.deep c.in_ok-operand.ensures.reads
+
 pub chain-returns-in_err-left-clause-reads : goal.chain-returns-in_err-left-clause-reads
-chain-returns-in_err-left-clause-reads t c = handed_mapped _ c.from_residual.result (chain_missed c.args.level c.in_err-left.ensures.reads) (search rules)
+chain-returns-in_err-left-clause-reads t c = handed_mapped _ c.from_residual-in_err-left.result (chain_missed c.args.level c.in_err-left.ensures.reads) (search rules)
 
 pub chain-returns-then-left-room-clause-reads : goal.chain-returns-then-left-room-clause-reads
 chain-returns-then-left-room-clause-reads t c = chain_full c.in-Some.operator c.more.invariant.reads (search rules) c.more.invariant.deep c.if-left-room.true

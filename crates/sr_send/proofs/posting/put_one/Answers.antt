@@ -36,4 +36,4 @@ returns-in-Err-clause-cause g c =
     let posted = put_as before now c.args.address.now c.in_ok-name.name c.as_slice.result.now _ c.args.number c.args.message.now c.in_ok-name.ensures
     (c.as_slice.ensures.value ∙ c.in_ok-bytes.ensures.spelling) c.in-Err.ensures.stays c.in-Err.ensures.put in
     subst (λ (f : SendFault). IsPartPut before now item f) (sym c.from.ensures) (part_begun before now item c.in-Err.fault (Err c.in-Err.fault) refl posted
-    (ends_put before now c.args.address.now c.in_ok-name.name c.as_slice.result.now _ c.in-Err.ensures.put) c.in-Err.ensures.cause)
+    (ends_put before now c.args.address.now c.in_ok-name.name c.as_slice.result.now _ c.in-Err.ensures.put) c.in-Err.ensures.stays c.in-Err.ensures.cause)

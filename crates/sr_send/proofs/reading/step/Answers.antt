@@ -15,7 +15,8 @@ returns-in_err-next_entry-clause-cause g c =
     let before = g.S.Held.seen c.args.site.now in
     let now = g.S.Held.seen c.next_entry.new.site in
     if_fault (StepStop c.args.db.now c.args.aim.now c.args.scanner.now c.args.post.now c.args.after before now) c.in_err-next_entry.field-0.0 c.from_residual.result c.from_residual.ensures.1
-    (step_unread c.args.db.now c.args.aim.now c.args.scanner.now c.args.post.now c.args.after before now c.in_err-next_entry.field-0.0 c.requires.aim c.next_entry.ensures.posted c.in_err-next_entry.ensures.cause)
+    (step_unread c.args.db.now c.args.aim.now c.args.scanner.now c.args.post.now c.args.after before now c.in_err-next_entry.field-0.0 c.requires.aim c.next_entry.ensures.posted
+    c.next_entry.ensures.mail c.in_err-next_entry.ensures.cause)
 
 pub returns-in-None-clause-done : goal.returns-in-None-clause-done
 returns-in-None-clause-done g c = record {

@@ -3,9 +3,12 @@ use Rattle.sr_book.specs.declared.book.Book.{Book}
 use Rattle.sr_database.specs.Books.{book_in}
 use Rattle.sr_schema.specs.Members.{user_name}
 use Rattle.sr_schema.specs.Names.{named}
+use Rattle.sr_send.specs.Aims.{aim_at}
+use Rattle.sr_send.specs.Letters.{sent_note}
 use Rattle.sr_send.specs.Passes.{SendCause}
+use Rattle.sr_send.specs.Posting.{IsDeviceFault}
 use Rattle.sr_send.specs.declared.fault.SendFault.{SendFault}
-use Rattle.sr_send.proofs.PassEnds.{book_is, has_book, put_stopped, sent_none, sent_noted, note_stopped, still_database}
+use Rattle.sr_send.proofs.PassEnds.{book_is, has_book, put_stopped, sent_none, sent_noted, note_stopped, pass_device, note_device, still_database}
 use Rattle.sr_send.proofs.Results.{if_fault}
 use Rattle.sr_send.proofs.sending.send.Goals as goal
 
@@ -26,6 +29,14 @@ returns-in_err-sent-clause-cause g c =
     let is : c.in-Some.book ≡ book_in db.books c.args.user.now = book_is (named user_name c.args.user.now db.catalog.users) _ _ (sym c.in-Some.is ∙ c.book.ensures.book) in
     if_fault (λ (f : SendFault). SendCause db db before now c.args.user.now c.args.length c.args.ask f) c.in_err-sent.field-0.0 c.from_residual.result c.from_residual.ensures.1
     (put_stopped db c.args.user.now c.in-Some.book c.args.length c.args.ask is before now c.in_err-sent.field-0.0 c.in_err-sent.ensures.cause)
+
+pub returns-in_err-sent-clause-devices : goal.returns-in_err-sent-clause-devices
+returns-in_err-sent-clause-devices g c =
+    let db = c.args.db.now in
+    let before = g.S.Held.seen c.args.site.now in
+    let now = g.S.Held.seen c.put_due.new.site in
+    if_fault (λ (f : SendFault). IsDeviceFault before now f) c.in_err-sent.field-0.0 c.from_residual.result c.from_residual.ensures.1
+    (pass_device db (aim_at db c.args.user.now c.in-Some.book c.args.length c.args.ask) c.in-Some.book c.args.ask c.args.user.now before now c.in_err-sent.field-0.0 c.in_err-sent.ensures.cause)
 
 pub returns-then-is_empty-clause-sent : goal.returns-then-is_empty-clause-sent
 returns-then-is_empty-clause-sent g c =
@@ -50,6 +61,16 @@ returns-in_err-note_sent-clause-cause g c =
     if_fault (λ (f : SendFault). SendCause db c.note_sent.new.db before now c.args.user.now c.args.length c.args.ask f) c.in_err-note_sent.field-0.0 c.from_residual-in_err-note_sent.result c.from_residual-in_err-note_sent.ensures.1
     (note_stopped db c.args.user.now c.in-Some.book c.args.length c.args.ask is c.note_sent.new.db before middle now c.in_ok-sent.sent c.in_ok-sent.ensures.put c.in_err-note_sent.field-0.0
     (c.is_empty.ensures.some c.if-is_empty.false) c.note_sent.ensures.stays c.in_err-note_sent.ensures.cause)
+
+pub returns-in_err-note_sent-clause-devices : goal.returns-in_err-note_sent-clause-devices
+returns-in_err-note_sent-clause-devices g c =
+    let db = c.args.db.now in
+    let before = g.S.Held.seen c.args.site.now in
+    let middle = g.S.Held.seen c.put_due.new.site in
+    let now = g.S.Held.seen c.note_sent.new.site in
+    if_fault (λ (f : SendFault). IsDeviceFault before now f) c.in_err-note_sent.field-0.0 c.from_residual-in_err-note_sent.result c.from_residual-in_err-note_sent.ensures.1
+    (note_device db c.note_sent.new.db before middle now (sent_note c.args.user.now c.in-Some.book c.in_ok-sent.sent.end c.in_ok-sent.sent.put) c.in_err-note_sent.field-0.0
+    c.in_ok-sent.ensures.put.steady c.note_sent.ensures.stays c.in_err-note_sent.ensures.cause)
 
 pub returns-clause-sent : goal.returns-clause-sent
 returns-clause-sent g c =

@@ -19,7 +19,7 @@ returns-in_err-end-clause-cause g c =
     let before = g.S.Held.seen c.ends.site in
     let now = g.S.Held.seen c.next_end.new.site in
     if_fault (BeginStop first now) c.in_err-end.field-0.0 c.from_residual.result c.from_residual.ensures.1
-    (begin_stopped first before now c.in_err-end.field-0.0 c.ends.invariant.posted c.ends.invariant.steady c.next_end.ensures.posted c.in_err-end.ensures.cause)
+    (begin_stopped first before now c.in_err-end.field-0.0 c.ends.invariant.posted c.ends.invariant.steady c.next_end.ensures.posted c.next_end.ensures.mail c.in_err-end.ensures.cause)
 
 pub ends-preserved : goal.ends-preserved
 ends-preserved g c =

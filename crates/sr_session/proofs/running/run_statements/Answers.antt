@@ -1,4 +1,4 @@
-use Rattle.std.proofs.Common.{◌∷◌, ◌-◌, [], List, ℕ, Option, Err, length, refl, sym, subst}
+use Rattle.std.proofs.Common.{◌∷◌, ◌-◌, [], List, ℕ, Option, Err, length, refl, sym, subst, ◌∙◌}
 use Rattle.sr_ast.specs.declared.stmt.Passthrough.{Passthrough}
 use Rattle.sr_ast.specs.declared.stmt.Stmt.{Stmt}
 use Rattle.sr_session.specs.Running.{Under, Ran}
@@ -51,17 +51,17 @@ returns-in_err-flush g c =
     let all = c.args.statements.now in
     let rest = c.in-Some.rest.now in
     let under : Under old view first seen written taken lines region all (c.in-Some.statement.now ∷ rest) = subst (λ (l : List Stmt). Under old view first seen written taken lines region all l) c.in-Some.ensures.cases.0 c.statements.invariant in
-    let further : Under old new first now written taken lines' region' all rest = under_step old view new first seen now written taken lines lines' region region' all rest c.in-Some.statement.now under c.in-Ok.ensures.took c.in-Ok.ensures.users in
     let taken' = g.O.Sink.seen c.flush.new.sink in
     let kept = c.flush.new.session.lines.items in
     record {
       ran =
           stopped_by_sink old new first now written taken' kept c.flush.new.session.region all c.in_err-flush.field-0.0 c.from_residual.result c.from_residual.ensures.1 c.in_err-flush.ensures.cause
-          (ran_sink old new first now written taken taken' lines' kept region' all rest further c.in_err-flush.ensures.front c.in_err-flush.ensures.stays c.in_err-flush.ensures.rose);
+          (ran_sink old view new first seen now written taken taken' lines lines' kept region region' all rest c.in-Some.statement.now under c.in-Ok.ensures.took c.in_err-flush.ensures.front
+          c.in_err-flush.ensures.stays c.in_err-flush.ensures.rose);
     }
 
-pub statements-preserved-in-Some : goal.statements-preserved-in-Some
-statements-preserved-in-Some g c =
+pub statements-preserved-in-Continue-1 : goal.statements-preserved-in-Continue-1
+statements-preserved-in-Continue-1 g c =
     let old = c.args.db.now in
     let view = c.statements.db in
     let new = c.step.new.db in
@@ -77,11 +77,11 @@ statements-preserved-in-Some g c =
     let all = c.args.statements.now in
     let rest = c.in-Some.rest.now in
     let under : Under old view first seen written taken lines region all (c.in-Some.statement.now ∷ rest) = subst (λ (l : List Stmt). Under old view first seen written taken lines region all l) c.in-Some.ensures.cases.0 c.statements.invariant in
-    let further : Under old new first now written taken lines' region' all rest = under_step old view new first seen now written taken lines lines' region region' all rest c.in-Some.statement.now under c.in-Ok.ensures.took c.in-Ok.ensures.users in
     let taken' = g.O.Sink.seen c.flush.new.sink in
     subst (λ (l : List ℕ). Under old new first now written taken' l c.flush.new.session.region all rest) (sym c.in_ok-flush.ensures.kept)
     (subst (λ (r : Option Passthrough). Under old new first now written taken' [] r all rest) (sym c.in_ok-flush.ensures.region)
-    (under_flush old new first now written taken taken' lines' region' all rest further c.in_ok-flush.ensures.said c.in_ok-flush.ensures.stays c.in_ok-flush.ensures.steady))
+    (under_flush old view new first seen now written taken taken' lines lines' region region' all rest c.in-Some.statement.now under c.in-Ok.ensures.took c.in-Ok.ensures.users
+    (sym c.is_due.ensures.due ∙ c.if-is_due.true) c.in_ok-flush.ensures.said c.in_ok-flush.ensures.stays c.in_ok-flush.ensures.steady))
 
 pub statements-preserved : goal.statements-preserved
 statements-preserved g c =
@@ -101,3 +101,4 @@ statements-preserved g c =
     let rest = c.in-Some.rest.now in
     let under : Under old view first seen written taken lines region all (c.in-Some.statement.now ∷ rest) = subst (λ (l : List Stmt). Under old view first seen written taken lines region all l) c.in-Some.ensures.cases.0 c.statements.invariant in
     under_step old view new first seen now written taken lines lines' region region' all rest c.in-Some.statement.now under c.in-Ok.ensures.took c.in-Ok.ensures.users
+    (sym c.is_due.ensures.due ∙ c.if-is_due.false)
