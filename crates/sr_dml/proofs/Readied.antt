@@ -7,7 +7,7 @@ use Rattle.sr_ast.specs.Exprs.{term_of}
 use Rattle.sr_ast.specs.declared.expr.Expr.{Expr}
 use Rattle.sr_dates.specs.Fitting.{fitted}
 use Rattle.sr_eval.specs.Meanings.{Meaning, cell_of}
-use Rattle.sr_eval.proofs.Places.{resolved_meaning}
+use Rattle.sr_eval.proofs.Places.{position_next, resolved_meaning}
 use Rattle.sr_schema.specs.declared.table.Column.{Column}
 use Rattle.sr_schema.specs.declared.table.Table.{Table}
 use Rattle.sr_dml.specs.Checks.{Scope}
@@ -72,7 +72,9 @@ none_there (Some n) = refl
 given_at : (names : List (List ℕ)) (es : List Expr) (column : List ℕ) → value_for names es column ≡ option_and_then (slice_get es) (place_among names column)
 given_at [] es column = refl
 given_at (name ∷ names) [] column = none_there (place_among (name ∷ names) column)
-given_at (name ∷ names) (e ∷ es) column = here_or_behind (bytes_eq name column) e es (value_for names es column) (place_among names column) (given_at names es column)
+given_at (name ∷ names) (e ∷ es) column =
+    here_or_behind (bytes_eq name column) e es (value_for names es column) (place_among names column) (given_at names es column)
+    ∙ ap (option_and_then (slice_get (e ∷ es))) (sym (position_next (λ n. bytes_eq n column) name names))
 
 -- the row of an INSERT is the one by the places of its values
 row_given : (names : List (List ℕ)) (es : List Expr) (columns : List Column) → inserted_row names es columns ≡ given_row es columns (places_in names columns)

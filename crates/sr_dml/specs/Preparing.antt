@@ -1,5 +1,6 @@
 -- What is made of a statement once, before it goes over rows: its names resolved.
-use Rattle.std.specs.Prelude.{◌≡◌, ℕ, suc, Bool, true, cond, bytes_eq, slice_get, List, [], ◌∷◌, map, Option, Some, None, IfSome, Result, Ok}
+use Rattle.std.specs.Prelude.{◌≡◌, ℕ, Bool, true, bytes_eq, slice_get, List, [], ◌∷◌, map, Option, Some, None, IfSome, Result, Ok}
+use Rattle.std.specs.List.{position}
 use Rattle.std.specs.Option.{option_copied, option_map, option_and_then}
 use Rattle.sr_base.specs.declared.value.Value.{Value as Cell}
 use Rattle.sr_ast.specs.Exprs.{term_of}
@@ -54,8 +55,7 @@ new_row row (c ∷ columns) (old ∷ olds) (set ∷ sets) = front (new_value row
 
 -- the place of the value that an INSERT names for a column
 abbrev pub place_among : List (List ℕ) → List ℕ → Option ℕ
-place_among [] column = None
-place_among (name ∷ names) column = cond (bytes_eq name column) (Some 0) (option_map suc (place_among names column))
+place_among names column = position (λ name. bytes_eq name column) names
 
 -- that of each column, in the order of the columns
 abbrev pub places_in : List (List ℕ) → List Column → List (Option ℕ)

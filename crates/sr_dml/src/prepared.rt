@@ -109,12 +109,5 @@ fn place_among(names: &[Name], column: &Name) -> Option<usize>
     ensures place { result ≡ place_among names.now column.now }
     ensures within { IfSome result (λ place. place < length names.now) }
 {
-    let Some((name, rest)) = names.split_first() else {
-        return None;
-    };
-    if is_same(name, column) {
-        return Some(0);
-    }
-    let place = place_among(rest, column)?;
-    Some(place + 1)
+    names.iter().position(|name| is_same(name, column))
 }

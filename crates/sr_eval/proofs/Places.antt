@@ -1,5 +1,6 @@
 -- Columns by their places, and what an expression gives whose names are resolved.
-use Rattle.std.proofs.Common.{◌≡◌, ◌≤◌, ◌<◌, ◌-◌, Bool, true, false, cond, ℕ, zero, suc, List, [], ◌∷◌, ◌++◌, length, Option, Some, None, unwrap_or, slice_get, arith, refl, sym, ap, ◌∙◌}
+use Rattle.std.proofs.Common.{◌≡◌, ◌≤◌, ◌<◌, ◌-◌, Bool, true, false, cond, ℕ, ◌+◌, nat_lt, not, zero, suc, List, [], ◌∷◌, ◌++◌, length, Option, Some, None, unwrap_or, slice_get, position, arith, refl, sym, ap, ◌∙◌}
+use Rattle.std.specs.List.{position_or_len}
 use Rattle.std.specs.Option.{option_map, option_and_then}
 use Rattle.sr_base.specs.declared.value.Value.{Value}
 use Rattle.sr_base.specs.declared.value.Value.TheVariants.{Null}
@@ -12,6 +13,14 @@ use Rattle.sr_eval.specs.declared.bound.Bound.{Bound}
 use Rattle.sr_eval.specs.Meanings.{meaning, unary_meaning, binary_meaning, of_one, of_both, value_at, found_at}
 use Rattle.sr_eval.specs.Meanings.Meaning.{value}
 use Rattle.sr_eval.specs.Resolutions.{place_of, at_place, resolved, meaning_at}
+
+-- the place of the first that passes: here, or among those behind
+pub position_next : {A : Type 0} (p : A → Bool) (x : A) (xs : List A) → position p (x ∷ xs) ≡ cond (p x) (Some 0) (option_map suc (position p xs))
+position_next p x xs = by_test (p x) (position_or_len p xs) (length xs) where
+  by_test : (b : Bool) (n len : ℕ) → cond (nat_lt (cond (not b) (1 + n) 0) (suc len)) (Some (cond (not b) (1 + n) 0)) None
+      ≡ cond b (Some 0) (option_map suc (cond (nat_lt n len) (Some n) None))
+  by_test true n len = grind (arith)
+  by_test false n len = grind (arith)
 
 -- a column is found by its place
 by_place : (b : Bool) (v : Value) (row : List Value) (o : Option ℕ) (q : Option Value) → q ≡ option_and_then (slice_get row) o
@@ -27,8 +36,9 @@ found_at-place (c ∷ columns) [] table name = no_row (place_of (c ∷ columns) 
   no_row : (o : Option ℕ) → ◌≡◌ {A = Option Value} None (option_and_then (slice_get []) o)
   no_row None = refl
   no_row (Some place) = refl
-found_at-place (c ∷ columns) (v ∷ row) table name = by_place (is_meant c.0 c.1 table name) v row (place_of columns table name) _
-    (found_at-place columns row table name)
+found_at-place (c ∷ columns) (v ∷ row) table name =
+    by_place (is_meant c.0 c.1 table name) v row (place_of columns table name) (found_at columns row table name) (found_at-place columns row table name)
+    ∙ ap (option_and_then (slice_get (v ∷ row))) (sym (position_next (λ c. is_meant c.0 c.1 table name) c columns))
 
 -- the value is the one that is found, or NULL
 or_null : (b : Bool) (v w : Value) (o : Option Value) → w ≡ unwrap_or o Null → cond b v w ≡ unwrap_or (cond b (Some v) o) Null

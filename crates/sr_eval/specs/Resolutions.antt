@@ -1,6 +1,6 @@
 -- Expressions whose names are resolved: a column is a place among the values of all sources.
-use Rattle.std.specs.Prelude.{◌≡◌, ℕ, suc, ◌+◌, cond, List, [], ◌∷◌, Option, Some, None, ◌⊎◌, refl, slice_get, unwrap_or}
-use Rattle.std.specs.Option.{option_map}
+use Rattle.std.specs.Prelude.{◌≡◌, ℕ, ◌+◌, List, [], ◌∷◌, Option, Some, None, ◌⊎◌, refl, slice_get, unwrap_or}
+use Rattle.std.specs.List.{position}
 use Rattle.std.proofs.Common.{inl, inr, ap, ◌∙◌}
 use Rattle.std.specs.Coded.{Coded, code_by, coded⊎, coded_ℕ, coded_list}
 use Rattle.sr_base.specs.declared.value.Value.{Value as Cell}
@@ -26,8 +26,7 @@ pub data Resolution : Type 0 where
 
 -- the place of the first column that a reference means
 abbrev pub place_of : List (Option (List ℕ) × List ℕ × Kind) → Option (List ℕ) → List ℕ → Option ℕ
-place_of [] table name = None
-place_of (c ∷ columns) table name = cond (is_meant c.0 c.1 table name) (Some 0) (option_map suc (place_of columns table name))
+place_of columns table name = position (λ c. is_meant c.0 c.1 table name) columns
 
 -- a column at its place; NULL where there is none
 abbrev pub at_place : Option ℕ → Resolution

@@ -118,12 +118,7 @@ pub fn place_of(
     ensures place { result ≡ place_of columns.now table.now name.now }
     ensures within { IfSome result (λ place. place < length columns.now) }
 {
-    let Some((column, rest)) = columns.split_first() else {
-        return None;
-    };
-    if is_meant(&column.0, &column.1, table, name) {
-        return Some(0);
-    }
-    let place = place_of(rest, table, name)?;
-    Some(place + 1)
+    columns
+        .iter()
+        .position(|column| is_meant(&column.0, &column.1, table, name))
 }

@@ -1,5 +1,6 @@
 -- Histories that go on entry by entry, and what holds of each on the way.
 use Rattle.std.proofs.Common.{List, [], ◌∷◌, ◌++◌, sym, subst, append_assoc, append-nil}
+use Rattle.std.specs.Prelude.{⊤}
 use Rattle.sr_history.specs.Recorded.{Recorded}
 
 -- it holds of the history, and of it with each front of these entries
@@ -25,3 +26,32 @@ along_more holds es (r ∷ rs) qs h k = (
 pub along_front : (holds : List Recorded → Type 0) (es front back : List Recorded) → Along holds es (front ++ back) → Along holds es front
 along_front holds es [] back h = along_first holds es back h
 along_front holds es (r ∷ front) back h = (h.0, along_front holds (es ++ r ∷ []) front back h.1)
+
+-- ---- steps
+
+-- each of these entries is a step from the history before it
+abbrev pub Steps : (List Recorded → Recorded → Type 0) → List Recorded → List Recorded → Type 0
+Steps is es [] = ⊤
+Steps is es (r ∷ rs) = is es r × Steps is (es ++ r ∷ []) rs
+
+pub steps_more : (is : List Recorded → Recorded → Type 0) (es rs qs : List Recorded) → Steps is es rs → Steps is (es ++ rs) qs → Steps is es (rs ++ qs)
+steps_more is es [] qs h k = subst (λ (l : List Recorded). Steps is l qs) (append-nil es) k
+steps_more is es (r ∷ rs) qs h k = (
+  h.0,
+  steps_more is (es ++ r ∷ []) rs qs h.1 (subst (λ (l : List Recorded). Steps is l qs) (sym (append_assoc es (r ∷ []) rs)) k),
+)
+
+pub steps_front : (is : List Recorded → Recorded → Type 0) (es front back : List Recorded) → Steps is es (front ++ back) → Steps is es front
+steps_front is es [] back h = tt
+steps_front is es (r ∷ front) back h = (h.0, steps_front is (es ++ r ∷ []) front back h.1)
+
+-- what each step keeps holds on the way
+pub steps_along : (is : List Recorded → Recorded → Type 0) (holds : List Recorded → Type 0) → ((es : List Recorded) (r : Recorded) → holds es → is es r → holds (es ++ r ∷ []))
+    → (es rs : List Recorded) → holds es → Steps is es rs → Along holds es rs
+steps_along is holds kept es [] h steps = h
+steps_along is holds kept es (r ∷ rs) h steps = (h, steps_along is holds kept (es ++ r ∷ []) rs (kept es r h steps.0) steps.1)
+
+-- and what holds on the way holds behind each step
+pub along_steps : (holds : List Recorded → Type 0) (es rs : List Recorded) → Along holds es rs → Steps (λ qs r. holds (qs ++ r ∷ [])) es rs
+along_steps holds es [] along = tt
+along_steps holds es (r ∷ rs) along = (along_first holds (es ++ r ∷ []) rs along.1, along_steps holds (es ++ r ∷ []) rs along.1)

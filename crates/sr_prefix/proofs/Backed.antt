@@ -1,5 +1,5 @@
 -- What stands behind the puts of a run, to its end or to the fault that ended it, and at each of its moments.
-use Rattle.std.proofs.Common.{◌≡◌, ℕ, List, [], ◌∷◌, ◌++◌, map, Result, Ok, Err, refl, sym, ap, subst, ◌∙◌, inl, inr, append_assoc, append-nil}
+use Rattle.std.proofs.Common.{◌≡◌, ℕ, List, [], ◌∷◌, ◌++◌, map, Result, Ok, Err, refl, sym, ap, subst, ◌∙◌, inl, inr, append-nil}
 use Rattle.std.specs.Prelude.{Bool, true, false, ◌⊎◌, length}
 use Rattle.std.specs.List.{AllByRecursion}
 use Rattle.sr_base.specs.Values.{offset_from}
@@ -13,13 +13,11 @@ use Rattle.sr_msgform.specs.declared.message.Message.{Message}
 use Rattle.sr_send.specs.Letters.{letters}
 use Rattle.sr_send.specs.Passes.{sent_end}
 use Rattle.sr_site.specs.Files.{Files}
-use Rattle.sr_site.specs.Happenings.{Happening}
-use Rattle.sr_site.specs.Images.{MayLeave}
 use Rattle.sr_site.specs.Seen.{Seen}
 use Rattle.sr_site.specs.Streams.{Output}
-use Rattle.sr_standing.specs.Items.{Item, commit, put, commits, Letter, puts, puts_in}
+use Rattle.sr_standing.specs.Items.{Item, commit, commits, Letter, puts}
 use Rattle.sr_standing.specs.Standing.{StandsAs}
-use Rattle.sr_standing.specs.Trails.{AtEach, IsOnTrail, LacksLast, Went}
+use Rattle.sr_standing.specs.Trails.{Went}
 use Rattle.sr_agent.specs.Agents.{Did}
 use Rattle.sr_agent.specs.Deliveries.{Delivery, AreDeliveries, deliveries_items, folder_of}
 use Rattle.sr_agent.specs.Ends.{HasTold}
@@ -32,15 +30,11 @@ use Rattle.sr_agent.specs.declared.options.Options.{Options}
 use Rattle.sr_agent.proofs.Joints.{commits_of}
 use Rattle.sr_prefix.specs.Puts.{AreTrue, BacksPuts, StandBehind}
 use Rattle.sr_prefix.specs.Truths.{IsTrue}
+use Rattle.sr_prefix.proofs.Behind.{puts-append, went_behind}
 use Rattle.sr_prefix.proofs.Ran.{commits_letters}
 use Rattle.sr_prefix.proofs.Putting.{Backs, all_letters, backs_commits, backs_front, backs_last, backs_letters, backs_more, backs_note, deliveries_back}
 
 -- ---- puts
-
-puts-append : (trail more : List Item) → puts (trail ++ more) ≡ puts trail ++ puts more
-puts-append [] more = refl
-puts-append (commit r ∷ trail) more = puts-append trail more
-puts-append (put address name bytes ∷ trail) more = ap (λ (l : List Letter). (address, name, bytes) ∷ l) (puts-append trail more)
 
 puts_commits : (rs : List Recorded) → puts (map commit rs) ≡ []
 puts_commits [] = refl
@@ -50,10 +44,10 @@ module _ (publisher : Name) (es : List Recorded) where
   -- ---- the first steps of a run
 
   -- nothing was sent yet, or it was sent to some partners
-  abbrev HasSent : ℕ → Run → Type 0
+  abbrev pub HasSent : ℕ → Run → Type 0
   HasSent limit run = (run.deliveries ≡ []) ⊎ AreDeliveries publisher (after_receiving publisher es run) limit run.deliveries
 
-  sent_either : (b : Bool) (options : Options) (run : Run) → Sends options b publisher es run → HasSent options.length run
+  pub sent_either : (b : Bool) (options : Options) (run : Run) → Sends options b publisher es run → HasSent options.length run
   sent_either true options run is = inr is.are
   sent_either false options run is = inl is
 
@@ -174,32 +168,11 @@ module _ (publisher : Name) (es : List Recorded) where
     front_true begun left front =
         backs_last publisher es [] begun (backs_front publisher es [] begun left (subst (λ (l : List Item). Backs publisher es [] l) front backs))
 
-    standing : (image : Files) (begun left : List Item) → trail ≡ begun ++ left → StandsAs publisher (es ++ commits begun) image ⊎ LacksLast publisher es begun image
-        → StandBehind publisher (puts begun) image
-    standing image begun left front (inl stands) = record { es = es ++ commits begun; stands = stands; are = front_true begun left front }
-    standing image begun left front (inr lacks) =
-        let others : trail ≡ lacks.others ++ (commit lacks.last ∷ left)
-        = front ∙ ap (λ (l : List Item). l ++ left) lacks.is ∙ append_assoc lacks.others (commit lacks.last ∷ []) left in
-        let same : puts begun ≡ puts lacks.others = ap puts lacks.is ∙ puts-append lacks.others (commit lacks.last ∷ []) ∙ append-nil (puts lacks.others) in
-        record {
-          es = es ++ commits lacks.others;
-          stands = lacks.stands;
-          are = subst (λ (ls : List Letter). AreTrue publisher (es ++ commits lacks.others) ls) (sym same) (front_true lacks.others (commit lacks.last ∷ left) others);
-        }
-
-    module _ (first : Files) (before : List Happening) where
-      at_moment : (since : List Happening) → IsOnTrail first publisher es before trail since → (image : Files) → MayLeave first (since ++ before) image → StandBehind publisher (puts_in since) image
-      at_moment since on image there =
-          subst (λ (ls : List Letter). StandBehind publisher ls image) (sym on.has.put) (standing image on.begun on.left on.front (on.has.images image there))
-
-      each_moment : (more : List Happening) → AtEach (IsOnTrail first publisher es before trail) more
-          → AtEach (λ since. (image : Files) → MayLeave first (since ++ before) image → StandBehind publisher (puts_in since) image) more
-      each_moment [] on = at_moment [] on
-      each_moment (step ∷ more) on = (at_moment (step ∷ more) on.0, each_moment more on.1)
+    stand_behind : (begun left : List Item) → trail ≡ begun ++ left → (image : Files) → StandsAs publisher (es ++ commits begun) image → StandBehind publisher (puts begun) image
+    stand_behind begun left front image stands = record { es = es ++ commits begun; stands = stands; are = front_true begun left front }
 
   pub went_back : (before now : Seen) (trail : List Item) → Backs publisher es [] trail → Went before now publisher es trail → BacksPuts publisher before now
-  unfolding Went
-  went_back before now trail backs went = record { more = went.more; is = went.is; moments = each_moment trail backs before.first before.happened went.more went.moments }
+  went_back before now trail backs went = went_behind (StandBehind publisher) publisher es trail (stand_behind trail backs) before now went
 
   pub run_backs : (options : Options) (new : View) (before now : Seen) (written written' : Output) (lines : List Line) (result : Result ℕ AgentFault) → Did new before now written written' publisher es options lines result
       → BacksPuts publisher before now

@@ -11,20 +11,18 @@ use Rattle.sr_book.proofs.Folds.{name_test}
 use Rattle.sr_base.specs.Values.{offset_from}
 use Rattle.sr_history.specs.Folds.{sees}
 use Rattle.sr_history.specs.Recorded.{Recorded}
-use Rattle.sr_msgform.specs.Messages.{message_spelling}
-use Rattle.sr_receive.specs.Acts.{Act, dropped, torn, begun, took, Stand, AreActs, mail_after}
-use Rattle.sr_gather.specs.Fetches.{Pairs, refetch, refetches}
+use Rattle.sr_receive.specs.Acts.{Act, Stand, AreActs, mail_after}
 use Rattle.sr_gather.specs.Bags.{filed_of}
 use Rattle.sr_gather.specs.Gathers.{fetches}
 use Rattle.sr_gather.specs.Greatest.{ask_at, asks, confirm_in, confirms, count_in, has_gap, least_ask, raises}
 use Rattle.sr_gather.specs.Letters.{Came, gone, junk, stranger, letter, IsCame, Letter, fetch_of, letters_from}
-use Rattle.sr_gather.specs.Windows.{IsRefetched}
 use Rattle.sr_gather.specs.declared.bag.Filed.{Filed}
 use Rattle.sr_schema.specs.Catalogs.{Lists}
 use Rattle.sr_site.specs.Happenings.{Happening}
 use Rattle.sr_prefix.specs.Forging.{CameUnforged}
 use Rattle.sr_prefix.specs.Truths.{IsTrue}
 use Rattle.sr_prefix.proofs.Bodies.{IsTruePair}
+use Rattle.sr_prefix.proofs.Fetched.{so_of_acts, so_of_comes}
 use Rattle.sr_prefix.proofs.Leading.{IsTrueAct}
 use Rattle.sr_prefix.proofs.Taking.{ConfirmsWithin}
 
@@ -34,31 +32,11 @@ module _ (publisher user : Name) (us : List Recorded) where
 
   -- ---- second fetches
 
-  refetched : (whose : Name) (pairs : Pairs) (before : List Happening) → AllByRecursion (IsRefetched publisher whose) pairs → AllByRecursion Unforged (refetches publisher pairs before)
-      → AllByRecursion (IsTruePair publisher user us) pairs × AllByRecursion Unforged before
-  refetched whose [] before still all = (tt, all)
-  refetched whose (p ∷ pairs) before still all =
-      let later = refetched whose pairs (refetch publisher p.0 (Some (message_spelling p.1)) ∷ before) still.1 all in
-      ((λ (from : p.1.from ≡ user). later.1.0 p.1 still.0.0 refl from still.0.1.to, later.0), later.1.1)
-
   pub acts_true : (whose : Name) (letters : List Letter) (first : Stand) (acts : List Act) (before : List Happening) → AreActs publisher whose letters first acts
       → AllByRecursion Unforged (mail_after publisher acts before) → AllByRecursion (IsTrueAct publisher user us) acts × AllByRecursion Unforged before
-  acts_true whose letters first [] before are all = (tt, all)
-  acts_true whose letters first (dropped w pairs piece found ∷ earlier) before are all =
-      let these = refetched whose pairs (mail_after publisher earlier before) are.1.still all.1 in
-      let others = acts_true whose letters first earlier before are.0 these.1 in
-      ((tt, others.0), others.1)
-  acts_true whose letters first (torn w pairs ∷ earlier) before are all =
-      let these = refetched whose pairs (mail_after publisher earlier before) are.1.0.still all in
-      let others = acts_true whose letters first earlier before are.0 these.1 in
-      ((tt, others.0), others.1)
-  acts_true whose letters first (begun w pairs txs ∷ earlier) before are all =
-      let these = refetched whose pairs (mail_after publisher earlier before) are.1.0.still all in
-      let others = acts_true whose letters first earlier before are.0 these.1 in
-      ((these.0, others.0), others.1)
-  acts_true whose letters first (took t dones ∷ earlier) before are all =
-      let others = acts_true whose letters first earlier before are.0 all in
-      ((tt, others.0), others.1)
+  acts_true whose letters first acts before are all =
+      so_of_acts Unforged (IsTruePair publisher user us) publisher whose
+      (λ pair still unforged. λ (from : pair.1.from ≡ user). unforged pair.1 still.0 refl from still.1.to) letters first acts before are all
 
   -- ---- first fetches
 
@@ -77,10 +55,7 @@ module _ (publisher user : Name) (us : List Recorded) where
 
   pub all_came : (catalog : Lists) (end : ℕ) (comes : List Came) (before : List Happening) → catalog.publisher ≡ publisher → AllByRecursion (IsCame catalog end) comes
       → AllByRecursion Unforged (fetches publisher comes before) → AllByRecursion IsTrueCame comes × AllByRecursion Unforged before
-  all_came catalog end [] before own are all = (tt, all)
-  all_came catalog end (came ∷ comes) before own are all =
-      let later = all_came catalog end comes (fetch_of publisher came ∷ before) own are.1 all in
-      ((one_came catalog end came own are.0 later.1.0, later.0), later.1.1)
+  all_came catalog end comes before own are all = so_of_comes Unforged IsTrueCame publisher catalog end (λ came. one_came catalog end came own) comes before are all
 
   -- a letter confirms no more than the user took
   abbrev pub IsWithin : Filed → Type 0
@@ -102,7 +77,7 @@ module _ (publisher user : Name) (us : List Recorded) where
 
 -- ---- the notes that are made of letters
 
-greatest_within : (bound : ℕ) (files : List Filed) → AllByRecursion (λ f. f.confirm.0 ≤ bound) files → confirm_in files ≤ bound
+pub greatest_within : (bound : ℕ) (files : List Filed) → AllByRecursion (λ f. f.confirm.0 ≤ bound) files → confirm_in files ≤ bound
 greatest_within bound [] within = omega arith
 greatest_within bound (f ∷ files) within = omega (arith, within.0, greatest_within bound files within.1)
 

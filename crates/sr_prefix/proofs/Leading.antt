@@ -1,6 +1,5 @@
 -- What a pass takes of a partner's windows: what comes next of what his history gives, transaction by transaction.
 use Rattle.std.proofs.Common.{◌≡◌, ℕ, ◌≤◌, List, [], ◌∷◌, ◌++◌, map, bytes_eq, false, refl, sym, ap, subst, ◌∙◌, inl, inr, append_assoc, append-nil}
-use Rattle.std.specs.Prelude.{⊤}
 use Rattle.std.specs.List.{AllByRecursion}
 use Rattle.sr_book.specs.Entries.{Name}
 use Rattle.sr_book.specs.Histories.{taken as taken_from, taken_end}
@@ -21,6 +20,7 @@ use Rattle.sr_gather.specs.Windows.{past as past_of}
 use Rattle.sr_world.specs.Real.{transaction_at, layers}
 use Rattle.sr_prefix.proofs.Along.{Along, along_last, along_more}
 use Rattle.sr_prefix.proofs.Bodies.{IsTruePair, given_in, read_given}
+use Rattle.sr_prefix.proofs.Fetched.{IsSoOfAct}
 use Rattle.sr_prefix.proofs.Spelled.{given_rises, past_in}
 use Rattle.sr_prefix.proofs.Taking.{IsOn, ops_of, other_on, take_on, taken_one}
 
@@ -101,10 +101,7 @@ ahead_taken given done user s t dones a n =
 module _ (publisher user : Name) (us : List Recorded) where
   -- the messages of the windows that were begun are true
   abbrev pub IsTrueAct : Act → Type 0
-  IsTrueAct (dropped w pairs piece found) = ⊤
-  IsTrueAct (torn w pairs) = ⊤
-  IsTrueAct (begun w pairs txs) = AllByRecursion (IsTruePair publisher user us) pairs
-  IsTrueAct (took t dones) = ⊤
+  IsTrueAct act = IsSoOfAct (IsTruePair publisher user us) act
 
   -- each history on the way is in step
   record Leads (es new : List Recorded) (left : List Transaction) (received : ℕ) : Type 0 where

@@ -87,6 +87,13 @@ module _ (P : Happening → Type 0) where
       AllByRecursion-back P (turns_mail publisher es comes purge turns []) before
       (subst (λ (l : List Happening). AllByRecursion P l) (turns_mail_on publisher es comes purge turns [] before) all)
 
+  -- the mail of acts apart from what happened before
+  pub acts_parts : (address : Name) (acts : List Act) (before : List Happening) → AllByRecursion P (mail_after address acts before)
+      → AllByRecursion P (mail_after address acts []) × AllByRecursion P before
+  acts_parts address acts before all =
+      let parts : AllByRecursion P (mail_after address acts [] ++ before) = subst (λ (l : List Happening). AllByRecursion P l) (acts_mail_on address acts [] before) all in
+      (AllByRecursion-front P (mail_after address acts []) before parts, AllByRecursion-back P (mail_after address acts []) before parts)
+
   pub under_puts : (items : List Item) (before : List Happening) → AllByRecursion P (with_puts items before) → AllByRecursion P before
   under_puts items before all =
       AllByRecursion-back P (with_puts items []) before (subst (λ (l : List Happening). AllByRecursion P l) (puts_on items [] before) all)
@@ -150,3 +157,12 @@ grows_on before now grows =
 
 pub no_more : (now : List Happening) → GoesOn now now
 no_more now = record { more = []; is = refl }
+
+-- so it is of the mail of acts that were made since
+pub acts_since : (P : Happening → Type 0) (address : Name) (acts : List Act) (then now : List Happening) → AllSince P then now → GoesOn (mail_after address acts then) now
+    → AllByRecursion P (mail_after address acts [])
+acts_since P address acts then now since goes =
+    let mail : List Happening = mail_after address acts [] in
+    let is : now ≡ (goes.more ++ mail) ++ then
+    = goes.is ∙ ap (λ (l : List Happening). goes.more ++ l) (acts_mail_on address acts [] then) ∙ sym (append_assoc goes.more mail then) in
+    AllByRecursion-back P goes.more mail (since_parts P then then now [] (goes.more ++ mail) since refl is).0

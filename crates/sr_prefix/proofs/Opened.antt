@@ -35,7 +35,7 @@ use Rattle.sr_prefix.proofs.Moments.{on_layers, went_rests}
 use Rattle.sr_prefix.proofs.OwnActs.{script_kept}
 use Rattle.sr_prefix.proofs.Whole.{did_on}
 
-own_publisher : (view : View) (publisher : Name) (es : List Recorded) (seen : Seen) → IsDatabase view publisher es seen → (state_of publisher es).catalog.publisher ≡ publisher
+pub own_publisher : (view : View) (publisher : Name) (es : List Recorded) (seen : Seen) → IsDatabase view publisher es seen → (state_of publisher es).catalog.publisher ≡ publisher
 own_publisher view publisher es seen database = ap (λ (c : Lists). c.publisher) (sym database.is.catalog) ∙ publisher_is view publisher es database.is
 
 pub run_kept : (publisher user : Name) (es us : List Recorded) (options : Options) (old new : View) (before now : Seen) (written written' : Output) (lines : List Line) (result : Result ℕ AgentFault) → IsTrue before.told

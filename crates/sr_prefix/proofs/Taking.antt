@@ -43,6 +43,11 @@ not_one a b differ same =
 abbrev pub ops_of : List Done → List Op
 ops_of dones = map (λ d. (done_of d).0) dones
 
+-- notes take nothing
+pub notes_take_none : (user whose : Name) (notes : List Note) → taken_from sees user (note_entries whose notes) ≡ []
+notes_take_none user whose [] = refl
+notes_take_none user whose (what ∷ notes) = notes_take_none user whose notes
+
 module _ (publisher user : Name) (us : List Recorded) where
   -- the history is in step with the partner's
   abbrev pub IsOn : List Recorded → Type 0
@@ -106,8 +111,3 @@ module _ (publisher user : Name) (us : List Recorded) where
   taken_one es at dones =
       let one : takes user (sees (taken user at dones)) ≡ (at.0, ops_of dones) ∷ [] = rw (same_name user) refl in
       taken_more sees user es (taken user at dones) ∙ ap (λ (txs : List (ℕ × List Op)). taken_from sees user es ++ txs) one
-
-  -- notes take nothing
-  pub notes_take_none : (whose : Name) (notes : List Note) → taken_from sees user (note_entries whose notes) ≡ []
-  notes_take_none whose [] = refl
-  notes_take_none whose (what ∷ notes) = notes_take_none whose notes

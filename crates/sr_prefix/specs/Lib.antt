@@ -4,3 +4,4 @@ pub mod Forging
 pub mod Keeping
 pub mod Puts
 pub mod Decided
+pub mod Good

@@ -29,11 +29,15 @@ pub record StandBehind (publisher : Name) (letters : List Letter) (files : Files
   pub stands : StandsAs publisher es files
   pub are : AreTrue publisher es letters
 
--- at each moment from the one to the other, what a crash leaves stands for a history of which all messages are true that were put until then
-pub record BacksPuts (publisher : Name) (before now : Seen) : Type 0 where
+-- at each moment from the one to the other, what a crash leaves stands so behind the letters that were put until then
+pub record StandsBehind (Stand : List Letter → Files → Type 0) (before now : Seen) : Type 0 where
   pub more : List Happening
   pub is : now.happened ≡ more ++ before.happened
-  pub moments : AtEach (λ since. (image : Files) → MayLeave before.first (since ++ before.happened) image → StandBehind publisher (puts_in since) image) more
+  pub moments : AtEach (λ since. (image : Files) → MayLeave before.first (since ++ before.happened) image → Stand (puts_in since) image) more
+
+-- it stands for a history of which all these messages are true
+abbrev pub BacksPuts : Name → Seen → Seen → Type 0
+BacksPuts publisher before now = StandsBehind (StandBehind publisher) before now
 
 -- files stand for a history of this publisher
 pub record StandForOne (publisher : Name) (files : Files) : Type 0 where

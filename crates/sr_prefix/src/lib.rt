@@ -17,5 +17,7 @@ pub use histories::{own_entries_keep_partners_in_step, what_is_true_stays_so};
 pub use letters::{
     what_a_run_puts_is_true, what_is_true_is_not_forged, whole_runs_put_what_is_true,
 };
-pub use runs::{whole_runs_keep_partners, whole_runs_keep_what_is_decided};
+pub use runs::{
+    whole_runs_keep_histories_good, whole_runs_keep_partners, whole_runs_keep_what_is_decided,
+};
 pub use scripts::a_script_keeps_partners_in_step;

@@ -17,6 +17,7 @@ ghost use Rattle.sr_site.specs.Images.{IsImage, RestsThroughout};
 ghost use Rattle.sr_site.specs.Seen.{Seen};
 ghost use Rattle.sr_site.specs.Streams.{Output};
 ghost use Rattle.sr_prefix.specs.Decided.{KeepsDecided};
+ghost use Rattle.sr_prefix.specs.Good.{KeepsGood};
 ghost use Rattle.sr_prefix.specs.Keeping.{KeepsPartner};
 
 /// A whole run keeps each partner: one that changes nothing; one that opens a database and runs the agent on it; one that opens it and runs a script.
@@ -41,4 +42,16 @@ pub fn whole_runs_keep_what_is_decided()
     ensures script { (publisher owner : Name) (es : List Recorded) (view new : View) (before opened now : Seen) (written written' : Output) (statements : List Statement)
         (result : Result ℕ ScriptFault) → IsTrue before.told → Stays before now → RestsThroughout (IsImage before) before opened → IsDatabase view owner es opened
         → RanScript view new opened now written written' statements result → KeepsDecided publisher before now }
+{}
+
+/// A whole run keeps histories good: each entry says what is so in the state that those before it leave, and the book of every user is in order, with
+/// the counts of his asks rising. So where every crash left such a history, every crash leaves one at each moment.
+pub fn whole_runs_keep_histories_good()
+    ensures untouched { (publisher : Name) (before now : Seen) → RestsThroughout (IsImage before) before now → KeepsGood publisher before now }
+    ensures agent { (publisher owner : Name) (es : List Recorded) (options : Choices) (view new : View) (before opened now : Seen) (written written' : Output) (result : Result ℕ AFault)
+        → IsTrue before.told → Stays before now → RestsThroughout (IsImage before) before opened → IsDatabase view owner es opened
+        → RanAgent view new opened now written written' options result → KeepsGood publisher before now }
+    ensures script { (publisher owner : Name) (es : List Recorded) (view new : View) (before opened now : Seen) (written written' : Output) (statements : List Statement)
+        (result : Result ℕ ScriptFault) → IsTrue before.told → Stays before now → RestsThroughout (IsImage before) before opened → IsDatabase view owner es opened
+        → RanScript view new opened now written written' statements result → KeepsGood publisher before now }
 {}

@@ -1,6 +1,6 @@
 -- What holds of a run's site, whatever its words ask for: it is enough that it does of a run that changes nothing, of the agent, and of a script.
 use Rattle.std.proofs.Common.{◌≡◌, ℕ, List, [], Option, Some, None, Result, refl, sym, subst, inl, inr, le_refl}
-use Rattle.std.specs.Prelude.{IsTrue, ◌⊎◌}
+use Rattle.std.specs.Prelude.{IsTrue}
 use Rattle.sr_agent.specs.Agents.{RanAgent}
 use Rattle.sr_agent.specs.declared.fault.AgentFault.{AgentFault}
 use Rattle.sr_agent.specs.declared.options.Options.{Options}
@@ -13,7 +13,6 @@ use Rattle.sr_history.specs.Recorded.{Recorded}
 use Rattle.sr_session.specs.Runs.{RanScript}
 use Rattle.sr_session.specs.declared.fault.SessionFault.{SessionFault}
 use Rattle.sr_site.specs.Causes.{DiskStays, Stays}
-use Rattle.sr_site.specs.Files.{Files}
 use Rattle.sr_site.specs.Images.{IsImage, IsSettled, RestsThroughout}
 use Rattle.sr_site.specs.Seen.{Seen}
 use Rattle.sr_site.specs.Streams.{Output}

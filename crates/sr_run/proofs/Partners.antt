@@ -1,10 +1,12 @@
--- What a run keeps of the partners of a database, of what it puts, and of what is decided.
-use Rattle.std.proofs.Common.{◌≡◌, ℕ, List, Option}
+-- What a run keeps of the partners of a database, of what it puts, of what is decided, of what its history says, and of the steps that it makes.
+use Rattle.std.proofs.Common.{ℕ, List, Option}
 use Rattle.std.specs.Prelude.{IsTrue}
 use Rattle.sr_book.specs.Entries.{Name}
 use Rattle.sr_files.specs.Fresh.{IsThere}
 use Rattle.sr_history.specs.Fitting.{Stored}
 use Rattle.sr_history.specs.Recorded.{Recorded}
+use Rattle.sr_model.specs.Steps.{history_after_all}
+use Rattle.sr_model.specs.Worlds.{World, history}
 use Rattle.sr_site.specs.Causes.{Stays}
 use Rattle.sr_site.specs.Files.{Files}
 use Rattle.sr_site.specs.Images.{RestsThroughout}
@@ -13,12 +15,17 @@ use Rattle.sr_standing.specs.Standing.{StandsAs}
 use Rattle.sr_standing.proofs.Standing.{missing_is_none}
 use Rattle.sr_prefix.specs.Decided.{KeepsDecided, StandDecided}
 use Rattle.sr_prefix.specs.Forging.{NoneForged}
+use Rattle.sr_prefix.specs.Good.{KeepsGood, StandGood}
 use Rattle.sr_prefix.specs.Keeping.{KeepsPartner}
 use Rattle.sr_prefix.specs.Partners.{StandInStep}
-use Rattle.sr_prefix.specs.Puts.{BacksPuts, PutsTrue}
+use Rattle.sr_prefix.specs.Puts.{BacksPuts, PutsTrue, StandsBehind}
+use Rattle.sr_steps.specs.Worlds.{AllKnown, MakesSteps, StandReached}
+use Rattle.sr_steps.proofs.AgentSteps.{agent_steps}
 use Rattle.sr_prefix.proofs.Deciders.{agent_decided, script_decided, untouched_decided}
+use Rattle.sr_prefix.proofs.Goodness.{agent_good, script_good, untouched_good}
 use Rattle.sr_prefix.proofs.Opened.{agent_kept, script_run_kept, untouched_kept}
 use Rattle.sr_prefix.proofs.Silent.{agent_true, script_true, untouched_true}
+use Rattle.sr_steps.proofs.WorldSteps.{script_steps, untouched_steps}
 use Rattle.sr_command.specs.Outside.{Outside}
 use Rattle.sr_run.specs.Runs.{Ran}
 use Rattle.sr_run.proofs.Cases.{run_holds}
@@ -62,4 +69,29 @@ decided_kept wanted old new status ran stays publisher told settled =
           agent_decided publisher owner es options view view' old.site opened now written written' result told on still database did settled;
       script = λ owner es view view' opened now written written' statements result on still quiet database did.
           script_decided publisher owner es view view' old.site opened now written written' statements result told on still database did settled;
+    }) wanted status ran
+
+pub good_kept : (wanted : Option Asked) (old new : Outside) (status : ℕ) → Ran wanted old new status → Stays old.site new.site → (publisher : Name) → IsTrue old.site.told
+    → KeepsGood publisher old.site new.site
+good_kept wanted old new status ran stays publisher told settled =
+    run_holds old new told stays (λ image there. let stood = settled image there in some_there publisher stood.es image stood.stands) (λ (s : Seen). RestsThroughout (StandGood publisher) old.site s)
+    (record {
+      still = λ now still quiet. untouched_good publisher old.site now still settled;
+      agent = λ owner es options view view' opened now written written' result on still quiet database did.
+          agent_good publisher owner es options view view' old.site opened now written written' result told on still database did settled;
+      script = λ owner es view view' opened now written written' statements result on still quiet database did.
+          script_good publisher owner es view view' old.site opened now written written' statements result told on still database did settled;
+    }) wanted status ran
+
+pub steps_made : (wanted : Option Asked) (old new : Outside) (status : ℕ) → Ran wanted old new status → Stays old.site new.site → (w : World Recorded) (publisher : Name) → IsTrue old.site.told
+    → MakesSteps w publisher old.site new.site
+steps_made wanted old new status ran stays w publisher told good named settled =
+    run_holds old new told stays (λ image there. let stood = settled image there in some_there publisher (history_after_all (history w publisher) stood.deeds) image stood.stands)
+    (λ (s : Seen). AllKnown w.messages publisher old.site s → StandsBehind (StandReached w.messages publisher (history w publisher)) old.site s)
+    (record {
+      still = λ now still quiet. untouched_steps w publisher old.site now still quiet good named settled;
+      agent = λ owner es options view view' opened now written written' result on still quiet database did.
+          agent_steps w publisher owner es options view view' old.site opened now written written' result told on still quiet database did good named settled;
+      script = λ owner es view view' opened now written written' statements result on still quiet database did.
+          script_steps w publisher owner es view view' old.site opened now written written' statements result told on still quiet database did good named settled;
     }) wanted status ran

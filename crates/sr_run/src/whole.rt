@@ -4,8 +4,11 @@ ghost use Rattle.sr_book.specs.Entries.{Name};
 ghost use Rattle.sr_history.specs.Fitting.{Stored};
 ghost use Rattle.sr_history.specs.Recorded.{Recorded};
 ghost use Rattle.sr_prefix.specs.Decided.{KeepsDecided};
+ghost use Rattle.sr_prefix.specs.Good.{KeepsGood};
 ghost use Rattle.sr_prefix.specs.Keeping.{KeepsPartner};
+ghost use Rattle.sr_model.specs.Worlds.{World};
 ghost use Rattle.sr_prefix.specs.Puts.{PutsTrue};
+ghost use Rattle.sr_steps.specs.Worlds.{MakesSteps};
 ghost use Rattle.sr_site.specs.Causes.{Stays, Rose};
 ghost use Rattle.sr_command.specs.Orders.{MayOrder};
 ghost use Rattle.sr_command.specs.Outside.{outside};
@@ -38,7 +41,10 @@ use std::mem::forget;
 /// commit order and each once; so it is at each moment of the run, for whatever a crash leaves then, to its end or to the fault that ended it. And what
 /// the run has put until then is true of it: no message confirms more than was durably taken, or carries what the log does not give. What became of each op that was taken
 /// is as judging has it, in the state that those before it left: a conflict is decided by the triggers of the database above, and by nothing else.
-#[tactic(auto, using(crate::proofs::Statuses::of_runs, crate::proofs::Completing::run_complete, crate::proofs::Completing::run_caught_up, crate::proofs::Partners::partners_kept, crate::proofs::Partners::puts_true, crate::proofs::Partners::decided_kept))]
+/// Each entry of the log says what is so: a Sync the rows that its user sees, a Pass the changes that its statement makes; and the offsets in each
+/// partner's book are in order, and the counts of his asks rise. And all that the run does are steps that its database may make in a world of databases, by
+/// its own history and the messages that were put: so it keeps such a world good, whatever the others do.
+#[tactic(auto, using(crate::proofs::Statuses::of_runs, crate::proofs::Completing::run_complete, crate::proofs::Completing::run_caught_up, crate::proofs::Partners::partners_kept, crate::proofs::Partners::puts_true, crate::proofs::Partners::decided_kept, crate::proofs::Partners::good_kept, crate::proofs::Partners::steps_made))]
 pub fn run<S: Site, I: Source, O: Sink>(
     alloc: Global,
     words: &[Text],
@@ -58,6 +64,8 @@ pub fn run<S: Site, I: Source, O: Sink>(
     ensures partners { (publisher user : Name) (us : List Recorded) → IsTrue (S.seen site.old).told → Stored user us → KeepsPartner publisher user us (S.seen site.old) (S.seen site.new) }
     ensures puts { (publisher : Name) → IsTrue (S.seen site.old).told → PutsTrue publisher (S.seen site.old) (S.seen site.new) }
     ensures decided { (publisher : Name) → IsTrue (S.seen site.old).told → KeepsDecided publisher (S.seen site.old) (S.seen site.new) }
+    ensures good { (publisher : Name) → IsTrue (S.seen site.old).told → KeepsGood publisher (S.seen site.old) (S.seen site.new) }
+    ensures steps { (w : World Recorded) (publisher : Name) → IsTrue (S.seen site.old).told → MakesSteps w publisher (S.seen site.old) (S.seen site.new) }
     ensures amiss { result ≡ 1 → HasAlarms (asked_of words.now) (outside (S.seen site.old) (I.seen input.old) (O.seen output.old)) (outside (S.seen site.new) (I.seen input.new) (O.seen output.new)) }
 {
     done(alloc, words, site, input, output, now)

@@ -1,0 +1,12 @@
+pub mod Deeds
+pub mod Chaining
+pub mod Sending
+pub mod Delivered
+pub mod BrokenOff
+pub mod Ordered
+pub mod Reached
+pub mod WorldSteps
+pub mod Windows
+pub mod Knowing
+pub mod Receiving
+pub mod AgentSteps

@@ -1,0 +1,10 @@
+//! All that a run does are steps of a world of databases: what it commits and what it puts, in every run, also one that a fault ended, and whatever a crash
+//! leaves.
+//!
+//! It stands on sr_prefix, which goes along a run entry by entry, and joins it with sr_world, which says what steps of a world are and what they keep. It
+//! has no run time: its function carries laws as its clauses.
+#![tactic(auto)]
+
+mod worlds;
+
+pub use worlds::whole_runs_make_steps_of_a_world;
