@@ -55,3 +55,16 @@ steps_along is holds kept es (r ∷ rs) h steps = (h, steps_along is holds kept 
 pub along_steps : (holds : List Recorded → Type 0) (es rs : List Recorded) → Along holds es rs → Steps (λ qs r. holds (qs ++ r ∷ [])) es rs
 along_steps holds es [] along = tt
 along_steps holds es (r ∷ rs) along = (along_first holds (es ++ r ∷ []) rs along.1, along_steps holds (es ++ r ∷ []) rs along.1)
+
+-- entries that are steps of two kinds
+pub steps_both : (P Q : List Recorded → Recorded → Type 0) (es rs : List Recorded) → Steps P es rs → Steps Q es rs → Steps (λ es' r. P es' r × Q es' r) es rs
+steps_both P Q es [] first second = tt
+steps_both P Q es (r ∷ rs) first second = ((first.0, second.0), steps_both P Q (es ++ r ∷ []) rs first.1 second.1)
+
+pub steps_first : (P Q : List Recorded → Recorded → Type 0) (es rs : List Recorded) → Steps (λ es' r. P es' r × Q es' r) es rs → Steps P es rs
+steps_first P Q es [] both = tt
+steps_first P Q es (r ∷ rs) both = (both.0.0, steps_first P Q (es ++ r ∷ []) rs both.1)
+
+pub steps_second : (P Q : List Recorded → Recorded → Type 0) (es rs : List Recorded) → Steps (λ es' r. P es' r × Q es' r) es rs → Steps Q es rs
+steps_second P Q es [] both = tt
+steps_second P Q es (r ∷ rs) both = (both.0.1, steps_second P Q (es ++ r ∷ []) rs both.1)

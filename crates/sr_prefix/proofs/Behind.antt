@@ -22,7 +22,7 @@ puts-append [] more = refl
 puts-append (commit r ∷ trail) more = puts-append trail more
 puts-append (put address name bytes ∷ trail) more = ap (λ (l : List Letter). (address, name, bytes) ∷ l) (puts-append trail more)
 
-none_before : (step : Happening) (more : List Happening) → puts_in (step ∷ more) ≡ [] → puts_in more ≡ []
+pub none_before : (step : Happening) (more : List Happening) → puts_in (step ∷ more) ≡ [] → puts_in more ≡ []
 none_before (attached name folder done) more none = none
 none_before (wrote file place bytes done after) more none = none
 none_before (cut_to file to done after) more none = none
@@ -40,7 +40,7 @@ nothing_after : (puts more : List Letter) → puts ++ more ≡ puts → more ≡
 nothing_after [] more same = same
 nothing_after (l ∷ puts) more same = nothing_after puts more (cc)
 
-none_put : (before now : Seen) (more : List Happening) → now.happened ≡ more ++ before.happened → DiskStays before now → puts_in more ≡ []
+pub none_put : (before now : Seen) (more : List Happening) → now.happened ≡ more ++ before.happened → DiskStays before now → puts_in more ≡ []
 none_put before now more is stays =
     nothing_after (puts_in before.happened) (puts_in more) (sym (puts_more before.happened more) ∙ ap puts_in (sym is) ∙ same_puts before now stays)
 

@@ -1,5 +1,5 @@
 -- Good histories stay good in whole runs, whatever a crash leaves.
-use Rattle.std.proofs.Common.{ℕ, List, [], ◌∷◌, ◌++◌, Result}
+use Rattle.std.proofs.Common.{ℕ, List, [], ◌∷◌, ◌++◌, Result, le_refl}
 use Rattle.std.specs.Prelude.{IsTrue}
 use Rattle.sr_ast.specs.declared.stmt.Stmt.{Stmt}
 use Rattle.sr_book.specs.Entries.{Name}
@@ -37,6 +37,13 @@ step_says_so publisher es (ddl statement) is = tt
 step_says_so publisher es (sync user tables) is = absurd is
 step_says_so publisher es (pass users only statement changes) is = absurd is
 step_says_so publisher es (note user what) is = tt
+
+-- a new database
+pub new_good : (publisher : Name) → IsGoodHistory publisher []
+new_good publisher = record {
+  says_so = tt;
+  books = λ user. record { confirmed_sent = le_refl 0; sent_stands = le_refl 0; confirmed_received = le_refl 0; asks_rise = tt };
+}
 
 module _ (publisher : Name) where
   step_good : (es : List Recorded) (r : Recorded) → IsGoodHistory publisher es → IsRunStep publisher es r → IsGoodHistory publisher (es ++ r ∷ [])

@@ -1,5 +1,5 @@
 -- One entry more: what it takes of a partner, and what it has as confirmed by him.
-use Rattle.std.proofs.Common.{◌≡◌, ℕ, ◌≤◌, true, false, List, [], ◌∷◌, ◌++◌, map, bytes_eq, refl, sym, ap, subst, ◌∙◌, inl, inr, arith, append_assoc, append-nil}
+use Rattle.std.proofs.Common.{◌≡◌, ℕ, ◌≤◌, false, List, [], ◌∷◌, ◌++◌, map, bytes_eq, refl, sym, ap, subst, ◌∙◌, inl, inr, arith, append_assoc, append-nil}
 use Rattle.std.specs.Prelude.{⊤}
 use Rattle.std.specs.List.{AllByRecursion}
 use Rattle.sr_base.specs.declared.offset.Offset.{Offset}
@@ -31,13 +31,6 @@ noted_within bound book (Confirmed place) old new = omega (arith, old, new)
 noted_within bound book (Asked count place) old new = elim (ask_test book.resend_count count) [ inl t ↦ rw t.0 old | inr t ↦ rw t.0 old ]
 noted_within bound book Raised old new = old
 noted_within bound book (Sent end count confirm) old new = old
-
--- two names are not one where they are told apart
-pub not_one : (a b : Name) → bytes_eq a b ≡ false → a ≡ b → ⊥
-not_one a b differ same =
-    let yes : bytes_eq a b ≡ true = subst (λ (n : Name). bytes_eq a n ≡ true) same (same_name a) in
-    let no : true ≡ false = sym yes ∙ differ in
-    absurd (cc)
 
 -- the ops of what was done
 abbrev pub ops_of : List Done → List Op

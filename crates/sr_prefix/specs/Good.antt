@@ -16,7 +16,7 @@ abbrev pub AreSaid : State → List Recorded → Type 0
 AreSaid s [] = ⊤
 AreSaid s (r ∷ rs) = SaysSo s r × AreSaid (next s r) rs
 
--- a history of this publisher of which that is so, with the book of every user in order: he confirmed no more than was sent to him, which lies within
+-- a history of this publisher: each entry says what is so, and the book of every user is in order: he confirmed no more than was sent to him, which lies within
 -- the log, no more was confirmed to him than was taken from him, and the counts of his asks rise
 pub record IsGoodHistory (publisher : Name) (es : List Recorded) : Type 0 where
   pub says_so : AreSaid (fresh publisher) es

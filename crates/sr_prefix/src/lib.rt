@@ -1,7 +1,7 @@
 //! What was taken stays a beginning of what the partner's log gives: in commit order and each once, in every run, also one that a fault ended,
-//! and whatever a crash leaves.
+//! and whatever a crash leaves. What is put is true of what is durable, what was taken is as judging has it, and good histories stay good.
 //!
-//! It stands on sr_agent and sr_session, which say what a run does; its proofs take lemmas of sr_model and sr_world. It has no run time: each
+//! It stands on sr_agent and sr_session, which say what a run does; it takes lemmas and definitions of sr_model and sr_world. It has no run time: each
 //! function carries laws as its clauses. The one that matters most is `a_run_keeps_partners_in_step`: whatever files lie in the folder, none forged,
 //! each moment of a run leaves a history that goes with the partner's.
 #![tactic(auto)]

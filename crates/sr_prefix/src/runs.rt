@@ -1,6 +1,6 @@
 //! Whole runs, from the moment at which nothing was opened yet.
 
-ghost use Rattle.std.specs.Prelude.{ℕ, IsTrue, List, Result};
+ghost use Rattle.std.specs.Prelude.{[], ℕ, IsTrue, List, Result};
 ghost use Rattle.sr_agent.specs.Agents.{RanAgent};
 ghost use Rattle.sr_agent.specs.declared.fault.AgentFault.{AgentFault as AFault};
 ghost use Rattle.sr_agent.specs.declared.options.Options.{Options as Choices};
@@ -17,7 +17,7 @@ ghost use Rattle.sr_site.specs.Images.{IsImage, RestsThroughout};
 ghost use Rattle.sr_site.specs.Seen.{Seen};
 ghost use Rattle.sr_site.specs.Streams.{Output};
 ghost use Rattle.sr_prefix.specs.Decided.{KeepsDecided};
-ghost use Rattle.sr_prefix.specs.Good.{KeepsGood};
+ghost use Rattle.sr_prefix.specs.Good.{IsGoodHistory, KeepsGood};
 ghost use Rattle.sr_prefix.specs.Keeping.{KeepsPartner};
 
 /// A whole run keeps each partner: one that changes nothing; one that opens a database and runs the agent on it; one that opens it and runs a script.
@@ -45,8 +45,9 @@ pub fn whole_runs_keep_what_is_decided()
 {}
 
 /// A whole run keeps histories good: each entry says what is so in the state that those before it leave, and the book of every user is in order, with
-/// the counts of his asks rising. So where every crash left such a history, every crash leaves one at each moment.
+/// the counts of his asks rising. So where every crash left such a history, every crash leaves one at each moment; and that of a new database is one.
 pub fn whole_runs_keep_histories_good()
+    ensures new { (publisher : Name) → IsGoodHistory publisher [] }
     ensures untouched { (publisher : Name) (before now : Seen) → RestsThroughout (IsImage before) before now → KeepsGood publisher before now }
     ensures agent { (publisher owner : Name) (es : List Recorded) (options : Choices) (view new : View) (before opened now : Seen) (written written' : Output) (result : Result ℕ AFault)
         → IsTrue before.told → Stays before now → RestsThroughout (IsImage before) before opened → IsDatabase view owner es opened

@@ -18,8 +18,8 @@ use Rattle.sr_prefix.specs.Forging.{NoneForged}
 use Rattle.sr_prefix.specs.Good.{KeepsGood, StandGood}
 use Rattle.sr_prefix.specs.Keeping.{KeepsPartner}
 use Rattle.sr_prefix.specs.Partners.{StandInStep}
-use Rattle.sr_prefix.specs.Puts.{BacksPuts, PutsTrue, StandsBehind}
-use Rattle.sr_steps.specs.Worlds.{AllKnown, MakesSteps, StandReached}
+use Rattle.sr_prefix.specs.Puts.{BacksPuts, PutsTrue}
+use Rattle.sr_steps.specs.Worlds.{AllKnown, MakesSteps, RestsAtEach}
 use Rattle.sr_steps.proofs.AgentSteps.{agent_steps}
 use Rattle.sr_prefix.proofs.Deciders.{agent_decided, script_decided, untouched_decided}
 use Rattle.sr_prefix.proofs.Goodness.{agent_good, script_good, untouched_good}
@@ -87,7 +87,7 @@ pub steps_made : (wanted : Option Asked) (old new : Outside) (status : ℕ) → 
     → MakesSteps w publisher old.site new.site
 steps_made wanted old new status ran stays w publisher told good named settled =
     run_holds old new told stays (λ image there. let stood = settled image there in some_there publisher (history_after_all (history w publisher) stood.deeds) image stood.stands)
-    (λ (s : Seen). AllKnown w.messages publisher old.site s → StandsBehind (StandReached w.messages publisher (history w publisher)) old.site s)
+    (λ (s : Seen). AllKnown w.messages publisher old.site s → RestsAtEach w.messages publisher (history w publisher) old.site s)
     (record {
       still = λ now still quiet. untouched_steps w publisher old.site now still quiet good named settled;
       agent = λ owner es options view view' opened now written written' result on still quiet database did.

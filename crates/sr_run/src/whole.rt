@@ -41,9 +41,9 @@ use std::mem::forget;
 /// commit order and each once; so it is at each moment of the run, for whatever a crash leaves then, to its end or to the fault that ended it. And what
 /// the run has put until then is true of it: no message confirms more than was durably taken, or carries what the log does not give. What became of each op that was taken
 /// is as judging has it, in the state that those before it left: a conflict is decided by the triggers of the database above, and by nothing else.
-/// Each entry of the log says what is so: a Sync the rows that its user sees, a Pass the changes that its statement makes; and the offsets in each
-/// partner's book are in order, and the counts of his asks rise. And all that the run does are steps that its database may make in a world of databases, by
-/// its own history and the messages that were put: so it keeps such a world good, whatever the others do.
+/// Each entry of the log goes on to say what is so, where each did before: a Sync the rows that its user sees, a Pass the changes that its statement
+/// makes; and the offsets in each partner's book are in order, and the counts of his asks rise. And all that the run does are steps that its database may
+/// make in a world of databases, by its own history and the messages that were put: so it keeps a good world good, whatever the others do.
 #[tactic(auto, using(crate::proofs::Statuses::of_runs, crate::proofs::Completing::run_complete, crate::proofs::Completing::run_caught_up, crate::proofs::Partners::partners_kept, crate::proofs::Partners::puts_true, crate::proofs::Partners::decided_kept, crate::proofs::Partners::good_kept, crate::proofs::Partners::steps_made))]
 pub fn run<S: Site, I: Source, O: Sink>(
     alloc: Global,

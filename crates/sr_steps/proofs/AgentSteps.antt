@@ -21,14 +21,14 @@ use Rattle.sr_agent.specs.declared.fault.AgentFault.{AgentFault}
 use Rattle.sr_agent.specs.declared.options.Options.{Options}
 use Rattle.sr_prefix.specs.Good.{AreSaid}
 use Rattle.sr_steps.specs.Worlds.{AllKnown, MakesSteps}
-use Rattle.sr_prefix.proofs.Along.{steps_along}
+use Rattle.sr_prefix.proofs.Along.{steps_along, steps_first, steps_second}
 use Rattle.sr_steps.proofs.Deeds.{CanStep}
 use Rattle.sr_steps.proofs.Delivered.{AreInOrder}
 use Rattle.sr_prefix.proofs.Goodness.{said_more, step_says_so}
 use Rattle.sr_prefix.proofs.Mail.{goes_on}
 use Rattle.sr_prefix.proofs.Opened.{own_publisher}
 use Rattle.sr_prefix.proofs.Ran.{received_either, stop_received}
-use Rattle.sr_steps.proofs.Receiving.{known_later, received_can, steps_first, steps_second, turn_received, until_received}
+use Rattle.sr_steps.proofs.Receiving.{known_later, received_can, turn_received, until_received}
 use Rattle.sr_prefix.proofs.Steps.{IsRunStep}
 use Rattle.sr_steps.proofs.BrokenOff.{DeedsOn, part_of_deeds, whole_deeds}
 use Rattle.sr_steps.proofs.WorldSteps.{trail_steps}

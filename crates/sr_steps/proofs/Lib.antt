@@ -5,8 +5,10 @@ pub mod Delivered
 pub mod BrokenOff
 pub mod Ordered
 pub mod Reached
+pub mod Resting
 pub mod WorldSteps
 pub mod Windows
 pub mod Knowing
 pub mod Receiving
 pub mod AgentSteps
+pub mod NextRuns

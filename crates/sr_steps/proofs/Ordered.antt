@@ -13,7 +13,7 @@ use Rattle.sr_world.proofs.Keeping.{real_laws}
 use Rattle.sr_steps.proofs.Delivered.{AreInOrder}
 
 -- a deed of a database that is there leads its history on
-own_history : (hs : List (Name × List Recorded)) (d : Name) (deed : Deed Recorded) (k : ℕ) → k < length (map (λ h. h.0) hs) → get_or (map (λ h. h.0) hs) k d ≡ d
+pub own_history : (hs : List (Name × List Recorded)) (d : Name) (deed : Deed Recorded) (k : ℕ) → k < length (map (λ h. h.0) hs) → get_or (map (λ h. h.0) hs) k d ≡ d
     → history_in d (histories_after hs d deed) ≡ history_after (history_in d hs) deed
 own_history [] d deed k within is = absurd (omega arith)
 own_history (h ∷ hs) d deed zero within is = elim (name_test d h.0) [

@@ -1,23 +1,20 @@
 -- Where a run leads in a world of databases: at each moment, to its end or to the fault that ended it.
-use Rattle.std.proofs.Common.{◌≡◌, ℕ, ◌+◌, List, [], ◌∷◌, ◌++◌, map, refl, sym, ap, subst, ◌∙◌, append_assoc, append-nil}
+use Rattle.std.proofs.Common.{◌≡◌, ℕ, ◌+◌, List, [], ◌∷◌, ◌++◌, refl, sym, ap, subst, ◌∙◌, append_assoc, append-nil}
 use Rattle.sr_book.specs.Entries.{Name}
 use Rattle.sr_history.specs.Fitting.{Stored, stored_from}
 use Rattle.sr_history.specs.Folds.{State, fresh, next, size}
 use Rattle.sr_history.specs.Recorded.{Recorded}
 use Rattle.sr_model.specs.Machines.{lawful_from}
-use Rattle.sr_model.specs.Steps.{Deed, append, put, crash, history_after, history_after_all, messages_after, messages_after_all}
-use Rattle.sr_msgform.specs.Messages.{message_spelling}
+use Rattle.sr_model.specs.Steps.{Deed, append, put, crash, history_after, history_after_all}
 use Rattle.sr_msgform.specs.declared.message.Message.{Message}
-use Rattle.sr_site.specs.Files.{Files}
-use Rattle.sr_standing.specs.Items.{Item, commits, puts}
-use Rattle.sr_standing.specs.Standing.{StandsAs}
+use Rattle.sr_standing.specs.Items.{Item, commits}
 use Rattle.sr_agent.proofs.Joints.{commits-append}
 use Rattle.sr_world.specs.Lawful.{IsLawful}
 use Rattle.sr_world.specs.Real.{LawfulHistory, MayDo, machine}
 use Rattle.sr_prefix.specs.Good.{AreSaid}
-use Rattle.sr_steps.specs.Worlds.{AreFiles, StandReached, put_in}
+use Rattle.sr_steps.specs.Worlds.{AreFiles, put_in}
 use Rattle.sr_prefix.proofs.Along.{Along, along_front, along_last}
-use Rattle.sr_steps.proofs.Deeds.{AreDeeds, deeds_files, deeds_front, deeds_history, deeds_messages, may_do}
+use Rattle.sr_steps.proofs.Deeds.{AreDeeds}
 
 -- ---- lawful histories
 
@@ -29,7 +26,7 @@ said_of : (s : State) (place : ℕ) (rs : List Recorded) → lawful_from machine
 said_of s place [] lawful = tt
 said_of s place (r ∷ rs) lawful = (lawful.0.says_so, said_of (next s r) (place + (size r + 5)) rs lawful.1)
 
-front_of : (s : State) (place : ℕ) (front back : List Recorded) → lawful_from machine IsLawful s place (front ++ back) → lawful_from machine IsLawful s place front
+pub front_of : (s : State) (place : ℕ) (front back : List Recorded) → lawful_from machine IsLawful s place (front ++ back) → lawful_from machine IsLawful s place front
 front_of s place [] back lawful = tt
 front_of s place (r ∷ front) back lawful = (lawful.0, front_of (next s r) (place + (size r + 5)) front back lawful.1)
 
@@ -41,7 +38,7 @@ module _ (owner : Name) where
   pub lawful_says_so : (es : List Recorded) → LawfulHistory owner es → AreSaid (fresh owner) es
   lawful_says_so es lawful = said_of (fresh owner) 0 es lawful
 
-  lawful_along : (es rs : List Recorded) → LawfulHistory owner (es ++ rs) → Along (LawfulHistory owner) es rs
+  pub lawful_along : (es rs : List Recorded) → LawfulHistory owner (es ++ rs) → Along (LawfulHistory owner) es rs
   lawful_along es [] lawful = subst (LawfulHistory owner) (append-nil es) lawful
   lawful_along es (r ∷ rs) lawful = (
     front_of (fresh owner) 0 es (r ∷ rs) lawful,
@@ -50,20 +47,15 @@ module _ (owner : Name) where
 
 -- ---- deeds, one list behind another
 
-history_more : (es : List Recorded) (deeds more : List (Deed Recorded)) → history_after_all es (deeds ++ more) ≡ history_after_all (history_after_all es deeds) more
+pub history_more : (es : List Recorded) (deeds more : List (Deed Recorded)) → history_after_all es (deeds ++ more) ≡ history_after_all (history_after_all es deeds) more
 history_more es [] more = refl
 history_more es (deed ∷ deeds) more = history_more (history_after es deed) deeds more
 
-put_more : (deeds more : List (Deed Recorded)) → put_in (deeds ++ more) ≡ put_in deeds ++ put_in more
+pub put_more : (deeds more : List (Deed Recorded)) → put_in (deeds ++ more) ≡ put_in deeds ++ put_in more
 put_more [] more = refl
 put_more (append r ∷ deeds) more = put_more deeds more
 put_more (put m ∷ deeds) more = ap (λ (ms : List Message). m ∷ ms) (put_more deeds more)
 put_more (crash ∷ deeds) more = put_more deeds more
-
-may_more : (messages : List Message) (owner : Name) (es : List Recorded) (deeds more : List (Deed Recorded)) → MayDo messages owner es deeds
-    → MayDo (messages_after_all messages deeds) owner (history_after_all es deeds) more → MayDo messages owner es (deeds ++ more)
-may_more messages owner es [] more one two = two
-may_more messages owner es (deed ∷ deeds) more one two = (one.0, may_more (messages_after messages deed) owner (history_after es deed) deeds more one.1 two)
 
 pub none_put : (messages : List Message) → AreFiles [] messages → messages ≡ []
 none_put [] are = refl
@@ -74,27 +66,8 @@ none_put (m ∷ messages) are = cc
 module _ (messages : List Message) (owner : Name) (first es : List Recorded) (before : List (Deed Recorded)) (may : MayDo messages owner first before) (none : put_in before ≡ [])
     (there : history_after_all first before ≡ es) (trail : List Item) (deeds : List (Deed Recorded)) (are : AreDeeds messages owner es trail deeds)
     (said : Along (AreSaid (fresh owner)) es (commits trail)) where
-  said_front : (begun left : List Item) → trail ≡ begun ++ left → AreSaid (fresh owner) (es ++ commits begun)
+  pub said_front : (begun left : List Item) → trail ≡ begun ++ left → AreSaid (fresh owner) (es ++ commits begun)
   said_front begun left front =
       let parts : Along (AreSaid (fresh owner)) es (commits begun ++ commits left)
       = subst (λ (l : List Recorded). Along (AreSaid (fresh owner)) es l) (ap commits front ∙ commits-append begun left) said in
       along_last (AreSaid (fresh owner)) es (commits begun) (along_front (AreSaid (fresh owner)) es (commits begun) (commits left) parts)
-
-  pub stand_reached : (begun left : List Item) → trail ≡ begun ++ left → (image : Files) → StandsAs owner (es ++ commits begun) image → StandReached messages owner first (puts begun) image
-  stand_reached begun left front image stands =
-      let some = deeds_front messages owner es begun left deeds (subst (λ (l : List Item). AreDeeds messages owner es l deeds) front are) in
-      let lawful : LawfulHistory owner (es ++ commits begun) = is_lawful owner (es ++ commits begun) stands.stands.stored (said_front begun left front) in
-      let then : MayDo messages owner es some.deeds = may_do messages owner es begun some.deeds some.are (lawful_along owner es (commits begun) lawful) in
-      let still : messages_after_all messages before ≡ messages = deeds_messages messages before ∙ ap (λ (ms : List Message). messages ++ ms) none ∙ append-nil messages in
-      let same : put_in (before ++ some.deeds) ≡ put_in some.deeds = put_more before some.deeds ∙ ap (λ (ms : List Message). ms ++ put_in some.deeds) none in
-      let behind : history_after_all first (before ++ some.deeds) ≡ es ++ commits begun
-      = history_more first before some.deeds ∙ ap (λ (rs : List Recorded). history_after_all rs some.deeds) there ∙ deeds_history messages owner es begun some.deeds some.are in
-      record {
-        deeds = before ++ some.deeds;
-        may =
-            may_more messages owner first before some.deeds may
-            (subst (λ (ms : List Message). MayDo ms owner (history_after_all first before) some.deeds) (sym still)
-            (subst (λ (rs : List Recorded). MayDo messages owner rs some.deeds) (sym there) then));
-        put = deeds_files messages owner es begun some.deeds some.are ∙ ap (map message_spelling) (sym same);
-        stands = subst (λ (rs : List Recorded). StandsAs owner rs image) (sym behind) stands;
-      }

@@ -28,7 +28,7 @@ use Rattle.sr_agent.specs.declared.fault.AgentFault.{AgentFault}
 use Rattle.sr_agent.specs.declared.options.Options.{Options}
 use Rattle.sr_steps.specs.Worlds.{AllKnown, CameKnown}
 use Rattle.sr_prefix.proofs.Acting.{StandsAt, acts_on}
-use Rattle.sr_prefix.proofs.Along.{Steps, steps_more}
+use Rattle.sr_prefix.proofs.Along.{Steps, steps_more, steps_both, steps_second}
 use Rattle.sr_steps.proofs.Deeds.{CanStep}
 use Rattle.sr_prefix.proofs.Fetched.{IsSoOfAct, so_of_acts}
 use Rattle.sr_steps.proofs.Knowing.{AreKnown, first_can, letters_known, raised_can}
@@ -40,19 +40,6 @@ use Rattle.sr_prefix.proofs.Steps.{IsRunStep}
 use Rattle.sr_prefix.proofs.Taking.{ops_of}
 use Rattle.sr_prefix.proofs.Walking.{Walk, WentOn, received_walked, turn_walked}
 use Rattle.sr_steps.proofs.Windows.{IsKnownPair, LeftOf, can_take, left_begun, left_taken}
-
--- entries that are steps of two kinds
-pub steps_both : (P Q : List Recorded → Recorded → Type 0) (es rs : List Recorded) → Steps P es rs → Steps Q es rs → Steps (λ es' r. P es' r × Q es' r) es rs
-steps_both P Q es [] first second = tt
-steps_both P Q es (r ∷ rs) first second = ((first.0, second.0), steps_both P Q (es ++ r ∷ []) rs first.1 second.1)
-
-pub steps_first : (P Q : List Recorded → Recorded → Type 0) (es rs : List Recorded) → Steps (λ es' r. P es' r × Q es' r) es rs → Steps P es rs
-steps_first P Q es [] both = tt
-steps_first P Q es (r ∷ rs) both = (both.0.0, steps_first P Q (es ++ r ∷ []) rs both.1)
-
-pub steps_second : (P Q : List Recorded → Recorded → Type 0) (es rs : List Recorded) → Steps (λ es' r. P es' r × Q es' r) es rs → Steps Q es rs
-steps_second P Q es [] both = tt
-steps_second P Q es (r ∷ rs) both = (both.0.1, steps_second P Q (es ++ r ∷ []) rs both.1)
 
 module _ (messages : List Message) (publisher : Name) where
   abbrev pub Known : Happening → Type 0

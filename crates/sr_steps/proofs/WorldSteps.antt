@@ -23,15 +23,14 @@ use Rattle.sr_standing.proofs.Standing.{one_history}
 use Rattle.sr_agent.proofs.Joints.{commits_of}
 use Rattle.sr_world.specs.Real.{IsGoodWorld, MayDo}
 use Rattle.sr_prefix.specs.Good.{AreSaid}
-use Rattle.sr_prefix.specs.Puts.{StandsBehind}
-use Rattle.sr_steps.specs.Worlds.{MakesSteps, StandReached, put_in}
+use Rattle.sr_steps.specs.Worlds.{MakesSteps, RestsAtEach, StandReached, put_in}
 use Rattle.sr_prefix.proofs.Along.{Along, Steps, steps_along}
-use Rattle.sr_prefix.proofs.Behind.{silent_behind, still_opened, went_behind}
 use Rattle.sr_steps.proofs.Deeds.{CanStep, HasDeeds, commits_deeds, local_step}
 use Rattle.sr_prefix.proofs.Goodness.{said_more}
 use Rattle.sr_prefix.proofs.Opened.{some_image, was_image}
 use Rattle.sr_steps.proofs.Ordered.{IsOrdered, reached_ordered}
-use Rattle.sr_steps.proofs.Reached.{lawful_says_so, none_put, stand_reached}
+use Rattle.sr_steps.proofs.Reached.{lawful_says_so, none_put}
+use Rattle.sr_steps.proofs.Resting.{opened_rests, silent_rests, went_rests}
 use Rattle.sr_prefix.proofs.Said.{script_says_so}
 use Rattle.sr_prefix.proofs.Steps.{IsOwnStep}
 
@@ -43,7 +42,7 @@ module _ (w : World Recorded) (owner : Name) where
   Stand = StandReached w.messages owner first
 
   pub untouched_steps : (before now : Seen) → RestsThroughout (IsImage before) before now → DiskStays before now → MakesSteps w owner before now
-  untouched_steps before now still stays good named settled known = silent_behind Stand before settled now still stays
+  untouched_steps before now still stays good named settled known = silent_rests w.messages owner first before settled now still stays
 
   -- ---- the history that was opened
 
@@ -72,16 +71,15 @@ module _ (w : World Recorded) (owner : Name) where
 
   pub trail_steps : (publisher : Name) (es : List Recorded) (view : View) (before opened now : Seen) → opened.first ≡ before.first → RestsThroughout (IsImage before) before opened → DiskStays before opened
       → IsDatabase view publisher es opened → IsGoodWorld w → IsNamed w owner → IsSettled (Stand []) before
-      → (IsDatabase view owner es opened → IsOrdered owner es → TrailOn es opened now) → StandsBehind Stand before now
+      → (IsDatabase view owner es opened → IsOrdered owner es → TrailOn es opened now) → RestsAtEach w.messages owner first before now
   trail_steps publisher es view before opened now same still quiet database good named settled goes =
       let was = opened_reached publisher es view before opened same still database settled in
       let own : IsDatabase view owner es opened = subst (λ (n : Name). IsDatabase view n es opened) was.same database in
       let ordered : IsOrdered owner es
       = subst (IsOrdered owner) was.there (reached_ordered w w.messages owner first was.deeds good named refl (λ m has. has) was.may) in
       let on = goes own ordered in
-      still_opened Stand before settled opened now same still quiet
-      (went_behind Stand owner es on.trail
-      (stand_reached w.messages owner first es was.deeds was.may was.none was.there on.trail on.has.deeds on.has.are (on.said (lawful_says_so owner es ordered.lawful))) opened now on.went)
+      opened_rests w.messages owner first before settled opened now same still quiet
+      (went_rests w.messages owner first es was.deeds was.may was.none was.there on.trail on.has.deeds on.has.are (on.said (lawful_says_so owner es ordered.lawful)) opened now on.went)
 
   -- ---- scripts
 

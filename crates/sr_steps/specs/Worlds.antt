@@ -3,18 +3,18 @@ use Rattle.std.specs.Prelude.{◌≡◌, ⊤, ℕ, List, [], ◌∷◌, ◌++◌
 use Rattle.std.specs.List.{AllByRecursion}
 use Rattle.sr_book.specs.Entries.{Name}
 use Rattle.sr_history.specs.Recorded.{Recorded}
-use Rattle.sr_model.specs.Steps.{Deed, append, put, crash, history_after_all}
+use Rattle.sr_model.specs.Steps.{Deed, append, put, crash, history_after_all, messages_after_all}
 use Rattle.sr_model.specs.Worlds.{World, IsNamed, history}
 use Rattle.sr_msgform.specs.Messages.{IsMessage, message_spelling}
 use Rattle.sr_msgform.specs.declared.message.Message.{Message}
 use Rattle.sr_site.specs.Files.{Files}
 use Rattle.sr_site.specs.Happenings.{Happening, attached, wrote, cut_to, synced, listed, fetched, sent, removed}
-use Rattle.sr_site.specs.Images.{IsSettled}
+use Rattle.sr_site.specs.Images.{IsSettled, MayLeave}
 use Rattle.sr_site.specs.Seen.{Seen}
-use Rattle.sr_standing.specs.Items.{Letter}
+use Rattle.sr_standing.specs.Items.{Letter, puts_in}
 use Rattle.sr_standing.specs.Standing.{StandsAs}
+use Rattle.sr_standing.specs.Trails.{AtEach}
 use Rattle.sr_world.specs.Real.{IsGoodWorld, MayDo}
-use Rattle.sr_prefix.specs.Puts.{StandsBehind}
 
 -- ---- nothing is forged
 
@@ -61,8 +61,23 @@ pub record StandReached (messages : List Message) (owner : Name) (es : List Reco
   pub put : AreFiles letters (put_in deeds)
   pub stands : StandsAs owner (history_after_all es deeds) files
 
--- a database makes steps of its world alone: where the world is good, every crash leaves what its history may have gone on to, and all messages that are
--- fetched are of the world, at each moment every crash leaves such a history, reached by steps that put what was put until then
+-- what a crash may leave rests on one history to which this one leads by deeds that it and the messages allow, and which put these letters: it is one to
+-- which that history leads on, by deeds that it and all messages allow then, which put nothing
+pub record RestsBehind (messages : List Message) (owner : Name) (es : List Recorded) (letters : List Letter) (Left : Files → Type 0) : Type 0 where
+  pub deeds : List (Deed Recorded)
+  pub may : MayDo messages owner es deeds
+  pub put : AreFiles letters (put_in deeds)
+  pub rests : (image : Files) → Left image → StandReached (messages_after_all messages deeds) owner (history_after_all es deeds) [] image
+
+-- so it is at each moment from the one to the other, behind the letters that were put until then
+pub record RestsAtEach (messages : List Message) (owner : Name) (es : List Recorded) (before now : Seen) : Type 0 where
+  pub more : List Happening
+  pub is : now.happened ≡ more ++ before.happened
+  pub moments : AtEach (λ since. RestsBehind messages owner es (puts_in since) (MayLeave before.first (since ++ before.happened))) more
+
+-- a database makes steps of its world alone. Let the world, as it was at the last fetch, be good; let every crash leave a history to which the database's
+-- leads by allowed deeds that put nothing; and let each fetched message to it be of the world. Then at each moment what a crash may leave rests on one
+-- history, to which it leads by allowed deeds that put what was put until then
 abbrev pub MakesSteps : World Recorded → Name → Seen → Seen → Type 0
 MakesSteps w owner before now = IsGoodWorld w → IsNamed w owner → IsSettled (StandReached w.messages owner (history w owner) []) before → AllKnown w.messages owner before now
-    → StandsBehind (StandReached w.messages owner (history w owner)) before now
+    → RestsAtEach w.messages owner (history w owner) before now

@@ -2,9 +2,11 @@
 //! leaves.
 //!
 //! It stands on sr_prefix, which goes along a run entry by entry, and joins it with sr_world, which says what steps of a world are and what they keep. It
-//! has no run time: its function carries laws as its clauses.
+//! has no run time: its functions carry laws as their clauses.
 #![tactic(auto)]
 
+mod following;
 mod worlds;
 
+pub use following::a_run_leaves_what_the_next_one_asks_for;
 pub use worlds::whole_runs_make_steps_of_a_world;

@@ -1,0 +1,99 @@
+-- Where the next run finds its database.
+use Rattle.std.proofs.Common.{◌≡◌, ◌≢◌, List, [], ◌∷◌, ◌++◌, refl, sym, ap, subst, ◌∙◌, inl, inr}
+use Rattle.std.specs.Prelude.{Contains}
+use Rattle.sr_book.specs.Entries.{Name}
+use Rattle.sr_history.specs.Recorded.{Recorded}
+use Rattle.sr_model.specs.Steps.{Deed, history_after, history_after_all, messages_after, messages_after_all}
+use Rattle.sr_model.specs.Worlds.{World, Act, AreAmong, IsNamed, after_all, acts_by, happens, history}
+use Rattle.sr_model.proofs.Good.{deed_kept, history_in-histories_after}
+use Rattle.sr_model.proofs.Leave.{after_among, all_more, do_more, messages_kept, named_kept}
+use Rattle.sr_msgform.specs.Messages.{IsMessage, message_spelling}
+use Rattle.sr_msgform.specs.declared.message.Message.{Message}
+use Rattle.sr_msgform.proofs.Whole.{one_message}
+use Rattle.sr_site.specs.Files.{Files}
+use Rattle.sr_site.specs.Happenings.{Happening}
+use Rattle.sr_site.specs.Images.{MayLeave}
+use Rattle.sr_site.specs.Seen.{Seen}
+use Rattle.sr_standing.specs.Items.{Letter, puts_in}
+use Rattle.sr_standing.specs.Standing.{StandsAs}
+use Rattle.sr_standing.specs.Trails.{AtEach}
+use Rattle.sr_world.specs.Real.{HasSpelling, IsGoodWorld, LawfulHistory, MayDo, layers}
+use Rattle.sr_world.proofs.Keeping.{real_laws}
+use Rattle.sr_steps.specs.Worlds.{IsKnown, RestsAtEach, RestsBehind, StandReached, put_in}
+use Rattle.sr_steps.proofs.Deeds.{deeds_messages}
+use Rattle.sr_steps.proofs.Ordered.{own_history}
+
+named_all : (w : World Recorded) (owner : Name) (deeds : List (Deed Recorded)) (d : Name) → IsNamed w d → IsNamed (after_all w (acts_by owner deeds)) d
+named_all w owner [] d named = named
+named_all w owner (deed ∷ deeds) d named =
+    let act : Act Recorded = record { owner = owner; deed = deed } in
+    named_all (happens w act) owner deeds d (named_kept w act d named)
+
+messages_all : (w : World Recorded) (owner : Name) (deeds : List (Deed Recorded)) → (after_all w (acts_by owner deeds)).messages ≡ messages_after_all w.messages deeds
+messages_all w owner [] = refl
+messages_all w owner (deed ∷ deeds) = messages_all (happens w (record { owner = owner; deed = deed })) owner deeds
+
+history_all : (w : World Recorded) (owner : Name) (deeds : List (Deed Recorded)) → IsNamed w owner → history (after_all w (acts_by owner deeds)) owner ≡ history_after_all (history w owner) deeds
+history_all w owner [] named = refl
+history_all w owner (deed ∷ deeds) named =
+    let act : Act Recorded = record { owner = owner; deed = deed } in
+    history_all (happens w act) owner deeds (named_kept w act owner named)
+    ∙ ap (λ (rs : List Recorded). history_after_all rs deeds) (own_history w.histories owner deed named.0 named.1 named.2)
+
+good_all : (w : World Recorded) (messages : List Message) (owner : Name) (es : List Recorded) (deeds : List (Deed Recorded)) → IsGoodWorld w → IsNamed w owner → history w owner ≡ es
+    → AreAmong messages w.messages → MayDo messages owner es deeds → IsGoodWorld (after_all w (acts_by owner deeds))
+good_all w messages owner es [] good named is among may = good
+good_all w messages owner es (deed ∷ deeds) good named is among may =
+    let act : Act Recorded = record { owner = owner; deed = deed } in
+    good_all (happens w act) (messages_after messages deed) owner (history_after es deed) deeds
+    (deed_kept layers HasSpelling LawfulHistory real_laws w owner deed good (rw is (do_more messages w.messages among layers HasSpelling LawfulHistory owner es deed may.0)))
+    (named_kept w act owner named)
+    (own_history w.histories owner deed named.0 named.1 named.2 ∙ ap (λ (l : List Recorded). history_after l deed) is)
+    (after_among messages w.messages deed among) may.1
+
+module _ (w : World Recorded) (owner : Name) (letters : List Letter) (first : Files) (moment : List Happening) (rest : RestsBehind w.messages owner (history w owner) letters (MayLeave first moment)) where
+  abbrev there : World Recorded
+  there = after_all w (acts_by owner rest.deeds)
+
+  pub good_there : IsGoodWorld w → IsNamed w owner → IsGoodWorld there
+  good_there good named = good_all w w.messages owner (history w owner) rest.deeds good named refl (λ m has. has) rest.may
+
+  pub named_there : (d : Name) → IsNamed w d → IsNamed there d
+  named_there d named = named_all w owner rest.deeds d named
+
+  pub messages_there : there.messages ≡ w.messages ++ put_in rest.deeds
+  messages_there = messages_all w owner rest.deeds ∙ deeds_messages w.messages rest.deeds
+
+  pub rests_on : IsNamed w owner → (image : Files) → MayLeave first moment image → StandReached there.messages owner (history there owner) [] image
+  rests_on named image left =
+      subst (λ (ms : List Message). StandReached ms owner (history there owner) [] image) (sym (messages_all w owner rest.deeds))
+      (subst (λ (rs : List Recorded). StandReached (messages_after_all w.messages rest.deeds) owner rs [] image) (sym (history_all w owner rest.deeds named)) (rest.rests image left))
+
+-- at the last of some moments it is so
+last_of : (holds : List Happening → Type 0) (more : List Happening) → AtEach holds more → holds more
+last_of holds [] at = at
+last_of holds (step ∷ more) at = at.0
+
+pub rests_last : (messages : List Message) (owner : Name) (es : List Recorded) (before now : Seen) (run : RestsAtEach messages owner es before now)
+    → RestsBehind messages owner es (puts_in run.more) (MayLeave before.first now.happened)
+rests_last messages owner es before now run =
+    subst (λ (moment : List Happening). RestsBehind messages owner es (puts_in run.more) (MayLeave before.first moment)) (sym run.is)
+    (last_of (λ since. RestsBehind messages owner es (puts_in since) (MayLeave before.first (since ++ before.happened))) run.more run.moments)
+
+pub others_step : (w : World Recorded) (owner : Name) (act : Act Recorded) (letters : List Letter) (files : Files) → act.owner ≢ owner → StandReached w.messages owner (history w owner) letters files
+    → StandReached (happens w act).messages owner (history (happens w act) owner) letters files
+others_step w owner act letters files apart stood =
+    let same : history (happens w act) owner ≡ history w owner = elim (history_in-histories_after w.histories act.owner act.deed owner) [ inl is ↦ is | inr own ↦ absurd (apart (sym own.0)) ] in
+    subst (λ (rs : List Recorded). StandReached (happens w act).messages owner rs letters files) (sym same)
+    (record {
+      deeds = stood.deeds;
+      may = all_more layers HasSpelling LawfulHistory w.messages (happens w act).messages owner (history w owner) stood.deeds (messages_kept w.messages act.deed) stood.may;
+      put = stood.put;
+      stands = stood.stands;
+    })
+
+pub spelled_known : (messages : List Message) (receiver : Name) (m : Message) → Contains messages m → IsMessage m → IsKnown messages receiver (message_spelling m)
+spelled_known messages receiver m among is = λ other spelled same to. subst (λ (x : Message). Contains messages x) (one_message m other is spelled same) among
+
+pub new_reached : (w : World Recorded) (owner : Name) (files : Files) → history w owner ≡ [] → StandsAs owner [] files → StandReached w.messages owner (history w owner) [] files
+new_reached w owner files none stands = record { deeds = []; may = tt; put = refl; stands = subst (λ (rs : List Recorded). StandsAs owner rs files) (sym none) stands }
