@@ -100,6 +100,7 @@ took_delivery old new before now publisher es limit partner sent told database h
       whom = refl;
       is = record {
         are = subst (λ (b : Book). AreAll publisher es user b partner.ask limit messages) book_is passed.are;
+        spelled = passed.spelled;
         fits = subst (λ (b : Book). first_long (waiting publisher es user b) ≡ None) book_is passed.fits;
       };
       database = subst (λ (items : List Item). IsDatabase new publisher (es ++ commits items) now) items_are passed.database;
@@ -133,6 +134,7 @@ part_of old new before now publisher es limit partner why database cause devices
         messages = messages;
         left = part.left;
         are = subst (λ (b : Book). AreAll publisher es user b partner.ask limit (messages ++ part.left)) book_is part.are;
+        spelled = part.spelled;
         notes = [];
         note = tt;
         items_are = items_are ∙ sym (append-nil (letters (folder_of publisher es user) (books_of user es).send_count messages));
@@ -167,6 +169,7 @@ note_of old new before now publisher es limit partner why sent count database ca
         left = [];
         are = subst (λ (ms : List Message). AreAll publisher es user (books_of user es) partner.ask limit ms) (sym (append-nil messages))
             (subst (λ (b : Book). AreAll publisher es user b partner.ask limit messages) book_is part.are);
+        spelled = part.spelled;
         notes = note ∷ [];
         note = (
           refl,

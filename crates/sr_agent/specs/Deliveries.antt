@@ -1,9 +1,11 @@
 -- The send pass: messages for each partner in order. Deliveries stand with the newest first.
 use Rattle.std.specs.Prelude.{◌≡◌, ⊤, ℕ, true, List, [], ◌∷◌, ◌++◌, length, None}
+use Rattle.std.specs.List.{AllByRecursion}
 use Rattle.sr_book.specs.Entries.{Name}
 use Rattle.sr_cut.specs.Bodies.{first_long}
 use Rattle.sr_history.specs.Folds.{state_of, books_of}
 use Rattle.sr_history.specs.Recorded.{Recorded}
+use Rattle.sr_msgform.specs.Messages.{IsMessage}
 use Rattle.sr_msgform.specs.declared.message.Message.{Message}
 use Rattle.sr_send.specs.Letters.{address_in, noted_letters}
 use Rattle.sr_send.specs.Passes.{AreAll, sent_end, waiting}
@@ -25,9 +27,10 @@ pub record Delivery : Type 0 where
   pub partner : Partner
   pub messages : List Message
 
--- the one cut of what the history gives him past what he was sent, where a message is due, and else none
+-- the one cut of what the history gives him past what he was sent, where a message is due, and else none; each message can be read again
 pub record IsDelivery (publisher : Name) (es : List Recorded) (limit : ℕ) (d : Delivery) : Type 0 where
   pub are : AreAll publisher es d.partner.user (books_of d.partner.user es) d.partner.ask limit d.messages
+  pub spelled : AllByRecursion IsMessage d.messages
   pub fits : first_long (waiting publisher es d.partner.user (books_of d.partner.user es)) ≡ None
 
 -- the folder that his messages are put into, by the catalog as it is then

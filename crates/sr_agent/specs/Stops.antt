@@ -1,11 +1,13 @@
 -- Where a run ends before its end: how far it came, the step at which a fault came, and what was done of that.
 use Rattle.std.specs.Prelude.{◌≡◌, ◌⊎◌, ⊤, ℕ, Bool, true, List, [], ◌∷◌, ◌++◌, length, map}
+use Rattle.std.specs.List.{AllByRecursion}
 use Rattle.sr_book.specs.Entries.{Name}
 use Rattle.sr_database.specs.Databases.{IsDatabase}
 use Rattle.sr_database.specs.Views.{View}
 use Rattle.sr_history.specs.Folds.{state_of, books_of, end_of}
 use Rattle.sr_history.specs.Recorded.{Recorded}
 use Rattle.sr_mail.specs.declared.window.Window.{Window}
+use Rattle.sr_msgform.specs.Messages.{IsMessage}
 use Rattle.sr_msgform.specs.declared.message.Message.{Message}
 use Rattle.sr_receive.specs.Acts.{mail_after}
 use Rattle.sr_receive.specs.Entering.{Reached}
@@ -97,7 +99,7 @@ IsBegunNote publisher es user messages left [] = ⊤
 IsBegunNote publisher es user messages left (r ∷ []) = (left ≡ []) × (r ≡ sent_note user (books_of user es) (sent_end publisher es user (books_of user es)) (length messages))
 IsBegunNote publisher es user messages left (r ∷ other ∷ rs) = ⊥
 
--- messages were being put for a partner, or their note was being committed
+-- messages were being put for a partner, each of which can be read again, or their note was being committed
 pub record DeliveryStop (publisher : Name) (es : List Recorded) (limit : ℕ) (partner : Partner) (db new : View) (seen now : Seen) (items : List Item) (fault : AgentFault) : Type 0 where
   pub why : SendFault
   pub cause : SendCause db new seen now partner.user limit partner.ask why
@@ -106,6 +108,7 @@ pub record DeliveryStop (publisher : Name) (es : List Recorded) (limit : ℕ) (p
   pub messages : List Message
   pub left : List Message
   pub are : AreAll publisher es partner.user (books_of partner.user es) partner.ask limit (messages ++ left)
+  pub spelled : AllByRecursion IsMessage messages
   pub notes : List Recorded
   pub note : IsBegunNote publisher es partner.user messages left notes
   pub items_are : items ≡ letters (folder_of publisher es partner.user) (books_of partner.user es).send_count messages ++ map commit notes

@@ -132,7 +132,7 @@ module _ (before now : Seen) (told : IsTrue before.told) where
   make_refuses : IsMissing before.files → (d : DatabaseFault) → StoreCause before now d → IsStoreRefusal d → ⊥
   unfolding IsStoreRefusal
   make_refuses missing Missing cause refuses = cause
-  make_refuses missing Exists cause refuses = (cause told).0 missing
+  make_refuses missing Exists cause refuses = (cause.0 told).0 missing
   make_refuses missing (Damaged file at) cause refuses = cause
   make_refuses missing Disk cause refuses = refuses
   make_refuses missing (Full end need) cause refuses = refuses
@@ -141,9 +141,9 @@ module _ (before now : Seen) (told : IsTrue before.told) where
 
   open_refuses : AreDatabase before.files → (d : DatabaseFault) → OpenedCause before now d → IsStoreRefusal d → ⊥
   unfolding IsStoreRefusal
-  open_refuses are Missing cause refuses = missing_is_none are.publisher are.es are.stand.base before.files are.stand.stands (cause told)
+  open_refuses are Missing cause refuses = missing_is_none are.publisher are.es are.stand.base before.files are.stand.stands (cause.0 told)
   open_refuses are Exists cause refuses = cause
-  open_refuses are (Damaged file at) cause refuses = damaged_is_none are.publisher are.es are.stand.base at file before.files are.stand.stands (cause told)
+  open_refuses are (Damaged file at) cause refuses = damaged_is_none are.publisher are.es are.stand.base at file before.files are.stand.stands (cause.0 told)
   open_refuses are Disk cause refuses = refuses
   open_refuses are (Full end need) cause refuses = refuses
   open_refuses are (Long size limit) cause refuses = refuses

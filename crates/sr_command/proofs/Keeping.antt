@@ -1,5 +1,5 @@
 -- What a database that was kept open is on the attached site, and what is kept of it behind a run.
-use Rattle.std.proofs.Common.{◌≡◌, true, List, [], ◌++◌, ℕ, Option, Some, sym, subst, ◌∙◌}
+use Rattle.std.proofs.Common.{◌≡◌, inl, inr, true, false, List, [], ◌++◌, ℕ, Option, Some, sym, subst, ◌∙◌}
 use Rattle.std.specs.Prelude.{IfSome, IsTrue, Ok}
 use Rattle.sr_agent.specs.Agents.{RanAgent, RanWhole}
 use Rattle.sr_agent.specs.Runs.{after_run}
@@ -28,24 +28,24 @@ use Rattle.sr_command.proofs.Opened.{attached_still, settled_on, told_on, untouc
 -- ---- the attached site
 
 -- why a site is not attached is why a database is not opened
-pub not_attached : (before now : Seen) (fault : DatabaseFault) → AttachCause before now fault → OpenedCause before now fault
-not_attached before now store.Missing cause = absurd cause
-not_attached before now store.Exists cause = cause
-not_attached before now (store.Damaged file at) cause = absurd cause
-not_attached before now store.Disk cause = cause
-not_attached before now (store.Full end need) cause = cause
-not_attached before now (store.Long size limit) cause = cause
-not_attached before now store.Memory cause = cause
+pub not_attached : (name mail : List ℕ) (before now : Seen) → Attaches name mail false before now → (fault : DatabaseFault) → AttachCause before now fault → OpenedCause before now fault
+not_attached name mail before now attaches store.Missing cause = absurd cause
+not_attached name mail before now attaches store.Exists cause = cause
+not_attached name mail before now attaches (store.Damaged file at) cause = absurd cause
+not_attached name mail before now attaches store.Disk cause = cause
+not_attached name mail before now attaches (store.Full end need) cause = cause
+not_attached name mail before now attaches (store.Long size limit) cause = cause
+not_attached name mail before now attaches store.Memory cause = inl (name, mail, attaches.happened)
 
 -- why no database is opened on the attached site is why it is not from before
 pub not_opened : (name mail : List ℕ) (before middle now : Seen) (fault : DatabaseFault) → Attaches name mail true before middle → middle.disk_faults ≡ before.disk_faults → OpenCause middle now fault → OpenedCause before now fault
-not_opened name mail before middle now store.Missing attaches steady cause = λ told. subst IsMissing (attaches.files told) (cause (told_on before middle attaches.stays told))
+not_opened name mail before middle now store.Missing attaches steady cause = (λ told. subst IsMissing (attaches.files told) (cause.0 (told_on before middle attaches.stays told)), cause.1 ∙ steady)
 not_opened name mail before middle now store.Exists attaches steady cause = cause
-not_opened name mail before middle now (store.Damaged file at) attaches steady cause = λ told. subst (λ (f : Files). IsDamagedAt file at f) (attaches.files told) (cause (told_on before middle attaches.stays told))
+not_opened name mail before middle now (store.Damaged file at) attaches steady cause = (λ told. subst (λ (f : Files). IsDamagedAt file at f) (attaches.files told) (cause.0 (told_on before middle attaches.stays told)), cause.1 ∙ steady)
 not_opened name mail before middle now store.Disk attaches steady cause = subst (λ n. Rose n now.disk_faults) steady cause
 not_opened name mail before middle now (store.Full end need) attaches steady cause = cause
 not_opened name mail before middle now (store.Long size limit) attaches steady cause = cause
-not_opened name mail before middle now store.Memory attaches steady cause = cause
+not_opened name mail before middle now store.Memory attaches steady cause = inr (cause ∙ steady)
 
 module _ (name mail : List ℕ) (before now : Seen) (view : View) (attaches : Attaches name mail true before now) where
   database_still : (publisher : Name) (es : List Recorded) → IsTrue before.told → IsDatabase view publisher es before → IsDatabase view publisher es now

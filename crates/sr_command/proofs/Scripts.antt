@@ -37,14 +37,14 @@ pub stopped_open : (name : List ℕ) (before now : Seen) (input : Input) (output
     → Stopped name (outside before input output) (outside now input output) (Database fault)
 stopped_open name before now input output fault untouched cause = inl (record { untouched = untouched; silent = refl; cause = (cause, unread input fault) })
 
-wanting : (name : List ℕ) (before now : Seen) (input left : Input) (output : Output) (fault : DatabaseFault) → fault ≡ store.Memory → left.faults ≡ input.faults
+wanting : (name : List ℕ) (before now : Seen) (input left : Input) (output : Output) (fault : DatabaseFault) → now.disk_faults ≡ before.disk_faults → fault ≡ store.Memory → left.faults ≡ input.faults
     → BeginCause name (outside before input output) (outside now left output) (Database fault)
-wanting name before now input left output fault is steady = subst (λ (f : DatabaseFault). BeginCause name (outside before input output) (outside now left output) (Database f)) (sym is) (tt, steady)
+wanting name before now input left output fault still is steady = subst (λ (f : DatabaseFault). BeginCause name (outside before input output) (outside now left output) (Database f)) (sym is) (inr still, steady)
 
 begin_cause : (name : List ℕ) (before now : Seen) (input left : Input) (output : Output) (view : View) (fault : Fault) → IsOpened name [] view before now → ReadCause input left fault
     → BeginCause name (outside before input output) (outside now left output) fault
 begin_cause name before now input left output view Words opened cause = cause
-begin_cause name before now input left output view (Database fault) opened cause = wanting name before now input left output fault cause.0 cause.1
+begin_cause name before now input left output view (Database fault) opened cause = wanting name before now input left output fault opened.steady cause.0 cause.1
 begin_cause name before now input left output view Source opened cause = (cause, record { view = view; is = opened })
 begin_cause name before now input left output view TooLong opened cause = (cause.0, cause.1, record { view = view; is = opened })
 begin_cause name before now input left output view (Script at) opened cause = (cause, record { view = view; is = opened })

@@ -32,10 +32,10 @@ pub record IsMade (name : List ℕ) (user : Name) (before now : Seen) : Type 0 w
   pub settled : IsTrue before.told → IsSettled (StandsFor user [] 0) now
   pub steady : now.disk_faults ≡ before.disk_faults
 
--- why a database's fault ends it
+-- why a database's fault ends it: where there is a database, no call of the disk failed
 abbrev pub StoreCause : Seen → Seen → DatabaseFault → Type 0
 StoreCause before now store.Missing = ⊥
-StoreCause before now store.Exists = IsTrue before.told → (before.files.root ≢ []) × (now.files ≡ before.files)
+StoreCause before now store.Exists = (IsTrue before.told → (before.files.root ≢ []) × (now.files ≡ before.files)) × (now.disk_faults ≡ before.disk_faults)
 StoreCause before now (store.Damaged file at) = ⊥
 StoreCause before now store.Disk = Rose before.disk_faults now.disk_faults
 StoreCause before now (store.Full end need) = ⊥

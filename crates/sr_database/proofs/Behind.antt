@@ -155,23 +155,29 @@ module _ (log : Log) (after : ℕ) (before now : Seen) where
         next_kind log publisher done after parts.after_is left files buffer end count kind
         (subst (λ (o : Option (Offset × ℕ)). StepOf log after before files buffer o) found_is step (bodies done) (bodies left) parts.at) (begins.0, sym body_is ∙ begins.1)
 
-    pub unkind_behind : (IsTrue before.told → StepOf log after before files buffer found) → (file : File) (place : ℕ) (fault : DatabaseFault) → (fault ≡ Damaged file place) × (body ≡ []) → BehindCause log after before now fault
-    unkind_behind step file place fault cause =
-        subst (λ (f : DatabaseFault). BehindCause log after before now f) (sym cause.0) (λ told publisher done left parts.
-        always_begins log publisher done after parts.after_is left files buffer end.0 count parts.stored
-        (subst (λ (o : Option (Offset × ℕ)). StepOf log after before files buffer o) found_is (step told) (bodies done) (bodies left) parts.at) (sym body_is ∙ cause.1))
+    pub unkind_behind : (IsTrue before.told → StepOf log after before files buffer found) → now.disk_faults ≡ before.disk_faults → (file : File) (place : ℕ) (fault : DatabaseFault) → (fault ≡ Damaged file place) × (body ≡ []) → BehindCause log after before now fault
+    unkind_behind step steady file place fault cause =
+        subst (λ (f : DatabaseFault). BehindCause log after before now f) (sym cause.0) (
+          λ told publisher done left parts.
+              always_begins log publisher done after parts.after_is left files buffer end.0 count parts.stored
+              (subst (λ (o : Option (Offset × ℕ)). StepOf log after before files buffer o) found_is (step told) (bodies done) (bodies left) parts.at) (sym body_is ∙ cause.1),
+          steady,
+        )
 
-    pub spelling_behind : (IsTrue before.told → StepOf log after before files buffer found) → (file : File) (place : ℕ) (fault : DatabaseFault) → SpellingCause file place body fault → BehindCause log after before now fault
-    spelling_behind step file place Missing cause = absurd cause
-    spelling_behind step file place Exists cause = absurd cause
-    spelling_behind step file place (Damaged other at) cause = λ told publisher done left parts.
-        always_spelled log publisher done after parts.after_is left files buffer end.0 count parts.stored
-        (subst (λ (o : Option (Offset × ℕ)). StepOf log after before files buffer o) found_is (step told) (bodies done) (bodies left) parts.at)
-        (λ entry spelled same. cause.2 entry spelled (body_is ∙ same))
-    spelling_behind step file place Disk cause = absurd cause
-    spelling_behind step file place (Full last need) cause = absurd cause
-    spelling_behind step file place (Long size limit) cause = absurd cause
-    spelling_behind step file place Memory cause = tt
+    pub spelling_behind : (IsTrue before.told → StepOf log after before files buffer found) → now.disk_faults ≡ before.disk_faults → (file : File) (place : ℕ) (fault : DatabaseFault) → SpellingCause file place body fault → BehindCause log after before now fault
+    spelling_behind step steady file place Missing cause = absurd cause
+    spelling_behind step steady file place Exists cause = absurd cause
+    spelling_behind step steady file place (Damaged other at) cause = (
+      λ told publisher done left parts.
+          always_spelled log publisher done after parts.after_is left files buffer end.0 count parts.stored
+          (subst (λ (o : Option (Offset × ℕ)). StepOf log after before files buffer o) found_is (step told) (bodies done) (bodies left) parts.at)
+          (λ entry spelled same. cause.2 entry spelled (body_is ∙ same)),
+      steady,
+    )
+    spelling_behind step steady file place Disk cause = absurd cause
+    spelling_behind step steady file place (Full last need) cause = absurd cause
+    spelling_behind step steady file place (Long size limit) cause = absurd cause
+    spelling_behind step steady file place Memory cause = steady
 
   -- an end that was read
   pub no_end : (files : Files) (buffer : List ℕ) → StepsTo log after before files buffer steps.End → (publisher : Name) (done left : List Recorded) → Parts log after publisher done left before → left ≡ []
@@ -189,10 +195,10 @@ module _ (log : Log) (after : ℕ) (before now : Seen) where
   next_refused file logs.Disk answer is cause = subst (λ (a : DatabaseFault). BehindCause log after before now a) (sym is) cause
   next_refused file (logs.Full end need) answer is cause = absurd cause
   next_refused file (logs.Damaged at) answer is cause =
-      subst (λ (a : DatabaseFault). BehindCause log after before now a) (sym is) (λ told publisher done left parts. cause told (bodies done) (bodies left) parts.at)
+      subst (λ (a : DatabaseFault). BehindCause log after before now a) (sym is) (λ told publisher done left parts. cause.0 told (bodies done) (bodies left) parts.at, cause.1)
 
   pub refused_behind : (file : File) (fault : RecordFault) (answer : DatabaseFault) → IsRecordFault file fault answer → RecordAfterCause log after before now fault → BehindCause log after before now answer
-  refused_behind file records.Memory answer is cause = subst (λ (a : DatabaseFault). BehindCause log after before now a) (sym is) tt
+  refused_behind file records.Memory answer is cause = subst (λ (a : DatabaseFault). BehindCause log after before now a) (sym is) cause
   refused_behind file (records.Log fault) answer is cause = next_refused file fault answer is cause
 
 -- ---- seen from the database
@@ -205,11 +211,11 @@ module _ (view : View) (log : Log) (log_is : view.log ≡ log) (after : Offset) 
   behind_cause : (fault : DatabaseFault) → BehindCause log after.0 before now fault → EntryCause view after before now fault
   behind_cause Missing cause = absurd cause
   behind_cause Exists cause = absurd cause
-  behind_cause (Damaged file at) cause = λ told end. cause told end.publisher end.done end.left (parts_of end.publisher end.done end.left end.is end.after_is)
+  behind_cause (Damaged file at) cause = (λ told end. cause.0 told end.publisher end.done end.left (parts_of end.publisher end.done end.left end.is end.after_is), cause.1)
   behind_cause Disk cause = cause
   behind_cause (Full end need) cause = absurd cause
   behind_cause (Long size limit) cause = absurd cause
-  behind_cause Memory cause = tt
+  behind_cause Memory cause = cause
 
   pub behind_refused : {A : Type 0} (result : Result A DatabaseFault) → IfErr result (BehindCause log after.0 before now) → IfErr result (EntryCause view after before now)
   behind_refused (Ok found) cause = tt

@@ -91,33 +91,35 @@ reading_end log publisher catalog new_catalog rows new_rows books new_books posi
 
 -- a record's refusal is that of the reading
 pub reading_cause : (log : File) (publisher : Name) (catalog : Lists) (rows : Marked) (books : BookMap) (position : ℕ) (first before now : Seen) → IsReadUpTo log publisher catalog rows books position first → ReadAlone first before
-    → (fault : DatabaseFault) → RecordCause log publisher catalog rows books position before now fault → ReplayCause log publisher first now fault
-reading_cause log publisher catalog rows books position first before now history alone Missing cause = absurd cause
-reading_cause log publisher catalog rows books position first before now history alone Exists cause = absurd cause
-reading_cause log publisher catalog rows books position first before now history alone (Damaged file place) cause = (
+    → before.disk_faults ≡ first.disk_faults → (fault : DatabaseFault) → RecordCause log publisher catalog rows books position before now fault → ReplayCause log publisher first now fault
+reading_cause log publisher catalog rows books position first before now history alone steady Missing cause = absurd cause
+reading_cause log publisher catalog rows books position first before now history alone steady Exists cause = absurd cause
+reading_cause log publisher catalog rows books position first before now history alone steady (Damaged file place) cause = (
   cause.0,
   λ told.
       let there : HasRead history.es position (bytes_of before.files log) = subst (λ (f : Files). HasRead history.es position (bytes_of f log)) (sym (alone.files told)) (history.read told) in
       subst (λ (f : Files). LacksNext publisher (bytes_of f log) place) (alone.files told) (cause.1 (told_then first before alone.stays told) history.es history.is there),
+  cause.2 ∙ steady,
 )
-reading_cause log publisher catalog rows books position first before now history alone Disk cause =
+reading_cause log publisher catalog rows books position first before now history alone steady Disk cause =
     let later : first.disk_faults ≤ before.disk_faults = alone.stays.later in
     omega arith
-reading_cause log publisher catalog rows books position first before now history alone (Full end need) cause = absurd cause
-reading_cause log publisher catalog rows books position first before now history alone (Long size limit) cause = absurd cause
-reading_cause log publisher catalog rows books position first before now history alone Memory cause = tt
+reading_cause log publisher catalog rows books position first before now history alone steady (Full end need) cause = absurd cause
+reading_cause log publisher catalog rows books position first before now history alone steady (Long size limit) cause = absurd cause
+reading_cause log publisher catalog rows books position first before now history alone steady Memory cause = cause ∙ steady
 
 -- the refusal of the reading, from a moment before
-pub replay_cause_before : (log : File) (publisher : Name) (before middle now : Seen) → ReadAlone before middle → (fault : DatabaseFault) → ReplayCause log publisher middle now fault → ReplayCause log publisher before now fault
-replay_cause_before log publisher before middle now alone Missing cause = absurd cause
-replay_cause_before log publisher before middle now alone Exists cause = absurd cause
-replay_cause_before log publisher before middle now alone (Damaged file place) cause = (
+pub replay_cause_before : (log : File) (publisher : Name) (before middle now : Seen) → ReadAlone before middle → middle.disk_faults ≡ before.disk_faults → (fault : DatabaseFault) → ReplayCause log publisher middle now fault → ReplayCause log publisher before now fault
+replay_cause_before log publisher before middle now alone steady Missing cause = absurd cause
+replay_cause_before log publisher before middle now alone steady Exists cause = absurd cause
+replay_cause_before log publisher before middle now alone steady (Damaged file place) cause = (
   cause.0,
   λ told. subst (λ (f : Files). LacksNext publisher (bytes_of f log) place) (alone.files told) (cause.1 (told_then before middle alone.stays told)),
+  cause.2 ∙ steady,
 )
-replay_cause_before log publisher before middle now alone Disk cause =
+replay_cause_before log publisher before middle now alone steady Disk cause =
     let later : before.disk_faults ≤ middle.disk_faults = alone.stays.later in
     omega arith
-replay_cause_before log publisher before middle now alone (Full end need) cause = absurd cause
-replay_cause_before log publisher before middle now alone (Long size limit) cause = absurd cause
-replay_cause_before log publisher before middle now alone Memory cause = tt
+replay_cause_before log publisher before middle now alone steady (Full end need) cause = absurd cause
+replay_cause_before log publisher before middle now alone steady (Long size limit) cause = absurd cause
+replay_cause_before log publisher before middle now alone steady Memory cause = cause ∙ steady

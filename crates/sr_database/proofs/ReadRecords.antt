@@ -67,22 +67,22 @@ read_whole bytes front at wanted count read gave is most long =
     sym (take_all count front (omega arith)) ∙ subst (λ (n : ℕ). take n front ≡ take count (drop at bytes)) same (subst (λ (n : ℕ). take read front ≡ take n (drop at bytes)) is gave.front)
 
 -- a short body is no whole one
-pub short_cause : (log : File) (place count : ℕ) (before now : Seen) → (IsTrue before.told → place + 5 + count ≤ length (bytes_of before.files log) → ⊥) → BodyCause log place count before now (Damaged log place)
-short_cause log place count before now none = (refl, refl, λ told there e spelled same. none told there)
+pub short_cause : (log : File) (place count : ℕ) (before now : Seen) → (IsTrue before.told → place + 5 + count ≤ length (bytes_of before.files log) → ⊥) → now.disk_faults ≡ before.disk_faults → BodyCause log place count before now (Damaged log place)
+short_cause log place count before now none steady = (refl, refl, λ told there e spelled same. none told there, steady)
 
 module _ (log : File) (place count : ℕ) (before now : Seen) (body : List ℕ) (is : IsTrue before.told → body ≡ piece (place + 5) count (bytes_of before.files log)) where
-  spelling_cause : (fault : DatabaseFault) → SpellingCause log place body fault → BodyCause log place count before now fault
-  spelling_cause Missing cause = absurd cause
-  spelling_cause Exists cause = absurd cause
-  spelling_cause (Damaged file at) cause = (cause.0, cause.1, λ told there e spelled same. cause.2 e spelled (is told ∙ same))
-  spelling_cause Disk cause = absurd cause
-  spelling_cause (Full end need) cause = absurd cause
-  spelling_cause (Long size limit) cause = absurd cause
-  spelling_cause Memory cause = tt
+  spelling_cause : now.disk_faults ≡ before.disk_faults → (fault : DatabaseFault) → SpellingCause log place body fault → BodyCause log place count before now fault
+  spelling_cause steady Missing cause = absurd cause
+  spelling_cause steady Exists cause = absurd cause
+  spelling_cause steady (Damaged file at) cause = (cause.0, cause.1, λ told there e spelled same. cause.2 e spelled (is told ∙ same), steady)
+  spelling_cause steady Disk cause = absurd cause
+  spelling_cause steady (Full end need) cause = absurd cause
+  spelling_cause steady (Long size limit) cause = absurd cause
+  spelling_cause steady Memory cause = steady
 
-  pub body_refused : (result : Result Entry DatabaseFault) → IfErr result (SpellingCause log place body) → IfErr result (BodyCause log place count before now)
-  body_refused (Ok entry) cause = tt
-  body_refused (Err fault) cause = spelling_cause fault cause
+  pub body_refused : now.disk_faults ≡ before.disk_faults → (result : Result Entry DatabaseFault) → IfErr result (SpellingCause log place body) → IfErr result (BodyCause log place count before now)
+  body_refused steady (Ok entry) cause = tt
+  body_refused steady (Err fault) cause = spelling_cause steady fault cause
 
   pub body_read : (result : Result Entry DatabaseFault) → IsTrue before.told → IfOk result (λ entry. IsEntry entry × (body ≡ entry_spelling entry)) → IfOk result (λ entry. piece (place + 5) count (bytes_of before.files log) ≡ entry_spelling entry)
   body_read (Ok entry) told has = sym (is told) ∙ has.1
@@ -100,8 +100,8 @@ size_read body count (Err fault) long has = tt
 
 module _ (log : File) (publisher : Name) (catalog : Lists) (rows : Marked) (books : BookMap) (position end : ℕ) (before now : Seen) (whole : IsTrue before.told → HasWhole position (drop (16 + position) (bytes_of before.files log)) end) where
   -- the gates are far enough apart
-  pub apart_cause : end < position + 5 → RecordCause log publisher catalog rows books position before now (Damaged log (16 + position))
-  apart_cause near = (refl, λ told es is read. let far = (whole told).end_is in absurd (omega arith))
+  pub apart_cause : end < position + 5 → now.disk_faults ≡ before.disk_faults → RecordCause log publisher catalog rows books position before now (Damaged log (16 + position))
+  apart_cause near steady = (refl, λ told es is read. let far = (whole told).end_is in absurd (omega arith), steady)
 
   module _ (count : ℕ) (apart : position + (count + 5) ≡ end) where
     sized : (told : IsTrue before.told) → count ≡ length (whole told).body
@@ -115,11 +115,12 @@ module _ (log : File) (publisher : Name) (catalog : Lists) (rows : Marked) (book
       λ told es is read.
           unspelled position (bytes_of before.files log) end (whole told) publisher es count (sized told) at is.stored is.position_is cause.1 read
           (cause.2 told (body_there position (bytes_of before.files log) end (whole told) count (sized told))),
+      cause.3,
     )
     body_cause Disk cause = cause
     body_cause (Full end need) cause = absurd cause
     body_cause (Long size limit) cause = absurd cause
-    body_cause Memory cause = tt
+    body_cause Memory cause = cause
 
     module _ (new_catalog : Lists) (new_rows : Marked) (new_books : BookMap) (entry : Entry) (body : IsTrue before.told → piece (16 + position + 5) count (bytes_of before.files log) ≡ entry_spelling entry) (limit : end ≤ 2 ^ 62) where
       room : position + (count + 5) ≤ 2 ^ 62
@@ -129,12 +130,13 @@ module _ (log : File) (publisher : Name) (catalog : Lists) (rows : Marked) (book
       none_of false es is follows = follows
       none_of true es is follows = absurd cc
 
-      pub unfit_cause : IsEntry entry → (may : Bool) → may ≡ false → FollowsAny catalog new_catalog rows new_rows books new_books count entry may → RecordCause log publisher catalog rows books position before now (Damaged log (16 + position))
-      unfit_cause spelled may is follows = (
+      pub unfit_cause : now.disk_faults ≡ before.disk_faults → IsEntry entry → (may : Bool) → may ≡ false → FollowsAny catalog new_catalog rows new_rows books new_books count entry may → RecordCause log publisher catalog rows books position before now (Damaged log (16 + position))
+      unfit_cause steady spelled may is follows = (
         refl,
         λ told es replayed read.
             unfitting position (bytes_of before.files log) end (whole told) publisher es count (sized told) (16 + position) replayed.stored replayed.position_is refl read entry spelled (body told)
             (none_of may es is (follows position publisher es replayed room)),
+        steady,
       )
 
       pub record_on : (may : Bool) → may ≡ true → FollowsAny catalog new_catalog rows new_rows books new_books count entry may → IsReadOn catalog new_catalog rows new_rows books new_books position end publisher log before
@@ -166,6 +168,7 @@ module _ (log : File) (publisher : Name) (catalog : Lists) (rows : Marked) (book
     λ told es replayed read.
         broken_record publisher es position at (bytes_of before.files log) replayed.stored replayed.position_is (cause.0 ∙ ap (λ (n : ℕ). 16 + n) (same_place position)) read
         (subst (λ (n : ℕ). IsBroken position (drop (16 + n) (bytes_of before.files log))) (same_place position) (cause.1 told)),
+    cause.2,
   )
 
   pub whole_at : (end : ℕ) → ReadAlone before now → (IsTrue before.told → HasWhole position (drop (16 + (position - 0)) (bytes_of before.files log)) end) → IsTrue now.told → HasWhole position (drop (16 + position) (bytes_of now.files log)) end
@@ -179,16 +182,17 @@ module _ (log : File) (publisher : Name) (catalog : Lists) (rows : Marked) (book
       let more = step es replayed in
       record { r = more.r; is = more.is; begins = λ told. subst (λ (f : Files). BeginsWith more.r (drop (16 + position) (bytes_of f log))) (alone.files told) (more.begins (told_then before now alone.stays told)) }
 
-  pub record_cause_before : (last : Seen) → ReadAlone before now → (fault : DatabaseFault) → RecordCause log publisher catalog rows books position now last fault → RecordCause log publisher catalog rows books position before last fault
-  record_cause_before last alone Missing cause = absurd cause
-  record_cause_before last alone Exists cause = absurd cause
-  record_cause_before last alone (Damaged file at) cause = (
+  pub record_cause_before : (last : Seen) → ReadAlone before now → now.disk_faults ≡ before.disk_faults → (fault : DatabaseFault) → RecordCause log publisher catalog rows books position now last fault → RecordCause log publisher catalog rows books position before last fault
+  record_cause_before last alone steady Missing cause = absurd cause
+  record_cause_before last alone steady Exists cause = absurd cause
+  record_cause_before last alone steady (Damaged file at) cause = (
     cause.0,
     λ told es replayed read.
         subst (λ (f : Files). LacksNext publisher (bytes_of f log) at) (alone.files told)
         (cause.1 (told_then before now alone.stays told) es replayed (subst (λ (f : Files). HasRead es position (bytes_of f log)) (sym (alone.files told)) read)),
+    cause.2 ∙ steady,
   )
-  record_cause_before last alone Disk cause = let later : before.disk_faults ≤ now.disk_faults = alone.stays.later in omega arith
-  record_cause_before last alone (Full end need) cause = absurd cause
-  record_cause_before last alone (Long size limit) cause = absurd cause
-  record_cause_before last alone Memory cause = tt
+  record_cause_before last alone steady Disk cause = let later : before.disk_faults ≤ now.disk_faults = alone.stays.later in omega arith
+  record_cause_before last alone steady (Full end need) cause = absurd cause
+  record_cause_before last alone steady (Long size limit) cause = absurd cause
+  record_cause_before last alone steady Memory cause = cause ∙ steady

@@ -65,7 +65,7 @@ blames g file at files root (inr d) =
         d.begun (ap snapshot_of is) (subst (λ (x : Generation). bytes_of files (snapshot_of x) ≡ []) (sym is) e.snapshot)
 
 -- a later step of the opening, behind a root that names a generation
-module _ (start before now : Seen) (snapshot log : File) (alone : SyncedAlone start before) (named : AreInForce snapshot log start) where
+module _ (start before now : Seen) (snapshot log : File) (alone : SyncedAlone start before) (named : AreInForce snapshot log start) (steady : before.disk_faults ≡ start.disk_faults) where
   at_told : IsTrue start.told → IsTrue before.told
   at_told is = subst IsTrue (sym alone.stays.told) is
 
@@ -75,32 +75,38 @@ module _ (start before now : Seen) (snapshot log : File) (alone : SyncedAlone st
   pub snapshot_cause : (fault : DatabaseFault) → SnapshotCause snapshot before now fault → OpenCause start now fault
   snapshot_cause Missing cause = absurd cause
   snapshot_cause Exists cause = absurd cause
-  snapshot_cause (Damaged file at) cause = λ is.
-      let g = named.generation in
-      let blame = subst (λ (f : Files). BlamesRoot snapshot file at (bytes_of f snapshot) ⊎ BlamesSnapshot snapshot file at (bytes_of f snapshot)) (files is) (cause (at_told is)) in
-      blames g file at start.files (named.named is) (subst (λ (s : File). BlamesRoot s file at (bytes_of start.files s) ⊎ BlamesSnapshot s file at (bytes_of start.files s)) named.snapshot_is blame)
+  snapshot_cause (Damaged file at) cause = (
+    λ is.
+        let g = named.generation in
+        let blame = subst (λ (f : Files). BlamesRoot snapshot file at (bytes_of f snapshot) ⊎ BlamesSnapshot snapshot file at (bytes_of f snapshot)) (files is) (cause.0 (at_told is)) in
+        blames g file at start.files (named.named is) (subst (λ (s : File). BlamesRoot s file at (bytes_of start.files s) ⊎ BlamesSnapshot s file at (bytes_of start.files s)) named.snapshot_is blame),
+    cause.1 ∙ steady,
+  )
   snapshot_cause Disk cause = let later : start.disk_faults ≤ before.disk_faults = alone.stays.later in omega arith
   snapshot_cause (Full end need) cause = absurd cause
   snapshot_cause (Long size limit) cause = absurd cause
-  snapshot_cause Memory cause = tt
+  snapshot_cause Memory cause = cause ∙ steady
 
   log_cause : (publisher : Name) → (IsTrue start.told → snapshot_at (bytes_of start.files snapshot) ≡ Ok publisher) → (fault : DatabaseFault) → LogCause log publisher before now fault → OpenCause start now fault
   log_cause publisher whole Missing cause = absurd cause
   log_cause publisher whole Exists cause = absurd cause
-  log_cause publisher whole (Damaged file at) cause = λ is.
-      let g = named.generation in
-      let damage = subst (λ (f : Files). IsDamagedLog publisher (bytes_of f log) at) (files is) (cause.1 (at_told is)) in
-      subst (λ (f : File). IsDamagedAt f at start.files) (sym (cause.0 ∙ named.log_is))
-      (log_at_file g at start.files (record {
-        root = named.named is;
-        publisher = publisher;
-        snapshot = subst (λ (s : File). snapshot_at (bytes_of start.files s) ≡ Ok publisher) named.snapshot_is (whole is);
-        damage = subst (λ (l : File). IsDamagedLog publisher (bytes_of start.files l) at) named.log_is damage;
-      }))
+  log_cause publisher whole (Damaged file at) cause = (
+    λ is.
+        let g = named.generation in
+        let damage = subst (λ (f : Files). IsDamagedLog publisher (bytes_of f log) at) (files is) (cause.1 (at_told is)) in
+        subst (λ (f : File). IsDamagedAt f at start.files) (sym (cause.0 ∙ named.log_is))
+        (log_at_file g at start.files (record {
+          root = named.named is;
+          publisher = publisher;
+          snapshot = subst (λ (s : File). snapshot_at (bytes_of start.files s) ≡ Ok publisher) named.snapshot_is (whole is);
+          damage = subst (λ (l : File). IsDamagedLog publisher (bytes_of start.files l) at) named.log_is damage;
+        })),
+    cause.2 ∙ steady,
+  )
   log_cause publisher whole Disk cause = let later : start.disk_faults ≤ before.disk_faults = alone.stays.later in omega arith
   log_cause publisher whole (Full end need) cause = absurd cause
   log_cause publisher whole (Long size limit) cause = absurd cause
-  log_cause publisher whole Memory cause = tt
+  log_cause publisher whole Memory cause = cause ∙ steady
 
   -- the snapshot was read before that, and nothing but syncs happened since
   pub log_refused : (publisher : Name) (middle : Seen) → SyncedAlone start middle → (IsTrue middle.told → IsFreshOf (bytes_of middle.files snapshot) publisher) → (result : Result View DatabaseFault) → IfErr result (LogCause log publisher before now) → IfErr result (OpenCause start now)
@@ -119,7 +125,7 @@ of_shape publisher bytes at (inr (inr broken)) = inr (inr (inl broken))
 pub shape_cause : (log : File) (publisher : Name) (before now : Seen) (fault : DatabaseFault) → ShapeCause log before now fault → LogCause log publisher before now fault
 shape_cause log publisher before now Missing cause = absurd cause
 shape_cause log publisher before now Exists cause = absurd cause
-shape_cause log publisher before now (Damaged file at) cause = (cause.0, λ is. of_shape publisher (bytes_of before.files log) at (cause.1 is))
+shape_cause log publisher before now (Damaged file at) cause = (cause.0, λ is. of_shape publisher (bytes_of before.files log) at (cause.1 is), cause.2)
 shape_cause log publisher before now Disk cause = cause
 shape_cause log publisher before now (Full end need) cause = absurd cause
 shape_cause log publisher before now (Long size limit) cause = absurd cause
@@ -130,7 +136,7 @@ lacks_entry : (publisher : Name) (bytes : List ℕ) (place : ℕ) → IsWhole by
 lacks_entry publisher bytes place whole d =
     record { all = whole.all; spells = whole.spells; es = d.es; rest = d.rest; bytes_are = d.bytes_are; place_is = d.place_is; stored = d.stored; broken = d.broken }
 
-module _ (log : File) (publisher : Name) (start before now : Seen) (alone : SyncedAlone start before) (whole : IsTrue start.told → IsWhole (bytes_of start.files log)) where
+module _ (log : File) (publisher : Name) (start before now : Seen) (alone : SyncedAlone start before) (whole : IsTrue start.told → IsWhole (bytes_of start.files log)) (steady : before.disk_faults ≡ start.disk_faults) where
   replay_cause : (fault : DatabaseFault) → ReplayCause log publisher before now fault → LogCause log publisher start now fault
   replay_cause Missing cause = absurd cause
   replay_cause Exists cause = absurd cause
@@ -139,11 +145,12 @@ module _ (log : File) (publisher : Name) (start before now : Seen) (alone : Sync
     λ is.
         let lacks : LacksNext publisher (bytes_of start.files log) at = subst (λ (f : Files). LacksNext publisher (bytes_of f log) at) (alone.only is).files (cause.1 (subst IsTrue (sym alone.stays.told) is)) in
         inr (inr (inr (lacks_entry publisher (bytes_of start.files log) at (whole is) lacks))),
+    cause.2 ∙ steady,
   )
   replay_cause Disk cause = let later : start.disk_faults ≤ before.disk_faults = alone.stays.later in omega arith
   replay_cause (Full end need) cause = absurd cause
   replay_cause (Long size limit) cause = absurd cause
-  replay_cause Memory cause = tt
+  replay_cause Memory cause = cause ∙ steady
 
   pub entries_refused : (result : Result View DatabaseFault) → IfErr result (ReplayCause log publisher before now) → IfErr result (LogCause log publisher start now)
   entries_refused (Ok db) cause = tt
@@ -152,9 +159,9 @@ module _ (log : File) (publisher : Name) (start before now : Seen) (alone : Sync
 -- ---- files that stand for a history
 
 pub not_refused : (before now : Seen) (publisher : Name) (es : List Recorded) (base : ℕ) → IsTrue before.told → StandsFor publisher es base before.files → (fault : DatabaseFault) → OpenCause before now fault → IsDiskOrMemory fault
-not_refused before now publisher es base told stands Missing cause = absurd (missing_is_none publisher es base before.files stands (cause told))
+not_refused before now publisher es base told stands Missing cause = absurd (missing_is_none publisher es base before.files stands (cause.0 told))
 not_refused before now publisher es base told stands Exists cause = absurd cause
-not_refused before now publisher es base told stands (Damaged file at) cause = absurd (damaged_is_none publisher es base at file before.files stands (cause told))
+not_refused before now publisher es base told stands (Damaged file at) cause = absurd (damaged_is_none publisher es base at file before.files stands (cause.0 told))
 not_refused before now publisher es base told stands Disk cause = tt
 not_refused before now publisher es base told stands (Full end need) cause = absurd cause
 not_refused before now publisher es base told stands (Long size limit) cause = absurd cause

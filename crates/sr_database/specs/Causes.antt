@@ -19,15 +19,15 @@ use Rattle.sr_database.specs.Views.{View}
 use Rattle.sr_files.specs.declared.fault.DatabaseFault.{DatabaseFault}
 use Rattle.sr_files.specs.declared.fault.DatabaseFault.TheVariants.{Missing, Exists, Damaged, Disk, Full, Long, Memory}
 
--- why `open` is refused
+-- why `open` is refused: but for the disk's refusal no call of the disk failed
 abbrev pub OpenCause : Seen → Seen → DatabaseFault → Type 0
-OpenCause before now Missing = IsTrue before.told → IsMissing before.files
+OpenCause before now Missing = (IsTrue before.told → IsMissing before.files) × (now.disk_faults ≡ before.disk_faults)
 OpenCause before now Exists = ⊥
-OpenCause before now (Damaged file at) = IsTrue before.told → IsDamagedAt file at before.files
+OpenCause before now (Damaged file at) = (IsTrue before.told → IsDamagedAt file at before.files) × (now.disk_faults ≡ before.disk_faults)
 OpenCause before now Disk = Rose before.disk_faults now.disk_faults
 OpenCause before now (Full end need) = ⊥
 OpenCause before now (Long long limit) = ⊥
-OpenCause before now Memory = ⊤
+OpenCause before now Memory = now.disk_faults ≡ before.disk_faults
 
 -- the refusal of the disk, or of memory
 abbrev pub IsDiskOrMemory : DatabaseFault → Type 0
@@ -94,15 +94,16 @@ IsBegun (Err (Full end need)) = ⊥
 IsBegun (Err (Long size limit)) = ⊥
 IsBegun (Err Memory) = ⊥
 
--- why the entry behind an offset is not read: damage only where the disk does not tell what it holds, or this is no entry's end
+-- why the entry behind an offset is not read: damage only where the disk does not tell what it holds, or this is no entry's end; but for the
+-- disk's refusal no call of the disk failed
 abbrev pub EntryCause : View → Offset → Seen → Seen → DatabaseFault → Type 0
 EntryCause view after before now Missing = ⊥
 EntryCause view after before now Exists = ⊥
-EntryCause view after before now (Damaged file at) = IsTrue before.told → ¬ (IsEnd view after before)
+EntryCause view after before now (Damaged file at) = (IsTrue before.told → ¬ (IsEnd view after before)) × (now.disk_faults ≡ before.disk_faults)
 EntryCause view after before now Disk = Rose before.disk_faults now.disk_faults
 EntryCause view after before now (Full end need) = ⊥
 EntryCause view after before now (Long long limit) = ⊥
-EntryCause view after before now Memory = ⊤
+EntryCause view after before now Memory = now.disk_faults ≡ before.disk_faults
 
 -- the fault of a database where a record is not read
 abbrev pub IsRecordFault : File → RecordFault → DatabaseFault → Type 0

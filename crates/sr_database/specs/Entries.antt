@@ -74,12 +74,13 @@ pub record Parts (log : Log) (after : ℕ) (publisher : Name) (done left : List 
   pub at : IsAt log after (bodies done) (bodies left) seen.files
   pub after_is : after ≡ end_of done
 
--- why the entry behind an offset of a log is not read: damage only where the disk does not tell what it holds, or the offset parts no history
+-- why the entry behind an offset of a log is not read: damage only where the disk does not tell what it holds, or the offset parts no history;
+-- but for the disk's refusal no call of the disk failed
 abbrev pub BehindCause : Log → ℕ → Seen → Seen → DatabaseFault → Type 0
 BehindCause log after before now Missing = ⊥
 BehindCause log after before now Exists = ⊥
-BehindCause log after before now (Damaged file at) = IsTrue before.told → (publisher : Name) (done left : List Recorded) → Parts log after publisher done left before → ⊥
+BehindCause log after before now (Damaged file at) = (IsTrue before.told → (publisher : Name) (done left : List Recorded) → Parts log after publisher done left before → ⊥) × (now.disk_faults ≡ before.disk_faults)
 BehindCause log after before now Disk = Rose before.disk_faults now.disk_faults
 BehindCause log after before now (Full end need) = ⊥
 BehindCause log after before now (Long size limit) = ⊥
-BehindCause log after before now Memory = ⊤
+BehindCause log after before now Memory = now.disk_faults ≡ before.disk_faults

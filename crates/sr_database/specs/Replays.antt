@@ -134,16 +134,17 @@ IsNextEntry catalog new_catalog rows new_rows books new_books position publisher
 abbrev pub piece : ℕ → ℕ → List ℕ → List ℕ
 piece place count bytes = take count (drop place bytes)
 
--- why the body of a record, which is there, is not read: damage at the gate where no entry spells it
+-- why the body of a record, which is there, is not read: damage at the gate where no entry spells it; but for the disk's refusal no call of
+-- the disk failed
 abbrev pub BodyCause : File → ℕ → ℕ → Seen → Seen → DatabaseFault → Type 0
 BodyCause log place count before now Missing = ⊥
 BodyCause log place count before now Exists = ⊥
 BodyCause log place count before now (Damaged file at) =
-    (file ≡ log) × (at ≡ place) × (IsTrue before.told → place + 5 + count ≤ length (bytes_of before.files log) → (e : Entry) → IsEntry e → piece (place + 5) count (bytes_of before.files log) ≢ entry_spelling e)
+    (file ≡ log) × (at ≡ place) × (IsTrue before.told → place + 5 + count ≤ length (bytes_of before.files log) → (e : Entry) → IsEntry e → piece (place + 5) count (bytes_of before.files log) ≢ entry_spelling e) × (now.disk_faults ≡ before.disk_faults)
 BodyCause log place count before now Disk = Rose before.disk_faults now.disk_faults
 BodyCause log place count before now (Full end need) = ⊥
 BodyCause log place count before now (Long size limit) = ⊥
-BodyCause log place count before now Memory = ⊤
+BodyCause log place count before now Memory = now.disk_faults ≡ before.disk_faults
 
 -- why bytes are no entry: damage at a gate where no entry is spelled so
 abbrev pub SpellingCause : File → ℕ → List ℕ → DatabaseFault → Type 0
@@ -155,23 +156,24 @@ SpellingCause log place bytes (Full end need) = ⊥
 SpellingCause log place bytes (Long size limit) = ⊥
 SpellingCause log place bytes Memory = ⊤
 
--- why a record of the log is not read behind what was: damage at its gate where no entry stands there that may
+-- why a record of the log is not read behind what was: damage at its gate where no entry stands there that may; but for the disk's refusal no
+-- call of the disk failed
 abbrev pub RecordCause : File → Name → Lists → Marked → BookMap → ℕ → Seen → Seen → DatabaseFault → Type 0
 RecordCause log publisher catalog rows books position before now Missing = ⊥
 RecordCause log publisher catalog rows books position before now Exists = ⊥
 RecordCause log publisher catalog rows books position before now (Damaged file at) =
-    (file ≡ log) × (IsTrue before.told → (es : List Recorded) → IsReplayed catalog rows books position publisher es → HasRead es position (bytes_of before.files log) → LacksNext publisher (bytes_of before.files log) at)
+    (file ≡ log) × (IsTrue before.told → (es : List Recorded) → IsReplayed catalog rows books position publisher es → HasRead es position (bytes_of before.files log) → LacksNext publisher (bytes_of before.files log) at) × (now.disk_faults ≡ before.disk_faults)
 RecordCause log publisher catalog rows books position before now Disk = Rose before.disk_faults now.disk_faults
 RecordCause log publisher catalog rows books position before now (Full end need) = ⊥
 RecordCause log publisher catalog rows books position before now (Long size limit) = ⊥
-RecordCause log publisher catalog rows books position before now Memory = ⊤
+RecordCause log publisher catalog rows books position before now Memory = now.disk_faults ≡ before.disk_faults
 
--- why the entries are not read
+-- why the entries are not read: but for the disk's refusal no call of the disk failed
 abbrev pub ReplayCause : File → Name → Seen → Seen → DatabaseFault → Type 0
 ReplayCause log publisher before now Missing = ⊥
 ReplayCause log publisher before now Exists = ⊥
-ReplayCause log publisher before now (Damaged file at) = (file ≡ log) × (IsTrue before.told → LacksNext publisher (bytes_of before.files log) at)
+ReplayCause log publisher before now (Damaged file at) = (file ≡ log) × (IsTrue before.told → LacksNext publisher (bytes_of before.files log) at) × (now.disk_faults ≡ before.disk_faults)
 ReplayCause log publisher before now Disk = Rose before.disk_faults now.disk_faults
 ReplayCause log publisher before now (Full end need) = ⊥
 ReplayCause log publisher before now (Long size limit) = ⊥
-ReplayCause log publisher before now Memory = ⊤
+ReplayCause log publisher before now Memory = now.disk_faults ≡ before.disk_faults

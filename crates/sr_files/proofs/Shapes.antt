@@ -18,7 +18,7 @@ use Rattle.sr_site.specs.declared.file.File.{File}
 use Rattle.sr_site.specs.declared.file.File.TheVariants.{Root}
 use Rattle.sr_standing.specs.Damage.{HasOtherBase}
 use Rattle.sr_standing.specs.Generations.{generation_in, snapshot_of, log_of}
-use Rattle.sr_files.specs.Openings.{BeginsWithByte, named_by, AreInForce, IsDamagedHeader, BaseCause, IsWhole, IsDamagedShape, ShapeCause, IsLogFault, HasRefused, ShapeRefusal}
+use Rattle.sr_files.specs.Openings.{BeginsWithByte, named_by, AreInForce, IsDamagedHeader, BaseCause, IsWhole, IsDamagedShape, ShapeCause, IsLogFault, HasRefused, HasFoundDamage, ShapeRefusal}
 use Rattle.sr_files.specs.declared.fault.DatabaseFault.{DatabaseFault}
 use Rattle.sr_files.specs.declared.fault.DatabaseFault.TheVariants.{Missing, Exists, Damaged, Disk, Full, Long, Memory}
 
@@ -82,8 +82,8 @@ module _ (log : File) (before now : Seen) (files : IsTrue before.told → now.fi
       let zero : found.base ≡ 0 = omega arith in
       record { all = (has told).bodies; spells = subst (λ (l : List ℕ). Spells 0 (has told).bodies l) bytes (subst (λ (b : ℕ). Spells b (has told).bodies (bytes_of now.files found.file)) zero (has told).is_log.spells) }
 
-  pub based_elsewhere : (found : Log) → found.file ≡ log → 0 < found.base → (IsTrue before.told → HasLog found now.files) → ShapeCause log before now (Damaged log 8)
-  based_elsewhere found is some has = (refl, λ told. inr (inl (other_base found.base (bytes_of before.files log) (header_of found is (has told) told) some, refl)))
+  pub based_elsewhere : (found : Log) → found.file ≡ log → 0 < found.base → (IsTrue before.told → HasLog found now.files) → now.disk_faults ≡ before.disk_faults → ShapeCause log before now (Damaged log 8)
+  based_elsewhere found is some has steady = (refl, λ told. inr (inl (other_base found.base (bytes_of before.files log) (header_of found is (has told) told) some, refl)), steady)
 
 -- the header, looked at after that
 of_header : (bytes : List ℕ) (place : ℕ) → IsDamagedHeader bytes place → IsDamagedShape bytes place
@@ -93,20 +93,21 @@ of_header bytes place (inr other) = inr (inl other)
 pub header_cause : (log : File) (before now : Seen) (fault : LogFault) (answer : DatabaseFault) → IsLogFault log fault answer → HeaderCause log before now fault → BaseCause log before now answer
 header_cause log before now logs.Disk answer is cause = subst (λ (a : DatabaseFault). BaseCause log before now a) (sym is) cause
 header_cause log before now (logs.Full end need) answer is cause = absurd cause
-header_cause log before now (logs.Damaged at) answer is cause = subst (λ (a : DatabaseFault). BaseCause log before now a) (sym is) (refl, λ told. inl (cause.1 told, cause.0))
+header_cause log before now (logs.Damaged at) answer is cause = subst (λ (a : DatabaseFault). BaseCause log before now a) (sym is) (refl, λ told. inl (cause.1 told, cause.0), cause.2)
 
 module _ (log : File) (fault : LogFault) (before now : Seen) where
-  pub shape_damaged : (at : ℕ) → fault ≡ logs.Damaged at → HasRefused fault log before → (IsTrue before.told → HasHeader 0 (bytes_of before.files log)) → ShapeRefusal log fault before now (Damaged log at)
-  shape_damaged at is refused header = (refl, λ told. damaged_shape (bytes_of before.files log) at (header told) (subst (λ (f : LogFault). HasRefused f log before) is refused told))
+  pub shape_damaged : (at : ℕ) → fault ≡ logs.Damaged at → HasRefused fault log before → (IsTrue before.told → HasHeader 0 (bytes_of before.files log)) → now.disk_faults ≡ before.disk_faults → ShapeRefusal log fault before now (Damaged log at)
+  shape_damaged at is refused header steady =
+      (refl, λ told. damaged_shape (bytes_of before.files log) at (header told) (subst (λ (f : LogFault). HasRefused f log before) is refused told), steady, subst HasFoundDamage (sym is) tt)
 
-  pub base_refused : (answer : DatabaseFault) → BaseCause log before now answer → ShapeRefusal log fault before now answer
-  base_refused Missing cause = absurd cause
-  base_refused Exists cause = absurd cause
-  base_refused (Damaged file at) cause = (cause.0, λ told. of_header (bytes_of before.files log) at (cause.1 told))
-  base_refused Disk cause = inr cause
-  base_refused (Full end need) cause = absurd cause
-  base_refused (Long size limit) cause = absurd cause
-  base_refused Memory cause = absurd cause
+  pub base_refused : HasFoundDamage fault → (answer : DatabaseFault) → BaseCause log before now answer → ShapeRefusal log fault before now answer
+  base_refused found Missing cause = absurd cause
+  base_refused found Exists cause = absurd cause
+  base_refused found (Damaged file at) cause = (cause.0, λ told. of_header (bytes_of before.files log) at (cause.1 told), cause.2, found)
+  base_refused found Disk cause = inr cause
+  base_refused found (Full end need) cause = absurd cause
+  base_refused found (Long size limit) cause = absurd cause
+  base_refused found Memory cause = absurd cause
 
   pub never_full : (end need : ℕ) → fault ≡ logs.Full end need → HasRefused fault log before → ShapeRefusal log fault before now Disk
   never_full end need is refused = absurd (subst (λ (f : LogFault). HasRefused f log before) is refused)
@@ -117,7 +118,7 @@ has_refused log before middle same files logs.Disk cause = tt
 has_refused log before middle same files (logs.Full end need) cause = cause
 has_refused log before middle same files (logs.Damaged at) cause = λ told.
     let first : IsTrue before.told = subst IsTrue same told in
-    subst (λ (f : Files). IsDamaged (bytes_of f log) at) (sym (files first)) (cause first)
+    subst (λ (f : Files). IsDamaged (bytes_of f log) at) (sym (files first)) (cause.0 first)
 
 module _ (log : File) (before middle now : Seen) (told_same : middle.told ≡ before.told) (files : IsTrue before.told → middle.files ≡ before.files) (later : before.disk_faults ≤ middle.disk_faults) (onward : middle.disk_faults ≤ now.disk_faults) where
   disk_rose : (fault : LogFault) → OpenCause log before middle fault → (fault ≡ logs.Disk) ⊎ Rose middle.disk_faults now.disk_faults → Rose before.disk_faults now.disk_faults
@@ -126,11 +127,17 @@ module _ (log : File) (before middle now : Seen) (told_same : middle.told ≡ be
   disk_rose (logs.Damaged at) cause (inl is) = absurd cc
   disk_rose (logs.Damaged at) cause (inr rose) = omega arith
 
+  -- where damage was found, no call failed
+  steady_then : (fault : LogFault) → OpenCause log before middle fault → HasFoundDamage fault → middle.disk_faults ≡ before.disk_faults
+  steady_then logs.Disk cause found = absurd found
+  steady_then (logs.Full end need) cause found = absurd found
+  steady_then (logs.Damaged at) cause found = cause.1
+
   pub shape_refused : (fault : LogFault) → OpenCause log before middle fault → (answer : DatabaseFault) → ShapeRefusal log fault middle now answer → ShapeCause log before now answer
   shape_refused fault cause Missing refused = absurd refused
   shape_refused fault cause Exists refused = absurd refused
   shape_refused fault cause (Damaged file at) refused =
-      (refused.0, λ told. subst (λ (f : Files). IsDamagedShape (bytes_of f log) at) (files told) (refused.1 (subst IsTrue (sym told_same) told)))
+      (refused.0, λ told. subst (λ (f : Files). IsDamagedShape (bytes_of f log) at) (files told) (refused.1 (subst IsTrue (sym told_same) told)), refused.2 ∙ steady_then fault cause refused.3)
   shape_refused fault cause Disk refused = disk_rose fault cause refused
   shape_refused fault cause (Full end need) refused = absurd refused
   shape_refused fault cause (Long size limit) refused = absurd refused

@@ -109,10 +109,10 @@ no_bytes : (file : List ℕ) → take 94 file ≡ [] → file ≡ []
 no_bytes [] e = refl
 no_bytes (byte ∷ file) e = let e' : byte ∷ take 93 file ≡ [] = e in absurd cc
 
-front_cause : (snapshot : File) (before now : Seen) (bytes : List ℕ) → (IsTrue before.told → bytes ≡ take 94 (bytes_of before.files snapshot)) → (fault : DatabaseFault) → FrontCause snapshot bytes fault → SnapshotCause snapshot before now fault
-front_cause snapshot before now bytes is Missing cause = absurd cause
-front_cause snapshot before now bytes is Exists cause = absurd cause
-front_cause snapshot before now bytes is (Damaged file at) cause = λ told. blames (bytes_of before.files snapshot) (is told) cause
+front_cause : (snapshot : File) (before now : Seen) (bytes : List ℕ) → (IsTrue before.told → bytes ≡ take 94 (bytes_of before.files snapshot)) → now.disk_faults ≡ before.disk_faults → (fault : DatabaseFault) → FrontCause snapshot bytes fault → SnapshotCause snapshot before now fault
+front_cause snapshot before now bytes is steady Missing cause = absurd cause
+front_cause snapshot before now bytes is steady Exists cause = absurd cause
+front_cause snapshot before now bytes is steady (Damaged file at) cause = (λ told. blames (bytes_of before.files snapshot) (is told) cause, steady)
   where
     blames : (whole : List ℕ) → bytes ≡ take 94 whole → BlamesRoot snapshot file at bytes ⊎ BlamesSnapshot snapshot file at bytes → BlamesRoot snapshot file at whole ⊎ BlamesSnapshot snapshot file at whole
     blames whole same (inl root) = inl (record { odd_one = root.odd_one; file_is = root.file_is; at_is = root.at_is; none = no_bytes whole (sym same ∙ root.none) })
@@ -122,19 +122,19 @@ front_cause snapshot before now bytes is (Damaged file at) cause = λ told. blam
           broken = sym (front_tells whole) ∙ ap snapshot_at (sym same) ∙ broken.broken;
           begun = λ odd_one none. broken.begun odd_one (same ∙ ap (take 94) none);
         })
-front_cause snapshot before now bytes is Disk cause = absurd cause
-front_cause snapshot before now bytes is (Full end need) cause = absurd cause
-front_cause snapshot before now bytes is (Long size limit) cause = absurd cause
-front_cause snapshot before now bytes is Memory cause = tt
+front_cause snapshot before now bytes is steady Disk cause = absurd cause
+front_cause snapshot before now bytes is steady (Full end need) cause = absurd cause
+front_cause snapshot before now bytes is steady (Long size limit) cause = absurd cause
+front_cause snapshot before now bytes is steady Memory cause = steady
 
 module _ (snapshot : File) (before now : Seen) (bytes : List ℕ) (is : IsTrue before.told → bytes ≡ take 94 (bytes_of before.files snapshot)) where
   pub publisher_read : (result : Result Name DatabaseFault) → IsTrue before.told → IfOk result (IsFreshOf bytes) → IfOk result (IsFreshOf (bytes_of before.files snapshot))
   publisher_read (Ok publisher) told fresh = front_fresh (bytes_of before.files snapshot) bytes publisher (is told) fresh
   publisher_read (Err fault) told fresh = tt
 
-  pub refused_read : (result : Result Name DatabaseFault) → IfErr result (FrontCause snapshot bytes) → IfErr result (SnapshotCause snapshot before now)
-  refused_read (Ok publisher) cause = tt
-  refused_read (Err fault) cause = front_cause snapshot before now bytes is fault cause
+  pub refused_read : now.disk_faults ≡ before.disk_faults → (result : Result Name DatabaseFault) → IfErr result (FrontCause snapshot bytes) → IfErr result (SnapshotCause snapshot before now)
+  refused_read steady (Ok publisher) cause = tt
+  refused_read steady (Err fault) cause = front_cause snapshot before now bytes is steady fault cause
 
 pub name_read : (bytes : List ℕ) (result : Result Name DatabaseFault) → IfOk result (IsFreshOf bytes) → IfOk result IsName
 name_read bytes (Ok publisher) fresh = fresh.name

@@ -64,9 +64,9 @@ pub record AreInForce (snapshot log : File) (seen : Seen) : Type 0 where
   pub log_is : log ≡ log_of generation
   pub named : IsTrue seen.told → generation_in seen.files.root ≡ Some generation
 
--- why the root is refused
+-- why the root is refused: where it has no byte, no call of the disk failed
 abbrev pub RootCause : Seen → Seen → DatabaseFault → Type 0
-RootCause before now Missing = IsTrue before.told → before.files.root ≡ []
+RootCause before now Missing = (IsTrue before.told → before.files.root ≡ []) × (now.disk_faults ≡ before.disk_faults)
 RootCause before now Exists = ⊥
 RootCause before now (Damaged file at) = ⊥
 RootCause before now Disk = Rose before.disk_faults now.disk_faults
@@ -102,35 +102,36 @@ FrontCause snapshot bytes (Full end need) = ⊥
 FrontCause snapshot bytes (Long size limit) = ⊥
 FrontCause snapshot bytes Memory = ⊤
 
--- why the snapshot is refused
+-- why the snapshot is refused: at damage and for want of memory no call of the disk failed
 abbrev pub SnapshotCause : File → Seen → Seen → DatabaseFault → Type 0
 SnapshotCause snapshot before now Missing = ⊥
 SnapshotCause snapshot before now Exists = ⊥
-SnapshotCause snapshot before now (Damaged file at) = IsTrue before.told → BlamesRoot snapshot file at (bytes_of before.files snapshot) ⊎ BlamesSnapshot snapshot file at (bytes_of before.files snapshot)
+SnapshotCause snapshot before now (Damaged file at) =
+    (IsTrue before.told → BlamesRoot snapshot file at (bytes_of before.files snapshot) ⊎ BlamesSnapshot snapshot file at (bytes_of before.files snapshot)) × (now.disk_faults ≡ before.disk_faults)
 SnapshotCause snapshot before now Disk = Rose before.disk_faults now.disk_faults
 SnapshotCause snapshot before now (Full end need) = ⊥
 SnapshotCause snapshot before now (Long size limit) = ⊥
-SnapshotCause snapshot before now Memory = ⊤
+SnapshotCause snapshot before now Memory = now.disk_faults ≡ before.disk_faults
 
--- why the log is refused, behind the snapshot of this publisher
+-- why the log is refused, behind the snapshot of this publisher: at damage and for want of memory no call of the disk failed
 abbrev pub LogCause : File → Name → Seen → Seen → DatabaseFault → Type 0
 LogCause log publisher before now Missing = ⊥
 LogCause log publisher before now Exists = ⊥
-LogCause log publisher before now (Damaged file at) = (file ≡ log) × (IsTrue before.told → IsDamagedLog publisher (bytes_of before.files log) at)
+LogCause log publisher before now (Damaged file at) = (file ≡ log) × (IsTrue before.told → IsDamagedLog publisher (bytes_of before.files log) at) × (now.disk_faults ≡ before.disk_faults)
 LogCause log publisher before now Disk = Rose before.disk_faults now.disk_faults
 LogCause log publisher before now (Full end need) = ⊥
 LogCause log publisher before now (Long size limit) = ⊥
-LogCause log publisher before now Memory = ⊤
+LogCause log publisher before now Memory = now.disk_faults ≡ before.disk_faults
 
 -- the log's header is not whole, or has another base
 abbrev pub IsDamagedHeader : List ℕ → ℕ → Type 0
 IsDamagedHeader bytes place = (LacksHeader bytes × (place ≡ 0)) ⊎ (HasOtherBase 0 bytes × (place ≡ 8))
 
--- why the log's header is refused
+-- why the log's header is refused: at damage no call of the disk failed
 abbrev pub BaseCause : File → Seen → Seen → DatabaseFault → Type 0
 BaseCause log before now Missing = ⊥
 BaseCause log before now Exists = ⊥
-BaseCause log before now (Damaged file at) = (file ≡ log) × (IsTrue before.told → IsDamagedHeader (bytes_of before.files log) at)
+BaseCause log before now (Damaged file at) = (file ≡ log) × (IsTrue before.told → IsDamagedHeader (bytes_of before.files log) at) × (now.disk_faults ≡ before.disk_faults)
 BaseCause log before now Disk = Rose before.disk_faults now.disk_faults
 BaseCause log before now (Full end need) = ⊥
 BaseCause log before now (Long size limit) = ⊥
@@ -145,11 +146,11 @@ pub record IsWhole (bytes : List ℕ) : Type 0 where
 abbrev pub IsDamagedShape : List ℕ → ℕ → Type 0
 IsDamagedShape bytes place = (LacksHeader bytes × (place ≡ 0)) ⊎ ((HasOtherBase 0 bytes × (place ≡ 8)) ⊎ LacksRecordAt 0 bytes place)
 
--- why the log's header and records are refused
+-- why the log's header and records are refused: at damage no call of the disk failed
 abbrev pub ShapeCause : File → Seen → Seen → DatabaseFault → Type 0
 ShapeCause log before now Missing = ⊥
 ShapeCause log before now Exists = ⊥
-ShapeCause log before now (Damaged file at) = (file ≡ log) × (IsTrue before.told → IsDamagedShape (bytes_of before.files log) at)
+ShapeCause log before now (Damaged file at) = (file ≡ log) × (IsTrue before.told → IsDamagedShape (bytes_of before.files log) at) × (now.disk_faults ≡ before.disk_faults)
 ShapeCause log before now Disk = Rose before.disk_faults now.disk_faults
 ShapeCause log before now (Full end need) = ⊥
 ShapeCause log before now (Long size limit) = ⊥
@@ -167,11 +168,17 @@ HasRefused logs.Disk log seen = ⊤
 HasRefused (logs.Full end need) log seen = ⊥
 HasRefused (logs.Damaged at) log seen = IsTrue seen.told → IsDamaged (bytes_of seen.files log) at
 
--- why the shape of a log is refused after its own opening was: with the disk's refusal then or now
+-- the log's own opening found damage
+abbrev pub HasFoundDamage : LogFault → Type 0
+HasFoundDamage logs.Disk = ⊥
+HasFoundDamage (logs.Full end need) = ⊥
+HasFoundDamage (logs.Damaged at) = ⊤
+
+-- why the shape of a log is refused after its own opening was: with the disk's refusal then or now, else at damage that was found both times
 abbrev pub ShapeRefusal : File → LogFault → Seen → Seen → DatabaseFault → Type 0
 ShapeRefusal log fault before now Missing = ⊥
 ShapeRefusal log fault before now Exists = ⊥
-ShapeRefusal log fault before now (Damaged file at) = (file ≡ log) × (IsTrue before.told → IsDamagedShape (bytes_of before.files log) at)
+ShapeRefusal log fault before now (Damaged file at) = (file ≡ log) × (IsTrue before.told → IsDamagedShape (bytes_of before.files log) at) × (now.disk_faults ≡ before.disk_faults) × HasFoundDamage fault
 ShapeRefusal log fault before now Disk = (fault ≡ logs.Disk) ⊎ Rose before.disk_faults now.disk_faults
 ShapeRefusal log fault before now (Full end need) = ⊥
 ShapeRefusal log fault before now (Long size limit) = ⊥

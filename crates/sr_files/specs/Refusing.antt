@@ -13,10 +13,10 @@ pub record IsLeft (before now : Seen) : Type 0 where
   pub files : now.files ≡ before.files
   pub happened : now.happened ≡ synced Root true before.files.root ∷ before.happened
 
--- why `create` is refused: for want of memory before it calls any device
+-- why `create` is refused: where there is a database no call of the disk failed; for want of memory it is before any device is called
 abbrev pub CreateCause : Seen → Seen → DatabaseFault → Type 0
 CreateCause before now Missing = ⊥
-CreateCause before now Exists = IsTrue before.told → IsLeft before now
+CreateCause before now Exists = (IsTrue before.told → IsLeft before now) × (now.disk_faults ≡ before.disk_faults)
 CreateCause before now (Damaged file at) = ⊥
 CreateCause before now Disk = Rose before.disk_faults now.disk_faults
 CreateCause before now (Full end need) = ⊥

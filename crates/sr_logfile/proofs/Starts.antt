@@ -1,10 +1,10 @@
 -- What a crash may leave while a log without records is made in a file, and while a file is opened.
-use Rattle.std.proofs.Common.{◌≡◌, ◌⊎◌, ◌+◌, ◌-◌, ◌≤◌, ℕ, Bool, true, false, List, [], ◌∷◌, ◌++◌, length, take, drop, inl, inr, refl, sym, ◌∙◌, ap, subst, arith}
+use Rattle.std.proofs.Common.{◌≡◌, ◌⊎◌, ◌+◌, ◌-◌, ◌≤◌, ℕ, Bool, true, false, List, [], ◌∷◌, ◌++◌, length, take, inl, inr, refl, sym, ◌∙◌, ap, subst, arith}
 use Rattle.std.proofs.lemmas.Bool.{cases_lt}
 use Rattle.std.proofs.lemmas.List.{length-drop, append-nil}
 use Rattle.std.proofs.Math.Seq.{drop-nil}
 use Rattle.sr_site.specs.Calls.{sync}
-use Rattle.sr_site.specs.Files.{Files, bytes_of, with_bytes, overwritten, IsTorn, OthersStay}
+use Rattle.sr_site.specs.Files.{Files, bytes_of, overwritten, IsTorn}
 use Rattle.sr_site.specs.Happenings.{Happening, Made, wrote, cut_to, synced}
 use Rattle.sr_site.specs.Images.{MayLeave, KeepsOthers, RestsThroughout}
 use Rattle.sr_site.specs.Seen.{Seen}

@@ -29,28 +29,28 @@ FreshCause before now Disk = Rose before.disk_faults now.disk_faults
 FreshCause before now (Full end need) = ⊥
 FreshCause before now (Damaged at) = ⊥
 
--- why a header is refused: there is none
+-- why a header is refused: there is none, and no call of the disk failed
 abbrev pub HeaderCause : File → Seen → Seen → LogFault → Type 0
 HeaderCause file before now Disk = Rose before.disk_faults now.disk_faults
 HeaderCause file before now (Full end need) = ⊥
-HeaderCause file before now (Damaged at) = (at ≡ 0) × (IsTrue before.told → LacksHeader (bytes_of before.files file))
+HeaderCause file before now (Damaged at) = (at ≡ 0) × (IsTrue before.told → LacksHeader (bytes_of before.files file)) × (now.disk_faults ≡ before.disk_faults)
 
--- why `open` is refused
+-- why `open` is refused: at damage no call of the disk failed
 abbrev pub OpenCause : File → Seen → Seen → LogFault → Type 0
 OpenCause file before now Disk = Rose before.disk_faults now.disk_faults
 OpenCause file before now (Full end need) = ⊥
-OpenCause file before now (Damaged at) = IsTrue before.told → IsDamaged (bytes_of before.files file) at
+OpenCause file before now (Damaged at) = (IsTrue before.told → IsDamaged (bytes_of before.files file) at) × (now.disk_faults ≡ before.disk_faults)
 
--- why `next` is refused: damage only where the file is not as the log's calls left it
+-- why `next` is refused: damage only where the file is not as the log's calls left it, and no call of the disk failed
 abbrev pub NextCause : Log → ℕ → Seen → Seen → LogFault → Type 0
 NextCause log after before now Disk = Rose before.disk_faults now.disk_faults
 NextCause log after before now (Full end need) = ⊥
-NextCause log after before now (Damaged at) = IsTrue before.told → (done left : List (List ℕ)) → IsAt log after done left before.files → ⊥
+NextCause log after before now (Damaged at) = (IsTrue before.told → (done left : List (List ℕ)) → IsAt log after done left before.files → ⊥) × (now.disk_faults ≡ before.disk_faults)
 
--- why the record behind a position is not read
+-- why the record behind a position is not read: where memory was wanting no call of the disk failed
 abbrev pub RecordAfterCause : Log → ℕ → Seen → Seen → RecordFault → Type 0
 RecordAfterCause log after before now (FromLog fault) = NextCause log after before now fault
-RecordAfterCause log after before now Memory = Unit {0}
+RecordAfterCause log after before now Memory = now.disk_faults ≡ before.disk_faults
 
 -- why `commit` of so many framed bytes is refused, and what it leaves then: after the disk's refusal a log that is not used again, after Full
 -- all as it was

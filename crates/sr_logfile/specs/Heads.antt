@@ -67,17 +67,17 @@ HeadCause before now Disk = Rose before.disk_faults now.disk_faults
 HeadCause before now (Full end need) = ⊥
 HeadCause before now (Damaged at) = ⊥
 
--- why a read of a record's end is refused
+-- why a read of a record's end is refused: at damage no call of the disk failed
 abbrev pub RecordCause : File → ℕ → ℕ → Seen → Seen → LogFault → Type 0
 RecordCause file place position before now Disk = Rose before.disk_faults now.disk_faults
 RecordCause file place position before now (Full end need) = ⊥
-RecordCause file place position before now (Damaged at) = (at ≡ place) × (IsTrue before.told → IsBroken position (drop place (bytes_of before.files file)))
+RecordCause file place position before now (Damaged at) = (at ≡ place) × (IsTrue before.told → IsBroken position (drop place (bytes_of before.files file))) × (now.disk_faults ≡ before.disk_faults)
 
--- why a read of the records is refused
+-- why a read of the records is refused: at damage no call of the disk failed
 abbrev pub RecordsCause : File → Seen → Seen → LogFault → Type 0
 RecordsCause file before now Disk = Rose before.disk_faults now.disk_faults
 RecordsCause file before now (Full end need) = ⊥
-RecordsCause file before now (Damaged at) = IsTrue before.told → LacksRecord (bytes_of before.files file) at
+RecordsCause file before now (Damaged at) = (IsTrue before.told → LacksRecord (bytes_of before.files file) at) × (now.disk_faults ≡ before.disk_faults)
 
 -- the records up to a position are whole, and a gate stands there
 pub record Reaches (base position : ℕ) (bytes : List ℕ) : Type 0 where

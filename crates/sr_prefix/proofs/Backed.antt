@@ -124,7 +124,7 @@ module _ (publisher : Name) (es : List Recorded) where
         = AllByRecursion-front (IsTrue publisher there) stop.messages stop.left (all_letters publisher there whose partner.ask options.length (stop.messages ++ stop.left) stop.are) in
         let first = trail_back options.length run sent in
         let put_then : Backs publisher there (puts trail) files
-        = backs_letters publisher there (puts trail) (folder_of publisher there whose) (books_of whose there).send_count stop.messages (backs_last publisher es [] trail first) hold in
+        = backs_letters publisher there (puts trail) (folder_of publisher there whose) (books_of whose there).send_count stop.messages (backs_last publisher es [] trail first) hold stop.spelled in
         let still : there ++ commits files ≡ there
         = ap (λ (l : List Recorded). there ++ l) (commits_letters (folder_of publisher there whose) (books_of whose there).send_count stop.messages) ∙ append-nil there in
         let are : AreTrue publisher there (puts trail ++ puts files)

@@ -20,7 +20,6 @@ use Rattle.sr_model.specs.Layers as layered
 use Rattle.sr_model.specs.Truth.{members, IsTrueOf}
 use Rattle.sr_model.specs.Windows.{window}
 use Rattle.sr_model.proofs.Longer.{given_in, taken_longer, window_longer}
-use Rattle.sr_msgform.specs.Messages.{IsMessage}
 use Rattle.sr_msgform.specs.declared.message.Message.{Message}
 use Rattle.sr_msgform.proofs.Whole.{one_message}
 use Rattle.sr_send.specs.TrueLetters.{all_given}
@@ -120,9 +119,9 @@ true_longer sender es more us m step t =
     record { sent_by = t.sent_by; carries = carries_longer sender m.to es more m t.carries; confirms = omega (arith, t.confirms, later) }
 
 -- a file of a true message is not forged: its bytes are those of no other
-pub not_forged : (sender receiver : Name) (es : List Recorded) (bytes : List ℕ) (file : IsTrueFile sender es bytes) → IsMessage file.message → IsUnforged receiver sender es bytes
-not_forged sender receiver es bytes file is =
-    λ m other spelled from to. subst (λ (n : Message). IsTrue sender es n) (one_message file.message m is other (sym file.bytes_are ∙ spelled)) file.is
+pub not_forged : (sender receiver : Name) (es : List Recorded) (bytes : List ℕ) → IsTrueFile sender es bytes → IsUnforged receiver sender es bytes
+not_forged sender receiver es bytes file =
+    λ m other spelled from to. subst (λ (n : Message). IsTrue sender es n) (one_message file.message m file.is_message other (sym file.bytes_are ∙ spelled)) file.is
 
 -- ---- a world of databases
 

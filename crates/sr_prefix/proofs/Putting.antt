@@ -17,6 +17,7 @@ use Rattle.sr_cut.proofs.Lists.{AllByRecursion-append, AllByRecursion-map}
 use Rattle.sr_history.specs.Folds.{books_of, sees}
 use Rattle.sr_history.specs.Recorded.{Recorded, note}
 use Rattle.sr_logform.specs.declared.op.Op.{Op}
+use Rattle.sr_msgform.specs.Messages.{IsMessage}
 use Rattle.sr_msgform.specs.declared.message.Message.{Message}
 use Rattle.sr_scan.specs.Given.{gives, given_of}
 use Rattle.sr_scan.proofs.Growing.{one_more}
@@ -47,7 +48,7 @@ true_noted publisher es whose what m t = record {
 }
 
 file_noted : (publisher : Name) (es : List Recorded) (whose : Name) (what : Note) (bytes : List ℕ) → IsTrueFile publisher es bytes → IsTrueFile publisher (es ++ note whose what ∷ []) bytes
-file_noted publisher es whose what bytes t = record { message = t.message; bytes_are = t.bytes_are; is = true_noted publisher es whose what t.message t.is }
+file_noted publisher es whose what bytes t = record { message = t.message; is_message = t.is_message; bytes_are = t.bytes_are; is = true_noted publisher es whose what t.message t.is }
 
 all_noted : (publisher : Name) (es : List Recorded) (whose : Name) (what : Note) (done : List Letter) → AreTrue publisher es done → AreTrue publisher (es ++ note whose what ∷ []) done
 all_noted publisher es whose what done are =
@@ -105,23 +106,23 @@ module _ (publisher : Name) where
   -- ---- what is sent to one partner
 
   pub backs_letters : (es : List Recorded) (done : List Letter) (address : Name) (count : ℕ) (messages : List Message) → AreTrue publisher es done → AllByRecursion (IsTrue publisher es) messages
-      → Backs es done (letters address count messages)
-  backs_letters es done address count [] are hold = are
-  backs_letters es done address count (m ∷ messages) are hold = (
+      → AllByRecursion IsMessage messages → Backs es done (letters address count messages)
+  backs_letters es done address count [] are hold spelled = are
+  backs_letters es done address count (m ∷ messages) are hold spelled = (
     are,
     backs_letters es (done ++ (address, _, _) ∷ []) address (count + 1) messages
-        (AllByRecursion-append (λ (l : Letter). IsTrueFile publisher es l.2) done ((address, _, _) ∷ []) are (record { message = m; bytes_are = refl; is = hold.0 }, tt)) hold.1,
+        (AllByRecursion-append (λ (l : Letter). IsTrueFile publisher es l.2) done ((address, _, _) ∷ []) are (record { message = m; is_message = spelled.0; bytes_are = refl; is = hold.0 }, tt)) hold.1 spelled.1,
   )
 
   pub backs_note : (es : List Recorded) (done : List Letter) (whose : Name) (what : Note) → AreTrue publisher es done → Backs es done (commit (note whose what) ∷ [])
   backs_note es done whose what are = (are, all_noted publisher es whose what done are)
 
   noted_back : (es : List Recorded) (done : List Letter) (address whose : Name) (book : Book) (end : Offset) (messages : List Message) → AreTrue publisher es done
-      → AllByRecursion (IsTrue publisher es) messages → Backs es done (noted_letters address whose book end messages)
-  noted_back es done address whose book end [] are hold = are
-  noted_back es done address whose book end (m ∷ messages) are hold =
+      → AllByRecursion (IsTrue publisher es) messages → AllByRecursion IsMessage messages → Backs es done (noted_letters address whose book end messages)
+  noted_back es done address whose book end [] are hold spelled = are
+  noted_back es done address whose book end (m ∷ messages) are hold spelled =
       let files : List Item = letters address book.send_count (m ∷ messages) in
-      let front : Backs es done files = backs_letters es done address book.send_count (m ∷ messages) are hold in
+      let front : Backs es done files = backs_letters es done address book.send_count (m ∷ messages) are hold spelled in
       let last : AreTrue publisher (es ++ commits files) (done ++ puts files) = backs_last es done files front in
       backs_more es done files (commit (sent_note whose book end (length (m ∷ messages))) ∷ []) front
       (backs_note (es ++ commits files) (done ++ puts files) whose (Sent end (length (m ∷ messages)) (offset_from book.log_received)) last)
@@ -156,4 +157,4 @@ module _ (publisher : Name) where
       let first = deliveries_back es limit earlier are.0 in
       backs_more es [] added (delivery_items publisher there d) first
       (noted_back there (puts added) (folder_of publisher there whose) whose (books_of whose there) (sent_end publisher there whose (books_of whose there)) d.messages
-      (backs_last es [] added first) (all_letters there whose d.partner.ask limit d.messages are.1.are))
+      (backs_last es [] added first) (all_letters there whose d.partner.ask limit d.messages are.1.are) are.1.spelled)

@@ -3,7 +3,7 @@ use Rattle.std.specs.Prelude.{◌≡◌, ℕ, List, ◌++◌}
 use Rattle.std.specs.List.{AllByRecursion}
 use Rattle.sr_book.specs.Entries.{Name}
 use Rattle.sr_history.specs.Recorded.{Recorded}
-use Rattle.sr_msgform.specs.Messages.{message_spelling}
+use Rattle.sr_msgform.specs.Messages.{IsMessage, message_spelling}
 use Rattle.sr_msgform.specs.declared.message.Message.{Message}
 use Rattle.sr_site.specs.Files.{Files}
 use Rattle.sr_site.specs.Happenings.{Happening}
@@ -14,9 +14,10 @@ use Rattle.sr_standing.specs.Standing.{StandsAs}
 use Rattle.sr_standing.specs.Trails.{AtEach}
 use Rattle.sr_prefix.specs.Truths.{IsTrue}
 
--- bytes are those of a message that is true of the history
+-- bytes are those of a message that is true of the history, and can be read again
 pub record IsTrueFile (publisher : Name) (es : List Recorded) (bytes : List ℕ) : Type 0 where
   pub message : Message
+  pub is_message : IsMessage message
   pub bytes_are : bytes ≡ message_spelling message
   pub is : IsTrue publisher es message
 

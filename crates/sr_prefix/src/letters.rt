@@ -16,12 +16,12 @@ ghost use Rattle.sr_site.specs.Causes.{DiskStays, Stays};
 ghost use Rattle.sr_site.specs.Images.{IsImage, RestsThroughout};
 ghost use Rattle.sr_site.specs.Seen.{Seen};
 ghost use Rattle.sr_site.specs.Streams.{Output};
-ghost use Rattle.sr_msgform.specs.Messages.{IsMessage};
 ghost use Rattle.sr_prefix.specs.Forging.{IsUnforged};
 ghost use Rattle.sr_prefix.specs.Puts.{BacksPuts, IsTrueFile, PutsTrue};
 
 /// What a run of the agent puts is true of what is durable. At each moment, to its end or to the fault that ended it, whatever a crash leaves stands
-/// for a history of which all messages are true that the run has put until then. So no offset is confirmed past what was taken for good.
+/// for a history of which all messages are true that the run has put until then, and each of them can be read again. So no offset is confirmed past what
+/// was taken for good.
 pub fn what_a_run_puts_is_true()
     ensures backed { (publisher : Name) (es : List Recorded) (options : Choices) (new : View) (before now : Seen) (written written' : Output) (lines : List ALine) (result : Result ℕ AFault)
         → Did new before now written written' publisher es options lines result → BacksPuts publisher before now }
@@ -40,8 +40,8 @@ pub fn whole_runs_put_what_is_true()
         → IsDatabase view owner es opened → RanScript view new opened now written written' statements result → PutsTrue publisher before now }
 {}
 
-/// A file that is true of its sender's history is not forged: no bytes are those of two messages. So what one database puts is what the other
-/// asks for.
+/// A file that is true of its sender's history is not forged: its message can be read again, and no bytes are those of two such. So what one database
+/// puts is what the other asks for.
 pub fn what_is_true_is_not_forged()
-    ensures unforged { (sender receiver : Name) (es : List Recorded) (bytes : List ℕ) (file : IsTrueFile sender es bytes) → IsMessage file.message → IsUnforged receiver sender es bytes }
+    ensures unforged { (sender receiver : Name) (es : List Recorded) (bytes : List ℕ) → IsTrueFile sender es bytes → IsUnforged receiver sender es bytes }
 {}

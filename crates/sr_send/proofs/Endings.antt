@@ -15,9 +15,11 @@ use Rattle.sr_cut.specs.declared.too_long.TooLong.{TooLong}
 use Rattle.sr_cut.specs.declared.too_long.TooLong.TheVariants as long
 use Rattle.sr_cut.proofs.Existing.{cut_there}
 use Rattle.sr_cut.proofs.Giving.{finishes}
+use Rattle.sr_cut.proofs.Lists.{AllByRecursion-append}
 use Rattle.sr_cut.proofs.Rising.{lt-last}
 use Rattle.sr_database.specs.Views.{View}
 use Rattle.sr_logform.specs.declared.op.Transaction.{Transaction}
+use Rattle.sr_msgform.specs.Messages.{IsMessage}
 use Rattle.sr_msgform.specs.declared.message.Message.{Message}
 use Rattle.sr_site.specs.Seen.{Seen}
 use Rattle.sr_send.specs.Aims.{IsAim, HasMade, HasMadeSome}
@@ -52,13 +54,14 @@ held_may aim old closed good some emptied =
     cut_may aim some.pushed some.messages closed good some.made.rises some.made.fits (held_cut aim old closed emptied some.pushed some.messages some.made)
 
 pub emptied_so : (aim : Aim) (old new : Post) (closed : List Message) (before now : Seen) → IsEmptied old.cutter closed → new.put ≡ old.put + length closed → new.end ≡ old.end
-    → Posted before now (letters aim.address (aim.count + old.put) closed) → IsSteady before now → Emptied aim old new before now
-emptied_so aim old new closed before now emptied count end_is posted steady = record {
+    → Posted before now (letters aim.address (aim.count + old.put) closed) → AllByRecursion IsMessage closed → IsSteady before now → Emptied aim old new before now
+emptied_so aim old new closed before now emptied count end_is posted spelled steady = record {
   closed = closed;
   cut = held_cut aim old closed emptied;
   count = count;
   end_is = end_is;
   posted = posted;
+  spelled = spelled;
   steady = steady;
 }
 
@@ -70,6 +73,7 @@ held_stopped aim old closed before now fault emptied part = record {
   cut = λ pushed earlier made.
       subst (λ (ms : List Message). AreCut aim.head aim.prev pushed aim.limit (earlier ++ ms)) part.parts (held_cut aim old closed emptied pushed earlier made);
   posted = part.posted;
+  spelled = part.spelled;
   cause = part.cause;
   ends = part.ends;
 }
@@ -84,6 +88,7 @@ held_short aim old seen =
       cut = λ pushed earlier made.
           cut_along old.cutter.head aim.head old.cutter.limit aim.limit aim.prev pushed (earlier ++ held) made.head_is made.limit_is (finishes old.cutter aim.prev pushed earlier made.given);
       posted = posted_none seen;
+      spelled = tt;
       cause = refl;
       ends = ends_same seen;
     }
@@ -128,6 +133,7 @@ completed_cut aim book ask old new before now at emptied alone = record {
   count = emptied.count;
   end_is = emptied.end_is;
   posted = emptied.posted;
+  spelled = emptied.spelled;
   steady = emptied.steady;
 }
 
@@ -172,6 +178,7 @@ held_last aim book ask old before now fault at stop = record {
       let some = some_left aim.head aim.prev book ask aim.limit pushed (earlier ++ stop.messages) stop.left at cut in
       (some.0, subst (λ (ms : List Message). AreMessages aim.head book ask aim.limit pushed ms) (append_assoc earlier stop.messages some.0) some.1);
   posted = stop.posted;
+  spelled = stop.spelled;
   cause = stop.cause;
   ends = stop.ends;
 }
@@ -213,6 +220,7 @@ completed_bodyless aim book ask old middle new before seen now at emptied alone 
   count = omega (arith, emptied.count, put.count, length-append emptied.closed (bodyless aim.head aim.prev ∷ []));
   end_is = put.end_is ∙ emptied.end_is;
   posted = letters_behind aim old middle emptied.closed (bodyless aim.head aim.prev ∷ []) before seen now emptied.count emptied.posted put.posted;
+  spelled = AllByRecursion-append IsMessage emptied.closed (bodyless aim.head aim.prev ∷ []) emptied.spelled put.spelled;
   steady = steady_on before seen now emptied.steady put.steady;
 }
 
@@ -233,6 +241,7 @@ last_stopped aim book ask old middle before seen now fault at emptied alone part
         (are_bodyless aim book ask old middle before seen (part.done ++ part.left) at emptied alone (sym part.parts) pushed earlier made),
   );
   posted = letters_behind aim old middle emptied.closed part.done before seen now emptied.count emptied.posted part.posted;
+  spelled = AllByRecursion-append IsMessage emptied.closed part.done emptied.spelled part.spelled;
   cause = fault_behind before seen now fault emptied.steady part.cause;
   ends = ends_on before seen now emptied.steady part.ends;
 }
@@ -249,6 +258,7 @@ all_put db aim book ask user post post' before middle now read completed = recor
   end_is = completed.end_is ∙ read.made.end_is;
   fits = read.made.fits;
   posted = letters_on aim post read.pushed read.messages completed.closed before middle now read.made read.posted completed.posted;
+  spelled = AllByRecursion-append IsMessage read.messages completed.closed read.spelled completed.spelled;
   steady = steady_on before middle now read.steady completed.steady;
   whole = read.whole;
 }
@@ -263,6 +273,7 @@ last_read db aim book ask user post before middle now fault read stop =
       left = all.0;
       are = subst (λ (ms : List Message). AreMessages aim.head book ask aim.limit read.pushed ms) (sym (append_assoc read.messages stop.messages all.0)) all.1;
       posted = letters_on aim post read.pushed read.messages stop.messages before middle now read.made read.posted stop.posted;
+      spelled = AllByRecursion-append IsMessage read.messages stop.messages read.spelled stop.spelled;
       whole = read.whole;
       cause = fault_behind before middle now fault read.steady stop.cause;
       ends = ends_on before middle now read.steady stop.ends;
@@ -279,8 +290,9 @@ nothing_put db aim book ask user seen good = inl (record {
   messages = [];
   front = record { begins = λ rest. cut_there aim.head aim.limit (has_room aim good) aim.prev rest };
   posted = posted_none seen;
+  spelled = tt;
   begins = λ told publisher es database. record { rest = unsent publisher es user aim.prev.0; parts = refl };
-  cause = inl refl;
+  cause = refl;
   ends = ends_same seen;
 })
 
@@ -289,7 +301,7 @@ nothing_put db aim book ask user seen good = inl (record {
 -- nothing is too long where there is nothing
 pub bodyless_refused : (aim : Aim) (count : ℕ) (seen : Seen) (messages : List Message) (e : TooLong) → CutCause [] e → IsPartSent aim count seen seen messages (fault_of_cut e)
 bodyless_refused aim count seen messages (long.Transaction need) cause = absurd cc
-bodyless_refused aim count seen messages long.Memory cause = record { done = []; left = messages; parts = refl; posted = posted_none seen; cause = refl; ends = ends_same seen }
+bodyless_refused aim count seen messages long.Memory cause = record { done = []; left = messages; parts = refl; posted = posted_none seen; spelled = tt; cause = refl; ends = ends_same seen }
 
 pub not_due : (due : Bool) (P : Type 0) → (IsTrue due ↔ P) → due ≡ false → ¬ P
 not_due due P same is_not holds =

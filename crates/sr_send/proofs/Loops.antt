@@ -5,6 +5,7 @@ use Rattle.std.proofs.lemmas.List.{append-nil}
 use Rattle.sr_base.specs.declared.offset.Offset.{Offset}
 use Rattle.sr_book.specs.Entries.{Name}
 use Rattle.sr_cut.proofs.Items.{long-behind}
+use Rattle.sr_cut.proofs.Lists.{AllByRecursion-append}
 use Rattle.sr_database.specs.Causes.{EntryCause}
 use Rattle.sr_database.specs.Databases.{IsOfSome, IsDatabase}
 use Rattle.sr_database.specs.Entries.{IsNext}
@@ -15,6 +16,7 @@ use Rattle.sr_history.specs.Folds.{end_of}
 use Rattle.sr_history.specs.Recorded.{Recorded}
 use Rattle.sr_logform.specs.declared.entry.Entry.{Entry}
 use Rattle.sr_logform.specs.declared.op.Transaction.{Transaction}
+use Rattle.sr_msgform.specs.Messages.{IsMessage}
 use Rattle.sr_msgform.specs.declared.message.Message.{Message}
 use Rattle.sr_scan.specs.Scanners.{Scan}
 use Rattle.sr_site.specs.Seen.{Seen}
@@ -59,6 +61,7 @@ step_on db aim scan scan' old new after end entry before middle now behind read 
     closed = fed.pushed.closed;
     made = fed.pushed.made;
     posted = posted_behind_read before middle now _ read fed.pushed.posted;
+    spelled = fed.pushed.spelled;
     steady = steady_on before middle now steady fed.pushed.steady;
   };
   later = within.0;
@@ -71,8 +74,7 @@ fault_from before middle now added Disk steady cause = (rose_from before.disk_fa
 fault_from before middle now added Mail steady cause = (rose_from before.mail_faults middle.mail_faults now.mail_faults steady.mail cause.0, cause.1 ∙ steady.disk)
 fault_from before middle now added (Full end need) steady cause = cause
 fault_from before middle now added (Long size limit) steady cause = (steady_on before middle now steady cause.0, cause.1, cause.2)
-fault_from before middle now added Memory steady (inl disk) = inl (disk ∙ steady.disk)
-fault_from before middle now added Memory steady (inr mail) = inr (mail ∙ steady.mail)
+fault_from before middle now added Memory steady cause = cause ∙ steady.disk
 
 stop_from : (aim : Aim) (old : Post) (before middle now : Seen) (added : List Transaction) (fault : SendFault) → Posted before middle [] → IsSteady before middle → PushStop aim old middle now added fault
     → PushStop aim old before now added fault
@@ -80,6 +82,7 @@ stop_from aim old before middle now added fault read steady stop = record {
   messages = stop.messages;
   front = stop.front;
   posted = posted_behind_read before middle now _ read stop.posted;
+  spelled = stop.spelled;
   cause = fault_from before middle now added fault steady stop.cause;
   ends = ends_on before middle now steady stop.ends;
 }
@@ -105,7 +108,7 @@ next_fault before now Disk mail cause = (cause, mail)
 next_fault before now Mail mail cause = absurd cause
 next_fault before now (Full end need) mail cause = absurd cause
 next_fault before now (Long size limit) mail cause = absurd cause
-next_fault before now Memory mail cause = inr mail
+next_fault before now Memory mail cause = cause
 
 -- no entry was read
 pub step_unread : (db : View) (aim : Aim) (scan : Scan) (old : Post) (after : Offset) (before now : Seen) (fault : SendFault) → IsAim aim → Posted before now [] → now.mail_faults ≡ before.mail_faults
@@ -117,6 +120,7 @@ step_unread db aim scan old after before now fault good read mail cause = record
     messages = [];
     front = nothing_put aim old [] good;
     posted = read;
+    spelled = tt;
     cause = next_fault before now fault mail cause;
     ends = ends_none before now read.mail;
   };
@@ -133,6 +137,7 @@ under_start db aim user scan post after seen made at order catalog user_is =
       messages = [];
       made = made;
       posted = posted_none seen;
+      spelled = tt;
       steady = same_counts seen;
       from_base = omega (arith, at);
       within = omega (arith, at, order);
@@ -157,6 +162,7 @@ under_step db aim user scan scan' post post' after end first before now under st
   messages = under.messages ++ step.pushed.closed;
   made = step.pushed.made under.pushed under.messages under.made;
   posted = letters_on aim post under.pushed under.messages step.pushed.closed first before now under.made under.posted step.pushed.posted;
+  spelled = AllByRecursion-append IsMessage under.messages step.pushed.closed under.spelled step.pushed.spelled;
   steady = steady_on first before now under.steady step.pushed.steady;
   from_base = omega (arith, under.from_base, step.later);
   within = step.within;
@@ -177,6 +183,7 @@ under_end db aim user scan post post' after first before now under at_end = reco
   posted =
       subst (λ (items : List Item). Posted first now items) (append-nil (letters aim.address aim.count under.messages))
       (posted_on first before now (letters aim.address aim.count under.messages) [] (no_commits aim.address aim.count under.messages) under.posted at_end.posted);
+  spelled = under.spelled;
   steady = steady_on first before now under.steady at_end.steady;
   whole = λ told publisher es database.
       let read = under.read told publisher es database in
@@ -207,6 +214,7 @@ under_stopped db aim user scan post after first before now fault under stop = re
   messages = under.messages ++ stop.stop.messages;
   front = stop.stop.front under.pushed under.messages under.made;
   posted = letters_on aim post under.pushed under.messages stop.stop.messages first before now under.made under.posted stop.stop.posted;
+  spelled = AllByRecursion-append IsMessage under.messages stop.stop.messages under.spelled stop.stop.spelled;
   begins = λ told publisher es database.
       let read = under.read told publisher es database in
       let here = posted_database db publisher es first before _ under.posted told database in
@@ -221,11 +229,11 @@ under_stopped db aim user scan post after first before now fault under stop = re
 pub next_cause : (db : View) (after : Offset) (before now : Seen) (fault : DatabaseFault) → EntryCause db after before now fault → NextFault before now (fault_of_store fault)
 next_cause db after before now store.Missing cause = absurd cause
 next_cause db after before now store.Exists cause = absurd cause
-next_cause db after before now (store.Damaged file at) cause = tt
+next_cause db after before now (store.Damaged file at) cause = cause.1
 next_cause db after before now store.Disk cause = cause
 next_cause db after before now (store.Full end need) cause = absurd cause
 next_cause db after before now (store.Long size limit) cause = absurd cause
-next_cause db after before now store.Memory cause = tt
+next_cause db after before now store.Memory cause = cause
 
 pub done_answer : (db : View) (aim : Aim) (scan scan' : Scan) (old new : Post) (after end : Offset) (entry : Entry) (before middle now : Seen) (result : Result (Unit {0}) SendFault) → IsBehind aim.prev.0 after.0 old.end.0 → Posted before middle []
     → IsSteady before middle → (after.0 < end.0) × (end.0 ≤ db.log.end) → IsFoundNext db after end entry before → OnOk result (Fed aim scan scan' old new end entry middle now)

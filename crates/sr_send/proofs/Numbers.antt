@@ -4,7 +4,8 @@ use Rattle.std.specs.Prelude.{◌⊎◌}
 use Rattle.std.specs.List.{AllByRecursion}
 use Rattle.std.proofs.lemmas.List.{append-nil}
 use Rattle.sr_book.specs.Entries.{Name}
-use Rattle.sr_msgform.specs.Messages.{KeepsRules, message_length}
+use Rattle.sr_cut.proofs.Lists.{AllByRecursion-append}
+use Rattle.sr_msgform.specs.Messages.{IsMessage, KeepsRules, message_length}
 use Rattle.sr_msgform.specs.declared.message.Message.{Message}
 use Rattle.sr_site.specs.Seen.{Seen}
 use Rattle.sr_standing.specs.Items.{Item, commits}
@@ -52,12 +53,13 @@ pub record IsPutting (address : Name) (count put : ℕ) (messages left : List Me
   pub done : List Message
   pub parts : messages ≡ done ++ left
   pub posted : Posted before now (letters address (count + put) done)
+  pub spelled : AllByRecursion IsMessage done
   pub total_is : total ≡ put + length done
   pub each : AllByRecursion MayBePut left
   pub steady : IsSteady before now
 
 pub putting_start : (address : Name) (count put : ℕ) (messages : List Message) (seen : Seen) → AllByRecursion MayBePut messages → IsPutting address count put messages messages put seen seen
-putting_start address count put messages seen each = record { done = []; parts = refl; posted = posted_none seen; total_is = omega arith; each = each; steady = same_counts seen }
+putting_start address count put messages seen each = record { done = []; parts = refl; posted = posted_none seen; spelled = tt; total_is = omega arith; each = each; steady = same_counts seen }
 
 -- the number that comes next
 next_number : (address : Name) (count put total number : ℕ) (done : List Message) (m : Message) → total ≡ put + length done → number ≡ (count + (total + 1)) % 2 ^ 64
@@ -73,11 +75,12 @@ one_more address count put total number m left messages before middle now p is p
     (subst (λ (items : List Item). Posted middle now items) (next_number address count put total number p.done m p.total_is is) posted)
 
 pub putting_more : (address : Name) (count put total number : ℕ) (m : Message) (left messages : List Message) (before middle now : Seen) → IsPutting address count put messages (m ∷ left) total before middle
-    → number ≡ (count + (total + 1)) % 2 ^ 64 → Posted middle now (letter address number m ∷ []) → IsSteady middle now → IsPutting address count put messages left (total + 1) before now
-putting_more address count put total number m left messages before middle now p is posted steady = record {
+    → number ≡ (count + (total + 1)) % 2 ^ 64 → Posted middle now (letter address number m ∷ []) → IsMessage m → IsSteady middle now → IsPutting address count put messages left (total + 1) before now
+putting_more address count put total number m left messages before middle now p is posted spelled steady = record {
   done = p.done ++ m ∷ [];
   parts = p.parts ∙ sym (append_assoc p.done (m ∷ []) left);
   posted = one_more address count put total number m left messages before middle now p is posted;
+  spelled = AllByRecursion-append IsMessage p.done (m ∷ []) p.spelled (spelled, tt);
   total_is = omega (arith, p.total_is, length-append p.done (m ∷ []));
   each = p.each.1;
   steady = steady_on before middle now p.steady steady;
@@ -93,14 +96,14 @@ put_fault before middle now Memory steady cause = cause ∙ steady.disk
 -- ends before the next, for want of memory
 pub putting_short : (aim : Aim) (put total : ℕ) (left messages : List Message) (before now : Seen) → IsPutting aim.address aim.count put messages left total before now
     → IsPartSent aim (aim.count + put) before now messages Memory
-putting_short aim put total left messages before now p = record { done = p.done; left = left; parts = p.parts; posted = p.posted; cause = p.steady.disk; ends = ends_steady before now p.steady }
+putting_short aim put total left messages before now p = record { done = p.done; left = left; parts = p.parts; posted = p.posted; spelled = p.spelled; cause = p.steady.disk; ends = ends_steady before now p.steady }
 
 -- ends at the next
 pub putting_stop : (aim : Aim) (put total number : ℕ) (m : Message) (left messages : List Message) (before middle now : Seen) (fault : SendFault) → IsPutting aim.address aim.count put messages (m ∷ left) total before middle
-    → number ≡ (aim.count + (total + 1)) % 2 ^ 64 → IsPartPut middle now (letter aim.address number m) fault → IsPartSent aim (aim.count + put) before now messages fault
+    → number ≡ (aim.count + (total + 1)) % 2 ^ 64 → IsPartPut middle now aim.address number m fault → IsPartSent aim (aim.count + put) before now messages fault
 putting_stop aim put total number m left messages before middle now fault p is stop = stopped stop.posted
   where
-    stopped : Posted middle now [] ⊎ Posted middle now (letter aim.address number m ∷ []) → IsPartSent aim (aim.count + put) before now messages fault
+    stopped : Posted middle now [] ⊎ (Posted middle now (letter aim.address number m ∷ []) × IsMessage m) → IsPartSent aim (aim.count + put) before now messages fault
     stopped (inl posted) = record {
       done = p.done;
       left = m ∷ left;
@@ -108,14 +111,16 @@ putting_stop aim put total number m left messages before middle now fault p is s
       posted =
           subst (λ (items : List Item). Posted before now items) (append-nil (letters aim.address (aim.count + put) p.done))
           (posted_on before middle now (letters aim.address (aim.count + put) p.done) [] (no_commits aim.address (aim.count + put) p.done) p.posted posted);
+      spelled = p.spelled;
       cause = put_fault before middle now fault p.steady stop.cause;
       ends = ends_on before middle now p.steady stop.ends;
     }
-    stopped (inr posted) = record {
+    stopped (inr begun) = record {
       done = p.done ++ m ∷ [];
       left = left;
       parts = p.parts ∙ sym (append_assoc p.done (m ∷ []) left);
-      posted = one_more aim.address aim.count put total number m left messages before middle now p is posted;
+      posted = one_more aim.address aim.count put total number m left messages before middle now p is begun.0;
+      spelled = AllByRecursion-append IsMessage p.done (m ∷ []) p.spelled (begun.1, tt);
       cause = put_fault before middle now fault p.steady stop.cause;
       ends = ends_on before middle now p.steady stop.ends;
     }

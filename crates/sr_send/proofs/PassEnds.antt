@@ -1,6 +1,7 @@
 -- A pass as its caller sees it.
 use Rattle.std.proofs.Common.{◌≡◌, ℕ, List, [], ◌∷◌, ◌++◌, length, Option, Some, None, refl, sym, ap, subst, ◌∙◌, arith, inl, inr}
 use Rattle.std.specs.Prelude.{IsTrue, IsSome, Bool, true, false, ◌≢◌}
+use Rattle.std.specs.List.{AllByRecursion}
 use Rattle.std.specs.Option.{option_map}
 use Rattle.std.proofs.lemmas.List.{append-nil}
 use Rattle.sr_base.specs.Values.{offset_from}
@@ -16,6 +17,7 @@ use Rattle.sr_database.specs.Databases.{IsOf, IsDatabase, HasDatabase}
 use Rattle.sr_database.specs.Views.{View}
 use Rattle.sr_history.specs.Recorded.{Recorded, entry_of}
 use Rattle.sr_logform.specs.declared.op.Transaction.{Transaction}
+use Rattle.sr_msgform.specs.Messages.{IsMessage}
 use Rattle.sr_msgform.specs.declared.message.Message.{Message}
 use Rattle.sr_schema.specs.Catalogs.{Lists}
 use Rattle.sr_schema.specs.declared.user.User.{User}
@@ -81,6 +83,7 @@ module _ (db : View) (user : Name) (book : Book) (limit : ℕ) (ask : Bool) (is 
         left = some.0;
         are = are_along head (head_of publisher user book ask) book ask limit (waiting publisher es user book) (waiting publisher es user book) (stop.messages ++ some.0)
             (head_is db publisher es user book ask database.is) refl some.1;
+        spelled = stop.spelled;
         went = posted_went db publisher es before now _ stop.posted told database;
         mail = stop.posted.mail told;
         outcomes = stop.ends told;
@@ -89,13 +92,14 @@ module _ (db : View) (user : Name) (book : Book) (limit : ℕ) (ask : Bool) (is 
 
   -- all that was put, with what is left
   all_part : (before now : Seen) (pushed : List Transaction) (messages left : List Message) → AreMessages (head_of db.base_catalog.publisher user book ask) book ask limit pushed (messages ++ left)
-      → Posted before now (letters (address_in db.catalog user) book.send_count messages) → EndsAtPut before now
+      → Posted before now (letters (address_in db.catalog user) book.send_count messages) → AllByRecursion IsMessage messages → EndsAtPut before now
       → (IsTrue before.told → (publisher : Name) (es : List Recorded) → IsDatabase db publisher es before → pushed ≡ waiting publisher es user book) → InPart before now
-  all_part before now pushed messages left are posted ends whole told publisher es database = record {
+  all_part before now pushed messages left are posted spelled ends whole told publisher es database = record {
     messages = messages;
     left = left;
     are = are_along (head_of db.base_catalog.publisher user book ask) (head_of publisher user book ask) book ask limit pushed (waiting publisher es user book) (messages ++ left)
         (head_is db publisher es user book ask database.is) (whole told publisher es database) are;
+    spelled = spelled;
     went = posted_went db publisher es before now _ posted told database;
     mail = posted.mail told;
     outcomes = ends told;
@@ -103,12 +107,12 @@ module _ (db : View) (user : Name) (book : Book) (limit : ℕ) (ask : Bool) (is 
   }
 
   end_part : (before now : Seen) (fault : SendFault) → EndStop db (aim_at db user book limit ask) book ask user before now fault → InPart before now
-  end_part before now fault stop = all_part before now stop.pushed stop.messages stop.left stop.are stop.posted stop.ends stop.whole
+  end_part before now fault stop = all_part before now stop.pushed stop.messages stop.left stop.are stop.posted stop.spelled stop.ends stop.whole
 
   put_part : (before now : Seen) (sent : Sent) → PutAll db (aim_at db user book limit ask) book ask user before now sent → InPart before now
   put_part before now sent put =
       all_part before now put.pushed put.messages [] (subst (λ (ms : List Message). AreMessages (head_of db.base_catalog.publisher user book ask) book ask limit put.pushed ms) (sym (append-nil put.messages)) put.are)
-      put.posted (ends_steady before now put.steady) put.whole
+      put.posted put.spelled (ends_steady before now put.steady) put.whole
 
   -- the first encoding that is too long
   long_part : (before now : Seen) (size longest : ℕ) → ReadStop db (aim_at db user book limit ask) user before now (Long size longest) → HasLongEncoding db before user size longest
@@ -174,6 +178,7 @@ module _ (db : View) (user : Name) (book : Book) (limit : ℕ) (ask : Bool) (is 
     passed_none publisher es told database none = record {
       messages = [];
       are = subst (λ (ms : List Message). AreAll publisher es user book ask limit ms) none (all_of told publisher es database);
+      spelled = tt;
       count = put.count ∙ ap (λ (ms : List Message). length ms) none;
       end_is = end_of_all told publisher es database;
       fits = fits_all told publisher es database;
@@ -224,6 +229,7 @@ module _ (db : View) (user : Name) (book : Book) (limit : ℕ) (ask : Bool) (is 
         record {
           messages = put.messages;
           are = all_of told publisher es database;
+          spelled = put.spelled;
           count = put.count;
           end_is = end_of_all told publisher es database;
           fits = fits_all told publisher es database;
@@ -262,6 +268,7 @@ module _ (db : View) (user : Name) (book : Book) (limit : ℕ) (ask : Bool) (is 
     put_and_began publisher es begun told database trail alone same = record {
       messages = put.messages;
       are = all_of told publisher es database;
+      spelled = put.spelled;
       count_is = put.count;
       end_is = end_of_all told publisher es database;
       went = trail;
@@ -324,7 +331,7 @@ put_device before now Disk cause = absurd cause
 put_device before now Mail cause = cause
 put_device before now (Full end need) cause = absurd cause
 put_device before now (Long size longest) cause = absurd cause
-put_device before now Memory cause = inl cause
+put_device before now Memory cause = cause
 
 pub pass_device : (db : View) (aim : Aim) (book : Book) (ask : Bool) (user : Name) (before now : Seen) (fault : SendFault) → PutStop db aim book ask user before now fault → IsDeviceFault before now fault
 pass_device db aim book ask user before now fault (inl stop) = stop_device before now stop.pushed fault stop.cause
@@ -335,7 +342,7 @@ note_device old new before middle now r Disk steady stays cause = (rose_from bef
 note_device old new before middle now r Mail steady stays cause = absurd cause
 note_device old new before middle now r (Full end need) steady stays cause = subst (λ (seen : Seen). IsSteady before seen) (sym cause.1.site) steady
 note_device old new before middle now r (Long size longest) steady stays cause = absurd cause
-note_device old new before middle now r Memory steady stays cause = inr (stays.mail_faults ∙ steady.mail)
+note_device old new before middle now r Memory steady stays cause = ap (λ (seen : Seen). seen.disk_faults) cause.site ∙ steady.disk
 
 -- a user who is granted has a book
 pub has_book : (found : Option Book) (o : Option User) (b : Book) → found ≡ option_map (λ _. b) o → IsSome o → ((book : Book) → found ≡ Some book → ⊥) → ⊥

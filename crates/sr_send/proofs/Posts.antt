@@ -6,7 +6,7 @@ use Rattle.sr_book.specs.Entries.{Name}
 use Rattle.sr_cut.specs.Hexadecimal.{file_name_of}
 use Rattle.sr_cut.proofs.Lists.{AllByRecursion-append}
 use Rattle.sr_history.specs.Recorded.{Recorded}
-use Rattle.sr_msgform.specs.Messages.{message_spelling}
+use Rattle.sr_msgform.specs.Messages.{IsMessage, message_spelling}
 use Rattle.sr_msgform.specs.declared.message.Message.{Message}
 use Rattle.sr_site.specs.Causes.{Stays, DiskStays, MailStays, Rose}
 use Rattle.sr_site.specs.Files.{Files}
@@ -192,10 +192,11 @@ put_as before now address name bytes done number m name_is bytes_are stays happe
     ∙ ap (λ (n : List ℕ). sent address n bytes done ∷ before.happened) name_is
     ∙ ap (λ (b : List ℕ). sent address (file_name_of m.from number) b done ∷ before.happened) bytes_are)
 
-pub not_begun : (seen : Seen) (item : Item) → IsPartPut seen seen item Memory
-not_begun seen item = record { posted = inl (posted_none seen); cause = refl; ends = ends_same seen }
+pub not_begun : (seen : Seen) (address : Name) (number : ℕ) (m : Message) → IsPartPut seen seen address number m Memory
+not_begun seen address number m = record { posted = inl (posted_none seen); cause = refl; ends = ends_same seen }
 
-pub part_begun : (before now : Seen) (item : Item) (fault : MailFault) (result : Result (Unit {0}) MailFault) → result ≡ Err fault → Posted before now (item ∷ []) → EndsAtPut before now
-    → MailStays before now → (IsErrOf result mail.Failed → Rose before.mail_faults now.mail_faults) → IsPartPut before now item (fault_of_mail fault)
-part_begun before now item mail.Failed result is posted ends stays cause = record { posted = inr posted; cause = (cause is, stays.disk_faults); ends = ends }
-part_begun before now item mail.Memory result is posted ends stays cause = record { posted = inr posted; cause = stays.disk_faults; ends = ends }
+pub part_begun : (before now : Seen) (address : Name) (number : ℕ) (m : Message) (fault : MailFault) (result : Result (Unit {0}) MailFault) → result ≡ Err fault → Posted before now (letter address number m ∷ []) → IsMessage m
+    → EndsAtPut before now
+    → MailStays before now → (IsErrOf result mail.Failed → Rose before.mail_faults now.mail_faults) → IsPartPut before now address number m (fault_of_mail fault)
+part_begun before now address number m mail.Failed result is posted spelled ends stays cause = record { posted = inr (posted, spelled); cause = (cause is, stays.disk_faults); ends = ends }
+part_begun before now address number m mail.Memory result is posted spelled ends stays cause = record { posted = inr (posted, spelled); cause = stays.disk_faults; ends = ends }

@@ -13,6 +13,7 @@ use Rattle.sr_logform.specs.Ops.{transaction_spelling}
 use Rattle.sr_logform.specs.declared.entry.Entry.{Entry}
 use Rattle.sr_logform.specs.declared.op.Op.{Op}
 use Rattle.sr_logform.specs.declared.op.Transaction.{Transaction}
+use Rattle.sr_msgform.specs.Messages.{IsMessage}
 use Rattle.sr_msgform.specs.declared.message.Message.{Message}
 use Rattle.sr_scan.specs.Images.{told}
 use Rattle.sr_scan.specs.Scanners.{Scan, IsFed, transaction_of}
@@ -67,11 +68,12 @@ made_more aim old new t closed later by end_is count pushed messages made = reco
 }
 
 pub pushed_one : (aim : Aim) (old new : Post) (t : Transaction) (closed : List Message) (before now : Seen) → old.end.0 < t.at.0 → IsCutBy old.cutter new.cutter t closed → new.end ≡ t.at → new.put ≡ old.put + length closed
-    → Posted before now (letters aim.address (aim.count + old.put) closed) → IsSteady before now → Pushed aim old new before now (t ∷ [])
-pushed_one aim old new t closed before now later by end_is count posted steady = record {
+    → Posted before now (letters aim.address (aim.count + old.put) closed) → AllByRecursion IsMessage closed → IsSteady before now → Pushed aim old new before now (t ∷ [])
+pushed_one aim old new t closed before now later by end_is count posted spelled steady = record {
   closed = closed;
   made = made_more aim old new t closed later by end_is count;
   posted = posted;
+  spelled = spelled;
   steady = steady;
 }
 
@@ -81,21 +83,21 @@ pub nothing_put : (aim : Aim) (old : Post) (added : List Transaction) → IsAim 
 nothing_put aim old added good pushed earlier made = front_more aim pushed added (earlier ++ []) (made_front aim old pushed earlier good made)
 
 pub stopped_short : (aim : Aim) (old : Post) (seen : Seen) (added : List Transaction) → IsAim aim → PushStop aim old seen seen added Memory
-stopped_short aim old seen added good = record { messages = []; front = nothing_put aim old added good; posted = posted_none seen; cause = inl refl; ends = ends_same seen }
+stopped_short aim old seen added good = record { messages = []; front = nothing_put aim old added good; posted = posted_none seen; spelled = tt; cause = refl; ends = ends_same seen }
 
 cut_fault : (seen : Seen) (t : Transaction) (e : TooLong) → CutCause (t ∷ []) e → StopFault seen seen (t ∷ []) (fault_of_cut e)
 cut_fault seen t (long.Transaction need) cause = (same_counts seen, refl, cause)
-cut_fault seen t long.Memory cause = inl refl
+cut_fault seen t long.Memory cause = refl
 
 pub stopped_long : (aim : Aim) (old : Post) (seen : Seen) (t : Transaction) (e : TooLong) → IsAim aim → CutCause (t ∷ []) e → PushStop aim old seen seen (t ∷ []) (fault_of_cut e)
-stopped_long aim old seen t e good cause = record { messages = []; front = nothing_put aim old (t ∷ []) good; posted = posted_none seen; cause = cut_fault seen t e cause; ends = ends_same seen }
+stopped_long aim old seen t e good cause = record { messages = []; front = nothing_put aim old (t ∷ []) good; posted = posted_none seen; spelled = tt; cause = cut_fault seen t e cause; ends = ends_same seen }
 
 put_fault : (before now : Seen) (added : List Transaction) (fault : SendFault) → PutFault before now fault → StopFault before now added fault
 put_fault before now added Disk cause = absurd cause
 put_fault before now added Mail cause = cause
 put_fault before now added (Full end need) cause = absurd cause
 put_fault before now added (Long size limit) cause = absurd cause
-put_fault before now added Memory cause = inl cause
+put_fault before now added Memory cause = cause
 
 part_front : (aim : Aim) (old : Post) (cutter : Cutting) (t : Transaction) (closed done left : List Message) → IsAim aim → IsCutBy old.cutter cutter t closed → closed ≡ done ++ left
     → (pushed : List Transaction) (earlier : List Message) → HasMade aim old pushed earlier → IsCutFront aim (pushed ++ t ∷ []) (earlier ++ done)
@@ -110,6 +112,7 @@ stopped_putting aim old cutter t closed before now fault good by part = record {
   messages = part.done;
   front = part_front aim old cutter t closed part.done part.left good by part.parts;
   posted = part.posted;
+  spelled = part.spelled;
   cause = put_fault before now (t ∷ []) fault part.cause;
   ends = part.ends;
 }
@@ -128,7 +131,7 @@ made_same aim post pushed messages made =
     (subst (λ (ms : List Message). HasMade aim post pushed ms) (sym (append-nil messages)) made)
 
 pub pushed_nothing : (aim : Aim) (post : Post) (seen : Seen) → Pushed aim post post seen seen []
-pushed_nothing aim post seen = record { closed = []; made = made_same aim post; posted = posted_none seen; steady = same_counts seen }
+pushed_nothing aim post seen = record { closed = []; made = made_same aim post; posted = posted_none seen; spelled = tt; steady = same_counts seen }
 
 pub pushed_old : (aim : Aim) (post : Post) (t : Transaction) (seen : Seen) → nat_lt aim.prev.0 t.at.0 ≡ false → Pushed aim post post seen seen (newer aim.prev.0 (Some t))
 pushed_old aim post t seen before = subst (λ (ts : List Transaction). Pushed aim post post seen seen ts) (sym (not_newer aim.prev.0 t before)) (pushed_nothing aim post seen)

@@ -1,11 +1,11 @@
 -- Where a log is read on from.
-use Rattle.std.proofs.Common.{◌≡◌, ℕ, ◌+◌, ◌≤◌, ◌<◌, List, [], ◌∷◌, ◌++◌, ◌⊎◌, inl, inr, Option, Some, None, refl, sym, ap, subst, ◌∙◌, arith, append_assoc, le-ltb}
-use Rattle.std.specs.Prelude.{IsTrue, nat_lt, false, IfErr, IfSome, Result, Ok, Err}
+use Rattle.std.proofs.Common.{◌≡◌, ℕ, ◌+◌, ◌≤◌, ◌<◌, List, [], ◌∷◌, ◌++◌, inl, inr, Option, refl, sym, ap, subst, ◌∙◌, arith, append_assoc, le-ltb}
+use Rattle.std.specs.Prelude.{IsTrue, nat_lt, false, IfErr, Result, Ok, Err}
 use Rattle.std.proofs.lemmas.List.{append-nil}
 use Rattle.sr_base.specs.declared.offset.Offset.{Offset}
 use Rattle.sr_book.specs.Entries.{Name}
 use Rattle.sr_database.specs.Databases.{IsOfSome, IsDatabase}
-use Rattle.sr_database.specs.Entries.{IsNextEnd, IsNextKind, IsNext}
+use Rattle.sr_database.specs.Entries.{IsNextEnd, IsNextKind}
 use Rattle.sr_database.specs.Views.{View}
 use Rattle.sr_history.specs.Fitting.{Stored}
 use Rattle.sr_history.specs.Folds.{State, fresh, next, size, state_of, end_of, end_from}
@@ -17,11 +17,10 @@ use Rattle.sr_logform.specs.declared.entry.Entry.{Entry}
 use Rattle.sr_logform.specs.declared.entry.Entry.TheVariants.{Own, From, Ddl, Sync, Pass, Note}
 use Rattle.sr_logform.specs.declared.op.Op.{Op}
 use Rattle.sr_logform.specs.declared.op.Transaction.{Transaction}
-use Rattle.sr_scan.specs.Given.{given_of, given_from, gives, with_transaction}
+use Rattle.sr_scan.specs.Given.{given_from, gives, with_transaction}
 use Rattle.sr_scan.specs.Images.{told}
 use Rattle.sr_scan.specs.Scanners.{Scan, IsFed, transaction_of}
 use Rattle.sr_scan.proofs.Agreeing.{fed_same}
-use Rattle.sr_schema.specs.Catalogs.{Lists}
 use Rattle.sr_site.specs.Seen.{Seen}
 use Rattle.sr_send.specs.Aims.{IsAim, HasMade}
 use Rattle.sr_send.specs.Passing.{RunsNothing}
@@ -168,7 +167,7 @@ next_from before middle now Disk steady cause = rose_from before.disk_faults mid
 next_from before middle now Mail steady cause = absurd cause
 next_from before middle now (Full end need) steady cause = absurd cause
 next_from before middle now (Long size limit) steady cause = absurd cause
-next_from before middle now Memory steady cause = tt
+next_from before middle now Memory steady cause = cause ∙ steady.disk
 
 pub later_next : {T : Type 0} (before middle now : Seen) (result : Result T SendFault) → IsSteady before middle → IfErr result (NextFault middle now) → IfErr result (NextFault before now)
 later_next before middle now (Ok x) steady cause = tt
@@ -280,7 +279,7 @@ later_stopped db sent at first before now fault walked stop = record {
 pub begin_short : (db : View) (sent : ℕ) (at : Offset) (first before now : Seen) → Walked db sent at first before → Posted before now [] → IsSteady before now → BeginStop first now Memory
 begin_short db sent at first before now walked read steady = record {
   posted = read_on first before now walked.posted read;
-  cause = inl (steady.disk ∙ walked.steady.disk);
+  cause = steady.disk ∙ walked.steady.disk;
   ends = ends_on first before now walked.steady (ends_steady before now steady);
 }
 
@@ -292,6 +291,7 @@ under_begun db aim user scan post after first now made begun user_is =
       messages = [];
       made = made;
       posted = begun.posted;
+      spelled = tt;
       steady = begun.steady;
       from_base = begun.from_base;
       within = begun.within;
@@ -305,6 +305,7 @@ unbegun db aim user post before now fault good made stop = record {
   messages = [];
   front = made_front aim post [] [] good made;
   posted = stop.posted;
+  spelled = tt;
   begins = λ told publisher es database. record { rest = unsent publisher es user aim.prev.0; parts = refl };
   cause = stop.cause;
   ends = stop.ends;

@@ -1,5 +1,6 @@
 -- What a pass to a user does.
 use Rattle.std.specs.Prelude.{◌≡◌, ◌≢◌, ◌⊎◌, ℕ, Bool, true, false, List, [], ◌∷◌, ◌++◌, length, Some, None, IsTrue}
+use Rattle.std.specs.List.{AllByRecursion}
 use Rattle.sr_base.specs.Values.{offset_from}
 use Rattle.sr_base.specs.declared.offset.Offset.{Offset}
 use Rattle.sr_book.specs.Entries.{Name}
@@ -12,6 +13,7 @@ use Rattle.sr_database.specs.Databases.{IsOf, IsDatabase}
 use Rattle.sr_database.specs.Views.{View}
 use Rattle.sr_history.specs.Recorded.{Recorded, entry_of}
 use Rattle.sr_logform.specs.declared.op.Transaction.{Transaction}
+use Rattle.sr_msgform.specs.Messages.{IsMessage}
 use Rattle.sr_msgform.specs.declared.message.Message.{Message}
 use Rattle.sr_site.specs.Causes.{Stays, Rose}
 use Rattle.sr_site.specs.Happenings.{mail_in}
@@ -41,6 +43,8 @@ sent_end publisher es user book = last_at (offset_from book.log_sent) (waiting p
 pub record Passed (old new : View) (before now : Seen) (publisher : Name) (es : List Recorded) (user : Name) (book : Book) (limit : ℕ) (ask : Bool) (sent : Sent) : Type 0 where
   pub messages : List Message
   pub are : AreAll publisher es user book ask limit messages
+  -- each can be read again
+  pub spelled : AllByRecursion IsMessage messages
   pub count : sent.put ≡ length messages
   pub end_is : sent.end ≡ sent_end publisher es user book
   -- no encoding of a transaction is too long
@@ -68,6 +72,8 @@ pub record PutInPart (old : View) (before now : Seen) (publisher : Name) (es : L
   pub messages : List Message
   pub left : List Message
   pub are : AreAll publisher es user book ask limit (messages ++ left)
+  -- each of those that were put can be read again
+  pub spelled : AllByRecursion IsMessage messages
   pub went : Went before now publisher es (letters (address_in old.catalog user) book.send_count messages)
   pub mail : PutAlone (letters (address_in old.catalog user) book.send_count messages) (mail_in before.happened) (mail_in now.happened)
   pub outcomes : LastMayFail (mail_in before.happened) (mail_in now.happened)
@@ -84,6 +90,8 @@ pub record Unnoted (old new : View) (before now : Seen) (user : Name) (limit : �
 pub record PutAndBegan (before now : Seen) (address publisher : Name) (es : List Recorded) (user : Name) (book : Book) (limit : ℕ) (ask : Bool) (sent : Offset) (count : ℕ) (begun : List Item) : Type 0 where
   pub messages : List Message
   pub are : AreAll publisher es user book ask limit messages
+  -- each can be read again
+  pub spelled : AllByRecursion IsMessage messages
   pub count_is : count ≡ length messages
   pub end_is : sent ≡ sent_end publisher es user book
   pub went : Went before now publisher es (letters address book.send_count messages ++ begun)

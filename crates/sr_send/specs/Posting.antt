@@ -1,5 +1,5 @@
 -- Files that are put while a database stands still.
-use Rattle.std.specs.Prelude.{◌≡◌, ◌⊎◌, ◌≤◌, ⊤, Bool, true, List, [], ◌∷◌, ◌++◌, length, IsTrue}
+use Rattle.std.specs.Prelude.{◌≡◌, ◌≤◌, ⊤, Bool, true, List, [], ◌∷◌, ◌++◌, length, IsTrue}
 use Rattle.std.specs.List.{AllByRecursion}
 use Rattle.sr_book.specs.Entries.{Name}
 use Rattle.sr_history.specs.Recorded.{Recorded}
@@ -65,13 +65,13 @@ pub record IsSteady (before now : Seen) : Type 0 where
   pub mail : now.mail_faults ≡ before.mail_faults
   pub done : IsTrue before.told → NoneFailed (mail_in before.happened) (mail_in now.happened)
 
--- which device refused, if one did: its count rose, and that of the other stays; where memory was wanting at least one of them stays
+-- which device refused, if one did: its count rose, and that of the other stays; where memory was wanting no call of the disk failed
 abbrev pub IsDeviceFault : Seen → Seen → SendFault → Type 0
 IsDeviceFault before now Disk = Rose before.disk_faults now.disk_faults × (now.mail_faults ≡ before.mail_faults)
 IsDeviceFault before now Mail = Rose before.mail_faults now.mail_faults × (now.disk_faults ≡ before.disk_faults)
 IsDeviceFault before now (Full end need) = IsSteady before now
 IsDeviceFault before now (Long size limit) = IsSteady before now
-IsDeviceFault before now Memory = (now.disk_faults ≡ before.disk_faults) ⊎ (now.mail_faults ≡ before.mail_faults)
+IsDeviceFault before now Memory = now.disk_faults ≡ before.disk_faults
 
 -- why putting ends: the mail refused, or there was no memory; the disk's count stays
 abbrev pub PutFault : Seen → Seen → SendFault → Type 0

@@ -1,5 +1,6 @@
 -- A log read entry by entry, and what it gives put as messages.
 use Rattle.std.specs.Prelude.{◌≡◌, ◌⊎◌, ◌≤◌, ◌<◌, ◌+◌, ℕ, Bool, cond, nat_lt, List, [], ◌∷◌, ◌++◌, length, Option, Some, None, Result, Ok, Err, IsTrue}
+use Rattle.std.specs.List.{AllByRecursion}
 use Rattle.sr_base.specs.declared.offset.Offset.{Offset}
 use Rattle.sr_book.specs.Entries.{Name}
 use Rattle.sr_book.specs.declared.book.Book.{Book}
@@ -12,6 +13,7 @@ use Rattle.sr_history.specs.Folds.{state_of, end_of}
 use Rattle.sr_history.specs.Recorded.{Recorded}
 use Rattle.sr_logform.specs.declared.entry.Entry.{Entry}
 use Rattle.sr_logform.specs.declared.op.Transaction.{Transaction}
+use Rattle.sr_msgform.specs.Messages.{IsMessage}
 use Rattle.sr_msgform.specs.declared.message.Message.{Message}
 use Rattle.sr_scan.specs.Scanners.{Scan, IsFed}
 use Rattle.sr_site.specs.Seen.{Seen}
@@ -44,6 +46,7 @@ pub record Pushed (aim : Aim) (old new : Post) (before now : Seen) (added : List
   pub closed : List Message
   pub made : (pushed : List Transaction) (messages : List Message) → HasMade aim old pushed messages → HasMade aim new (pushed ++ added) (messages ++ closed)
   pub posted : Posted before now (letters aim.address (aim.count + old.put) closed)
+  pub spelled : AllByRecursion IsMessage closed
   pub steady : IsSteady before now
 
 -- an entry was scanned, and what it gives was pushed
@@ -103,6 +106,7 @@ pub record UnderWay (db : View) (aim : Aim) (user : Name) (scan : Scan) (post : 
   pub messages : List Message
   pub made : HasMade aim post pushed messages
   pub posted : Posted before now (letters aim.address aim.count messages)
+  pub spelled : AllByRecursion IsMessage messages
   pub steady : IsSteady before now
   pub from_base : db.log.base ≤ after.0
   pub within : after.0 ≤ db.log.end
@@ -115,6 +119,7 @@ pub record AllRead (db : View) (aim : Aim) (user : Name) (post : Post) (before n
   pub messages : List Message
   pub made : HasMade aim post pushed messages
   pub posted : Posted before now (letters aim.address aim.count messages)
+  pub spelled : AllByRecursion IsMessage messages
   pub steady : IsSteady before now
   pub whole : IsTrue before.told → (publisher : Name) (es : List Recorded) → IsDatabase db publisher es before → pushed ≡ unsent publisher es user aim.prev.0
 
@@ -125,6 +130,7 @@ pub record Emptied (aim : Aim) (old new : Post) (before now : Seen) : Type 0 whe
   pub count : new.put ≡ old.put + length closed
   pub end_is : new.end ≡ old.end
   pub posted : Posted before now (letters aim.address (aim.count + old.put) closed)
+  pub spelled : AllByRecursion IsMessage closed
   pub steady : IsSteady before now
 
 -- nothing was to be sent, and a message is due
@@ -136,6 +142,7 @@ pub record Bodyless (aim : Aim) (old new : Post) (before now : Seen) : Type 0 wh
   pub count : new.put ≡ old.put + 1
   pub end_is : new.end ≡ old.end
   pub posted : Posted before now (letters aim.address (aim.count + old.put) (bodyless aim.head aim.prev ∷ []))
+  pub spelled : AllByRecursion IsMessage (bodyless aim.head aim.prev ∷ [])
   pub steady : IsSteady before now
 
 -- the messages that are still due were put
@@ -145,6 +152,7 @@ pub record Completed (aim : Aim) (book : Book) (ask : Bool) (old new : Post) (be
   pub count : new.put ≡ old.put + length closed
   pub end_is : new.end ≡ old.end
   pub posted : Posted before now (letters aim.address (aim.count + old.put) closed)
+  pub spelled : AllByRecursion IsMessage closed
   pub steady : IsSteady before now
 
 -- all messages of a pass were put
@@ -156,5 +164,6 @@ pub record PutAll (db : View) (aim : Aim) (book : Book) (ask : Bool) (user : Nam
   pub end_is : sent.end ≡ last_at aim.prev pushed
   pub fits : first_long pushed ≡ None
   pub posted : Posted before now (letters aim.address aim.count messages)
+  pub spelled : AllByRecursion IsMessage messages
   pub steady : IsSteady before now
   pub whole : IsTrue before.told → (publisher : Name) (es : List Recorded) → IsDatabase db publisher es before → pushed ≡ unsent publisher es user aim.prev.0

@@ -1,5 +1,6 @@
 -- Where a pass ends before its end.
-use Rattle.std.specs.Prelude.{◌≡◌, ◌⊎◌, ⊤, ◌+◌, ℕ, Bool, List, [], ◌∷◌, ◌++◌, Some, IsTrue}
+use Rattle.std.specs.Prelude.{◌≡◌, ◌⊎◌, ◌+◌, ℕ, Bool, List, [], ◌∷◌, ◌++◌, Some, IsTrue}
+use Rattle.std.specs.List.{AllByRecursion}
 use Rattle.sr_base.specs.declared.offset.Offset.{Offset}
 use Rattle.sr_book.specs.Entries.{Name}
 use Rattle.sr_book.specs.declared.book.Book.{Book}
@@ -12,13 +13,13 @@ use Rattle.sr_history.specs.Folds.{end_of}
 use Rattle.sr_history.specs.Recorded.{Recorded}
 use Rattle.sr_logform.specs.declared.entry.Entry.{Entry}
 use Rattle.sr_logform.specs.declared.op.Transaction.{Transaction}
+use Rattle.sr_msgform.specs.Messages.{IsMessage}
 use Rattle.sr_msgform.specs.declared.message.Message.{Message}
 use Rattle.sr_scan.specs.Scanners.{Scan}
 use Rattle.sr_site.specs.Causes.{Rose}
 use Rattle.sr_site.specs.Seen.{Seen}
-use Rattle.sr_standing.specs.Items.{Item}
 use Rattle.sr_send.specs.Aims.{HasMade, IsCutFront}
-use Rattle.sr_send.specs.Letters.{AreMessages, letters}
+use Rattle.sr_send.specs.Letters.{AreMessages, letter, letters}
 use Rattle.sr_send.specs.Posting.{Posted, EndsAtPut, IsDeviceFault, PutFault}
 use Rattle.sr_send.specs.Steps.{IsScanned}
 use Rattle.sr_send.specs.Unsent.{unsent}
@@ -27,18 +28,19 @@ use Rattle.sr_send.specs.declared.fault.SendFault.{SendFault}
 use Rattle.sr_send.specs.declared.fault.SendFault.TheVariants.{Disk, Mail, Full, Long, Memory}
 use Rattle.sr_send.specs.declared.post.Post.{Post}
 
--- a file that was to be put was not begun, or its put failed
-pub record IsPartPut (before now : Seen) (item : Item) (fault : SendFault) : Type 0 where
-  pub posted : Posted before now [] ⊎ Posted before now (item ∷ [])
+-- a message that was to be put was not begun, or its put failed: then its file can be read again
+pub record IsPartPut (before now : Seen) (address : Name) (number : ℕ) (m : Message) (fault : SendFault) : Type 0 where
+  pub posted : Posted before now [] ⊎ (Posted before now (letter address number m ∷ []) × IsMessage m)
   pub cause : PutFault before now fault
   pub ends : EndsAtPut before now
 
--- of messages that were to be put a front was, of which the last may have failed
+-- of messages that were to be put a front was, each of which can be read again, and the last may have failed
 pub record IsPartSent (aim : Aim) (count : ℕ) (before now : Seen) (messages : List Message) (fault : SendFault) : Type 0 where
   pub done : List Message
   pub left : List Message
   pub parts : messages ≡ done ++ left
   pub posted : Posted before now (letters aim.address count done)
+  pub spelled : AllByRecursion IsMessage done
   pub cause : PutFault before now fault
   pub ends : EndsAtPut before now
 
@@ -50,19 +52,20 @@ StopFault before now pushed (Full end need) = ⊥
 StopFault before now pushed (Long size limit) = IsDeviceFault before now (Long size limit) × (limit ≡ longest_transaction) × (first_long pushed ≡ Some size)
 StopFault before now pushed Memory = IsDeviceFault before now Memory
 
--- why the next entry is not read
+-- why the next entry is not read: where memory was wanting no call of the disk failed
 abbrev pub NextFault : Seen → Seen → SendFault → Type 0
 NextFault before now Disk = Rose before.disk_faults now.disk_faults
 NextFault before now Mail = ⊥
 NextFault before now (Full end need) = ⊥
 NextFault before now (Long size limit) = ⊥
-NextFault before now Memory = ⊤
+NextFault before now Memory = now.disk_faults ≡ before.disk_faults
 
 -- a pass ended as these transactions were pushed
 pub record PushStop (aim : Aim) (old : Post) (before now : Seen) (added : List Transaction) (fault : SendFault) : Type 0 where
   pub messages : List Message
   pub front : (pushed : List Transaction) (earlier : List Message) → HasMade aim old pushed earlier → IsCutFront aim (pushed ++ added) (earlier ++ messages)
   pub posted : Posted before now (letters aim.address (aim.count + old.put) messages)
+  pub spelled : AllByRecursion IsMessage messages
   pub cause : StopFault before now added fault
   pub ends : EndsAtPut before now
 
@@ -102,6 +105,7 @@ pub record ReadStop (db : View) (aim : Aim) (user : Name) (before now : Seen) (f
   pub messages : List Message
   pub front : IsCutFront aim pushed messages
   pub posted : Posted before now (letters aim.address aim.count messages)
+  pub spelled : AllByRecursion IsMessage messages
   pub begins : IsTrue before.told → (publisher : Name) (es : List Recorded) → IsDatabase db publisher es before → IsFrontOf pushed (unsent publisher es user aim.prev.0)
   pub cause : StopFault before now pushed fault
   pub ends : EndsAtPut before now
@@ -112,6 +116,7 @@ pub record HeldStop (aim : Aim) (old : Post) (before now : Seen) (fault : SendFa
   pub left : List Message
   pub cut : (pushed : List Transaction) (earlier : List Message) → HasMade aim old pushed earlier → AreCut aim.head aim.prev pushed aim.limit (earlier ++ (messages ++ left))
   pub posted : Posted before now (letters aim.address (aim.count + old.put) messages)
+  pub spelled : AllByRecursion IsMessage messages
   pub cause : PutFault before now fault
   pub ends : EndsAtPut before now
 
@@ -121,6 +126,7 @@ pub record LastStop (aim : Aim) (book : Book) (ask : Bool) (old : Post) (before 
   pub are : (pushed : List Transaction) (earlier : List Message) → HasMade aim old pushed earlier
       → (left : List Message) × AreMessages aim.head book ask aim.limit pushed (earlier ++ (messages ++ left))
   pub posted : Posted before now (letters aim.address (aim.count + old.put) messages)
+  pub spelled : AllByRecursion IsMessage messages
   pub cause : PutFault before now fault
   pub ends : EndsAtPut before now
 
@@ -131,6 +137,7 @@ pub record EndStop (db : View) (aim : Aim) (book : Book) (ask : Bool) (user : Na
   pub left : List Message
   pub are : AreMessages aim.head book ask aim.limit pushed (messages ++ left)
   pub posted : Posted before now (letters aim.address aim.count messages)
+  pub spelled : AllByRecursion IsMessage messages
   pub whole : IsTrue before.told → (publisher : Name) (es : List Recorded) → IsDatabase db publisher es before → pushed ≡ unsent publisher es user aim.prev.0
   pub cause : PutFault before now fault
   pub ends : EndsAtPut before now

@@ -2,7 +2,7 @@
 
 ghost use Rattle.std.specs.Prelude.{◌≡◌, ◌≤◌, ◌+◌, ◌∷◌, [], length, IfOk, IfErr, OnOk};
 ghost use Rattle.std.specs.List.{AllByRecursion};
-ghost use Rattle.sr_msgform.specs.Messages.{KeepsRules, message_length};
+ghost use Rattle.sr_msgform.specs.Messages.{IsMessage, KeepsRules, message_length};
 ghost use Rattle.sr_send.specs.Letters.{letter, letters};
 ghost use Rattle.sr_send.specs.Posting.{Posted, IsSteady};
 ghost use Rattle.sr_send.specs.Stops.{IsPartPut, IsPartSent};
@@ -26,8 +26,9 @@ fn put_one<S: Site>(
     requires rules { KeepsRules message.now }
     requires file { message_length message.now ≤ 2097152 }
     ensures put { OnOk result (Posted (S.seen site.old) (S.seen site.new) (letter address.now number message.now ∷ [])) }
+    ensures spelled { OnOk result (IsMessage message.now) }
     ensures steady { OnOk result (IsSteady (S.seen site.old) (S.seen site.new)) }
-    ensures cause { IfErr result (IsPartPut (S.seen site.old) (S.seen site.new) (letter address.now number message.now)) }
+    ensures cause { IfErr result (IsPartPut (S.seen site.old) (S.seen site.new) address.now number message.now) }
 {
     let name = file_name(alloc, &message.from, number)?;
     let bytes = write_message(alloc, message)?;
@@ -50,6 +51,7 @@ pub(crate) fn put_all<S: Site>(
 ) -> Result<u32, SendFault>
     requires each { AllByRecursion (λ m. KeepsRules m × (message_length m ≤ 2097152)) messages.now }
     ensures posted { OnOk result (Posted (S.seen site.old) (S.seen site.new) (letters aim.now.address (aim.now.count + put) messages.now)) }
+    ensures spelled { OnOk result (AllByRecursion IsMessage messages.now) }
     ensures count { IfOk result (λ total. total ≡ put + length messages.now) }
     ensures steady { OnOk result (IsSteady (S.seen site.old) (S.seen site.new)) }
     ensures cause { IfErr result (IsPartSent aim.now (aim.now.count + put) (S.seen site.old) (S.seen site.new) messages.now) }

@@ -37,8 +37,8 @@ pub struct Sent {
 ///
 /// Messages are put where a transaction lies past what he was sent, where an ask is due, and where more was taken from him than was
 /// confirmed; where there is no transaction it is one without a body. Each confirms what was taken from him, and where `ask` is true asks for what
-/// lies past it. They are put in order into the folder of his address, each as soon as it is filled, and the note follows the last. Where none is due
-/// nothing is done. Of the mail nothing is listed, fetched or removed.
+/// lies past it. They are put in order into the folder of his address, each as soon as it is filled, and the note follows the last. Each that is put can
+/// be read again. Where none is due nothing is done. Of the mail nothing is listed, fetched or removed.
 /// The log is read from what he was sent on, where no statement ran there, which the kinds of its entries tell; else from its base.
 ///
 /// `Disk` and `Mail` come only where that device's count of faults rose, and that of the other stayed; `Full` exactly where the note has no room in the

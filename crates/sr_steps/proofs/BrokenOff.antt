@@ -77,7 +77,7 @@ module _ (messages : List Message) (publisher : Name) (es : List Recorded) (old 
       record {
         trail = letters address count part.messages;
         went = part.went;
-        has = record { deeds = map put part.messages; are = letters_deeds publisher messages es address count part.messages hold };
+        has = record { deeds = map put part.messages; are = letters_deeds publisher messages es address count part.messages hold part.spelled };
         steps = subst (λ (rs : List Recorded). Steps (IsRunStep publisher) es rs) (sym (commits_letters address count part.messages)) tt;
       }
 
@@ -102,7 +102,7 @@ module _ (messages : List Message) (publisher : Name) (es : List Recorded) (old 
       record {
         trail = letters address number pass ++ commit r ∷ [];
         went = part.went;
-        has = with_entry publisher messages es address number pass r (all_said publisher es user ask limit pass (sent_within es user old) are) can;
+        has = with_entry publisher messages es address number pass r (all_said publisher es user ask limit pass (sent_within es user old) are) part.spelled can;
         steps =
             subst (λ (rs : List Recorded). Steps (IsRunStep publisher) es rs) (sym alone)
             (subst (λ (x : Recorded). IsRunStep publisher es x) (sym is) (sent_step publisher es user (length pass)), tt);

@@ -1,7 +1,8 @@
--- Trails as deeds: each commit is an append that the history and the messages there allow, and each file that is put is a message that is true of the
--- history there.
+-- Trails as deeds: each commit is an append that the history and the messages there allow, and each file that is put is a message that can be read again
+-- and is true of the history there.
 use Rattle.std.proofs.Common.{◌≡◌, ℕ, List, [], ◌∷◌, ◌++◌, map, refl, sym, ap, ap₂, subst, ◌∙◌, append_assoc, append-nil}
 use Rattle.std.specs.Prelude.{⊤}
+use Rattle.std.specs.List.{AllByRecursion}
 use Rattle.sr_book.specs.Entries.{Name, local}
 use Rattle.sr_history.specs.Folds.{sees}
 use Rattle.sr_history.specs.Recorded.{Recorded}
@@ -9,7 +10,7 @@ use Rattle.sr_model.specs.Steps.{Deed, append, put, crash, CanAppend, history_af
 use Rattle.sr_model.specs.Truth.{IsTrueOf}
 use Rattle.sr_model.specs.Worlds.{AreAmong}
 use Rattle.sr_model.proofs.Leave.{do_more}
-use Rattle.sr_msgform.specs.Messages.{message_spelling}
+use Rattle.sr_msgform.specs.Messages.{IsMessage, message_spelling}
 use Rattle.sr_msgform.specs.declared.message.Message.{Message}
 use Rattle.sr_standing.specs.Items.{Item, commit, commits, puts}
 use Rattle.sr_standing.specs.Items as item
@@ -26,7 +27,7 @@ abbrev pub AreDeeds : List Message → Name → List Recorded → List Item → 
 AreDeeds messages publisher es [] [] = ⊤
 AreDeeds messages publisher es (commit r ∷ items) (append q ∷ deeds) = (q ≡ r) × CanStep messages publisher es r × AreDeeds messages publisher (es ++ r ∷ []) items deeds
 AreDeeds messages publisher es (item.put address name bytes ∷ items) (put m ∷ deeds) =
-    (bytes ≡ message_spelling m) × IsTrueOf layers publisher es m × AreDeeds (messages ++ m ∷ []) publisher es items deeds
+    ((bytes ≡ message_spelling m) × IsMessage m) × IsTrueOf layers publisher es m × AreDeeds (messages ++ m ∷ []) publisher es items deeds
 AreDeeds messages publisher es items deeds = ⊥
 
 -- an entry of the database's own is allowed
@@ -91,8 +92,16 @@ pub deeds_files : (messages : List Message) (publisher : Name) (es : List Record
 deeds_files messages publisher es [] [] are = refl
 deeds_files messages publisher es (commit r ∷ items) (append q ∷ deeds) are = deeds_files messages publisher (es ++ r ∷ []) items deeds are.2
 deeds_files messages publisher es (item.put address name bytes ∷ items) (put m ∷ deeds) are =
-    ap₂ (λ (b : List ℕ) (bs : List (List ℕ)). b ∷ bs) are.0 (deeds_files (messages ++ m ∷ []) publisher es items deeds are.2)
+    ap₂ (λ (b : List ℕ) (bs : List (List ℕ)). b ∷ bs) are.0.0 (deeds_files (messages ++ m ∷ []) publisher es items deeds are.2)
 deeds_files messages publisher es items deeds are = absurd are
+
+-- each of the messages can be read again
+pub deeds_spelled : (messages : List Message) (publisher : Name) (es : List Recorded) (items : List Item) (deeds : List (Deed Recorded)) → AreDeeds messages publisher es items deeds
+    → AllByRecursion IsMessage (put_in deeds)
+deeds_spelled messages publisher es [] [] are = tt
+deeds_spelled messages publisher es (commit r ∷ items) (append q ∷ deeds) are = deeds_spelled messages publisher (es ++ r ∷ []) items deeds are.2
+deeds_spelled messages publisher es (item.put address name bytes ∷ items) (put m ∷ deeds) are = (are.0.1, deeds_spelled (messages ++ m ∷ []) publisher es items deeds are.2)
+deeds_spelled messages publisher es items deeds are = absurd are
 
 -- the history goes on with the commits
 pub deeds_history : (messages : List Message) (publisher : Name) (es : List Recorded) (items : List Item) (deeds : List (Deed Recorded)) → AreDeeds messages publisher es items deeds

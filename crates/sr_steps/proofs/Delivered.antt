@@ -9,6 +9,7 @@ use Rattle.sr_history.specs.Recorded.{Recorded}
 use Rattle.sr_model.specs.Steps.{append, put}
 use Rattle.sr_model.specs.Truth.{IsTrueOf}
 use Rattle.sr_model.specs.Worlds.{IsInOrder}
+use Rattle.sr_msgform.specs.Messages.{IsMessage}
 use Rattle.sr_msgform.specs.declared.message.Message.{Message}
 use Rattle.sr_send.specs.Letters.{letters, noted_letters, sent_note}
 use Rattle.sr_send.specs.Passes.{AreAll, sent_end}
@@ -49,14 +50,14 @@ module _ (publisher : Name) where
   -- ---- what is sent to one partner
 
   pub letters_deeds : (messages : List Message) (es : List Recorded) (address : Name) (count : ℕ) (pass : List Message) → AllByRecursion (IsTrueOf layers publisher es) pass
-      → AreDeeds messages publisher es (letters address count pass) (map put pass)
-  letters_deeds messages es address count [] hold = tt
-  letters_deeds messages es address count (m ∷ pass) hold = (refl, hold.0, letters_deeds (messages ++ m ∷ []) es address (count + 1) pass hold.1)
+      → AllByRecursion IsMessage pass → AreDeeds messages publisher es (letters address count pass) (map put pass)
+  letters_deeds messages es address count [] hold spelled = tt
+  letters_deeds messages es address count (m ∷ pass) hold spelled = ((refl, spelled.0), hold.0, letters_deeds (messages ++ m ∷ []) es address (count + 1) pass hold.1 spelled.1)
 
   -- and an entry that may come behind it
   pub with_entry : (messages : List Message) (es : List Recorded) (address : Name) (count : ℕ) (pass : List Message) (r : Recorded) → AllByRecursion (IsTrueOf layers publisher es) pass
-      → CanStep (messages ++ pass) publisher es r → HasDeeds messages publisher es (letters address count pass ++ commit r ∷ [])
-  with_entry messages es address count pass r hold can =
+      → AllByRecursion IsMessage pass → CanStep (messages ++ pass) publisher es r → HasDeeds messages publisher es (letters address count pass ++ commit r ∷ [])
+  with_entry messages es address count pass r hold spelled can =
       let files : List Item = letters address count pass in
       let still : es ++ commits files ≡ es = ap (λ (l : List Recorded). es ++ l) (commits_letters address count pass) ∙ append-nil es in
       let last : AreDeeds (messages ++ put_in (map put pass)) publisher (es ++ commits files) (commit r ∷ []) (append r ∷ [])
@@ -64,15 +65,16 @@ module _ (publisher : Name) where
       (subst (λ (ms : List Message). AreDeeds (messages ++ ms) publisher es (commit r ∷ []) (append r ∷ [])) (sym (put_alone pass)) (refl, can, tt)) in
       record {
         deeds = map put pass ++ append r ∷ [];
-        are = deeds_more messages publisher es files (commit r ∷ []) (map put pass) (append r ∷ []) (letters_deeds messages es address count pass hold) last;
+        are = deeds_more messages publisher es files (commit r ∷ []) (map put pass) (append r ∷ []) (letters_deeds messages es address count pass hold spelled) last;
       }
 
   noted_deeds : (messages : List Message) (es : List Recorded) (address whose : Name) (ask : Bool) (limit : ℕ) (pass : List Message) → AreInOrder es → AreAll publisher es whose (books_of whose es) ask limit pass
-      → HasDeeds messages publisher es (noted_letters address whose (books_of whose es) (sent_end publisher es whose (books_of whose es)) pass)
-  noted_deeds messages es address whose ask limit [] old are = record { deeds = []; are = tt }
-  noted_deeds messages es address whose ask limit (m ∷ pass) old are =
+      → AllByRecursion IsMessage pass → HasDeeds messages publisher es (noted_letters address whose (books_of whose es) (sent_end publisher es whose (books_of whose es)) pass)
+  noted_deeds messages es address whose ask limit [] old are spelled = record { deeds = []; are = tt }
+  noted_deeds messages es address whose ask limit (m ∷ pass) old are spelled =
       with_entry messages es address (books_of whose es).send_count (m ∷ pass) (sent_note whose (books_of whose es) (sent_end publisher es whose (books_of whose es)) (length (m ∷ pass)))
       (all_said publisher es whose ask limit (m ∷ pass) (sent_within es whose old) are)
+      spelled
       (all_noted (messages ++ m ∷ pass) publisher es whose ask limit (m ∷ pass) are (λ x has. Contains-append_right messages (m ∷ pass) x has) (omega arith))
 
   -- ---- what is sent to all
@@ -86,7 +88,7 @@ module _ (publisher : Name) where
       let whose : Name = d.partner.user in
       let first = deliveries_deeds messages es limit earlier old are.0 in
       let old_there : AreInOrder there = steps_in_order publisher es (commits added) old (deliveries_steps publisher es earlier) in
-      let last = noted_deeds (messages ++ put_in first.deeds) there (folder_of publisher there whose) whose d.partner.ask limit d.messages old_there are.1.are in
+      let last = noted_deeds (messages ++ put_in first.deeds) there (folder_of publisher there whose) whose d.partner.ask limit d.messages old_there are.1.are are.1.spelled in
       record { deeds = first.deeds ++ last.deeds; are = deeds_more messages publisher es added (delivery_items publisher there d) first.deeds last.deeds first.are last.are }
 
   -- ---- what a run sends

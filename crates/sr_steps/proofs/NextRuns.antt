@@ -1,6 +1,8 @@
 -- Where the next run finds its database.
 use Rattle.std.proofs.Common.{◌≡◌, ◌≢◌, List, [], ◌∷◌, ◌++◌, refl, sym, ap, subst, ◌∙◌, inl, inr}
-use Rattle.std.specs.Prelude.{Contains}
+use Rattle.std.proofs.lemmas.List.Elements.{All-contains, All-from_recursion, Contains-append_right, Contains-get_or, recursion_from_All}
+use Rattle.std.specs.Prelude.{ℕ, Contains, map}
+use Rattle.std.specs.List.{AllByRecursion}
 use Rattle.sr_book.specs.Entries.{Name}
 use Rattle.sr_history.specs.Recorded.{Recorded}
 use Rattle.sr_model.specs.Steps.{Deed, history_after, history_after_all, messages_after, messages_after_all}
@@ -19,7 +21,7 @@ use Rattle.sr_standing.specs.Standing.{StandsAs}
 use Rattle.sr_standing.specs.Trails.{AtEach}
 use Rattle.sr_world.specs.Real.{HasSpelling, IsGoodWorld, LawfulHistory, MayDo, layers}
 use Rattle.sr_world.proofs.Keeping.{real_laws}
-use Rattle.sr_steps.specs.Worlds.{IsKnown, RestsAtEach, RestsBehind, StandReached, put_in}
+use Rattle.sr_steps.specs.Worlds.{AreFiles, IsKnown, RestsAtEach, RestsBehind, StandReached, put_in}
 use Rattle.sr_steps.proofs.Deeds.{deeds_messages}
 use Rattle.sr_steps.proofs.Ordered.{own_history}
 
@@ -51,6 +53,18 @@ good_all w messages owner es (deed ∷ deeds) good named is among may =
     (own_history w.histories owner deed named.0 named.1 named.2 ∙ ap (λ (l : List Recorded). history_after l deed) is)
     (after_among messages w.messages deed among) may.1
 
+pub spelled_known : (messages : List Message) (receiver : Name) (m : Message) → Contains messages m → IsMessage m → IsKnown messages receiver (message_spelling m)
+spelled_known messages receiver m among is = λ other spelled same to. subst (λ (x : Message). Contains messages x) (one_message m other is spelled same) among
+
+-- what holds of the bytes of each message holds of the files that have them
+by_files : (P : List ℕ → Type 0) (letters : List Letter) (messages : List Message) → AreFiles letters messages → AllByRecursion (λ m. P (message_spelling m)) messages → AllByRecursion (λ (l : Letter). P l.2) letters
+by_files P [] messages are all = tt
+by_files P (l ∷ letters) [] are all = absurd cc
+by_files P (l ∷ letters) (m ∷ messages) are all =
+    let first : l.2 ≡ message_spelling m = cc in
+    let others : AreFiles letters messages = cc in
+    (subst P (sym first) all.0, by_files P letters messages others all.1)
+
 module _ (w : World Recorded) (owner : Name) (letters : List Letter) (first : Files) (moment : List Happening) (rest : RestsBehind w.messages owner (history w owner) letters (MayLeave first moment)) where
   abbrev there : World Recorded
   there = after_all w (acts_by owner rest.deeds)
@@ -63,6 +77,18 @@ module _ (w : World Recorded) (owner : Name) (letters : List Letter) (first : Fi
 
   pub messages_there : there.messages ≡ w.messages ++ put_in rest.deeds
   messages_there = messages_all w owner rest.deeds ∙ deeds_messages w.messages rest.deeds
+
+  pub put_known : (receiver : Name) (m : Message) → Contains (put_in rest.deeds) m → IsKnown there.messages receiver (message_spelling m)
+  put_known receiver m has =
+      spelled_known there.messages receiver m
+      (subst (λ (ms : List Message). Contains ms m) (sym messages_there) (Contains-append_right w.messages (put_in rest.deeds) m has))
+      (All-contains IsMessage (put_in rest.deeds) m (All-from_recursion IsMessage (put_in rest.deeds) rest.spelled) has)
+
+  pub files_known : (receiver : Name) → AllByRecursion (λ (l : Letter). IsKnown there.messages receiver l.2) letters
+  files_known receiver =
+      by_files (IsKnown there.messages receiver) letters (put_in rest.deeds) rest.put
+      (recursion_from_All (λ (m : Message). IsKnown there.messages receiver (message_spelling m)) (put_in rest.deeds)
+      (λ k d lt. put_known receiver _ (Contains-get_or (put_in rest.deeds) k d lt)))
 
   pub rests_on : IsNamed w owner → (image : Files) → MayLeave first moment image → StandReached there.messages owner (history there owner) [] image
   rests_on named image left =
@@ -91,9 +117,6 @@ others_step w owner act letters files apart stood =
       put = stood.put;
       stands = stood.stands;
     })
-
-pub spelled_known : (messages : List Message) (receiver : Name) (m : Message) → Contains messages m → IsMessage m → IsKnown messages receiver (message_spelling m)
-spelled_known messages receiver m among is = λ other spelled same to. subst (λ (x : Message). Contains messages x) (one_message m other is spelled same) among
 
 pub new_reached : (w : World Recorded) (owner : Name) (files : Files) → history w owner ≡ [] → StandsAs owner [] files → StandReached w.messages owner (history w owner) [] files
 new_reached w owner files none stands = record { deeds = []; may = tt; put = refl; stands = subst (λ (rs : List Recorded). StandsAs owner rs files) (sym none) stands }

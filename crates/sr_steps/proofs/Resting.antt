@@ -1,13 +1,14 @@
 -- A run rests at each moment on one history of its world, on which the next run can go on.
 use Rattle.std.proofs.Common.{◌≡◌, List, [], ◌∷◌, ◌++◌, map, refl, sym, ap, subst, ◌∙◌, inl, inr, append_assoc, append-nil}
 use Rattle.std.specs.Prelude.{◌⊎◌}
+use Rattle.std.specs.List.{AllByRecursion}
 use Rattle.sr_book.specs.Entries.{Name}
 use Rattle.sr_history.specs.Fitting.{Stored}
 use Rattle.sr_history.specs.Folds.{fresh}
 use Rattle.sr_history.specs.Recorded.{Recorded}
 use Rattle.sr_model.specs.Steps.{Deed, append, history_after_all, messages_after_all}
 use Rattle.sr_model.specs.Steps as deed
-use Rattle.sr_msgform.specs.Messages.{message_spelling}
+use Rattle.sr_msgform.specs.Messages.{IsMessage, message_spelling}
 use Rattle.sr_msgform.specs.declared.message.Message.{Message}
 use Rattle.sr_site.specs.Files.{Files}
 use Rattle.sr_site.specs.Causes.{DiskStays}
@@ -26,7 +27,7 @@ use Rattle.sr_steps.specs.Worlds.{RestsAtEach, RestsBehind, StandReached, put_in
 use Rattle.sr_prefix.proofs.Along.{Along}
 use Rattle.sr_prefix.proofs.Behind.{none_before, none_put, puts-append}
 use Rattle.sr_prefix.proofs.Opened.{some_image}
-use Rattle.sr_steps.proofs.Deeds.{AreDeeds, deeds_files, deeds_history, deeds_messages, may_do}
+use Rattle.sr_steps.proofs.Deeds.{AreDeeds, deeds_files, deeds_history, deeds_messages, deeds_spelled, may_do}
 use Rattle.sr_steps.proofs.Reached.{front_of, history_more, is_lawful, lawful_along, put_more, said_front}
 
 -- ---- the items before a commit that stands last
@@ -169,6 +170,7 @@ module _ (messages : List Message) (owner : Name) (first es : List Recorded) (be
               (subst (λ (ms : List Message). MayDo ms owner (history_after_all first before) on) (sym still)
               (subst (λ (rs : List Recorded). MayDo messages owner rs on) (sym there) can));
           put = ap (map (λ (l : Letter). l.2)) puts_are ∙ deeds_files messages owner es part on in_two.are ∙ ap (map message_spelling) (sym same);
+          spelled = subst (λ (ms : List Message). AllByRecursion IsMessage ms) (sym same) (deeds_spelled messages owner es part on in_two.are);
           rests = λ image is.
               subst (λ (ms : List Message). StandReached ms owner (history_after_all first (before ++ on)) [] image) (sym messages_are)
               (subst (λ (rs : List Recorded). StandReached then owner rs [] image) (sym history_is) (on_from_part image (stood image (images image is))));
@@ -199,7 +201,7 @@ module _ (messages : List Message) (owner : Name) (first : List Recorded) (befor
   RestsSince since = RestsBehind messages owner first (puts_in since) (MayLeave before.first (since ++ before.happened))
 
   rests_still : (since : List Happening) → puts_in since ≡ [] → ((image : Files) → MayLeave before.first (since ++ before.happened) image → IsImage before image) → RestsSince since
-  rests_still since none still = record { deeds = []; may = tt; put = ap (map (λ (l : Letter). l.2)) none; rests = λ image is. settled image (still image is) }
+  rests_still since none still = record { deeds = []; may = tt; put = ap (map (λ (l : Letter). l.2)) none; spelled = tt; rests = λ image is. settled image (still image is) }
 
   still_each : (more : List Happening) → puts_in more ≡ [] → Throughout (λ moment. (image : Files) → MayLeave before.first moment image → IsImage before image) before.happened more → AtEach RestsSince more
   still_each [] none still = rests_still [] none still
@@ -219,6 +221,7 @@ module _ (messages : List Message) (owner : Name) (first : List Recorded) (befor
           deeds = rest.deeds;
           may = rest.may;
           put = ap (map (λ (l : Letter). l.2)) put_then ∙ rest.put;
+          spelled = rest.spelled;
           rests = λ image there.
               let parts : MayLeave before.first (since ++ (opening ++ before.happened)) image = subst (λ (l : List Happening). MayLeave before.first l image) (append_assoc since opening before.happened) there in
               rest.rests image

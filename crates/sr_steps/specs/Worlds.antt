@@ -61,12 +61,13 @@ pub record StandReached (messages : List Message) (owner : Name) (es : List Reco
   pub put : AreFiles letters (put_in deeds)
   pub stands : StandsAs owner (history_after_all es deeds) files
 
--- what a crash may leave rests on one history to which this one leads by deeds that it and the messages allow, and which put these letters: it is one to
--- which that history leads on, by deeds that it and all messages allow then, which put nothing
+-- what a crash may leave rests on one history to which this one leads by deeds that it and the messages allow, and which put these letters, each of which
+-- can be read again: it is one to which that history leads on, by deeds that it and all messages allow then, which put nothing
 pub record RestsBehind (messages : List Message) (owner : Name) (es : List Recorded) (letters : List Letter) (Left : Files → Type 0) : Type 0 where
   pub deeds : List (Deed Recorded)
   pub may : MayDo messages owner es deeds
   pub put : AreFiles letters (put_in deeds)
+  pub spelled : AllByRecursion IsMessage (put_in deeds)
   pub rests : (image : Files) → Left image → StandReached (messages_after_all messages deeds) owner (history_after_all es deeds) [] image
 
 -- so it is at each moment from the one to the other, behind the letters that were put until then

@@ -1,6 +1,7 @@
 //! Where the next run finds its database.
 
 ghost use Rattle.std.specs.Prelude.{◌≡◌, ◌≢◌, ◌++◌, List, [], Contains};
+ghost use Rattle.std.specs.List.{AllByRecursion};
 ghost use Rattle.sr_book.specs.Entries.{Name};
 ghost use Rattle.sr_history.specs.Recorded.{Recorded};
 ghost use Rattle.sr_model.specs.Worlds.{World, Act, IsNamed, after_all, acts_by, happens, history};
@@ -17,7 +18,8 @@ ghost use Rattle.sr_steps.specs.Worlds.{IsKnown, RestsAtEach, RestsBehind, Stand
 
 /// A run leaves what the next one asks for. The files of a new database stand for the history that it has in a world in which it did nothing yet. Behind a
 /// run there is a good world, which has the messages that the run put; whatever a crash may leave then is a history to which that of this world leads. So
-/// it stays when another database takes a step. And the bytes of a message of the world that has a spelling are known to whoever fetches them.
+/// it stays when another database takes a step. And the bytes of a message of the world that has a spelling are known to whoever fetches them: so are
+/// those of each message that the run put, which are the bytes of its files.
 pub fn a_run_leaves_what_the_next_one_asks_for()
     ensures new { (w : World Recorded) (owner : Name) (files : Files) → history w owner ≡ [] → StandsAs owner [] files → StandReached w.messages owner (history w owner) [] files }
     ensures good { (w : World Recorded) (owner : Name) (letters : List File) (first : Files) (moment : List Happening) (rest : RestsBehind w.messages owner (history w owner) letters (MayLeave first moment))
@@ -34,4 +36,8 @@ pub fn a_run_leaves_what_the_next_one_asks_for()
     ensures others { (w : World Recorded) (owner : Name) (act : Act Recorded) (letters : List File) (files : Files) → act.owner ≢ owner
         → StandReached w.messages owner (history w owner) letters files → StandReached (happens w act).messages owner (history (happens w act) owner) letters files }
     ensures known { (messages : List Sent) (receiver : Name) (m : Sent) → Contains messages m → IsMessage m → IsKnown messages receiver (message_spelling m) }
+    ensures put { (w : World Recorded) (owner : Name) (letters : List File) (first : Files) (moment : List Happening) (rest : RestsBehind w.messages owner (history w owner) letters (MayLeave first moment))
+        → (receiver : Name) (m : Sent) → Contains (put_in rest.deeds) m → IsKnown (after_all w (acts_by owner rest.deeds)).messages receiver (message_spelling m) }
+    ensures files { (w : World Recorded) (owner : Name) (letters : List File) (first : Files) (moment : List Happening) (rest : RestsBehind w.messages owner (history w owner) letters (MayLeave first moment))
+        → (receiver : Name) → AllByRecursion (λ l. IsKnown (after_all w (acts_by owner rest.deeds)).messages receiver l.2) letters }
 {}

@@ -46,4 +46,4 @@ pub returns-in-Err-clause-stays : goal.returns-in-Err-clause-stays
 returns-in-Err-clause-stays g c = c.in-Err.ensures.attaches.stays
 
 pub returns-in-Err-clause-cause : goal.returns-in-Err-clause-cause
-returns-in-Err-clause-cause g c = not_attached (g.S.Held.seen c.args.site.now) (g.S.Held.seen c.attach.new.site) c.in-Err.fault c.in-Err.ensures.cause
+returns-in-Err-clause-cause g c = not_attached c.args.name.now c.args.mail.now (g.S.Held.seen c.args.site.now) (g.S.Held.seen c.attach.new.site) c.in-Err.ensures.attaches c.in-Err.fault c.in-Err.ensures.cause

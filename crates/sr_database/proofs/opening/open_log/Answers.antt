@@ -30,4 +30,4 @@ returns-clause-synced g c = synced_then _ _ _ c.open_records.ensures.synced (rea
 
 pub returns-clause-cause : goal.returns-clause-cause
 returns-clause-cause g c =
-    entries_refused c.args.log c.args.publisher (g.S.Held.seen c.args.site.now) (g.S.Held.seen c.open_records.new.site) (g.S.Held.seen c.read_entries.new.site) c.open_records.ensures.synced c.in_ok-open_records.ensures.whole _ c.read_entries.ensures.cause
+    entries_refused c.args.log c.args.publisher (g.S.Held.seen c.args.site.now) (g.S.Held.seen c.open_records.new.site) (g.S.Held.seen c.read_entries.new.site) c.open_records.ensures.synced c.in_ok-open_records.ensures.whole c.in_ok-open_records.ensures.steady _ c.read_entries.ensures.cause

@@ -25,7 +25,7 @@ returns-in-Err-clause-read g c = read_then _ _ _ (read_alone _ _ c.length.ensure
 pub returns-in-Err-clause-cause : goal.returns-in-Err-clause-cause
 returns-in-Err-clause-cause g c =
     replay_cause_before c.args.log c.args.publisher (g.S.Held.seen c.args.site.now) (g.S.Held.seen c.length.new.self) (g.S.Held.seen c.replay_all.new.site)
-    (read_alone _ _ c.length.ensures.stays c.length.ensures.files c.length.ensures.happened) c.in-Err.fault c.in-Err.ensures.cause
+    (read_alone _ _ c.length.ensures.stays c.length.ensures.files c.length.ensures.happened) c.in_ok-size.ensures.steady c.in-Err.fault c.in-Err.ensures.cause
 
 pub returns-in-Ok-clause-read : goal.returns-in-Ok-clause-read
 returns-in-Ok-clause-read g c = read_then _ _ _ (read_alone _ _ c.length.ensures.stays c.length.ensures.files c.length.ensures.happened) c.replay_all.ensures.read

@@ -16,7 +16,7 @@ returns-in_err-end-clause-cause g c =
     let kept = c.entries.invariant in
     let p = err_from_is_err_and c.from_residual.result c.from_residual.ensures.1 in
     rw (p.1, p.2) (reading_cause c.args.log c.args.publisher.now c.entries.replay.catalog c.entries.replay.rows c.entries.replay.books c.entries.position (g.S.Held.seen c.args.site.now) (g.S.Held.seen c.entries.site) (g.S.Held.seen c.next_entry.new.site)
-    kept.history kept.alone c.in_err-end.field-0.0 c.in_err-end.ensures.cause)
+    kept.history kept.alone kept.steady c.in_err-end.field-0.0 c.in_err-end.ensures.cause)
 
 pub returns-clause-read : goal.returns-clause-read
 returns-clause-read g c = let kept = c.entries.invariant in read_then _ _ _ kept.alone c.next_entry.ensures.read

@@ -10,7 +10,7 @@ returns-in_err-make_room-clause-read g c = read_same _
 pub returns-then-read-count-clause-cause : goal.returns-then-read-count-clause-cause
 returns-then-read-count-clause-cause g c =
     short_cause c.args.log c.args.place c.args.count (g.S.Held.seen c.args.site.now) (g.S.Held.seen c.read_at.new.self) (λ told there.
-    read_short (bytes_of (g.S.Held.seen c.args.site.now).files c.args.log) c.read_at.new.buffer (c.args.place + 5) (length c.split_at_mut-front.result.0.now) c.args.count c.in_ok-read.read (c.in_ok-read.ensures.read told) c.split_at_mut-front.ensures.front_len c.if-read-count.true there)
+    read_short (bytes_of (g.S.Held.seen c.args.site.now).files c.args.log) c.read_at.new.buffer (c.args.place + 5) (length c.split_at_mut-front.result.0.now) c.args.count c.in_ok-read.read (c.in_ok-read.ensures.read told) c.split_at_mut-front.ensures.front_len c.if-read-count.true there) c.in_ok-read.ensures.steady
 
 pub returns-clause-entry : goal.returns-clause-entry
 returns-clause-entry g c = entry_read _ _ c.entry_in.ensures.entry
@@ -30,4 +30,4 @@ returns-clause-cause g c =
     let long : length c.read_at.new.buffer ≡ c.args.count = omega arith in
     body_refused c.args.log c.args.place c.args.count (g.S.Held.seen c.args.site.now) (g.S.Held.seen c.read_at.new.self) c.read_at.new.buffer
     (λ at. read_whole _ c.read_at.new.buffer (c.args.place + 5) (length c.split_at_mut-front.result.0.now) c.args.count c.in_ok-read.read (c.in_ok-read.ensures.read at) c.split_at_mut-front.ensures.front_len c.if-read-count.false long)
-    _ c.entry_in.ensures.cause
+    c.in_ok-read.ensures.steady _ c.entry_in.ensures.cause

@@ -16,4 +16,4 @@ returns-then-may-clause-on g c =
 pub returns-else-may-clause-cause : goal.returns-else-may-clause-cause
 returns-else-may-clause-cause g c =
     unfit_cause c.args.log c.args.publisher.now c.args.replay.now.catalog c.args.replay.now.rows c.args.replay.now.books c.args.position c.args.end (g.S.Held.seen c.args.site.now) (g.S.Held.seen c.read_body.new.site)
-    c.requires.whole c.in-Some.count c.in-Some.ensures.some c.follow-followed.new.catalog c.follow-followed.new.rows c.follow-followed.new.books c.in_ok-entry.entry c.in_ok-entry.ensures.body c.requires.order.1 c.in_ok-entry.ensures.entry c.in_ok-may.may c.if-may.false c.in_ok-may.ensures.told
+    c.requires.whole c.in-Some.count c.in-Some.ensures.some c.follow-followed.new.catalog c.follow-followed.new.rows c.follow-followed.new.books c.in_ok-entry.entry c.in_ok-entry.ensures.body c.requires.order.1 c.in_ok-entry.ensures.steady c.in_ok-entry.ensures.entry c.in_ok-may.may c.if-may.false c.in_ok-may.ensures.told

@@ -3,7 +3,7 @@ use Rattle.sr_files.proofs.Shapes.{other_base, zero_base, header_cause}
 use Rattle.sr_files.proofs.fronts.check_base.Goals as goal
 
 pub returns-then-base-gt0-clause-cause : goal.returns-then-base-gt0-clause-cause
-returns-then-base-gt0-clause-cause g c = (refl, λ told. inr (other_base c.in-Ok.base _ (c.in-Ok.ensures.header told) c.if-base-gt0.true, refl))
+returns-then-base-gt0-clause-cause g c = (refl, λ told. inr (other_base c.in-Ok.base _ (c.in-Ok.ensures.header told) c.if-base-gt0.true, refl), c.in-Ok.ensures.steady)
 
 pub returns-else-base-gt0-clause-header : goal.returns-else-base-gt0-clause-header
 returns-else-base-gt0-clause-header g c told = zero_base c.in-Ok.base _ (c.in-Ok.ensures.header told) c.if-base-gt0.false

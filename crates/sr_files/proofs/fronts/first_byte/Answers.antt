@@ -17,8 +17,10 @@ pub returns-then-length-eq0-clause-synced : goal.returns-then-length-eq0-clause-
 returns-then-length-eq0-clause-synced g c = sync_read _ _ _ (sync_alone Root _ _ _ c.sync.ensures.stays c.sync.ensures.files c.sync.ensures.happened) c.length.ensures.stays c.length.ensures.files c.length.ensures.happened
 
 pub returns-then-length-eq0-clause-cause : goal.returns-then-length-eq0-clause-cause
-returns-then-length-eq0-clause-cause g c =
-    no_byte (g.S.Held.seen c.args.site.now) (g.S.Held.seen c.sync.new.self) _ c.sync.ensures.files (told_then (g.S.Held.seen c.args.site.now) (g.S.Held.seen c.sync.new.self) c.sync.ensures.stays) c.in_ok-length.ensures.length c.if-length-eq0.true
+returns-then-length-eq0-clause-cause g c = (
+  no_byte (g.S.Held.seen c.args.site.now) (g.S.Held.seen c.sync.new.self) _ c.sync.ensures.files (told_then (g.S.Held.seen c.args.site.now) (g.S.Held.seen c.sync.new.self) c.sync.ensures.stays) c.in_ok-length.ensures.length c.if-length-eq0.true,
+  c.in_ok-length.ensures.steady ∙ c.in_ok-sync.ensures.steady,
+)
 
 pub returns-in_err-_count-clause-synced : goal.returns-in_err-_count-clause-synced
 returns-in_err-_count-clause-synced g c =

@@ -9,7 +9,7 @@ returns-then-base-gt0-clause-synced g c = open_alone c.args.log _ _ _ c.open.ens
 pub returns-then-base-gt0-clause-cause : goal.returns-then-base-gt0-clause-cause
 returns-then-base-gt0-clause-cause g c =
     let some : 0 < c.in-Ok.found.base = omega (arith, c.base.ensures.base) in
-    based_elsewhere c.args.log (g.S.Held.seen c.args.site.now) (g.S.Held.seen c.open.new.site) c.open.ensures.files c.in-Ok.found c.in-Ok.ensures.usable.0 some c.in-Ok.ensures.log
+    based_elsewhere c.args.log (g.S.Held.seen c.args.site.now) (g.S.Held.seen c.open.new.site) c.open.ensures.files c.in-Ok.found c.in-Ok.ensures.usable.0 some c.in-Ok.ensures.log c.in-Ok.ensures.steady
 
 pub refused_shape-requires : goal.refused_shape-requires
 refused_shape-requires g c = record { damaged = has_refused c.args.log (g.S.Held.seen c.args.site.now) (g.S.Held.seen c.open.new.site) c.open.ensures.stays.told c.open.ensures.files c.in-Err.fault c.in-Err.ensures.cause }

@@ -38,4 +38,4 @@ returns-clause-cause g c =
     let seen = g.S.Held.seen in
     refused_read c.args.snapshot (seen c.args.site.now) (seen c.read_at.new.self) c.split_at.result.0.now (λ at. bytes_read (bytes_of (seen c.args.site.now).files c.args.snapshot) c.split_at.result.0.now c.read_at.new.buffer c.in_ok-count.count
     (subst (λ (f : Files). HasRead (bytes_of f c.args.snapshot) 0 94 c.in_ok-count.count c.read_at.new.buffer) (c.sync.ensures.files at) (c.in_ok-count.ensures.read (told_then (g.S.Held.seen c.args.site.now) (g.S.Held.seen c.sync.new.self) c.sync.ensures.stays at)))
-    (c.split_at.ensures.front ∙ ap (take c.in_ok-count.count) c.as_slice.ensures)) _ c.publisher_of.ensures.cause
+    (c.split_at.ensures.front ∙ ap (take c.in_ok-count.count) c.as_slice.ensures)) (c.in_ok-count.ensures.steady ∙ c.in_ok-sync.ensures.steady) _ c.publisher_of.ensures.cause

@@ -1,4 +1,4 @@
-use Rattle.std.proofs.Common.{◌≤◌, sym, ◌∙◌, subst, arith}
+use Rattle.std.proofs.Common.{sym, ◌∙◌, subst}
 use Rattle.std.specs.Prelude.{IsTrue}
 use Rattle.std.proofs.lemmas.Result.{err_from_is_err_and}
 use Rattle.sr_site.specs.Seen.{Seen}
@@ -12,7 +12,7 @@ returns-in_err-base-clause-cause g c =
     let before : Seen = g.S.Held.seen c.args.site.now in
     let middle : Seen = g.S.Held.seen c.length.new.self in
     let now : Seen = g.S.Held.seen c.base_of.new.site in
-    let later : before.disk_faults ≤ middle.disk_faults = omega arith in
+    let steady = c.in_ok-size.ensures.steady ∙ c.in_ok-sync.ensures.steady in
     IfErr-from c.from_residual-in_err-base.result (OpenCause c.args.file before now) p.0 c.in_err-base.field-0.0 p.1 p.2
     (cause_before c.args.file before middle now c.in_err-base.field-0.0 (c.length.ensures.stays.told ∙ c.sync.ensures.stays.told)
-    (λ told. c.length.ensures.files (subst IsTrue (sym c.sync.ensures.stays.told) told) ∙ c.sync.ensures.files told) later (of_header c.args.file middle now c.in_err-base.field-0.0 c.in_err-base.ensures.cause))
+    (λ told. c.length.ensures.files (subst IsTrue (sym c.sync.ensures.stays.told) told) ∙ c.sync.ensures.files told) steady (of_header c.args.file middle now c.in_err-base.field-0.0 c.in_err-base.ensures.cause))

@@ -23,4 +23,5 @@ returns-in-None-clause-cause g c =
           let has = subst (λ (h : Head). IsHead (drop place bytes) h) c.in-Open.is (c.in_ok-head_at.ensures.head told) in
           let long : length (drop place bytes) ≡ c.args.size - place = length-drop place bytes ∙ ap (λ (n : ℕ). n - place) (sym (c.requires.size told)) in
           broken_length (drop place bytes) c.in-Open.length place c.args.position c.args.size has long c.in-None.ensures,
+      c.in_ok-head_at.ensures.steady,
     )

@@ -1,4 +1,4 @@
-use Rattle.std.proofs.Common.{◌≡◌, ◌≤◌, ℕ, List, length, take, true, refl, [], ◌∙◌, ap, sym, subst, rules, arith}
+use Rattle.std.proofs.Common.{ℕ, List, length, true, [], ◌∙◌, ap, sym, subst, rules, arith}
 use Rattle.std.specs.Prelude.{IsTrue}
 use Rattle.sr_site.specs.Growing.{disk_stays_on}
 use Rattle.sr_logfile.proofs.Makings.{fresh_stops_1, fresh_stops_2, fresh_made}
@@ -6,7 +6,6 @@ use Rattle.sr_site.specs.Files.{Files, bytes_of, overwritten}
 use Rattle.sr_logfile.proofs.Appends.{bytes_of-with_bytes}
 use Rattle.sr_logfile.proofs.Records.{spells_fresh}
 use Rattle.sr_logfile.proofs.Starts.{fresh_1, fresh_2, fresh_3, length_filled}
-use Rattle.sr_logfile.specs.Records.{fresh_bytes}
 use Rattle.sr_logfile.proofs.starting.fresh.Goals as goal
 
 pub returns-clause-bytes : goal.returns-clause-bytes

@@ -1,5 +1,7 @@
 use Rattle.std.proofs.Common.{◌+◌, ◌∷◌, [], List, length, refl, ap, subst, ◌∙◌}
+use Rattle.std.specs.List.{AllByRecursion}
 use Rattle.sr_cut.specs.Cuts.{bodyless}
+use Rattle.sr_msgform.specs.Messages.{IsMessage}
 use Rattle.sr_msgform.specs.declared.message.Message.{Message}
 use Rattle.sr_send.specs.Faults.{fault_of_cut}
 use Rattle.sr_send.specs.Letters.{letters}
@@ -32,6 +34,7 @@ returns-in-Ok-clause-put g c =
       count = c.in-Ok.ensures.count ∙ ap (λ (l : List Message). c.args.post.now.put + length l) is;
       end_is = refl;
       posted = subst (λ (l : List Message). Posted before now (letters aim.address (aim.count + c.args.post.now.put) l)) is c.in-Ok.ensures.posted;
+      spelled = subst (λ (l : List Message). AllByRecursion IsMessage l) is c.in-Ok.ensures.spelled;
       steady = c.in-Ok.ensures.steady;
     }
 

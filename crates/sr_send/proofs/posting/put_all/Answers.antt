@@ -31,4 +31,4 @@ messages-preserved g c =
     let now = g.S.Held.seen c.put_one.new.site in
     let going : IsPutting aim.address aim.count c.args.put c.args.messages.now (c.in-Some.message.now ∷ c.in-Some.rest.now) c.messages.total before middle =
     subst (λ (l : List Message). IsPutting aim.address aim.count c.args.put c.args.messages.now l c.messages.total before middle) c.in-Some.ensures.cases.0 c.messages.invariant in
-    putting_more aim.address aim.count c.args.put c.messages.total ((aim.count + c.from.result) % 2 ^ 64) c.in-Some.message.now c.in-Some.rest.now c.args.messages.now before middle now going (ap (λ (n : ℕ). (aim.count + n) % 2 ^ 64) c.from.ensures) c.in_ok-put_one.ensures.put c.in_ok-put_one.ensures.steady
+    putting_more aim.address aim.count c.args.put c.messages.total ((aim.count + c.from.result) % 2 ^ 64) c.in-Some.message.now c.in-Some.rest.now c.args.messages.now before middle now going (ap (λ (n : ℕ). (aim.count + n) % 2 ^ 64) c.from.ensures) c.in_ok-put_one.ensures.put c.in_ok-put_one.ensures.spelled c.in_ok-put_one.ensures.steady

@@ -1,5 +1,4 @@
 use Rattle.std.proofs.Common.{Err, refl, sym, subst, ◌∙◌}
-use Rattle.sr_send.specs.Letters.{letter}
 use Rattle.sr_send.specs.Stops.{IsPartPut}
 use Rattle.sr_send.specs.declared.fault.SendFault.{SendFault}
 use Rattle.sr_send.specs.declared.fault.SendFault.TheVariants.{Memory}
@@ -10,14 +9,12 @@ use Rattle.sr_send.proofs.posting.put_one.Goals as goal
 pub returns-in_err-name-clause-cause : goal.returns-in_err-name-clause-cause
 returns-in_err-name-clause-cause g c =
     let seen = g.S.Held.seen c.args.site.now in
-    let item = letter c.args.address.now c.args.number c.args.message.now in
-    if_fault (IsPartPut seen seen item) Memory c.from_residual.result c.from_residual.ensures.1 (not_begun seen item)
+    if_fault (IsPartPut seen seen c.args.address.now c.args.number c.args.message.now) Memory c.from_residual.result c.from_residual.ensures.1 (not_begun seen c.args.address.now c.args.number c.args.message.now)
 
 pub returns-in_err-bytes-clause-cause : goal.returns-in_err-bytes-clause-cause
 returns-in_err-bytes-clause-cause g c =
     let seen = g.S.Held.seen c.args.site.now in
-    let item = letter c.args.address.now c.args.number c.args.message.now in
-    if_fault (IsPartPut seen seen item) Memory c.from_residual-in_err-bytes.result c.from_residual-in_err-bytes.ensures.1 (not_begun seen item)
+    if_fault (IsPartPut seen seen c.args.address.now c.args.number c.args.message.now) Memory c.from_residual-in_err-bytes.result c.from_residual-in_err-bytes.ensures.1 (not_begun seen c.args.address.now c.args.number c.args.message.now)
 
 pub returns-in-Ok-clause-put : goal.returns-in-Ok-clause-put
 returns-in-Ok-clause-put g c =
@@ -32,8 +29,7 @@ pub returns-in-Err-clause-cause : goal.returns-in-Err-clause-cause
 returns-in-Err-clause-cause g c =
     let before = g.S.Held.seen c.args.site.now in
     let now = g.S.Held.seen c.put-outcome.new.self in
-    let item = letter c.args.address.now c.args.number c.args.message.now in
     let posted = put_as before now c.args.address.now c.in_ok-name.name c.as_slice.result.now _ c.args.number c.args.message.now c.in_ok-name.ensures
     (c.as_slice.ensures.value ∙ c.in_ok-bytes.ensures.spelling) c.in-Err.ensures.stays c.in-Err.ensures.put in
-    subst (λ (f : SendFault). IsPartPut before now item f) (sym c.from.ensures) (part_begun before now item c.in-Err.fault (Err c.in-Err.fault) refl posted
+    subst (λ (f : SendFault). IsPartPut before now c.args.address.now c.args.number c.args.message.now f) (sym c.from.ensures) (part_begun before now c.args.address.now c.args.number c.args.message.now c.in-Err.fault (Err c.in-Err.fault) refl posted c.in_ok-bytes.ensures.kept
     (ends_put before now c.args.address.now c.in_ok-name.name c.as_slice.result.now _ c.in-Err.ensures.put) c.in-Err.ensures.stays c.in-Err.ensures.cause)

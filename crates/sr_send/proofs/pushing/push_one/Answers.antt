@@ -1,4 +1,6 @@
 use Rattle.std.proofs.Common.{◌+◌, ◌∷◌, [], List, length, refl, ap, subst, ◌∙◌}
+use Rattle.std.specs.List.{AllByRecursion}
+use Rattle.sr_msgform.specs.Messages.{IsMessage}
 use Rattle.sr_msgform.specs.declared.message.Message.{Message}
 use Rattle.sr_send.specs.Faults.{fault_of_cut}
 use Rattle.sr_send.specs.Letters.{letters}
@@ -43,6 +45,7 @@ returns-in-Ok-clause-pushed g c =
     pushed_one aim c.args.post.now _ c.args.transaction.now closed before now c.requires.later by refl
     (c.in-Ok.ensures.count ∙ ap (λ (l : List Message). c.args.post.now.put + length l) c.as_slice.ensures.value)
     (subst (λ (l : List Message). Posted before now (letters aim.address (aim.count + c.args.post.now.put) l)) c.as_slice.ensures.value c.in-Ok.ensures.posted)
+    (subst (λ (l : List Message). AllByRecursion IsMessage l) c.as_slice.ensures.value c.in-Ok.ensures.spelled)
     c.in-Ok.ensures.steady
 
 pub returns-in-Err-clause-cause : goal.returns-in-Err-clause-cause

@@ -17,29 +17,35 @@ returns-then-after-base-clause-step g c told done left at =
     ]
 
 pub returns-in_default-clause-cause : goal.returns-in_default-clause-cause
-returns-in_default-clause-cause g c told done left at =
-    let log : Log = c.args.self.now in
-    let files : Files = (g.S.Held.seen c.args.site.now).files in
-    let end_is = c.end-end.ensures.end in
-    let before : c.args.after.0 < log.end = omega arith in
-    let next = has_next log c.args.after.0 done files left at before in
-    never_damaged log c.args.after.0 c.base-base.result.0 done left files c.file.result c.base-base.ensures.base c.file.ensures.file next c.in_ok-length.field-0 (c.in_ok-length.ensures.head told) c.in_default.not-Open
+returns-in_default-clause-cause g c = (
+  λ told done left at.
+      let log : Log = c.args.self.now in
+      let files : Files = (g.S.Held.seen c.args.site.now).files in
+      let end_is = c.end-end.ensures.end in
+      let before : c.args.after.0 < log.end = omega arith in
+      let next = has_next log c.args.after.0 done files left at before in
+      never_damaged log c.args.after.0 c.base-base.result.0 done left files c.file.result c.base-base.ensures.base c.file.ensures.file next c.in_ok-length.field-0 (c.in_ok-length.ensures.head told) c.in_default.not-Open,
+  c.in_ok-length.ensures.steady,
+)
 
 pub returns-then-length-eq0-clause-cause : goal.returns-then-length-eq0-clause-cause
-returns-then-length-eq0-clause-cause g c told done left at =
-    let log : Log = c.args.self.now in
-    let files : Files = (g.S.Held.seen c.args.site.now).files in
-    let end_is = c.end-end.ensures.end in
-    let before : c.args.after.0 < log.end = omega arith in
-    let next = has_next log c.args.after.0 done files left at before in
-    let is = length_read log c.args.after.0 c.base-base.result.0 done left files c.file.result c.base-base.ensures.base c.file.ensures.file next c.in_ok-length.field-0 c.in-Open.length (c.in_ok-length.ensures.head told) c.in-Open.is in
-    let is_body = next.is_body in
-    let room = next.room in
-    elim c.then-length-eq0.branch [
-      | then-length-eq0-via-then-length-eq0 w ↦ omega (arith, is)
-      | then-length-eq0-via-else-length-eq0+then-length-gt-LONGEST_BODY w ↦ omega (arith, is)
-      | then-length-eq0-via-else-length-eq0+else-length-gt-LONGEST_BODY+then-after-length w ↦ omega (arith, is)
-    ]
+returns-then-length-eq0-clause-cause g c = (
+  λ told done left at.
+      let log : Log = c.args.self.now in
+      let files : Files = (g.S.Held.seen c.args.site.now).files in
+      let end_is = c.end-end.ensures.end in
+      let before : c.args.after.0 < log.end = omega arith in
+      let next = has_next log c.args.after.0 done files left at before in
+      let is = length_read log c.args.after.0 c.base-base.result.0 done left files c.file.result c.base-base.ensures.base c.file.ensures.file next c.in_ok-length.field-0 c.in-Open.length (c.in_ok-length.ensures.head told) c.in-Open.is in
+      let is_body = next.is_body in
+      let room = next.room in
+      elim c.then-length-eq0.branch [
+        | then-length-eq0-via-then-length-eq0 w ↦ omega (arith, is)
+        | then-length-eq0-via-else-length-eq0+then-length-gt-LONGEST_BODY w ↦ omega (arith, is)
+        | then-length-eq0-via-else-length-eq0+else-length-gt-LONGEST_BODY+then-after-length w ↦ omega (arith, is)
+      ],
+  c.in_ok-length.ensures.steady,
+)
 
 pub returns-then-buffer-need-clause-step : goal.returns-then-buffer-need-clause-step
 returns-then-buffer-need-clause-step g c told done left at =
