@@ -43,6 +43,7 @@ impl Key {
     }
 
     /// The key of one value. It takes no memory.
+    #[inline(always)]
     pub fn one(value: Value) -> Key
         ensures values { result ≡ value ∷ [] }
     {
@@ -52,6 +53,7 @@ impl Key {
     }
 
     /// The values, in key order.
+    #[inline(always)]
     pub fn values(&self) -> &[Value]
         ensures values { result.now ≡ self.now }
     {
@@ -77,6 +79,7 @@ fn hold(alloc: Global, values: Seq<Value>) -> Result<Held, NoMemory>
 }
 
 impl Copied for Held {
+    #[inline(always)]
     fn copy(&self, alloc: Global) -> Result<Held, NoMemory> {
         match self {
             Held::One(value) => Ok(Held::One(value.copy(alloc)?)),
@@ -86,6 +89,7 @@ impl Copied for Held {
 }
 
 impl Copied for Key {
+    #[inline(always)]
     fn copy(&self, alloc: Global) -> Result<Key, NoMemory> {
         Ok(Key {
             held: self.held.copy(alloc)?,

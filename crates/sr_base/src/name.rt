@@ -62,6 +62,7 @@ impl Name {
 }
 
 impl Copied for Name {
+    #[inline(always)]
     fn copy(&self, _alloc: Global) -> Result<Name, NoMemory> {
         Ok(Name {
             shared: self.shared.clone()?,

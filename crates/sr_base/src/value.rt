@@ -23,6 +23,7 @@ pub enum Kind {
 }
 
 impl Copied for Value {
+    #[inline(always)]
     fn copy(&self, alloc: Global) -> Result<Value, NoMemory> {
         match self {
             Value::Null => Ok(Value::Null),

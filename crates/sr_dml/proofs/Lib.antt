@@ -10,6 +10,7 @@ pub mod Folding
 pub mod Keeping
 pub mod Outcomes
 pub mod Over
+pub mod Pended
 pub mod Placed
 pub mod Putting
 pub mod Readied

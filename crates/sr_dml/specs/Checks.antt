@@ -1,6 +1,6 @@
 -- What is wrong with a statement before a row is looked at: columns that are not there, wrong classes, wrong counts of values and
 -- columns named twice.
-use Rattle.std.specs.Prelude.{ℕ, Bool, cond, List, [], ◌∷◌, ◌++◌, map, Option, Some, None, bytes_eq}
+use Rattle.std.specs.Prelude.{ℕ, Bool, cond, List, [], ◌∷◌, ◌++◌, Option, Some, None, bytes_eq}
 use Rattle.std.specs.List.{list_any}
 use Rattle.sr_base.specs.declared.value.Kind.{Kind}
 use Rattle.sr_ast.specs.Exprs.{term_of}

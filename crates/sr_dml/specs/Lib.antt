@@ -6,6 +6,7 @@ pub mod FittingChanges
 pub mod Fixing
 pub mod Holding
 pub mod Laws
+pub mod Pending
 pub mod Preparing
 pub mod RowsAfter
 pub mod Sequences

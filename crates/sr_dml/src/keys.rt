@@ -7,6 +7,7 @@ use sr_base::{Copied, Key, NoMemory, Seq, Value};
 use std::alloc::Global;
 
 /// The key of a row: its values at the places of the key, each found at once. A key of one column takes no memory but that of a text.
+#[inline(always)]
 pub fn key_of(alloc: Global, places: &[usize], row: &[Value]) -> Result<Key, NoMemory>
     ensures key { IfOk result (λ key. key ≡ key_of places.now row.now) }
 {

@@ -20,11 +20,13 @@ mod laws;
 mod lists;
 mod moving;
 mod names;
+mod pending;
 mod placing;
 mod prepared;
 mod settling;
 mod single;
 mod storing;
+mod together;
 mod updating;
 
 pub use applying::{apply_in, apply_same};

@@ -4,6 +4,7 @@ use sr_base::NoMemory;
 use std::alloc::AllocError;
 
 /// Adds an item at the end.
+#[inline(always)]
 pub(crate) fn push<T: Drop>(list: &mut Vec<T>, item: T) -> Result<(), NoMemory>
     ensures ok { OnOk result (list.new.items ≡ list.old.items ++ item ∷ []) }
 {

@@ -122,6 +122,7 @@ fn note_fate(
 
 /// What becomes of a row.
 #[tactic(auto, using(crate::proofs::Readied::by_names))]
+#[inline(always)]
 pub(crate) fn fate_of(
     alloc: Global,
     table: &Table,
@@ -152,7 +153,8 @@ pub(crate) fn fate_of(
 
 /// Whether a row is selected: where the condition is true, or where there is none.
 #[tactic(auto, using(crate::proofs::Readied::one_source))]
-fn selected(condition: &Option<Resolved>, row: &Bound) -> Result<bool, DmlFault>
+#[inline(always)]
+pub(crate) fn selected(condition: &Option<Resolved>, row: &Bound) -> Result<bool, DmlFault>
     ensures answer { Answers result (selected_at row.now.values.now (resolution_in condition.now)) }
 {
     let Some(condition) = condition else {

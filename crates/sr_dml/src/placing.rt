@@ -15,6 +15,7 @@ use crate::fate::Fate;
 use crate::moving::fate_of;
 use crate::prepared::Prepared;
 use crate::settling::note;
+use crate::together::{rows_together, unmoved_together};
 use sr_base::{Name, NoMemory, Row, Seq};
 use sr_logform::Change;
 use sr_rows::Rows;
@@ -30,8 +31,30 @@ pub(crate) struct Found {
 
 /// The changes where each selected row keeps its key, as a DELETE and most UPDATEs have it; nothing where one gets another key.
 ///
-/// Each row takes the time of its condition and, where it is selected, of its assignments and its copies.
+/// Each row takes the time of its condition and, where it is selected, of its assignments and its copies. An UPDATE of small rows makes several
+/// new ones at a time.
 pub(crate) fn unmoved(
+    alloc: Global,
+    table: &Table,
+    rows: &Rows,
+    prepared: &Prepared,
+) -> Result<Option<Changes>, DmlFault>
+    requires prepared { IsPrepared table.now prepared.now }
+    requires rows { TableFits table.now rows.now.rows }
+    ensures answer { MatchResult result (λ found. IfSome found (λ changes. followed (fates_of table.now (option_copied prepared.now.sets) prepared.now.condition.now (table_rows rows.now.rows table.now.name)) (moved_rows table.now (table_rows rows.now.rows table.now.name)) ≡ Ok changes))
+        (λ fault. fault ≢ DmlFault.Memory → followed (fates_of table.now (option_copied prepared.now.sets) prepared.now.condition.now (table_rows rows.now.rows table.now.name)) (moved_rows table.now (table_rows rows.now.rows table.now.name)) ≡ Err fault) }
+{
+    if prepared.sets.is_some() {
+        let together = rows_together(table.columns.as_slice());
+        if together > 1 {
+            return unmoved_together(alloc, table, rows, prepared, together);
+        }
+    }
+    unmoved_alone(alloc, table, rows, prepared)
+}
+
+/// The same, with each new row for itself.
+fn unmoved_alone(
     alloc: Global,
     table: &Table,
     rows: &Rows,

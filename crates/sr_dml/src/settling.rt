@@ -94,6 +94,7 @@ fn only_change(alloc: Global, table: &Name, row: Row) -> Result<Seq<Change>, NoM
 }
 
 /// Adds a change where the rows before and after differ.
+#[inline(always)]
 pub(crate) fn note(
     alloc: Global,
     changes: &mut Vec<Change>,
@@ -110,6 +111,28 @@ pub(crate) fn note(
         table: table.copy(alloc)?,
         before: copied_row(alloc, before)?,
         after,
+    };
+    push(changes, change)
+}
+
+/// Adds the change where a row comes in the place of another one, if they differ.
+#[inline(always)]
+pub(crate) fn note_updated(
+    alloc: Global,
+    changes: &mut Vec<Change>,
+    table: &Name,
+    old: Row,
+    new: Row,
+) -> Result<(), NoMemory>
+    ensures noted { OnOk result ((later : List AChange) → changes.old.items ++ with_change table.now (Some old) (Some new) later ≡ changes.new.items ++ later) }
+{
+    if old.values().cmp(new.values()).is_eq() {
+        return Ok(());
+    }
+    let change = Change {
+        table: table.copy(alloc)?,
+        before: Some(old),
+        after: Some(new),
     };
     push(changes, change)
 }

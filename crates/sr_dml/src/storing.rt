@@ -34,6 +34,7 @@ fn allowed(alloc: Global, column: &Column, value: Value) -> Result<Value, DmlFau
 }
 
 /// What a column holds for a value: `BadValue` where it does not fit, and then `Null` where NULL may not stand.
+#[inline(always)]
 pub(crate) fn fitting(alloc: Global, column: &Column, value: Value) -> Result<Value, DmlFault>
     ensures answer { Answers result (fitting column.now (fitted value column.now.kind)) }
 {
@@ -62,6 +63,7 @@ pub(crate) fn stored(alloc: Global, column: &Column, expr: &Expr) -> Result<Valu
 
 /// The same of an expression over a row, its names resolved.
 #[tactic(auto, using(crate::proofs::Readied::one_source))]
+#[inline(always)]
 pub(crate) fn stored_at(
     alloc: Global,
     column: &Column,

@@ -81,6 +81,7 @@ fn bad_in_update(
 }
 
 /// The row that an UPDATE makes of a row, by what each column takes. A row of two values takes one block of memory.
+#[inline(always)]
 pub(crate) fn updated_row(
     alloc: Global,
     row: &Bound,
@@ -129,7 +130,8 @@ fn updated_row_of_several(
 }
 
 /// What a column takes in an UPDATE: an expression's value over the old row, or the value that it has.
-fn new_value(
+#[inline(always)]
+pub(crate) fn new_value(
     alloc: Global,
     row: &Bound,
     column: &Column,

@@ -24,6 +24,7 @@ pub fn negated(value: &Value) -> Option<Value>
 
 /// Two INTEGERs give an INTEGER, and with a BIGINT it is a BIGINT. `None` where the number passes the end of its type; NULL
 /// where an operand is NULL.
+#[inline(always)]
 pub fn calculated(operator: Arithmetic, left: &Value, right: &Value) -> Option<Value>
     ensures value { result ≡ arithmetic (function_of operator) left.now right.now }
 {

@@ -27,6 +27,7 @@ use std::alloc::Global;
 
 /// The value of a resolved expression over several sources, NULL in the place of a truth. `Overflow` exactly where a number passes the
 /// end of its type anywhere in the expression. A text is copied; nothing else takes memory.
+#[inline(always)]
 pub fn resolved_value(
     alloc: Global,
     resolved: &Resolved,
@@ -87,6 +88,7 @@ fn operated_meaning<'a>(boxed: &'a Boxed, sources: &[Bound<'a>]) -> Option<Worth
 }
 
 /// What arithmetic gives of two values that lie in the expression or in a row. Other operators, and other operands, are not reckoned here.
+#[inline(always)]
 fn calculated_lying<'a>(
     operator: Binary,
     left: &'a Resolved,

@@ -3,6 +3,7 @@ pub mod Entries
 pub mod Filling
 pub mod Gathering
 pub mod Going
+pub mod Hands
 pub mod Keeping
 pub mod Listing
 pub mod Searching

@@ -1,6 +1,7 @@
 pub mod Filling
 pub mod Forms
 pub mod Gathered
+pub mod Hands
 pub mod Lefts
 pub mod Marks
 pub mod Searches

@@ -37,6 +37,14 @@ abbrev pub coded_marked : Coded Marked
 coded_marked = code_by (RowMap × (RowMap × List RowMap)) (coded× coded_rows (coded× coded_rows (coded_list coded_rows)))
     (λ m. (m.rows, (m.marked, m.trail))) (λ p. record { rows = p.0; marked = p.1.0; trail = p.1.1 }) (λ _. refl)
 
+-- rows of which one table is at hand
+pub record OneAtHand : Type 0 where
+  pub table : List ℕ
+  pub rows : Marked
+
+abbrev pub coded_at_hand : Coded OneAtHand
+coded_at_hand = code_by (List ℕ × Marked) (coded× (coded_list coded_ℕ) coded_marked) (λ h. (h.table, h.rows)) (λ p. record { table = p.0; rows = p.1 }) (λ _. refl)
+
 -- the key comes after another one; each key does where there is no other
 abbrev pub IsPast : Option (List Value) → List Value → Type 0
 IsPast None key = ⊤

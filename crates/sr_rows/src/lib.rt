@@ -4,6 +4,7 @@
 //! earlier step, again, and no memory is taken. So a row that is taken leaves its empty place in the map until the next `mark`.
 #![tactic(auto)]
 
+mod at_hand;
 mod laws;
 mod rising;
 mod rows;
@@ -13,6 +14,7 @@ mod tree;
 mod undo;
 mod walk;
 
+pub use at_hand::AtHand;
 pub use laws::a_table_is_walked_in_the_order_of_its_keys;
 pub use rows::Rows;
 pub use walk::Walk;

@@ -116,6 +116,7 @@ impl Rising {
 
     /// Puts a row at a place, if it is there, and answers what stood there; else it gives the row back. It takes no memory. The place
     /// behind the one of the last call is tried first, so that places in the order of their keys are found in constant time.
+    #[inline(always)]
     pub(crate) fn replace(&mut self, key: &Key, row: Row) -> Result<Option<Row>, Row>
         ensures before { MatchResult result (λ before. map.get self.old key.now ≡ Some before) (λ _. map.get self.old key.now ≡ None) }
         ensures set { OnOk result (self.new ≡ map.insert self.old key.now (Some row)) }
@@ -229,6 +230,7 @@ fn search_near(places: &[Place], guess: usize, key: &Key) -> Result<usize, usize
 }
 
 /// The same as `search`, where a guess is tried first.
+#[inline(always)]
 fn search_from(places: &[Place], guess: usize, key: &Key) -> Result<usize, usize>
     requires order { InOrder places.now }
     ensures ends { EndsAt places.now key.now result }

@@ -26,8 +26,8 @@ use std::marker::Model;
 /// that goes from a list takes a step for each place behind it.
 #[derive(Drop)]
 pub struct Rows {
-    tables: Tables,
-    changes: Vec<Undo>,
+    pub(crate) tables: Tables,
+    pub(crate) changes: Vec<Undo>,
 }
 
 impl Model for Rows {
@@ -144,6 +144,7 @@ impl Rows {
 
     /// Puts a row under a key of a table, as `set` does. Where a row stands there, its place is found at once and the key is not copied.
     /// In a list, rows that are replaced in the order of their keys are found in constant time.
+    #[inline(always)]
     pub fn replace(
         &mut self,
         alloc: Global,

@@ -135,6 +135,7 @@ impl Table {
     }
 
     /// Puts a row at a place, if it is there, and answers what stood there; else it gives the row back. It takes no memory.
+    #[inline(always)]
     pub(crate) fn replace(&mut self, key: &Key, row: Row) -> Result<Option<Row>, Row>
         ensures before { MatchResult result (λ before. map.get self.old key.now ≡ Some before) (λ _. map.get self.old key.now ≡ None) }
         ensures set { OnOk result (self.new ≡ map.insert self.old key.now (Some row)) }

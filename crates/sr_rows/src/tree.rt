@@ -84,7 +84,10 @@ impl Tree {
     {
         match self.places.get_mut(key) {
             Some(held) => mem::replace(held, place),
-            None => None,
+            None => {
+                drop(place);
+                None
+            }
         }
     }
 

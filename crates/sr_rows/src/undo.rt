@@ -19,6 +19,7 @@ pub(crate) struct Undo {
 }
 
 /// The name of a table: the one that the last change keeps, where that is of the same table, or else a copy.
+#[inline(always)]
 pub(crate) fn shared(alloc: Global, changes: &[Undo], table: &Name) -> Result<Rc<Name>, NoMemory>
     ensures equal { IfOk result (λ name. name.value ≡ table.now) }
 {

@@ -5,7 +5,7 @@ use Rattle.sr_base.proofs.Exact.{exact_keys}
 use Rattle.sr_rows.specs.declared.tree.Tree.TheInside.{Inside}
 use Rattle.sr_rows.proofs.Entries.{get-lookup, from_entries-given, there_not_none}
 use Rattle.sr_rows.proofs.tree.Tree.set.Goals as goal
-use Rattle.sr_rows.proofs.tree.Tree.set.Goals.{in-Some, in-None+in-Some-1, in-None+in-None-1}
+use Rattle.sr_rows.proofs.tree.Tree.set.Goals.{in-Some, in-None}
 
 pub returns-clause-set : goal.returns-clause-set
 returns-clause-set c =
@@ -18,8 +18,7 @@ returns-clause-set c =
           ap (λ (s : Inside). map.from_entries {R = key_cmp} s.places.entries) w.self-inside-is
           ∙ from_entries-given key_cmp_total exact_keys es (c.get_mut.follows.lender w.replace.new.dest).entries k w.replace.new.dest ((c.get_mut.follows.holds w.replace.new.dest).3 (search rules)).0
           ∙ ap (λ p. map.insert (map.from_entries es) k p) w.replace.ensures.after ∙ ap (λ m. map.insert m k c.args.place) view
-      | in-None+in-Some-1 w ↦ there_not_none (map.get c.args.self.now k) (ap (λ m. map.get m k) (sym view) ∙ at_key ∙ sym w.in-None.ensures.value) c.requires.there
-      | in-None+in-None-1 w ↦ there_not_none (map.get c.args.self.now k) (ap (λ m. map.get m k) (sym view) ∙ at_key ∙ sym w.in-None.ensures.value) c.requires.there
+      | in-None w ↦ there_not_none (map.get c.args.self.now k) (ap (λ m. map.get m k) (sym view) ∙ at_key ∙ sym w.in-None.ensures.value) c.requires.there
     ]
 
 pub returns-clause-before : goal.returns-clause-before
@@ -30,6 +29,5 @@ returns-clause-before c =
     let view : map.from_entries es ≡ c.args.self.now = c.self.view_is in
     elim c.match-get_mut.branch [
       | in-Some w ↦ ap (λ m. map.get m k) (sym view) ∙ at_key ∙ sym w.in-Some.ensures.value ∙ ap Some (sym (w.result-is ∙ w.replace.ensures.value))
-      | in-None+in-Some-1 w ↦ there_not_none (map.get c.args.self.now k) (ap (λ m. map.get m k) (sym view) ∙ at_key ∙ sym w.in-None.ensures.value) c.requires.there
-      | in-None+in-None-1 w ↦ there_not_none (map.get c.args.self.now k) (ap (λ m. map.get m k) (sym view) ∙ at_key ∙ sym w.in-None.ensures.value) c.requires.there
+      | in-None w ↦ there_not_none (map.get c.args.self.now k) (ap (λ m. map.get m k) (sym view) ∙ at_key ∙ sym w.in-None.ensures.value) c.requires.there
     ]

@@ -3,7 +3,7 @@ use Rattle.std.specs.Option.{option_copied}
 use Rattle.sr_rows.specs.Walks.{table_rows}
 use Rattle.sr_rows.proofs.Cursors.{AreHeld}
 use Rattle.sr_dml.specs.Unmoving.{unmoved, behind, KeepKeys}
-use Rattle.sr_dml.proofs.placing.unmoved.Given as goal
+use Rattle.sr_dml.proofs.placing.unmoved_alone.Given as goal
 
 -- what becomes of the rows that are left stands behind what is found, and if they keep their keys all do; these rows are held
 abbrev pub invariant-rows : goal.invariant-rows

@@ -5,7 +5,7 @@ use Rattle.sr_rows.proofs.Cursors.{AreHeld, table_held}
 use Rattle.sr_dml.specs.Statements.{fate_of, counted}
 use Rattle.sr_dml.specs.Unmoving.{unmoved, behind, with_fate, Keeps, KeepKeys}
 use Rattle.sr_dml.proofs.Placed.{unmoved_are, unmoved_fault, keeps_one, behind-none, behind-end}
-use Rattle.sr_dml.proofs.placing.unmoved.Goals as goal
+use Rattle.sr_dml.proofs.placing.unmoved_alone.Goals as goal
 
 pub rows-init : goal.rows-init
 rows-init c =
