@@ -75,10 +75,10 @@ PAIRS = b"CREATE TABLE p (id INTEGER PRIMARY KEY, n INTEGER);\n"
 PAIR = b"INSERT INTO p VALUES (%d, 7);\n"
 # how many statements stand between two COMMITs
 TOGETHER = 1_000
-# what is run behind the inserts, and how often in one run: so often that it takes as long as the inserts, from which it is told by a difference
+# what is run behind the inserts, and how often in one run: so often that it takes longer than the inserts, from which it is told by a difference
 COMPARED = {
     "point updates by key": (lambda rows: statements(b"UPDATE p SET n = 8 WHERE id = %d;\n", rows), 1),
-    "update of each row": (lambda rows: b"UPDATE p SET n = n + 1;\n" + COMMIT, 20),
+    "update of each row": (lambda rows: b"UPDATE p SET n = n + 1;\n" + COMMIT, 100),
     "walk that changes none": (lambda rows: b"UPDATE p SET n = 8 WHERE n = 6;\n" + COMMIT, 100),
 }
 
