@@ -6,10 +6,12 @@ ghost use Rattle.sr_dml.specs.Conditions.{RowsFit};
 use crate::database::{accept, change, go_back, keep, new_catalog, no_rows};
 use sr_ast::{Dml, Select, Stmt};
 use sr_catalog::{Catalog, DmlFault};
-use sr_exec::exec;
+use sr_exec::exec_reusing;
+use sr_logform::Change;
 use sr_query::select;
 use sr_rows::Rows;
 use std::alloc::{AllocError, Global};
+use std::mem;
 
 /// Why a script did not run to its end.
 #[derive(Clone, Copy)]
@@ -55,20 +57,22 @@ fn count_each(
     requires marked { RowsFit catalog.old rows.old.marked }
 {
     let mut count = 0u64;
+    let mut spare = Vec::new(alloc);
     let mut left = script;
     'statements: while let Some((statement, rest)) = left.split_first() {
-        count = count.saturating_add(count_one(alloc, catalog, rows, statement)?);
+        count = count.saturating_add(count_one(alloc, catalog, rows, statement, &mut spare)?);
         left = rest;
     }
     Ok(count)
 }
 
-/// Runs a statement: how many rows it changes or answers.
+/// Runs a statement: how many rows it changes or answers. The changes of one after the other stand in the same memory.
 fn count_one(
     alloc: Global,
     catalog: &mut Catalog,
     rows: &mut Rows,
     statement: &Stmt,
+    spare: &mut Vec<Change>,
 ) -> Result<u64, Stopped>
     requires rows { RowsFit catalog.old rows.old.rows }
     requires marked { RowsFit catalog.old rows.old.marked }
@@ -76,7 +80,7 @@ fn count_one(
     ensures marked { OnOk result (RowsFit catalog.new rows.new.marked) }
 {
     match statement {
-        Stmt::Dml(statement) => count_changed(alloc, catalog, rows, statement),
+        Stmt::Dml(statement) => count_changed(alloc, catalog, rows, statement, spare),
         Stmt::Select(statement) => count_selected(alloc, catalog, rows, statement),
         Stmt::Commit => {
             keep(catalog, rows);
@@ -96,17 +100,20 @@ fn count_changed(
     catalog: &Catalog,
     rows: &mut Rows,
     statement: &Dml,
+    spare: &mut Vec<Change>,
 ) -> Result<u64, Stopped>
     requires rows { RowsFit catalog.now rows.old.rows }
     requires marked { RowsFit catalog.now rows.old.marked }
     ensures rows { OnOk result (RowsFit catalog.now rows.new.rows) }
     ensures marked { OnOk result (RowsFit catalog.now rows.new.marked) }
 {
-    match exec(alloc, catalog, rows, statement) {
+    let list = mem::replace(spare, Vec::new(alloc));
+    match exec_reusing(alloc, catalog, rows, statement, list) {
         Ok(changes) => {
             let count = changes.count;
             let done = change(alloc, catalog, rows, statement, &changes);
-            drop(changes);
+            drop(mem::replace(spare, changes.list.into_vec()));
+            spare.clear();
             done?;
             Ok(count)
         }

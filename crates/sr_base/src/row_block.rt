@@ -17,7 +17,7 @@ pub struct RowBlock {
 }
 
 impl Model for RowBlock {
-    ghost use Rattle.std.specs.Prelude.{List, ◌≤◌, length};
+    ghost use Rattle.std.specs.Prelude.{List};
     ghost use Rattle.sr_base.specs.declared.value.Value.{Value as Cell};
     ghost use Rattle.sr_base.specs.Cells.{values_left, IsBlock};
 

@@ -33,7 +33,8 @@ impl<T> Seq<T> {
         }
     }
 
-    pub(crate) fn into_vec(self) -> Vec<T>
+    /// The items in order, with the memory that they stand in.
+    pub fn into_vec(self) -> Vec<T>
         ensures items { result.items ≡ self }
     {
         self.items

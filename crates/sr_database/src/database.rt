@@ -24,6 +24,7 @@ use sr_logform::Change;
 use sr_rows::Rows;
 use std::alloc::Global;
 use std::marker::Model;
+use std::mem;
 
 /// A database that was opened: the catalog, the rows and the books that its history comes to, the changes that are pending, and its log.
 ///
@@ -144,6 +145,21 @@ impl Database {
         ensures database { OnOk result ((self.new.catalog ≡ self.old.catalog) × (self.new.log ≡ self.old.log)) }
         ensures err { OnErr result (self.new ≡ self.old) }
     {
+        let copies = changes.copy(alloc)?;
+        self.take_in(alloc, copies)
+    }
+
+    /// Puts changes into the rows as `apply` does, and does not copy them.
+    pub fn take_in(&mut self, alloc: Global, changes: Changes) -> Result<(), NoMemory>
+        requires usable { self.old.log.usable ≡ true }
+        requires short { AllByRecursion IsShortChange changes.list }
+        requires fit { ChangesFit self.old.catalog self.old.rows.rows changes.list }
+        ensures rows { OnOk result (self.new.rows.rows ≡ applied self.old.catalog changes.list self.old.rows.rows) }
+        ensures pending { OnOk result (self.new.pending ≡ self.old.pending ++ changes.list) }
+        ensures value { (publisher : AName) (es : List Recorded) → IsOf self.old publisher es → IsOf self.new publisher es }
+        ensures database { OnOk result ((self.new.catalog ≡ self.old.catalog) × (self.new.log ≡ self.old.log)) }
+        ensures err { OnErr result (self.new ≡ self.old) }
+    {
         if changes.list.as_slice().is_empty() {
             return Ok(());
         }
@@ -152,9 +168,19 @@ impl Database {
             &self.catalog,
             &mut self.rows,
             &mut self.pending,
-            changes.list.as_slice(),
+            changes.list.into_vec(),
         )?;
         Ok(())
+    }
+
+    /// A list that is not needed any more, for the changes of a statement: that of the pending changes, where none is pending.
+    pub fn spare(&mut self, alloc: Global) -> Vec<Change>
+        ensures same { self.new ≡ self.old }
+    {
+        if self.pending.is_empty() {
+            return mem::replace(&mut self.pending, Vec::new(alloc));
+        }
+        Vec::new(alloc)
     }
 
     /// Takes the pending changes back. It takes no memory.
@@ -173,20 +199,18 @@ fn put_in(
     catalog: &Catalog,
     rows: &mut Rows,
     pending: &mut Vec<Change>,
-    changes: &[Change],
+    changes: Vec<Change>,
 ) -> Result<(), NoMemory>
-    ensures rows { OnOk result (rows.new.rows ≡ applied catalog.now changes.now rows.old.rows) }
+    ensures rows { OnOk result (rows.new.rows ≡ applied catalog.now changes.items rows.old.rows) }
     ensures marked { OnOk result (rows.new.marked ≡ rows.old.marked) }
-    ensures pending { OnOk result (pending.new.items ≡ pending.old.items ++ changes.now) }
+    ensures pending { OnOk result (pending.new.items ≡ pending.old.items ++ changes.items) }
     ensures rows_stay { OnErr result (rows.new ≡ rows.old) }
     ensures pending_stays { OnErr result (pending.new.items ≡ pending.old.items) }
 {
-    let mut copies = copies_of(alloc, changes)?;
-    let before = pending.as_slice().len();
-    let added = pending.append(&mut copies);
-    drop(copies);
-    added?;
-    match apply(alloc, catalog, rows, changes) {
+    let before = pending.len();
+    add_behind(pending, changes)?;
+    let (_, added) = pending.as_slice().split_at(before);
+    match apply(alloc, catalog, rows, added) {
         Ok(()) => Ok(()),
         Err(refused) => {
             pending.truncate(before);
@@ -195,28 +219,17 @@ fn put_in(
     }
 }
 
-/// Copies of changes.
-fn copies_of(alloc: Global, changes: &[Change]) -> Result<Vec<Change>, NoMemory>
-    ensures { IfOk result (λ copies. copies.items ≡ changes.now) }
+/// Adds changes behind others. Behind none they stay in their own memory. For want of memory the list is as it was.
+fn add_behind(list: &mut Vec<Change>, changes: Vec<Change>) -> Result<(), NoMemory>
+    ensures ok { OnOk result (list.new.items ≡ list.old.items ++ changes.items) }
+    ensures err { OnErr result (list.new.items ≡ list.old.items) }
 {
-    let mut copies = Vec::new(alloc);
-    let mut left = changes;
-    'changes: while let Some((change, rest)) = left.split_first() {
-        match push_copy(alloc, &mut copies, change) {
-            Ok(()) => left = rest,
-            Err(refused) => {
-                drop(copies);
-                return Err(refused);
-            }
-        }
+    if list.is_empty() {
+        drop(mem::replace(list, changes));
+        return Ok(());
     }
-    Ok(copies)
-}
-
-/// A copy of a change behind others.
-fn push_copy(alloc: Global, copies: &mut Vec<Change>, change: &Change) -> Result<(), NoMemory>
-    ensures { OnOk result (copies.new.items ≡ copies.old.items ++ change.now ∷ []) }
-{
-    copies.push(change.copy(alloc)?)?;
-    Ok(())
+    let mut changes = changes;
+    let added = list.append(&mut changes);
+    drop(changes);
+    added
 }

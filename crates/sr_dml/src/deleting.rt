@@ -6,6 +6,7 @@ use crate::changes::Changes;
 use crate::classes::{bad_condition, unknown_condition};
 use crate::moving::moved;
 use sr_ast::Delete;
+use sr_logform::Change;
 use sr_rows::Rows;
 use sr_schema::{DmlFault, Table, scope_of};
 use std::alloc::Global;
@@ -16,6 +17,7 @@ pub fn delete(
     table: &Table,
     rows: &Rows,
     delete: &Delete,
+    spare: Vec<Change>,
 ) -> Result<Changes, DmlFault>
     requires rows { TableFits table.now rows.now.rows }
     ensures answer { Answers result (deleted table.now delete.now (table_rows rows.now.rows table.now.name)) }
@@ -27,5 +29,5 @@ pub fn delete(
     if let Some(name) = bad_condition(alloc, &scope, &table.name, &delete.condition)? {
         return Err(DmlFault::BadValue { name });
     }
-    moved(alloc, table, rows, &scope, None, &delete.condition)
+    moved(alloc, table, rows, &scope, None, &delete.condition, spare)
 }

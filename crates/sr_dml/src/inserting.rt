@@ -29,6 +29,7 @@ pub fn insert(
     table: &Table,
     rows: &Rows,
     insert: &Insert,
+    spare: Vec<Change>,
 ) -> Result<Changes, DmlFault>
     ensures answer { Answers result (inserted table.now insert.now (table_rows rows.now.rows table.now.name)) }
 {
@@ -42,7 +43,7 @@ pub fn insert(
     }
     let added = inserted_rows(alloc, table, names.as_slice(), insert.rows.as_slice())?;
     let count = added.len() as u64;
-    let list = put_rows(alloc, table, rows, added)?;
+    let list = put_rows(alloc, table, rows, added, spare)?;
     Ok(Changes { list, count })
 }
 
@@ -52,11 +53,12 @@ fn put_rows(
     table: &Table,
     rows: &Rows,
     added: Vec<Row>,
+    spare: Vec<Change>,
 ) -> Result<Seq<Change>, DmlFault>
     ensures answer { Answers result (held table.now.name (table_rows rows.now.rows table.now.name) (table_rows rows.now.rows table.now.name ++ map (entry_of table.now) added.items)) }
 {
     match only(added) {
-        Ok(row) => put_row(alloc, table, rows, row),
+        Ok(row) => put_row(alloc, table, rows, row, spare),
         Err(added) => {
             let edits = edits_of_rows(alloc, table, added)?;
             settle(alloc, &table.name, rows, edits)

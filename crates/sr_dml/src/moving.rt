@@ -24,6 +24,7 @@ use crate::updating::updated_row;
 use sr_ast::{Expr, Scope, is_plain};
 use sr_base::{Copied, Key, Name, NoMemory, Row, Value};
 use sr_eval::{Bound, EvalFault, Resolved, is_resolved_true};
+use sr_logform::Change;
 use sr_rows::Rows;
 use sr_schema::{DmlFault, Table};
 use std::alloc::Global;
@@ -37,6 +38,7 @@ pub(crate) fn moved(
     scope: &Scope,
     sets: Option<&[(Name, Expr)]>,
     condition: &Option<Expr>,
+    spare: Vec<Change>,
 ) -> Result<Changes, DmlFault>
     requires scope { scope.now ≡ scope_of table.now }
     requires rows { TableFits table.now rows.now.rows }
@@ -46,9 +48,9 @@ pub(crate) fn moved(
 {
     let prepared = prepare(alloc, table, scope, sets, condition)?;
     if let Some(key) = only_key(alloc, table, condition)? {
-        return moved_at(alloc, table, rows, &prepared, &key);
+        return moved_at(alloc, table, rows, &prepared, &key, spare);
     }
-    if let Some(changes) = unmoved(alloc, table, rows, &prepared)? {
+    if let Some(changes) = unmoved(alloc, table, rows, &prepared, spare)? {
         return Ok(changes);
     }
     let picks = picks_along(alloc, table, rows, &prepared)?;

@@ -12,6 +12,7 @@ ghost use Rattle.sr_rows.specs.Walks.{table_rows};
 use crate::applying::is_same_key;
 use crate::changes::Changes;
 use crate::fate::Fate;
+use crate::lists::emptied;
 use crate::moving::fate_of;
 use crate::prepared::Prepared;
 use crate::settling::note;
@@ -38,6 +39,7 @@ pub(crate) fn unmoved(
     table: &Table,
     rows: &Rows,
     prepared: &Prepared,
+    spare: Vec<Change>,
 ) -> Result<Option<Changes>, DmlFault>
     requires prepared { IsPrepared table.now prepared.now }
     requires rows { TableFits table.now rows.now.rows }
@@ -47,10 +49,10 @@ pub(crate) fn unmoved(
     if prepared.sets.is_some() {
         let together = rows_together(table.columns.as_slice());
         if together > 1 {
-            return unmoved_together(alloc, table, rows, prepared, together);
+            return unmoved_together(alloc, table, rows, prepared, together, spare);
         }
     }
-    unmoved_alone(alloc, table, rows, prepared)
+    unmoved_alone(alloc, table, rows, prepared, spare)
 }
 
 /// The same, with each new row for itself.
@@ -59,6 +61,7 @@ fn unmoved_alone(
     table: &Table,
     rows: &Rows,
     prepared: &Prepared,
+    spare: Vec<Change>,
 ) -> Result<Option<Changes>, DmlFault>
     requires prepared { IsPrepared table.now prepared.now }
     requires rows { TableFits table.now rows.now.rows }
@@ -66,7 +69,7 @@ fn unmoved_alone(
         (λ fault. fault ≢ DmlFault.Memory → followed (fates_of table.now (option_copied prepared.now.sets) prepared.now.condition.now (table_rows rows.now.rows table.now.name)) (moved_rows table.now (table_rows rows.now.rows table.now.name)) ≡ Err fault) }
 {
     let mut found = Found {
-        list: Vec::new(alloc),
+        list: emptied(spare),
         count: 0,
     };
     let mut walk = rows.walk(&table.name);

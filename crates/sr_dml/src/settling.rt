@@ -11,7 +11,7 @@ ghost use Rattle.sr_rows.specs.Marks.{rows_of_table};
 
 use crate::edit::{Edit, Edits};
 use crate::keys::key_of;
-use crate::lists::push;
+use crate::lists::{emptied, push};
 use sr_base::{Copied, Key, Name, NoMemory, Row, Seq};
 use sr_logform::Change;
 use sr_rows::Rows;
@@ -68,6 +68,7 @@ pub(crate) fn put_row(
     table: &Table,
     rows: &Rows,
     row: Row,
+    spare: Vec<Change>,
 ) -> Result<Seq<Change>, DmlFault>
     ensures answer { Answers result (settled table.now.name (rows_of_table rows.now.rows table.now.name) ((key_of table.now.key row, New row) ∷ [])) }
 {
@@ -76,11 +77,16 @@ pub(crate) fn put_row(
         return Err(DmlFault::Duplicate { key });
     }
     drop(key);
-    Ok(only_change(alloc, &table.name, row)?)
+    Ok(only_change(alloc, &table.name, row, spare)?)
 }
 
 /// The change where a row is put, alone.
-fn only_change(alloc: Global, table: &Name, row: Row) -> Result<Seq<Change>, NoMemory>
+fn only_change(
+    alloc: Global,
+    table: &Name,
+    row: Row,
+    spare: Vec<Change>,
+) -> Result<Seq<Change>, NoMemory>
     ensures put { IfOk result (λ changes. changes ≡ record { table = table.now; before = None; after = Some row } ∷ []) }
 {
     let change = Change {
@@ -88,7 +94,7 @@ fn only_change(alloc: Global, table: &Name, row: Row) -> Result<Seq<Change>, NoM
         before: None,
         after: Some(row),
     };
-    let mut changes = Vec::with_capacity(alloc, 1)?;
+    let mut changes = emptied(spare);
     push(&mut changes, change)?;
     Ok(Seq::from_vec(changes))
 }

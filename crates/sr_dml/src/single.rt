@@ -13,12 +13,13 @@ ghost use Rattle.sr_rows.specs.Walks.{table_rows};
 use crate::applying::is_same_key;
 use crate::changes::Changes;
 use crate::fate::Fate;
-use crate::lists::push;
+use crate::lists::{emptied, push};
 use crate::moving::{fate_of, settle_picks};
 use crate::prepared::Prepared;
 use crate::settling::note;
 use sr_base::{Copied, Key, Name, NoMemory, Row, Seq};
 use sr_eval::and_holds_where_both_hold;
+use sr_logform::Change;
 use sr_rows::Rows;
 use sr_schema::{DmlFault, Table};
 use std::alloc::Global;
@@ -31,6 +32,7 @@ pub(crate) fn moved_at(
     rows: &Rows,
     prepared: &Prepared,
     key: &Key,
+    spare: Vec<Change>,
 ) -> Result<Changes, DmlFault>
     requires prepared { IsPrepared table.now prepared.now }
     requires rows { TableFits table.now rows.now.rows }
@@ -39,14 +41,14 @@ pub(crate) fn moved_at(
 {
     and_holds_where_both_hold();
     let Some(row) = rows.get(&table.name, key) else {
-        return Ok(no_changes(alloc));
+        return Ok(no_changes(spare));
     };
     match fate_of(alloc, table, prepared, row.values())? {
-        Fate::Stays => Ok(no_changes(alloc)),
-        Fate::Goes => Ok(one_change(alloc, &table.name, row, None)?),
+        Fate::Stays => Ok(no_changes(spare)),
+        Fate::Goes => Ok(one_change(alloc, &table.name, row, None, spare)?),
         Fate::Becomes(new) => {
             if is_same_key(table.key.as_slice(), row.values(), new.values()) {
-                return Ok(one_change(alloc, &table.name, row, Some(new))?);
+                return Ok(one_change(alloc, &table.name, row, Some(new), spare)?);
             }
             let mut picks = Vec::with_capacity(alloc, 1)?;
             push(&mut picks, (key.copy(alloc)?, Some(new)))?;
@@ -56,11 +58,11 @@ pub(crate) fn moved_at(
 }
 
 /// No row is selected.
-fn no_changes(alloc: Global) -> Changes
+fn no_changes(spare: Vec<Change>) -> Changes
     ensures none { result ≡ record { list = []; count = 0 } }
 {
     Changes {
-        list: Seq::from_vec(Vec::new(alloc)),
+        list: Seq::from_vec(emptied(spare)),
         count: 0,
     }
 }
@@ -71,10 +73,11 @@ fn one_change(
     table: &Name,
     row: &Row,
     after: Option<Row>,
+    spare: Vec<Change>,
 ) -> Result<Changes, NoMemory>
     ensures one { IfOk result (λ changes. changes ≡ record { list = with_change table.now (Some row.now) after []; count = 1 }) }
 {
-    let mut list = Vec::with_capacity(alloc, 1)?;
+    let mut list = emptied(spare);
     note(alloc, &mut list, table, Some(row), after)?;
     Ok(Changes {
         list: Seq::from_vec(list),

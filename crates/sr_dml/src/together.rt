@@ -14,7 +14,7 @@ ghost use Rattle.sr_rows.specs.Walks.{table_rows};
 
 use crate::applying::is_same_key;
 use crate::changes::Changes;
-use crate::lists::push;
+use crate::lists::{emptied, push};
 use crate::moving::selected;
 use crate::pending::Pending;
 use crate::placing::Found;
@@ -23,6 +23,7 @@ use crate::settling::note_updated;
 use crate::updating::new_value;
 use sr_base::{Copied, Kind, Name, NoMemory, Row, RowBlock, Seq, Value};
 use sr_eval::{Bound, Resolved};
+use sr_logform::Change;
 use sr_rows::Rows;
 use sr_schema::{Column, DmlFault, Table};
 use std::alloc::{AllocError, Global};
@@ -62,6 +63,7 @@ pub(crate) fn unmoved_together(
     rows: &Rows,
     prepared: &Prepared,
     together: usize,
+    spare: Vec<Change>,
 ) -> Result<Option<Changes>, DmlFault>
     requires prepared { IsPrepared table.now prepared.now }
     requires rows { TableFits table.now rows.now.rows }
@@ -70,7 +72,7 @@ pub(crate) fn unmoved_together(
         (λ fault. fault ≢ DmlFault.Memory → followed (fates_of table.now (option_copied prepared.now.sets) prepared.now.condition.now (table_rows rows.now.rows table.now.name)) (moved_rows table.now (table_rows rows.now.rows table.now.name)) ≡ Err fault) }
 {
     let mut found = Found {
-        list: Vec::new(alloc),
+        list: emptied(spare),
         count: 0,
     };
     let mut pending = Pending {
@@ -191,6 +193,7 @@ fn add_updated(
 }
 
 /// Notes what is pending, where it fills a block.
+#[inline(always)]
 fn note_full(
     alloc: Global,
     table: &Table,

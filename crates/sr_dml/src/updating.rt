@@ -18,6 +18,7 @@ use crate::storing::stored_at;
 use sr_ast::{Expr, Scope, Update};
 use sr_base::{Copied, Name, NoMemory, Row, Seq, Value};
 use sr_eval::{Bound, Resolved};
+use sr_logform::Change;
 use sr_rows::Rows;
 use sr_schema::{Column, DmlFault, Table, scope_of};
 use std::alloc::Global;
@@ -29,6 +30,7 @@ pub fn update(
     table: &Table,
     rows: &Rows,
     update: &Update,
+    spare: Vec<Change>,
 ) -> Result<Changes, DmlFault>
     requires rows { TableFits table.now rows.now.rows }
     ensures answer { Answers result (updated table.now update.now (table_rows rows.now.rows table.now.name)) }
@@ -47,6 +49,7 @@ pub fn update(
         &scope,
         Some(update.sets.as_slice()),
         &update.condition,
+        spare,
     )
 }
 

@@ -37,6 +37,7 @@ pub fn calculated(operator: Arithmetic, left: &Value, right: &Value) -> Option<V
     }
 }
 
+#[inline(always)]
 fn int_result(operator: Arithmetic, left: i32, right: i32) -> Option<Value>
     ensures value { result ≡ int_of (function_of operator left right) }
 {

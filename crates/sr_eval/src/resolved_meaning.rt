@@ -35,6 +35,9 @@ pub fn resolved_value(
 ) -> Result<Value, EvalFault>
     ensures value { IsValued result (meaning_at (values_of sources.now) (resolution_of resolved.now)) }
 {
+    if let Some(number) = calculated_at(resolved, sources) {
+        return number.ok_or(EvalFault::Overflow);
+    }
     match meaning_at(resolved, sources) {
         Some(Worth::Held(value)) => copied(alloc, value),
         Some(Worth::Made(value)) => Ok(value),
@@ -85,6 +88,21 @@ fn operated_meaning<'a>(boxed: &'a Boxed, sources: &[Bound<'a>]) -> Option<Worth
             binary_worth(*operator, left, right)
         }
     }
+}
+
+/// What an expression gives that is arithmetic of two values that lie in it or in a row, as most assignments have it. Other expressions are not
+/// reckoned here.
+#[inline(always)]
+fn calculated_at<'a>(resolved: &'a Resolved, sources: &[Bound<'a>]) -> Option<Option<Value>>
+    ensures number { IfSome result (λ number. option_map a_value number ≡ meaning_at (values_of sources.now) (resolution_of resolved.now)) }
+{
+    let Resolved::Operated(boxed) = resolved else {
+        return None;
+    };
+    let Operation::Binary(operator, left, right) = boxed.operation() else {
+        return None;
+    };
+    calculated_lying(*operator, left, right, sources)
 }
 
 /// What arithmetic gives of two values that lie in the expression or in a row. Other operators, and other operands, are not reckoned here.

@@ -6,6 +6,7 @@ use sr_ast::Dml;
 use sr_base::{Copied, Name, NoMemory};
 use sr_catalog::{Catalog, DmlFault};
 use sr_dml::{Changes, delete, insert, update};
+use sr_logform::Change;
 use sr_rows::Rows;
 use std::alloc::Global;
 
@@ -20,18 +21,33 @@ pub fn exec(alloc: Global, catalog: &Catalog, rows: &Rows, stmt: &Dml) -> Result
     requires rows { RowsFit catalog.now rows.now.rows }
     ensures answer { Answers result (done catalog.now rows.now.rows stmt.now) }
 {
+    exec_reusing(alloc, catalog, rows, stmt, Vec::new(alloc))
+}
+
+/// The same, with the changes in the memory of a list that is not needed any more: its items are dropped. Statements that run one after
+/// the other so need memory for their changes once. Several rows of an INSERT, and rows that get other keys, have a list of their own.
+pub fn exec_reusing(
+    alloc: Global,
+    catalog: &Catalog,
+    rows: &Rows,
+    stmt: &Dml,
+    spare: Vec<Change>,
+) -> Result<Changes, DmlFault>
+    requires rows { RowsFit catalog.now rows.now.rows }
+    ensures answer { Answers result (done catalog.now rows.now.rows stmt.now) }
+{
     match stmt {
         Dml::Insert(statement) => match catalog.table(&statement.table) {
             None => Err(no_table(alloc, &statement.table)?),
-            Some(table) => insert(alloc, table, rows, statement),
+            Some(table) => insert(alloc, table, rows, statement, spare),
         },
         Dml::Update(statement) => match catalog.table(&statement.table) {
             None => Err(no_table(alloc, &statement.table)?),
-            Some(table) => update(alloc, table, rows, statement),
+            Some(table) => update(alloc, table, rows, statement, spare),
         },
         Dml::Delete(statement) => match catalog.table(&statement.table) {
             None => Err(no_table(alloc, &statement.table)?),
-            Some(table) => delete(alloc, table, rows, statement),
+            Some(table) => delete(alloc, table, rows, statement, spare),
         },
     }
 }

@@ -9,7 +9,7 @@ mod applying;
 mod execution;
 
 pub use applying::apply;
-pub use execution::exec;
+pub use execution::{exec, exec_reusing};
 pub use sr_dml::{
     Changes, changes_are_where_rows_differ, changes_fit, changes_make_the_rows_afterwards, key_of,
     rows_stay_fitting,

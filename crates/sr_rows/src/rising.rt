@@ -282,6 +282,7 @@ fn put(held: &mut Place, place: Option<Row>) -> Option<Row>
 }
 
 /// The first of the places that holds a row, and the places behind it.
+#[inline(always)]
 pub(crate) fn next_filled<'a>(places: &'a [Place]) -> (Option<(&'a Key, &'a Row)>, &'a [Place])
     ensures next { TakesFirst deref_pair (filled_rows places.now) result.0 (filled_rows result.1.now) }
 {

@@ -45,6 +45,7 @@ impl<'a> Walk<'a> {
     }
 
     /// The next row, with its key, if one is left.
+    #[inline(always)]
     pub fn next(&mut self) -> Option<(&'a Key, &'a Row)>
         ensures next { TakesFirst deref_pair self.old result self.new }
     {

@@ -46,7 +46,7 @@ pub fn pass_on_rows(
     if only {
         return Ok(Seq::empty(alloc));
     }
-    let changes = execute(alloc, catalog, rows, stmt)?;
+    let changes = execute(alloc, catalog, rows, stmt, Vec::new(alloc))?;
     Ok(changes.list)
 }
 

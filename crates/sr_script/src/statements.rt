@@ -10,7 +10,8 @@ use sr_ast::{Dml, Select, Stmt};
 use sr_base::{NoMemory, Row};
 use sr_catalog::Catalog;
 use sr_dml::Changes;
-use sr_exec::exec;
+use sr_exec::exec_reusing;
+use sr_logform::Change;
 use sr_query::select;
 use sr_rows::Rows;
 use std::alloc::Global;
@@ -25,12 +26,19 @@ pub fn accept(alloc: Global, catalog: &Catalog, stmt: &Stmt) -> Result<(), Stop>
     }
 }
 
-/// What an INSERT, UPDATE or DELETE changes in rows of which each fits its table, or what refuses it.
-pub fn execute(alloc: Global, catalog: &Catalog, rows: &Rows, stmt: &Dml) -> Result<Changes, Stop>
+/// What an INSERT, UPDATE or DELETE changes in rows of which each fits its table, or what refuses it. The changes may stand in the memory of a
+/// list that is not needed any more.
+pub fn execute(
+    alloc: Global,
+    catalog: &Catalog,
+    rows: &Rows,
+    stmt: &Dml,
+    spare: Vec<Change>,
+) -> Result<Changes, Stop>
     requires rows { RowsFit catalog.now rows.now.rows }
     ensures meant { let meant = changes_by (record { catalog = catalog.now; rows = rows.now.rows }) stmt.now in MatchResult result (λ changes. meant ≡ Ok changes) (IsStop meant) }
 {
-    match exec(alloc, catalog, rows, stmt) {
+    match exec_reusing(alloc, catalog, rows, stmt, spare) {
         Ok(changes) => Ok(changes),
         Err(fault) => Err(Stop::from(fault)),
     }

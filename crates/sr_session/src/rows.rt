@@ -11,10 +11,12 @@ ghost use Rattle.sr_session.specs.Steps.{Took};
 use crate::fault::StepFault;
 use sr_ast::{Dml, Select};
 use sr_database::Database;
+use sr_logform::Change;
 use sr_script::{answer, are_short, push_count, push_rows};
 use std::alloc::Global;
 
-/// An INSERT, UPDATE or DELETE outside a region: its changes join the open transaction.
+/// An INSERT, UPDATE or DELETE outside a region: its changes join the open transaction. Where they are its first ones, they stand in the memory of
+/// the changes of the transaction before.
 pub(crate) fn execute(
     alloc: Global,
     db: &mut Database,
@@ -25,12 +27,29 @@ pub(crate) fn execute(
     requires some { IsOfSome db.old }
     ensures took { (seen : SiteSeen) (region : Option Region) → Took (executed (work_of db.old region) stmt.now) db.old db.new seen seen lines.old.items lines.new.items region result }
 {
-    let changes = sr_script::execute(alloc, db.catalog(), db.rows(), stmt)?;
+    let spare = db.spare(alloc);
+    execute_reusing(alloc, db, lines, stmt, spare)
+}
+
+/// The same, with the memory of a list that is not needed any more.
+fn execute_reusing(
+    alloc: Global,
+    db: &mut Database,
+    lines: &mut Vec<u8>,
+    stmt: &Dml,
+    spare: Vec<Change>,
+) -> Result<(), StepFault>
+    requires usable { db.old.log.usable ≡ true }
+    requires some { IsOfSome db.old }
+    ensures took { (seen : SiteSeen) (region : Option Region) → Took (executed (work_of db.old region) stmt.now) db.old db.new seen seen lines.old.items lines.new.items region result }
+{
+    let changes = sr_script::execute(alloc, db.catalog(), db.rows(), stmt, spare)?;
     if !are_short(changes.list.as_slice()) {
         return Err(StepFault::Memory);
     }
-    db.apply(alloc, &changes)?;
-    push_count(alloc, lines, changes.count)?;
+    let count = changes.count;
+    db.take_in(alloc, changes)?;
+    push_count(alloc, lines, count)?;
     Ok(())
 }
 

@@ -314,7 +314,5 @@ fn keep_pending(alloc: Global, db: &mut Database, pair: &(Op, Outcome)) -> Resul
     ensures value { (publisher : AName) (es : List Recorded) → IsOf db.old publisher es → IsOf db.new publisher es }
 {
     let changes = changes_of(alloc, &pair.0, &pair.1)?;
-    let outcome = db.apply(alloc, &changes);
-    drop(changes);
-    outcome
+    db.take_in(alloc, changes)
 }

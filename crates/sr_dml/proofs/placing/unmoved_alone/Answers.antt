@@ -12,7 +12,7 @@ rows-init c =
     let table = c.args.table.now in
     let rows = c.args.rows.now.rows in
     record {
-      found = ap (λ xs. behind xs 0 (unmoved table (option_copied c.args.prepared.now.sets) c.args.prepared.now.condition.now c.walk-walk.result)) c.new.ensures.items
+      found = ap (λ xs. behind xs 0 (unmoved table (option_copied c.args.prepared.now.sets) c.args.prepared.now.condition.now c.walk-walk.result)) c.emptied.ensures.empty
           ∙ behind-none (unmoved table (option_copied c.args.prepared.now.sets) c.args.prepared.now.condition.now c.walk-walk.result)
           ∙ ap (unmoved table (option_copied c.args.prepared.now.sets) c.args.prepared.now.condition.now) c.walk-walk.ensures.rows;
       keep = subst (KeepKeys table (option_copied c.args.prepared.now.sets) c.args.prepared.now.condition.now) c.walk-walk.ensures.rows;

@@ -18,12 +18,12 @@ rows-init c =
     let width = length t.columns in
     let es = c.walk-walk.result in
     record {
-      found = (λ i. behind (c.new.ensures.items i) 0 (and_pending t.name width (c.new-2.ensures.items i) (c.new-3.ensures.items i) (unmoved t s d es)))
+      found = (λ i. behind (c.emptied.ensures.empty i) 0 (and_pending t.name width (c.new.ensures.items i) (c.new-2.ensures.items i) (unmoved t s d es)))
           ∙ behind-none (unmoved t s d es)
           ∙ ap (unmoved t s d) c.walk-walk.ensures.rows;
       keep = subst (KeepKeys t s d) c.walk-walk.ensures.rows;
       held = subst (AreHeld rows t.name) (sym c.walk-walk.ensures.rows) (table_held rows t.name);
-      whole = subst (λ olds. AreWhole width olds c.new-3.result.items) (sym c.new-2.ensures.items) c.new-3.ensures.items;
+      whole = subst (λ olds. AreWhole width olds c.new-2.result.items) (sym c.new.ensures.items) c.new-2.ensures.items;
     }
 
 pub returns-in_err-await_row : goal.returns-in_err-await_row

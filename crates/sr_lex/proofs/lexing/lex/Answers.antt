@@ -1,8 +1,7 @@
-use Rattle.std.proofs.Common.{rules, ◌≡◌, ℕ, List, [], ◌∷◌, ◌++◌, length, Ok, Err, Some, None, ap, sym, ◌∙◌, subst}
+use Rattle.std.proofs.Common.{rules, ◌≡◌, List, [], ◌∷◌, ◌++◌, sym, ◌∙◌, subst}
 use Rattle.sr_lex.specs.declared.token.Token.{Token}
-use Rattle.sr_lex.specs.declared.fault.LexFault.TheVariants.{NoToken, Memory}
-use Rattle.sr_lex.specs.Tokens.{IsTokens, NoTokenAt}
-use Rattle.sr_lex.specs.Fronts.{IsFront, AreAll, Goes}
+use Rattle.sr_lex.specs.declared.fault.LexFault.TheVariants.{Memory}
+use Rattle.sr_lex.specs.Fronts.{IsFront}
 use Rattle.sr_lex.proofs.Walk.{refused_memory, refused_at, taken, ended}
 use Rattle.sr_lex.proofs.lexing.lex.Goals as goal
 

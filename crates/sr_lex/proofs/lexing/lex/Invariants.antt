@@ -1,4 +1,4 @@
-use Rattle.std.proofs.Common.{◌≡◌, ℕ, List, length}
+use Rattle.std.proofs.Common.{◌≡◌, length}
 use Rattle.sr_lex.specs.Fronts.{IsFront}
 use Rattle.sr_lex.proofs.lexing.lex.Given as goal
 

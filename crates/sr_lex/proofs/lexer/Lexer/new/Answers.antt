@@ -1,4 +1,4 @@
-use Rattle.std.proofs.Common.{◌≡◌, ◌≤◌, List, length, ap, sym, ◌∙◌, arith}
+use Rattle.std.proofs.Common.{◌≡◌, length, ap, arith}
 use Rattle.sr_lex.specs.Reading.{after_gap}
 use Rattle.sr_lex.proofs.Gaps.{after_gap-le}
 use Rattle.sr_lex.proofs.Walk.{begins_with, after_gap-again}

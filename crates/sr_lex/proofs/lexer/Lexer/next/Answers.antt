@@ -1,6 +1,5 @@
-use Rattle.std.proofs.Common.{rules, ◌≡◌, ◌≢◌, ◌<◌, ◌≤◌, ◌-◌, ◌+◌, ℕ, List, [], ◌∷◌, ◌++◌, length, drop, Some, None, ap, sym, ◌∙◌, subst, arith}
-use Rattle.sr_lex.specs.declared.token.Token.{Token}
-use Rattle.sr_lex.specs.Fronts.{Front, IsFront, AreAll, IsRefused}
+use Rattle.std.proofs.Common.{◌≡◌, ◌≢◌, ◌-◌, ℕ, List, [], length, Some, None, ap, sym, ◌∙◌, subst, arith}
+use Rattle.sr_lex.specs.Fronts.{IsFront, IsRefused}
 use Rattle.sr_lex.specs.Reading.{token_at, after_gap}
 use Rattle.sr_lex.proofs.Gaps.{after_gap-le}
 use Rattle.sr_lex.proofs.Walk.{goes_on, token_fits, front_all, front_refused, after_gap-again, nothing_left, something_left}

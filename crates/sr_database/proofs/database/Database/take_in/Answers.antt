@@ -5,14 +5,14 @@ use Rattle.sr_logform.specs.declared.change.Change.{Change}
 use Rattle.sr_database.specs.Databases.{IsOf}
 use Rattle.sr_database.specs.Views.{View}
 use Rattle.sr_database.proofs.Pending.{some_there, put_value, put_some}
-use Rattle.sr_database.proofs.database.Database.apply.Goals as goal
+use Rattle.sr_database.proofs.database.Database.take_in.Goals as goal
 
 pub invariant_of-self-2 : goal.invariant_of-self-2
 invariant_of-self-2 c usable =
     let inside : View = record { catalog = c.self.inside.catalog; base_catalog = c.self.inside.base_catalog; rows = c.self.inside.rows; pending = c.self.inside.pending.items; books = c.self.inside.books; log = c.self.inside.log } in
     let view_is : inside ≡ c.args.self.now = c.self.view_is in
-    let changes = c.args.changes.now.list in
-    let list : c.as_slice-2.result.now ≡ changes = c.as_slice-2.ensures.items in
+    let changes = c.args.changes.list in
+    let list : c.into_vec.result.items ≡ changes = c.into_vec.ensures.items in
     put_some c.self.inside.catalog c.self.inside.base_catalog c.self.inside.rows c.put_in.new.rows c.self.inside.pending.items c.self.inside.books c.self.inside.log changes c.put_in.new.pending.items
     (some_there changes c.as_slice.result.now c.is_empty.result c.as_slice.ensures.items c.is_empty.ensures c.if-is_empty.false) c.requires.short
     (subst (λ (v : View). ChangesFit v.catalog v.rows.rows changes) (sym view_is) c.requires.fit)
@@ -23,8 +23,8 @@ pub returns-clause-value : goal.returns-clause-value
 returns-clause-value c publisher es is =
     let inside : View = record { catalog = c.self.inside.catalog; base_catalog = c.self.inside.base_catalog; rows = c.self.inside.rows; pending = c.self.inside.pending.items; books = c.self.inside.books; log = c.self.inside.log } in
     let view_is : inside ≡ c.args.self.now = c.self.view_is in
-    let changes = c.args.changes.now.list in
-    let list : c.as_slice-2.result.now ≡ changes = c.as_slice-2.ensures.items in
+    let changes = c.args.changes.list in
+    let list : c.into_vec.result.items ≡ changes = c.into_vec.ensures.items in
     put_value c.self.inside.catalog c.self.inside.base_catalog c.self.inside.rows c.put_in.new.rows c.self.inside.pending.items c.self.inside.books c.self.inside.log changes c.put_in.new.pending.items
     (some_there changes c.as_slice.result.now c.is_empty.result c.as_slice.ensures.items c.is_empty.ensures c.if-is_empty.false) c.requires.short
     (subst (λ (v : View). ChangesFit v.catalog v.rows.rows changes) (sym view_is) c.requires.fit)
