@@ -1,4 +1,5 @@
 ghost use Rattle.std.specs.Prelude.{◌≡◌, Option, List, ℕ, IfOk, bytes_eq};
+ghost use Rattle.sr_base.specs.declared.value.Kind.{Kind};
 ghost use Rattle.sr_ast.specs.Exprs.{term_of};
 ghost use Rattle.sr_ast.specs.Classes.{
   value_class,
@@ -36,6 +37,24 @@ pub enum Class {
 /// The columns that an expression may name: alias, name and type. A variable has no alias. A name without an alias means the
 /// first column of that name.
 pub type Scope = Seq<(Option<Name>, Name, Kind)>;
+
+/// The columns that an expression may name, in an order, however they are looked up.
+pub trait Columns: Drop {
+    ghost scope: { Self → List (Option (List ℕ) × List ℕ × Kind) };
+
+    /// The type of the first column that a reference, with the name before its dot, means.
+    fn kind_of(&self, table: &Option<Name>, name: &Name) -> Option<Kind>
+        ensures kind { result ≡ kind_of (scope self.now) table.now name.now };
+}
+
+/// A look-up goes along the columns.
+impl Columns for Scope {
+    ghost scope = { λ columns. columns };
+
+    fn kind_of(&self, table: &Option<Name>, name: &Name) -> Option<Kind> {
+        first_kind(self.as_slice(), table, name)
+    }
+}
 
 /// Why an expression has no class.
 #[derive(Drop)]
@@ -89,7 +108,18 @@ enum Typing {
 pub fn class_of(alloc: Global, expr: &Expr, columns: &Scope) -> Result<Class, NotTyped>
     ensures class { IsTyped result (typing columns.now (term_of expr.now)) }
 {
-    match expr_typing(alloc, expr, columns.as_slice())? {
+    class_by(alloc, expr, columns)
+}
+
+/// The same over columns that may be looked up in another way.
+pub(crate) fn class_by<C: Columns>(
+    alloc: Global,
+    expr: &Expr,
+    columns: &C,
+) -> Result<Class, NotTyped>
+    ensures class { IsTyped result (typing (C.scope columns.now) (term_of expr.now)) }
+{
+    match expr_typing(alloc, expr, columns)? {
         Typing::Known(class) => Ok(class),
         Typing::Unknown(name) => Err(NotTyped::Wrong { name: Some(name) }),
         Typing::Clash => Err(NotTyped::Wrong { name: None }),
@@ -97,16 +127,12 @@ pub fn class_of(alloc: Global, expr: &Expr, columns: &Scope) -> Result<Class, No
 }
 
 #[cycle(classing)]
-fn expr_typing(
-    alloc: Global,
-    expr: &Expr,
-    columns: &[(Option<Name>, Name, Kind)],
-) -> Result<Typing, NoMemory>
-    ensures typing { IfOk result (λ found. found ≡ typing columns.now (term_of expr.now)) }
+fn expr_typing<C: Columns>(alloc: Global, expr: &Expr, columns: &C) -> Result<Typing, NoMemory>
+    ensures typing { IfOk result (λ found. found ≡ typing (C.scope columns.now) (term_of expr.now)) }
 {
     match expr {
         Expr::Literal(value) => Ok(Typing::Known(value_class(value))),
-        Expr::Column(table, name) => column_typing(alloc, name, kind_of(columns, table, name)),
+        Expr::Column(table, name) => column_typing(alloc, name, columns.kind_of(table, name)),
         Expr::Unary(operator, operand) => {
             let found = operand_typing(alloc, operand, columns)?;
             Ok(unary_typing(*operator, found))
@@ -120,12 +146,12 @@ fn expr_typing(
 }
 
 #[cycle(classing)]
-fn operand_typing(
+fn operand_typing<C: Columns>(
     alloc: Global,
     operand: &Operand,
-    columns: &[(Option<Name>, Name, Kind)],
+    columns: &C,
 ) -> Result<Typing, NoMemory>
-    ensures typing { IfOk result (λ found. found ≡ typing columns.now operand.now) }
+    ensures typing { IfOk result (λ found. found ≡ typing (C.scope columns.now) operand.now) }
 {
     expr_typing(alloc, operand.expr(), columns)
 }
@@ -301,8 +327,8 @@ fn binary_class(operator: Binary, left: Class, right: Class) -> Option<Class>
     }
 }
 
-/// The type of the column that a name means.
-fn kind_of(
+/// The type of the first column that a reference means.
+fn first_kind(
     columns: &[(Option<Name>, Name, Kind)],
     table: &Option<Name>,
     name: &Name,

@@ -22,7 +22,7 @@ mod uses;
 
 pub use action::{Action, Actions};
 pub use classes::{
-    Class, NotTyped, Scope, class_of, is_comparable, is_meant, kind_class, value_class,
+    Class, Columns, NotTyped, Scope, class_of, is_comparable, is_meant, kind_class, value_class,
 };
 pub use create::{
     ArticleRule, ColumnRule, CreatePublication, CreateTable, CreateTrigger, Grant, Image,
@@ -33,4 +33,4 @@ pub use operator::{Binary, Unary};
 pub use print_stmt::print;
 pub use query::{Delete, Dml, Insert, Item, Items, Join, OrderBy, Select, Source, Update};
 pub use stmt::{Passthrough, Script, Stmt, is_carried, is_ddl};
-pub use uses::{class_in, gives_truth, gives_value, is_plain, unknown_in};
+pub use uses::{class_among, class_in, gives_truth, gives_value, is_plain, unknown_in};

@@ -5,7 +5,7 @@ use Rattle.std.specs.Prelude.{bytes_eq}
 use Rattle.sr_ast.specs.declared.stmt.Stmt.{Stmt}
 use Rattle.sr_ast.specs.declared.stmt.Stmt.TheVariants as stmt
 use Rattle.sr_schema.specs.Catalogs.{Lists}
-use Rattle.sr_schema.specs.Causes.{no_cause, first_fault}
+use Rattle.sr_schema.specs.Causes.{Causes, no_cause, first_fault}
 use Rattle.sr_schema.specs.Firsts.{where_true}
 use Rattle.sr_schema.specs.Names.{taken, without}
 use Rattle.sr_schema.specs.Members.{publication_name, table_name, trigger_name}
@@ -15,7 +15,6 @@ use Rattle.sr_ddl.specs.Subscriptions.{stop_causes, synchronize_causes, drop_sub
 use Rattle.sr_ddl.specs.Tables.{create_table_causes, table_of}
 use Rattle.sr_trigger.specs.Triggers.{trigger_names, create_trigger_causes, drop_trigger_causes, trigger_of}
 use Rattle.sr_ddl.specs.Users.{grant_causes, passthrough_causes, user_of}
-use Rattle.sr_schema.specs.declared.causes.Causes.{Causes}
 use Rattle.sr_schema.specs.declared.fault.DdlFault.{DdlFault}
 use Rattle.sr_schema.specs.declared.fault.DdlFault.TheVariants.{Exists, Missing, BadType, NoKey, KeyNotInArticle, TwiceSubscribed, InUse, TooMany, Memory}
 use Rattle.sr_schema.specs.declared.publication.Publication.{Publication}

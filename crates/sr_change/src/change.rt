@@ -1,55 +1,47 @@
 //! What statements do to a schema, by their kinds.
 
 ghost use Rattle.std.specs.Prelude.{◌≡◌, ◌∷◌, ◌++◌, [], IfOk, OnErr, OnOk};
-ghost use Rattle.sr_change.specs.Changes.{causes, refusal, next};
+ghost use Rattle.sr_change.specs.Changes.{refusal, next};
 ghost use Rattle.sr_ddl.specs.Publications.{publication_of};
 
-use crate::dropping::drop_table_causes;
+use crate::dropping::drop_table_fault;
 use sr_ast::{CreatePublication, Stmt};
 use sr_base::NoMemory;
 use sr_ddl::{
-    create_publication_causes, create_subscription_causes, create_table_causes,
-    drop_publication_causes, drop_subscription_causes, grant_causes, passthrough_causes,
-    publication_of, start_causes, stop_causes, subscription_of, synchronize_causes, table_of,
-    user_of,
+    create_publication_fault, create_subscription_fault, create_table_fault,
+    drop_publication_fault, drop_subscription_fault, grant_fault, passthrough_fault,
+    publication_of, start_fault, stop_fault, subscription_of, synchronize_fault, table_of, user_of,
 };
-use sr_schema::{Causes, DdlFault, Schema};
-use sr_trigger::{create_trigger_causes, drop_trigger_causes, trigger_of};
+use sr_schema::{DdlFault, Schema};
+use sr_trigger::{create_trigger_fault, drop_trigger_fault, trigger_of};
 use std::alloc::Global;
 
 /// The fault that refuses a statement, where one does: the first that applies, in the order of `DdlFault`; of several places of one
-/// fault the leftmost.
-#[tactic(auto, unfolding(crate::specs::Changes::refusal))]
+/// fault the leftmost. A later one is not looked for.
+#[tactic(auto, unfolding(crate::specs::Changes::refusal, sr_schema::specs::Causes::first_fault))]
 pub fn refusal(schema: &Schema, alloc: Global, stmt: &Stmt) -> Result<Option<DdlFault>, NoMemory>
     ensures refusal { IfOk result (λ fault. fault ≡ refusal schema.now stmt.now) }
 {
-    let causes = causes(schema, alloc, stmt)?;
-    Ok(causes.first_fault())
-}
-
-fn causes(schema: &Schema, alloc: Global, stmt: &Stmt) -> Result<Causes, NoMemory>
-    ensures { IfOk result (λ found. found ≡ causes schema.now stmt.now) }
-{
     match stmt {
-        Stmt::CreateTable(rule) => create_table_causes(schema, alloc, rule),
-        Stmt::DropTable(name) => drop_table_causes(schema, alloc, name),
-        Stmt::CreatePublication(rule) => create_publication_causes(schema, alloc, rule),
-        Stmt::DropPublication(name) => drop_publication_causes(schema, alloc, name),
-        Stmt::GrantRemote(grant) => grant_causes(schema, alloc, false, grant),
-        Stmt::GrantConsolidate(grant) => grant_causes(schema, alloc, true, grant),
-        Stmt::CreateSubscription(rule) => create_subscription_causes(schema, alloc, rule),
-        Stmt::StartSubscription(rule) => start_causes(schema, alloc, rule),
-        Stmt::StopSubscription(rule) => stop_causes(schema, alloc, rule),
-        Stmt::Synchronize(rule) => synchronize_causes(schema, alloc, rule),
-        Stmt::DropSubscription(rule) => drop_subscription_causes(schema, alloc, rule),
-        Stmt::CreateTrigger(rule) => create_trigger_causes(schema, alloc, rule),
-        Stmt::DropTrigger(name) => drop_trigger_causes(schema, alloc, name),
-        Stmt::Passthrough(rule) => passthrough_causes(schema, alloc, rule.users.as_slice()),
-        Stmt::Dml(_) => Ok(Causes::none()),
-        Stmt::Select(_) => Ok(Causes::none()),
-        Stmt::Commit => Ok(Causes::none()),
-        Stmt::Rollback => Ok(Causes::none()),
-        Stmt::PassthroughStop => Ok(Causes::none()),
+        Stmt::CreateTable(rule) => create_table_fault(schema, alloc, rule),
+        Stmt::DropTable(name) => drop_table_fault(schema, alloc, name),
+        Stmt::CreatePublication(rule) => create_publication_fault(schema, alloc, rule),
+        Stmt::DropPublication(name) => drop_publication_fault(schema, alloc, name),
+        Stmt::GrantRemote(grant) => grant_fault(schema, alloc, false, grant),
+        Stmt::GrantConsolidate(grant) => grant_fault(schema, alloc, true, grant),
+        Stmt::CreateSubscription(rule) => create_subscription_fault(schema, alloc, rule),
+        Stmt::StartSubscription(rule) => start_fault(schema, alloc, rule),
+        Stmt::StopSubscription(rule) => stop_fault(schema, alloc, rule),
+        Stmt::Synchronize(rule) => synchronize_fault(schema, alloc, rule),
+        Stmt::DropSubscription(rule) => drop_subscription_fault(schema, alloc, rule),
+        Stmt::CreateTrigger(rule) => create_trigger_fault(schema, alloc, rule),
+        Stmt::DropTrigger(name) => drop_trigger_fault(schema, alloc, name),
+        Stmt::Passthrough(rule) => passthrough_fault(schema, alloc, rule.users.as_slice()),
+        Stmt::Dml(_) => Ok(None),
+        Stmt::Select(_) => Ok(None),
+        Stmt::Commit => Ok(None),
+        Stmt::Rollback => Ok(None),
+        Stmt::PassthroughStop => Ok(None),
     }
 }
 

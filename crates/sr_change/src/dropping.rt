@@ -2,37 +2,42 @@
 
 ghost use Rattle.std.specs.Prelude.{◌≡◌, IfOk};
 ghost use Rattle.std.specs.List.{list_any};
+ghost use Rattle.sr_schema.specs.Causes.{first_fault};
 ghost use Rattle.sr_change.specs.Changes.{is_used, publication_names, drop_table_causes};
 
-use sr_base::{Name, NoMemory};
-use sr_schema::{Causes, Publication, Schema, owned, where_true};
+use sr_base::{Copied, Name, NoMemory};
+use sr_schema::{DdlFault, Publication, Schema};
 use sr_trigger::is_named;
 use std::alloc::Global;
 
-#[tactic(auto, unfolding(crate::specs::Changes::drop_table_causes))]
-pub(crate) fn drop_table_causes(
+/// The fault that refuses DROP TABLE.
+#[tactic(auto, unfolding(crate::specs::Changes::drop_table_causes, sr_schema::specs::Causes::first_fault))]
+pub(crate) fn drop_table_fault(
     schema: &Schema,
     alloc: Global,
     name: &Name,
-) -> Result<Causes, NoMemory>
-    ensures { IfOk result (λ causes. causes ≡ drop_table_causes schema.now name.now) }
+) -> Result<Option<DdlFault>, NoMemory>
+    ensures { IfOk result (λ fault. fault ≡ first_fault (drop_table_causes schema.now name.now)) }
 {
-    let missing = owned(alloc, where_true(!schema.has_table(name), name))?;
-    let used = is_used(schema, alloc, name)?;
-    let in_use = owned(alloc, where_true(used, name))?;
-    Ok(Causes {
-        missing,
-        in_use,
-        ..Causes::none()
-    })
+    if !schema.has_table(name) {
+        let name = name.copy(alloc)?;
+        return Ok(Some(DdlFault::Missing { name }));
+    }
+    if is_used(schema, alloc, name)? {
+        let name = name.copy(alloc)?;
+        return Ok(Some(DdlFault::InUse { name }));
+    }
+    Ok(None)
 }
 
 /// Whether a publication or a trigger names the table.
 fn is_used(schema: &Schema, alloc: Global, name: &Name) -> Result<bool, NoMemory>
     ensures { IfOk result (λ used. used ≡ is_used schema.now name.now) }
 {
-    let named = is_named(alloc, name, schema.triggers())?;
-    Ok(is_published(schema.publications(), name) || named)
+    if is_published(schema.publications(), name) {
+        return Ok(true);
+    }
+    is_named(alloc, name, schema.triggers())
 }
 
 fn is_published(publications: &[Publication], name: &Name) -> bool

@@ -3,7 +3,6 @@ use Rattle.std.proofs.Common.{◌≡◌, Bool, true, false, ◌&&◌, ◌||◌, 
 use Rattle.std.specs.Prelude.{bytes_eq}
 use Rattle.std.specs.List.{list_any}
 use Rattle.std.proofs.lemmas.Bool.{or_parts, or_from}
-use Rattle.std.proofs.lemmas.Bool.Decides.{same_from_decides}
 use Rattle.std.proofs.lemmas.Slice.Eq.{bytes_eq-Decides}
 use Rattle.sr_ast.specs.declared.create.SubscriptionRule.{SubscriptionRule}
 use Rattle.sr_schema.specs.Catalogs.{Lists}
@@ -12,6 +11,7 @@ use Rattle.sr_schema.specs.Names.{named}
 use Rattle.sr_schema.specs.Singles.{IsSingle}
 use Rattle.sr_schema.specs.declared.publication.Publication.{Publication}
 use Rattle.sr_schema.specs.declared.subscription.Subscription.{Subscription}
+use Rattle.sr_schema.proofs.Places.{flipped}
 use Rattle.sr_ddl.specs.Elsewhere.{is_other_with, is_start_of, is_started_there}
 use Rattle.sr_ddl.specs.Subscriptions.{has_article, is_elsewhere}
 
@@ -45,9 +45,6 @@ any_swapped a b (x ∷ xs) ys =
     ∙ sym (any_or (λ y. a x && b x y) (λ y. list_any (λ z. a z && b z y) xs) ys))
 
 -- ---- one subscription among publications of which no two have one name
-
-flipped : (a b : List ℕ) → bytes_eq a b ≡ bytes_eq b a
-flipped a b = same_from_decides {P = a ≡ b} _ _ (bytes_eq-Decides a b) (λ h. sym ((bytes_eq-Decides b a).0 h), λ e. (bytes_eq-Decides b a).1 (sym e))
 
 nothing : (a b c : Bool) → (a && (b && (c && false))) ≡ false
 nothing false b c = refl

@@ -6,16 +6,14 @@ use Rattle.sr_ast.specs.Uses.{is_plain, gives_truth}
 use Rattle.sr_schema.specs.Expressions.{is_operator}
 use Rattle.sr_ast.specs.Classes.{class_in, unknown_in}
 use Rattle.sr_ast.specs.Exprs.{term_of}
-use Rattle.sr_ast.specs.Terms.Term.{literal, column}
 use Rattle.sr_ast.specs.declared.create.CreatePublication.{CreatePublication}
 use Rattle.sr_ast.specs.declared.create.ArticleRule.{ArticleRule}
 use Rattle.sr_ast.specs.declared.expr.Expr.{Expr}
 use Rattle.sr_schema.specs.Catalogs.{Lists}
-use Rattle.sr_schema.specs.Causes.{no_cause}
+use Rattle.sr_schema.specs.Causes.{Causes, no_cause}
 use Rattle.sr_schema.specs.Firsts.{first_of, first_among, where_true, has, first_twice, first_absent}
 use Rattle.sr_schema.specs.Names.{named, taken}
 use Rattle.sr_schema.specs.Members.{table_name, has_column, column_names, publication_name, key_names, scope_of}
-use Rattle.sr_schema.specs.declared.causes.Causes.{Causes}
 use Rattle.sr_schema.specs.declared.table.Table.{Table}
 use Rattle.sr_schema.specs.declared.publication.Publication.{Publication}
 use Rattle.sr_schema.specs.declared.publication.Article.{Article}

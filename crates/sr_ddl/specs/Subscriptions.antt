@@ -12,12 +12,11 @@ use Rattle.sr_ast.specs.declared.classes.Class.TheVariants.{Any}
 use Rattle.sr_ast.specs.declared.create.SubscriptionRule.{SubscriptionRule}
 use Rattle.sr_ast.specs.declared.expr.Expr.{Expr}
 use Rattle.sr_schema.specs.Catalogs.{Lists}
-use Rattle.sr_schema.specs.Causes.{no_cause}
+use Rattle.sr_schema.specs.Causes.{Causes, no_cause}
 use Rattle.sr_schema.specs.Firsts.{first_of, first_among, where_true}
 use Rattle.sr_schema.specs.Names.{named, taken}
 use Rattle.sr_schema.specs.Members.{publication_name, table_name, column_name, user_name}
 use Rattle.sr_ddl.specs.Users.{is_remote}
-use Rattle.sr_schema.specs.declared.causes.Causes.{Causes}
 use Rattle.sr_schema.specs.declared.table.Table.{Table}
 use Rattle.sr_schema.specs.declared.table.Column.{Column}
 use Rattle.sr_schema.specs.declared.publication.Publication.{Publication}

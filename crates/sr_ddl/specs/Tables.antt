@@ -4,10 +4,9 @@ use Rattle.sr_schema.specs.Members.{table_name}
 use Rattle.sr_ast.specs.declared.create.CreateTable.{CreateTable}
 use Rattle.sr_ast.specs.declared.create.ColumnRule.{ColumnRule}
 use Rattle.sr_schema.specs.Catalogs.{Lists}
-use Rattle.sr_schema.specs.Causes.{no_cause}
+use Rattle.sr_schema.specs.Causes.{Causes, no_cause}
 use Rattle.sr_schema.specs.Firsts.{first_of, where_true, first_twice, first_absent}
 use Rattle.sr_schema.specs.Names.{taken, place_of}
-use Rattle.sr_schema.specs.declared.causes.Causes.{Causes}
 use Rattle.sr_schema.specs.declared.table.Table.{Table}
 use Rattle.sr_schema.specs.declared.table.Column.{Column}
 

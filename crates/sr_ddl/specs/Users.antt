@@ -5,10 +5,9 @@ use Rattle.sr_schema.specs.Members.{user_name}
 use Rattle.sr_base.specs.Names.{is_name, lowered}
 use Rattle.sr_ast.specs.declared.create.Grant.{Grant}
 use Rattle.sr_schema.specs.Catalogs.{Lists}
-use Rattle.sr_schema.specs.Causes.{no_cause}
+use Rattle.sr_schema.specs.Causes.{Causes, no_cause}
 use Rattle.sr_schema.specs.Firsts.{first_among, where_true}
 use Rattle.sr_schema.specs.Names.{named, taken}
-use Rattle.sr_schema.specs.declared.causes.Causes.{Causes}
 use Rattle.sr_schema.specs.declared.user.User.{User}
 
 -- an address that is no name

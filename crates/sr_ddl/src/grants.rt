@@ -3,6 +3,7 @@
 ghost use Rattle.std.specs.Prelude.{◌≡◌, ◌&&◌, not, nat_le, length, IfOk, bytes_eq};
 ghost use Rattle.std.specs.Option.{option_copied};
 ghost use Rattle.std.specs.List.{list_any};
+ghost use Rattle.sr_schema.specs.Causes.{first_fault};
 ghost use Rattle.sr_schema.specs.Firsts.{first_among, where_true};
 ghost use Rattle.sr_schema.specs.Names.{named};
 ghost use Rattle.sr_schema.specs.Members.{user_name};
@@ -10,30 +11,28 @@ ghost use Rattle.sr_ddl.specs.Users.{is_taken, is_bad_address, address_of, user_
 
 use sr_ast::Grant;
 use sr_base::{BadName, Copied, Name, NoMemory, Text, name_of};
-use sr_schema::{Causes, Schema, User, is_full, limit_where, owned, where_true};
+use sr_schema::{
+    DdlFault, Schema, User, is_full, limit_where, missing_fault, owned, too_many_fault, where_true,
+};
 use std::alloc::{AllocError, Global};
 
-#[tactic(auto, unfolding(crate::specs::Users::grant_causes))]
-pub fn grant_causes(
+/// The fault that refuses GRANT REMOTE, or GRANT CONSOLIDATE where `above`. Each is looked for where those before do not hold.
+#[tactic(auto, unfolding(crate::specs::Users::grant_causes, sr_schema::specs::Causes::first_fault))]
+pub fn grant_fault(
     schema: &Schema,
     alloc: Global,
     above: bool,
     grant: &Grant,
-) -> Result<Causes, NoMemory>
-    ensures { IfOk result (λ causes. causes ≡ grant_causes schema.now above grant.now) }
+) -> Result<Option<DdlFault>, NoMemory>
+    ensures { IfOk result (λ fault. fault ≡ first_fault (grant_causes schema.now above grant.now)) }
 {
-    let exists = exists(schema, alloc, above, &grant.user)?;
-    let bad_type = bad_address(alloc, grant)?;
-    Ok(Causes {
-        exists,
-        missing: None,
-        bad_type,
-        no_key: None,
-        key_outside: None,
-        twice: None,
-        in_use: None,
-        too_many: too_many(schema),
-    })
+    if let Some(name) = exists(schema, alloc, above, &grant.user)? {
+        return Ok(Some(DdlFault::Exists { name }));
+    }
+    if let Some(name) = bad_address(alloc, grant)? {
+        return Ok(Some(DdlFault::BadType { name }));
+    }
+    Ok(too_many_fault(too_many(schema)))
 }
 
 fn exists(
@@ -127,16 +126,16 @@ fn address_of(alloc: Global, user: &Name, address: &Option<Text>) -> Result<Name
     }
 }
 
-#[tactic(auto, unfolding(crate::specs::Users::passthrough_causes))]
-pub fn passthrough_causes(
+/// The fault that refuses PASSTHROUGH FOR.
+#[tactic(auto, unfolding(crate::specs::Users::passthrough_causes, sr_schema::specs::Causes::first_fault))]
+pub fn passthrough_fault(
     schema: &Schema,
     alloc: Global,
     users: &[Name],
-) -> Result<Causes, NoMemory>
-    ensures { IfOk result (λ causes. causes ≡ passthrough_causes schema.now users.now) }
+) -> Result<Option<DdlFault>, NoMemory>
+    ensures { IfOk result (λ fault. fault ≡ first_fault (passthrough_causes schema.now users.now)) }
 {
-    let missing = owned(alloc, first_not_remote(schema, users))?;
-    Ok(Causes::only_missing(missing))
+    Ok(missing_fault(owned(alloc, first_not_remote(schema, users))?))
 }
 
 fn first_not_remote<'a>(schema: &Schema, users: &'a [Name]) -> Option<&'a Name>

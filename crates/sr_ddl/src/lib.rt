@@ -1,7 +1,7 @@
 //! What speaks against the statements on tables, users, publications and subscriptions, and what they make.
 //!
-//! It stands on sr_schema. Each statement has one call that answers all that speaks against it, of each fault the leftmost, and a
-//! CREATE or GRANT one more that answers what it makes.
+//! It stands on sr_schema. Each statement has one call that answers the fault that refuses it, which looks for each cause only where
+//! those before do not hold, and a CREATE or GRANT one more that answers what it makes.
 #![tactic(auto)]
 
 mod grants;
@@ -9,10 +9,10 @@ mod publications;
 mod subscriptions;
 mod tables;
 
-pub use grants::{grant_causes, passthrough_causes, user_of};
-pub use publications::{create_publication_causes, drop_publication_causes, publication_of};
+pub use grants::{grant_fault, passthrough_fault, user_of};
+pub use publications::{create_publication_fault, drop_publication_fault, publication_of};
 pub use subscriptions::{
-    create_subscription_causes, drop_subscription_causes, start_causes, stop_causes,
-    subscription_of, synchronize_causes,
+    create_subscription_fault, drop_subscription_fault, start_fault, stop_fault, subscription_of,
+    synchronize_fault,
 };
-pub use tables::{create_table_causes, table_of};
+pub use tables::{create_table_fault, table_of};

@@ -3,6 +3,7 @@
 ghost use Rattle.std.specs.Prelude.{◌≡◌, [], length, nat_le, nat_lt, IfOk, bytes_eq};
 ghost use Rattle.std.specs.Option.{option_copied};
 ghost use Rattle.std.specs.List.{list_any};
+ghost use Rattle.sr_schema.specs.Causes.{first_fault};
 ghost use Rattle.sr_schema.specs.Firsts.{first_of, first_among, where_true};
 ghost use Rattle.sr_ddl.specs.Publications.{
   twice_in_articles,
@@ -29,34 +30,34 @@ use sr_ast::{
 };
 use sr_base::{Copied, Name, NoMemory, Seq};
 use sr_schema::{
-    Article, Causes, Publication, Schema, Seen, Subscription, Table, column_names, first,
-    first_absent, first_absent_column, first_name, first_twice, is_empty, is_operator, key_names,
-    limit_where, owned, paired, scope_of, where_true,
+    Article, DdlFault, Publication, Schema, Seen, Subscription, Table, column_names, first,
+    first_absent, first_absent_column, first_twice, is_empty, is_operator, key_names, limit_where,
+    owned, paired, scope_of, too_many_fault, where_true,
 };
 use std::alloc::Global;
 
-#[tactic(auto, unfolding(crate::specs::Publications::create_publication_causes))]
-pub fn create_publication_causes(
+/// The fault that refuses CREATE PUBLICATION. Each is looked for where those before do not hold.
+#[tactic(auto, unfolding(crate::specs::Publications::create_publication_causes, sr_schema::specs::Causes::first_fault))]
+pub fn create_publication_fault(
     schema: &Schema,
     alloc: Global,
     rule: &CreatePublication,
-) -> Result<Causes, NoMemory>
-    ensures { IfOk result (λ causes. causes ≡ create_publication_causes schema.now rule.now) }
+) -> Result<Option<DdlFault>, NoMemory>
+    ensures { IfOk result (λ fault. fault ≡ first_fault (create_publication_causes schema.now rule.now)) }
 {
-    let exists = exists(schema, alloc, rule)?;
-    let missing = first_absent_in(schema, alloc, rule)?;
-    let bad_type = first_bad_article(schema, alloc, rule)?;
-    let key_outside = first_key_outside(schema, alloc, rule)?;
-    Ok(Causes {
-        exists,
-        missing,
-        bad_type,
-        no_key: None,
-        key_outside,
-        twice: None,
-        in_use: None,
-        too_many: too_many(schema, rule),
-    })
+    if let Some(name) = exists(schema, alloc, rule)? {
+        return Ok(Some(DdlFault::Exists { name }));
+    }
+    if let Some(name) = first_absent_in(schema, alloc, rule)? {
+        return Ok(Some(DdlFault::Missing { name }));
+    }
+    if let Some(name) = first_bad_article(schema, alloc, rule)? {
+        return Ok(Some(DdlFault::BadType { name }));
+    }
+    if let Some((table, column)) = first_key_outside(schema, alloc, rule)? {
+        return Ok(Some(DdlFault::KeyNotInArticle { table, column }));
+    }
+    Ok(too_many_fault(too_many(schema, rule)))
 }
 
 fn exists(
@@ -151,10 +152,13 @@ fn absent_in_table(
 ) -> Result<Option<Name>, NoMemory>
     ensures { IfOk result (λ found. found ≡ absent_in_table article.now table.now) }
 {
-    let column = first_absent_column(alloc, table, article.columns.as_slice())?;
-    let condition = absent_column(alloc, table, &article.condition)?;
-    let by = absent_column(alloc, table, &article.by)?;
-    Ok(first_name(column, first_name(condition, by)))
+    if let Some(column) = first_absent_column(alloc, table, article.columns.as_slice())? {
+        return Ok(Some(column));
+    }
+    if let Some(column) = absent_column(alloc, table, &article.condition)? {
+        return Ok(Some(column));
+    }
+    absent_column(alloc, table, &article.by)
 }
 
 /// The leftmost column in an expression that the table lacks.
@@ -201,8 +205,10 @@ fn is_bad_article(
     let Some(table) = table else {
         return Ok(false);
     };
-    let bad = is_bad_where(alloc, table, &article.condition)?;
-    Ok(bad || is_bad_by(&article.by))
+    if is_bad_where(alloc, table, &article.condition)? {
+        return Ok(true);
+    }
+    Ok(is_bad_by(&article.by))
 }
 
 /// Whether a WHERE has arithmetic, or is no truth.
@@ -213,8 +219,11 @@ fn is_bad_where(alloc: Global, table: &Table, condition: &Option<Expr>) -> Resul
     match condition {
         None => Ok(false),
         Some(expr) => {
+            if !is_plain(expr) {
+                return Ok(true);
+            }
             let class = class_in(alloc, &scope_of(alloc, table)?, expr)?;
-            Ok(!is_plain(expr) || !gives_truth(class))
+            Ok(!gives_truth(class))
         }
     }
 }
@@ -344,27 +353,24 @@ fn columns_of(
     column_names(alloc, table)
 }
 
-#[tactic(auto, unfolding(crate::specs::Publications::drop_publication_causes))]
-pub fn drop_publication_causes(
+/// The fault that refuses DROP PUBLICATION.
+#[tactic(auto, unfolding(crate::specs::Publications::drop_publication_causes, sr_schema::specs::Causes::first_fault))]
+pub fn drop_publication_fault(
     schema: &Schema,
     alloc: Global,
     name: &Name,
-) -> Result<Causes, NoMemory>
-    ensures { IfOk result (λ causes. causes ≡ drop_publication_causes schema.now name.now) }
+) -> Result<Option<DdlFault>, NoMemory>
+    ensures { IfOk result (λ fault. fault ≡ first_fault (drop_publication_causes schema.now name.now)) }
 {
-    let missing = owned(alloc, where_true(!schema.has_publication(name), name))?;
-    let subscribed = is_subscribed(schema.subscriptions(), name);
-    let in_use = owned(alloc, where_true(subscribed, name))?;
-    Ok(Causes {
-        exists: None,
-        missing,
-        bad_type: None,
-        no_key: None,
-        key_outside: None,
-        twice: None,
-        in_use,
-        too_many: None,
-    })
+    if !schema.has_publication(name) {
+        let name = name.copy(alloc)?;
+        return Ok(Some(DdlFault::Missing { name }));
+    }
+    if is_subscribed(schema.subscriptions(), name) {
+        let name = name.copy(alloc)?;
+        return Ok(Some(DdlFault::InUse { name }));
+    }
+    Ok(None)
 }
 
 fn is_subscribed(subscriptions: &[Subscription], name: &Name) -> bool

@@ -4,6 +4,7 @@ ghost use Rattle.std.specs.Prelude.{◌≡◌, ◌&&◌, nat_le, length, IfOk};
 ghost use Rattle.std.specs.Option.{option_copied};
 ghost use Rattle.std.specs.List.{list_any};
 ghost use Rattle.sr_ast.specs.Exprs.{term_of};
+ghost use Rattle.sr_schema.specs.Causes.{first_fault};
 ghost use Rattle.sr_schema.specs.Firsts.{where_true};
 ghost use Rattle.sr_schema.specs.Names.{named};
 ghost use Rattle.sr_schema.specs.Members.{table_name};
@@ -34,8 +35,8 @@ use crate::grants::is_remote;
 use sr_ast::{Class, Expr, SubscriptionRule, is_comparable, kind_class, value_class};
 use sr_base::{Copied, Name, NoMemory, Value};
 use sr_schema::{
-    Article, Causes, Column, Publication, Schema, Subscription, Table, first, is_full, item_named,
-    limit_where, owned, paired, where_true,
+    Article, Column, DdlFault, Publication, Schema, Subscription, Table, first, is_full,
+    item_named, limit_where, missing_fault, owned, paired, too_many_fault, where_true,
 };
 use std::alloc::Global;
 
@@ -68,27 +69,25 @@ fn articles_of(publication: Option<&Publication>) -> &[Article]
     }
 }
 
-#[tactic(auto, unfolding(crate::specs::Subscriptions::create_subscription_causes))]
-pub fn create_subscription_causes(
+/// The fault that refuses CREATE SUBSCRIPTION. Each is looked for where those before do not hold.
+#[tactic(auto, unfolding(crate::specs::Subscriptions::create_subscription_causes, sr_schema::specs::Causes::first_fault))]
+pub fn create_subscription_fault(
     schema: &Schema,
     alloc: Global,
     rule: &SubscriptionRule,
-) -> Result<Causes, NoMemory>
-    ensures { IfOk result (λ causes. causes ≡ create_subscription_causes schema.now rule.now) }
+) -> Result<Option<DdlFault>, NoMemory>
+    ensures { IfOk result (λ fault. fault ≡ first_fault (create_subscription_causes schema.now rule.now)) }
 {
-    let exists = exists(schema, alloc, rule)?;
-    let missing = owned(alloc, missing_either(schema, rule))?;
-    let bad_type = bad_value(schema, alloc, rule)?;
-    Ok(Causes {
-        exists,
-        missing,
-        bad_type,
-        no_key: None,
-        key_outside: None,
-        twice: None,
-        in_use: None,
-        too_many: too_many(schema.subscriptions()),
-    })
+    if let Some(name) = exists(schema, alloc, rule)? {
+        return Ok(Some(DdlFault::Exists { name }));
+    }
+    if let Some(name) = owned(alloc, missing_either(schema, rule))? {
+        return Ok(Some(DdlFault::Missing { name }));
+    }
+    if let Some(name) = bad_value(schema, alloc, rule)? {
+        return Ok(Some(DdlFault::BadType { name }));
+    }
+    Ok(too_many_fault(too_many(schema.subscriptions())))
 }
 
 /// The publication, where it and the user are there, and so is the subscription.
@@ -265,69 +264,68 @@ fn twice_subscribed<'a>(
     Ok(None)
 }
 
-#[tactic(auto, unfolding(crate::specs::Subscriptions::start_causes))]
-pub fn start_causes(
+/// The fault that refuses START SUBSCRIPTION.
+#[tactic(auto, unfolding(crate::specs::Subscriptions::start_causes, sr_schema::specs::Causes::first_fault))]
+pub fn start_fault(
     schema: &Schema,
     alloc: Global,
     rule: &SubscriptionRule,
-) -> Result<Causes, NoMemory>
-    ensures { IfOk result (λ causes. causes ≡ start_causes schema.now rule.now) }
+) -> Result<Option<DdlFault>, NoMemory>
+    ensures { IfOk result (λ fault. fault ≡ first_fault (start_causes schema.now rule.now)) }
 {
     let found = schema.has_subscription(alloc, rule)?;
-    let missing = owned(alloc, missing_unless(found, schema, rule))?;
+    if let Some(name) = owned(alloc, missing_unless(found, schema, rule))? {
+        return Ok(Some(DdlFault::Missing { name }));
+    }
     let table = twice_subscribed(schema, alloc, rule)?;
-    let twice = paired(alloc, &rule.user, table)?;
-    Ok(Causes {
-        exists: None,
-        missing,
-        bad_type: None,
-        no_key: None,
-        key_outside: None,
-        twice,
-        in_use: None,
-        too_many: None,
-    })
+    match paired(alloc, &rule.user, table)? {
+        Some((user, table)) => Ok(Some(DdlFault::TwiceSubscribed { user, table })),
+        None => Ok(None),
+    }
 }
 
-#[tactic(auto, unfolding(crate::specs::Subscriptions::stop_causes))]
-pub fn stop_causes(
+/// The fault that refuses STOP SUBSCRIPTION.
+#[tactic(auto, unfolding(crate::specs::Subscriptions::stop_causes, sr_schema::specs::Causes::first_fault))]
+pub fn stop_fault(
     schema: &Schema,
     alloc: Global,
     rule: &SubscriptionRule,
-) -> Result<Causes, NoMemory>
-    ensures { IfOk result (λ causes. causes ≡ stop_causes schema.now rule.now) }
+) -> Result<Option<DdlFault>, NoMemory>
+    ensures { IfOk result (λ fault. fault ≡ first_fault (stop_causes schema.now rule.now)) }
 {
     let found = schema.has_started(alloc, rule)?;
     let missing = owned(alloc, missing_unless(found, schema, rule))?;
-    Ok(Causes::only_missing(missing))
+    Ok(missing_fault(missing))
 }
 
-#[tactic(auto, unfolding(crate::specs::Subscriptions::synchronize_causes))]
-pub fn synchronize_causes(
+/// The fault that refuses SYNCHRONIZE SUBSCRIPTION.
+#[tactic(auto, unfolding(crate::specs::Subscriptions::synchronize_causes, sr_schema::specs::Causes::first_fault))]
+pub fn synchronize_fault(
     schema: &Schema,
     alloc: Global,
     rule: &SubscriptionRule,
-) -> Result<Causes, NoMemory>
-    ensures { IfOk result (λ causes. causes ≡ synchronize_causes schema.now rule.now) }
+) -> Result<Option<DdlFault>, NoMemory>
+    ensures { IfOk result (λ fault. fault ≡ first_fault (synchronize_causes schema.now rule.now)) }
 {
     let found = schema.has_started(alloc, rule)?;
     let missing = missing_unless(found, schema, rule);
     let remote = is_remote(schema.user(&rule.user));
     let missing = owned(alloc, first(missing, where_true(!remote, &rule.user)))?;
-    Ok(Causes::only_missing(missing))
+    Ok(missing_fault(missing))
 }
 
-#[tactic(auto, unfolding(crate::specs::Subscriptions::drop_subscription_causes))]
-pub fn drop_subscription_causes(
+/// The fault that refuses DROP SUBSCRIPTION.
+#[tactic(auto, unfolding(crate::specs::Subscriptions::drop_subscription_causes, sr_schema::specs::Causes::first_fault))]
+pub fn drop_subscription_fault(
     schema: &Schema,
     alloc: Global,
     rule: &SubscriptionRule,
-) -> Result<Causes, NoMemory>
-    ensures { IfOk result (λ causes. causes ≡ drop_subscription_causes schema.now rule.now) }
+) -> Result<Option<DdlFault>, NoMemory>
+    ensures { IfOk result (λ fault. fault ≡ first_fault (drop_subscription_causes schema.now rule.now)) }
 {
     let there = schema.has_subscription(alloc, rule)?;
     let missing = owned(alloc, missing_unless(there, schema, rule))?;
-    Ok(Causes::only_missing(missing))
+    Ok(missing_fault(missing))
 }
 
 /// The subscription that CREATE SUBSCRIPTION makes.

@@ -1,6 +1,7 @@
 //! What speaks against CREATE TABLE, and the table that is made.
 
 ghost use Rattle.std.specs.Prelude.{◌≡◌, ◌||◌, nat_eq, nat_le, nat_lt, length, filter_map, map, IfOk};
+ghost use Rattle.sr_schema.specs.Causes.{first_fault};
 ghost use Rattle.sr_schema.specs.Firsts.{where_true, first_absent};
 ghost use Rattle.sr_schema.specs.Names.{place_of, taken};
 ghost use Rattle.sr_ddl.specs.Tables.{taken_or_twice, rule_name, column_of, table_of, create_table_causes};
@@ -8,33 +9,31 @@ ghost use Rattle.sr_ddl.specs.Tables.{taken_or_twice, rule_name, column_of, tabl
 use sr_ast::{ColumnRule, CreateTable};
 use sr_base::{Copied, Name, NoMemory, Seq};
 use sr_schema::{
-    Causes, Column, Publication, Schema, Table, first, first_absent, first_twice, first_twice_of,
-    is_empty, limit_where, owned, where_true,
+    Column, DdlFault, Named, Schema, Table, first, first_twice, first_twice_of, is_empty,
+    limit_where, owned, too_many_fault, where_true,
 };
 use std::alloc::Global;
 
-#[tactic(auto, unfolding(crate::specs::Tables::create_table_causes))]
-pub fn create_table_causes(
+/// The fault that refuses CREATE TABLE. Each is looked for where those before do not hold, in a time linear in the statement.
+#[tactic(auto, unfolding(crate::specs::Tables::create_table_causes, sr_schema::specs::Causes::first_fault))]
+pub fn create_table_fault(
     schema: &Schema,
     alloc: Global,
     table: &CreateTable,
-) -> Result<Causes, NoMemory>
-    ensures { IfOk result (λ causes. causes ≡ create_table_causes schema.now table.now) }
+) -> Result<Option<DdlFault>, NoMemory>
+    ensures { IfOk result (λ fault. fault ≡ first_fault (create_table_causes schema.now table.now)) }
 {
-    let exists = exists(schema, alloc, table)?;
-    let missing = missing(alloc, table)?;
-    let no_key = no_key(alloc, table)?;
+    if let Some(name) = exists(schema, alloc, table)? {
+        return Ok(Some(DdlFault::Exists { name }));
+    }
+    if let Some(name) = missing(alloc, table)? {
+        return Ok(Some(DdlFault::Missing { name }));
+    }
+    if let Some(table) = no_key(alloc, table)? {
+        return Ok(Some(DdlFault::NoKey { table }));
+    }
     let many = is_too_many(schema.tables().len(), table.columns.as_slice().len());
-    Ok(Causes {
-        exists,
-        missing,
-        bad_type: None,
-        no_key,
-        key_outside: None,
-        twice: None,
-        in_use: None,
-        too_many: limit_where(many, 256),
-    })
+    Ok(too_many_fault(limit_where(many, 256)))
 }
 
 fn exists(schema: &Schema, alloc: Global, table: &CreateTable) -> Result<Option<Name>, NoMemory>
@@ -49,7 +48,8 @@ fn exists(schema: &Schema, alloc: Global, table: &CreateTable) -> Result<Option<
 fn missing(alloc: Global, table: &CreateTable) -> Result<Option<Name>, NoMemory>
     ensures { IfOk result (λ found. found ≡ first_absent (λ n. taken rule_name n table.now.columns) table.now.key) }
 {
-    owned(alloc, first_absent(&table.columns, table.key.as_slice()))
+    let columns = Named::firsts_of(alloc, table.columns.as_slice())?;
+    owned(alloc, columns.first_absent(table.key.as_slice()))
 }
 
 fn no_key(alloc: Global, table: &CreateTable) -> Result<Option<Name>, NoMemory>

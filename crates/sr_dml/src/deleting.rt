@@ -11,7 +11,8 @@ use sr_rows::Rows;
 use sr_schema::{DmlFault, Table, scope_of};
 use std::alloc::Global;
 
-/// DELETE. It goes over the rows of the table; each that is selected takes logarithmic time for its key.
+/// DELETE. It goes over the rows of the table; each that is selected takes logarithmic time for its key. The changes stand in the
+/// memory of `spare`, a list that is not needed any more: its items are dropped.
 pub fn delete(
     alloc: Global,
     table: &Table,

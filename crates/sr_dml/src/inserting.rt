@@ -24,6 +24,7 @@ use sr_schema::{Column, DmlFault, Table};
 use std::alloc::Global;
 
 /// INSERT. Each column looks through the columns that are named, once. Each row takes its columns, and logarithmic time for its key.
+/// The change of a single row stands in the memory of `spare`, a list that is not needed any more: its items are dropped.
 pub fn insert(
     alloc: Global,
     table: &Table,

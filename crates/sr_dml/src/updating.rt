@@ -24,7 +24,8 @@ use sr_schema::{Column, DmlFault, Table, scope_of};
 use std::alloc::Global;
 
 /// UPDATE. It goes over the rows of the table; each that is selected takes its columns times the assignments, and logarithmic time
-/// for its keys.
+/// for its keys. Where no row gets another key the changes stand in the memory of `spare`, a list that is not needed any more: its
+/// items are dropped.
 pub fn update(
     alloc: Global,
     table: &Table,

@@ -1,5 +1,5 @@
 -- An operand of one symbol, behind which no expression of a level goes on, is the whole expression of that level.
-use Rattle.std.proofs.Common.{◌≡◌, ℕ, ◌<◌, ◌≤◌, arith, Bool, true, false, ◌||◌, [], ◌∷◌, Option, Some, None, Ok, Err, refl, sym, subst, inl}
+use Rattle.std.proofs.Common.{◌≡◌, ℕ, ◌<◌, arith, Bool, true, false, [], ◌∷◌, Option, Some, None, Ok, Err, refl, sym, subst, inl}
 use Rattle.std.specs.Option.{option_and_then}
 use Rattle.sr_ast.specs.Terms.{Term}
 use Rattle.sr_ast.specs.Terms.Term.{literal, column}
@@ -20,11 +20,11 @@ use Rattle.sr_grammar.specs.Symbols.{Symbols, first, behind, IsWord, IsSign}
 use Rattle.sr_grammar.specs.Literals.{number_value}
 use Rattle.sr_grammar.specs.Levels.{tightness}
 use Rattle.sr_grammar.specs.Expressions.{Tightness, Reads, IsDeep, depth, joins, compares}
-use Rattle.sr_grammar.specs.Expressions.Tightness.{disjunction, conjunction, negation, comparison, sum, product, signed, operand}
+use Rattle.sr_grammar.specs.Expressions.Tightness.{disjunction, conjunction, negation, sum, product, signed, operand}
 use Rattle.sr_grammar.specs.Expressions.Reads.{single, named}
-use Rattle.sr_grammar.specs.Going.{Stop, is_there, is_dot, is_is, factor_goes, sum_goes, compare_goes, relation_goes, and_goes, expression_goes, goes_on}
+use Rattle.sr_grammar.specs.Going.{Stop, is_there, is_dot, factor_goes, sum_goes, relation_goes, and_goes, expression_goes, goes_on}
 use Rattle.sr_grammar.proofs.Following.{or_left, or_right}
-use Rattle.sr_grammar.proofs.Steps.{Stop-at, Stop-begins, Stop-fewer}
+use Rattle.sr_grammar.proofs.Steps.{Stop-begins, Stop-fewer}
 use Rattle.sr_reader.specs.Alone.{is_operand, IsAlone}
 use Rattle.sr_reader.specs.Productions.{ReadsLevel}
 use Rattle.sr_reader.specs.Reading.Reading.{memory}

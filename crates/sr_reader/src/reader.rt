@@ -6,7 +6,7 @@ ghost use Rattle.sr_grammar.specs.Symbols.{Symbols, first, behind, named, IsName
 ghost use Rattle.sr_grammar.specs.Listing.{Listed, IsNames};
 ghost use Rattle.sr_grammar.specs.Going.{Stop, is_dot, is_comma, is_open};
 
-use sr_base::{Name, NoMemory, Seq, Text, name_of};
+use sr_base::{Name, Seq, Text, name_of};
 use sr_grammar::{Keyword, Sign, Symbol};
 use std::alloc::{AllocError, AllocFailed, Global};
 use std::marker::Model;

@@ -1,6 +1,7 @@
 -- Items in order, items that stay, and things found by their names.
+pub use Rattle.sr_schema.proofs.Places.{found_as_taken, find_more, taken_more}
 use Rattle.std.proofs.Common.{◌≡◌, ℕ, ◌≤◌, Bool, true, false, cond, List, [], ◌∷◌, ◌++◌, length, map, Some, refl, ap, sym, ◌∙◌, subst, arith, append_assoc, append-nil, filter, find}
-use Rattle.std.specs.Prelude.{nat_le, bytes_eq, ◌||◌, not}
+use Rattle.std.specs.Prelude.{nat_le, bytes_eq, not}
 use Rattle.std.specs.List.{list_any, AllByRecursion}
 use Rattle.std.specs.Option.{is_some}
 use Rattle.std.proofs.lemmas.Bool.{or_parts, lt-leb, leb-false, false_from_ne_true}
@@ -108,28 +109,6 @@ HasRoom-filter name_of limit keep before x room = record {
 }
 
 -- ---- things found by their names
-
-pub found_as_taken : {A : Type 0} (p : A → Bool) (xs : List A) → list_any p xs ≡ is_some (find p xs)
-found_as_taken p [] = refl
-found_as_taken p (x ∷ xs) = elim (p x) as (λ b. (b || list_any p xs) ≡ is_some (cond b (Some x) (find p xs))) [
-  | true ↦ refl
-  | false ↦ found_as_taken p xs
-]
-
--- what is found is found with more behind it
-pub find_more : {A : Type 0} (p : A → Bool) (xs ys : List A) → list_any p xs ≡ true → find p (xs ++ ys) ≡ find p xs
-find_more p [] ys h = absurd (cc)
-find_more p (x ∷ xs) ys h = elim (p x) as (λ b. (b || list_any p xs) ≡ true → cond b (Some x) (find p (xs ++ ys)) ≡ cond b (Some x) (find p xs)) [
-  | true ↦ λ t. refl
-  | false ↦ λ t. find_more p xs ys t
-] h
-
-pub taken_more : {A : Type 0} (p : A → Bool) (xs ys : List A) → list_any p xs ≡ true → list_any p (xs ++ ys) ≡ true
-taken_more p [] ys h = absurd (cc)
-taken_more p (x ∷ xs) ys h = elim (p x) as (λ b. (b || list_any p xs) ≡ true → (b || list_any p (xs ++ ys)) ≡ true) [
-  | true ↦ λ t. refl
-  | false ↦ λ t. taken_more p xs ys t
-] h
 
 -- what is found is found where what fails the test goes
 pub find-filter : {A : Type 0} (p keep : A → Bool) → ((x : A) → p x ≡ true → keep x ≡ true) → (xs : List A) → find p (filter keep xs) ≡ find p xs

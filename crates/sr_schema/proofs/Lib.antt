@@ -1,4 +1,5 @@
 pub mod Counted
+pub mod Indexed
 pub mod Places
 pub mod Single
 pub mod Spelled

@@ -1,9 +1,19 @@
 -- All that speaks against a statement, and the order of refusals.
-use Rattle.std.specs.Prelude.{Option, None, option_map}
+use Rattle.std.specs.Prelude.{ℕ, List, Option, None, option_map}
 use Rattle.sr_schema.specs.Firsts.{first_of}
-use Rattle.sr_schema.specs.declared.causes.Causes.{Causes}
 use Rattle.sr_schema.specs.declared.fault.DdlFault.{DdlFault}
 use Rattle.sr_schema.specs.declared.fault.DdlFault.TheVariants.{Exists, Missing, BadType, NoKey, KeyNotInArticle, TwiceSubscribed, InUse, TooMany}
+
+-- all that speaks against a statement: of each fault the leftmost, with the names that it carries
+pub record Causes : Type 0 where
+  pub exists : Option (List ℕ)
+  pub missing : Option (List ℕ)
+  pub bad_type : Option (List ℕ)
+  pub no_key : Option (List ℕ)
+  pub key_outside : Option (List ℕ × List ℕ)
+  pub twice : Option (List ℕ × List ℕ)
+  pub in_use : Option (List ℕ)
+  pub too_many : Option ℕ
 
 -- nothing speaks against it
 abbrev pub no_cause : Causes

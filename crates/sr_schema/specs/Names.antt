@@ -1,5 +1,5 @@
 -- Things of one kind under their names.
-use Rattle.std.specs.Prelude.{ℕ, Bool, not, List, Option, find, filter, position, bytes_eq}
+use Rattle.std.specs.Prelude.{◌≡◌, ℕ, Bool, not, List, Option, find, filter, position, bytes_eq}
 use Rattle.std.specs.List.{list_any}
 
 module _ {T : Type 0} (name_of : T → List ℕ) where
@@ -18,3 +18,7 @@ module _ {T : Type 0} (name_of : T → List ℕ) where
   -- the others, in their order
   abbrev pub without : List ℕ → List T → List T
   without name things = filter (λ t. not (bytes_eq name (name_of t))) things
+
+  -- each name has the same first thing among some as among all
+  abbrev pub HasFirsts : List T → List T → Type 0
+  HasFirsts some all = (name : List ℕ) → named name some ≡ named name all

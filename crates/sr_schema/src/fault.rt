@@ -1,3 +1,6 @@
+ghost use Rattle.std.specs.Prelude.{◌≡◌, option_map};
+ghost use Rattle.sr_schema.specs.declared.fault.DdlFault.TheVariants.{Missing, TooMany};
+
 use sr_base::{Copied, Key, Name, NoMemory};
 use std::alloc::{AllocError, Global};
 
@@ -23,6 +26,26 @@ pub enum DdlFault {
     TooMany { limit: u64 },
     /// There is no memory.
     Memory,
+}
+
+/// What is named and not there, as a fault.
+pub fn missing_fault(name: Option<Name>) -> Option<DdlFault>
+    ensures { result ≡ option_map Missing name }
+{
+    match name {
+        Some(name) => Some(DdlFault::Missing { name }),
+        None => None,
+    }
+}
+
+/// A limit that is reached, as a fault.
+pub fn too_many_fault(limit: Option<u64>) -> Option<DdlFault>
+    ensures { result ≡ option_map TooMany limit }
+{
+    match limit {
+        Some(limit) => Some(DdlFault::TooMany { limit }),
+        None => None,
+    }
 }
 
 /// Why a statement on rows is refused. Where several apply, the first in this order is answered.

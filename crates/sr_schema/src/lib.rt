@@ -6,7 +6,6 @@
 #![tactic(auto)]
 
 mod altered;
-mod causes;
 mod columns;
 mod exprs;
 mod fault;
@@ -23,10 +22,9 @@ mod table;
 mod trigger;
 mod user;
 
-pub use causes::Causes;
 pub use columns::{column_names, first_absent_column, key_names, scope_of};
 pub use exprs::{add_refs, is_operator};
-pub use fault::{DdlFault, DmlFault};
+pub use fault::{DdlFault, DmlFault, missing_fault, too_many_fault};
 pub use firsts::{
     Seen, first, first_absent, first_name, first_twice, first_twice_of, is_empty, is_full,
     is_taken, item_named, limit_where, owned, paired, where_true,

@@ -1,6 +1,7 @@
-ghost use Rattle.std.specs.Prelude.{◌≡◌, ◌∷◌, ◌++◌, [], List, ℕ, Option, bytes_eq, slice_get, IfOk, OnErr, OnOk};
+ghost use Rattle.std.specs.Prelude.{◌≡◌, ◌∷◌, ◌++◌, [], List, ℕ, Option, cond, bytes_eq, slice_get, IfOk, OnErr, OnOk};
 ghost use Rattle.std.specs.Option.{option_copied};
-ghost use Rattle.sr_schema.specs.Names.{named, place_of, taken, without};
+ghost use Rattle.sr_schema.specs.Firsts.{first_absent};
+ghost use Rattle.sr_schema.specs.Names.{named, place_of, taken, without, HasFirsts};
 ghost use Rattle.sr_schema.specs.Singles.{IsSingle};
 
 use indexmap::IndexSet;
@@ -78,6 +79,29 @@ impl<T: HasName> Named<T> {
         }
     }
 
+    /// Of the things of each name the first. It takes as many steps as there are things.
+    pub fn firsts_of(alloc: Global, items: &[T]) -> Result<Named<T>, NoMemory>
+        ensures firsts { IfOk result (λ found. HasFirsts T.name_of found items.now) }
+    {
+        let mut found = Named::new(alloc);
+        let mut rest = items;
+        'items: while let Some((item, after)) = rest.split_first() {
+            found.push_first(alloc, item)?;
+            rest = after;
+        }
+        Ok(found)
+    }
+
+    /// Adds a copy of a thing, the last, where its name is not taken.
+    fn push_first(&mut self, alloc: Global, item: &T) -> Result<(), NoMemory>
+        ensures ok { OnOk result (self.new ≡ cond (taken T.name_of (T.name_of item.now) self.old) self.old (self.old ++ item.now ∷ [])) }
+    {
+        if self.holds(item.name()) {
+            return Ok(());
+        }
+        self.push(alloc, item.copy(alloc)?)
+    }
+
     /// The things in order of creation.
     pub fn as_slice(&self) -> &[T]
         ensures items { result.now ≡ self.now }
@@ -114,6 +138,20 @@ impl<T: HasName> Named<T> {
         ensures taken { result ≡ taken T.name_of name.now self.now }
     {
         self.names.contains(name.bytes())
+    }
+
+    /// The first name that nothing here has.
+    pub fn first_absent<'a>(&self, names: &'a [Name]) -> Option<&'a Name>
+        ensures absent { option_copied result ≡ first_absent (λ n. taken T.name_of n self.now) names.now }
+    {
+        let mut rest = names;
+        'names: while let Some((name, after)) = rest.split_first() {
+            if !self.holds(name) {
+                return Some(name);
+            }
+            rest = after;
+        }
+        None
     }
 
     /// Adds a thing, the last. A name that is taken is refused too: callers look first. Where memory lacks nothing changes.

@@ -15,8 +15,8 @@ use sr_logform::Change;
 use sr_script::{answer, are_short, push_count, push_rows};
 use std::alloc::Global;
 
-/// An INSERT, UPDATE or DELETE outside a region: its changes join the open transaction. Where they are its first ones, they stand in the memory of
-/// the changes of the transaction before.
+/// An INSERT, UPDATE or DELETE outside a region: its changes join the open transaction. Where they are its first ones and exec needs no
+/// list of its own, they stand in the memory of the changes of the transaction before, unless a refused statement took it along.
 pub(crate) fn execute(
     alloc: Global,
     db: &mut Database,

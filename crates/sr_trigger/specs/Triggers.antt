@@ -15,13 +15,14 @@ use Rattle.sr_ast.specs.declared.create.Image.TheVariants.{Old, New, Remote}
 use Rattle.sr_ast.specs.declared.stmt.Stmt.{Stmt}
 use Rattle.sr_ast.specs.declared.stmt.Stmt.TheVariants as stmt
 use Rattle.sr_schema.specs.Catalogs.{Lists}
-use Rattle.sr_schema.specs.Causes.{no_cause}
+use Rattle.sr_schema.specs.Causes.{Causes, no_cause}
 use Rattle.sr_schema.specs.Firsts.{first_of, first_among, where_true, has, first_twice, first_absent}
 use Rattle.sr_schema.specs.Names.{named, taken}
 use Rattle.sr_ast.specs.Uses.{gives_truth, gives_value}
 use Rattle.sr_schema.specs.Expressions.{refs}
 use Rattle.sr_schema.specs.Members.{key_names, table_name, has_column, trigger_name}
-use Rattle.sr_schema.specs.declared.causes.Causes.{Causes}
+use Rattle.sr_schema.specs.declared.fault.DdlFault.{DdlFault}
+use Rattle.sr_schema.specs.declared.fault.DdlFault.TheVariants.{Missing, BadType}
 use Rattle.sr_schema.specs.declared.table.Table.{Table}
 use Rattle.sr_schema.specs.declared.trigger.Trigger.{Trigger}
 
@@ -163,6 +164,10 @@ bad_behind tables g t =
 unfoldable pub bad_in_trigger : List Table → CreateTrigger → Option Table → Option (List ℕ)
 bad_in_trigger tables g None = None
 bad_in_trigger tables g (Some t) = bad_behind tables g t
+
+-- the fault of the two, where there is one
+abbrev pub inside_fault : List Table → CreateTrigger → Option Table → Option DdlFault
+inside_fault tables g t = first_of (option_map Missing (absent_in_trigger tables g t)) (option_map BadType (bad_in_trigger tables g t))
 
 -- the trigger's name, where it is taken, or a column that it or an INSERT names twice
 abbrev pub taken_or_twice : Lists → CreateTrigger → Option (List ℕ)

@@ -1,6 +1,6 @@
 //! What may not stand in a trigger: a wrong target, a wrong count of values, an undeclared variable or a wrong class.
 
-ghost use Rattle.std.specs.Prelude.{◌≡◌, map, nat_eq, option_map, is_some, not, IfOk};
+ghost use Rattle.std.specs.Prelude.{◌≡◌, map, nat_eq, is_some, not, IfOk};
 ghost use Rattle.std.specs.List.{list_any};
 ghost use Rattle.std.specs.Option.{option_copied};
 ghost use Rattle.sr_ast.specs.Exprs.{term_of};
@@ -11,59 +11,33 @@ ghost use Rattle.sr_trigger.specs.Triggers.{
   is_undeclared,
   has_undeclared,
   is_bad_expr,
-  is_new,
   is_target,
   wanted,
   is_bad_part,
-  bad_in_trigger,
   bad_behind,
+  trigger_scope,
 };
 
 use crate::looking::{Look, first_in};
-use crate::scopes::trigger_scope;
-use sr_ast::{CreateTrigger, Expr, Image, Scope, class_in, gives_truth, gives_value};
-use sr_base::{Kind, Name, NoMemory};
-use sr_schema::{
-    Schema, Table, add_refs, first_name, first_twice_of, is_taken, item_named, key_names, owned,
-    where_true,
-};
+use crate::scope::TriggerScope;
+use sr_ast::{CreateTrigger, Expr, class_among, gives_truth, gives_value};
+use sr_base::{Copied, Name, NoMemory};
+use sr_schema::{Schema, Table, add_refs, first_twice_of, owned, where_true};
 use std::alloc::Global;
 
 /// The trigger's name, where it declares a variable twice or has a bad part.
-#[tactic(auto, unfolding(crate::specs::Triggers::bad_in_trigger))]
-pub fn bad_in_trigger(
+pub(crate) fn bad_behind(
     schema: &Schema,
     alloc: Global,
-    rule: &CreateTrigger,
-    table: Option<&Table>,
+    scope: &TriggerScope,
 ) -> Result<Option<Name>, NoMemory>
-    ensures { IfOk result (λ found. found ≡ bad_in_trigger schema.now.tables rule.now (option_copied table.entry)) }
+    ensures { IfOk result (λ found. found ≡ bad_behind schema.now.tables scope.now.0 scope.now.1) }
 {
-    match table {
-        None => Ok(None),
-        Some(table) => bad_behind(schema, alloc, rule, table),
+    let rule = scope.rule();
+    if declares_twice(alloc, rule)? {
+        return Ok(Some(rule.name.copy(alloc)?));
     }
-}
-
-fn bad_behind(
-    schema: &Schema,
-    alloc: Global,
-    rule: &CreateTrigger,
-    table: &Table,
-) -> Result<Option<Name>, NoMemory>
-    ensures { IfOk result (λ found. found ≡ bad_behind schema.now.tables rule.now table.now) }
-{
-    let twice = declares_twice(alloc, rule)?;
-    let declared = owned(alloc, where_true(twice, &rule.name))?;
-    let scope = trigger_scope(alloc, rule, table)?;
-    let look = Bad {
-        schema,
-        rule,
-        table,
-        scope: &scope,
-    };
-    let inside = first_in(&look, alloc, &rule.actions)?;
-    Ok(first_name(declared, inside))
+    first_in(&Bad { schema, scope }, alloc, &rule.actions)
 }
 
 fn declares_twice(alloc: Global, rule: &CreateTrigger) -> Result<bool, NoMemory>
@@ -79,13 +53,11 @@ fn declares_twice(alloc: Global, rule: &CreateTrigger) -> Result<bool, NoMemory>
 #[derive(Drop)]
 struct Bad<'a> {
     schema: &'a Schema,
-    rule: &'a CreateTrigger,
-    table: &'a Table,
-    scope: &'a Scope,
+    scope: &'a TriggerScope<'a>,
 }
 
 impl<'a> Look for Bad<'a> {
-    ghost finds = { λ s part. where_true (is_bad_part s.rule.now s.schema.now.tables s.table.now s.scope.now part) s.rule.now.name };
+    ghost finds = { λ s part. where_true (is_bad_part s.scope.now.0 s.schema.now.tables s.scope.now.1 (trigger_scope s.scope.now.0 s.scope.now.1) part) s.scope.now.0.name };
 
     #[tactic(auto, unfolding(crate::specs::Triggers::is_bad_part))]
     fn in_set(
@@ -95,9 +67,8 @@ impl<'a> Look for Bad<'a> {
         name: &Name,
         value: &Expr,
     ) -> Result<Option<Name>, NoMemory> {
-        let target = is_target(alloc, self.rule, self.table, alias, name)?;
-        let bad = is_bad_value(alloc, self.rule.variables.as_slice(), self.scope, value)?;
-        owned(alloc, where_true(!target || bad, &self.rule.name))
+        let bad = !is_target(self.scope, alias, name) || is_bad_value(alloc, self.scope, value)?;
+        owned(alloc, where_true(bad, &self.scope.rule().name))
     }
 
     #[tactic(auto, unfolding(crate::specs::Triggers::is_bad_part))]
@@ -109,50 +80,25 @@ impl<'a> Look for Bad<'a> {
         values: &[Expr],
     ) -> Result<Option<Name>, NoMemory> {
         let wanted = wanted(columns, self.schema.table(table));
-        let bad = has_bad_value(alloc, self.rule.variables.as_slice(), self.scope, values)?;
-        owned(
-            alloc,
-            where_true(is_other_count(values.len(), wanted) || bad, &self.rule.name),
-        )
+        let other = is_other_count(values.len(), wanted);
+        let bad = other || has_bad_value(alloc, self.scope, values)?;
+        owned(alloc, where_true(bad, &self.scope.rule().name))
     }
 
     #[tactic(auto, unfolding(crate::specs::Triggers::is_bad_part))]
     fn in_condition(&self, alloc: Global, condition: &Expr) -> Result<Option<Name>, NoMemory> {
-        let bad = is_bad_condition(alloc, self.rule.variables.as_slice(), self.scope, condition)?;
-        owned(alloc, where_true(bad, &self.rule.name))
+        let bad = is_bad_condition(alloc, self.scope, condition)?;
+        owned(alloc, where_true(bad, &self.scope.rule().name))
     }
 }
 
 /// Whether SET may write it: a variable, or a column of NEW that is not of the key.
-fn is_target(
-    alloc: Global,
-    rule: &CreateTrigger,
-    table: &Table,
-    alias: &Option<Name>,
-    name: &Name,
-) -> Result<bool, NoMemory>
-    ensures { IfOk result (λ target. target ≡ is_target rule.now table.now alias.now name.now) }
+fn is_target(scope: &TriggerScope, alias: &Option<Name>, name: &Name) -> bool
+    ensures { result ≡ is_target scope.now.0 scope.now.1 alias.now name.now }
 {
     match alias {
-        None => Ok(is_taken(name, rule.variables.as_slice())),
-        Some(alias) => {
-            let key = key_names(alloc, table)?;
-            let new = is_new(item_named(alias, rule.aliases.as_slice()));
-            Ok(new && !is_taken(name, key.as_slice()))
-        }
-    }
-}
-
-fn is_new(alias: Option<&(Image, Name)>) -> bool
-    ensures { result ≡ is_new (option_map (λ a. a.0) (option_copied alias.entry)) }
-{
-    match alias {
-        None => false,
-        Some(alias) => match alias.0 {
-            Image::New => true,
-            Image::Old => false,
-            Image::Remote => false,
-        },
+        None => scope.has_variable(name),
+        Some(alias) => scope.is_new(alias) && !scope.is_in_key(name),
     }
 }
 
@@ -178,67 +124,54 @@ fn wanted(columns: &[Name], table: Option<&Table>) -> usize
     }
 }
 
-fn has_undeclared(alloc: Global, variables: &[(Name, Kind)], expr: &Expr) -> Result<bool, NoMemory>
-    ensures { IfOk result (λ found. found ≡ has_undeclared variables.now (term_of expr.now)) }
+fn has_undeclared(alloc: Global, scope: &TriggerScope, expr: &Expr) -> Result<bool, NoMemory>
+    ensures { IfOk result (λ found. found ≡ has_undeclared scope.now.0.variables (term_of expr.now)) }
 {
     let mut found = Vec::new(alloc);
     add_refs(alloc, expr, &mut found)?;
-    Ok(is_any_undeclared(variables, found.as_slice()))
+    Ok(is_any_undeclared(scope, found.as_slice()))
 }
 
-fn is_any_undeclared(variables: &[(Name, Kind)], references: &[(Option<Name>, Name)]) -> bool
-    ensures { result ≡ list_any (λ r. is_undeclared variables.now r.0 r.1) references.now }
+fn is_any_undeclared(scope: &TriggerScope, references: &[(Option<Name>, Name)]) -> bool
+    ensures { result ≡ list_any (λ r. is_undeclared scope.now.0.variables r.0 r.1) references.now }
 {
-    references.iter().any(|reference| is_undeclared(variables, &reference.0, &reference.1))
+    references.iter().any(|reference| is_undeclared(scope, &reference.0, &reference.1))
 }
 
 /// Whether a name without a dot is no variable.
-fn is_undeclared(variables: &[(Name, Kind)], alias: &Option<Name>, name: &Name) -> bool
-    ensures { result ≡ is_undeclared variables.now alias.now name.now }
+fn is_undeclared(scope: &TriggerScope, alias: &Option<Name>, name: &Name) -> bool
+    ensures { result ≡ is_undeclared scope.now.0.variables alias.now name.now }
 {
     match alias {
-        None => !is_taken(name, variables),
+        None => !scope.has_variable(name),
         Some(_) => false,
     }
 }
 
-fn is_bad_value(
-    alloc: Global,
-    variables: &[(Name, Kind)],
-    scope: &Scope,
-    expr: &Expr,
-) -> Result<bool, NoMemory>
-    ensures { IfOk result (λ bad. bad ≡ is_bad_expr gives_value variables.now scope.now (term_of expr.now)) }
+fn is_bad_value(alloc: Global, scope: &TriggerScope, expr: &Expr) -> Result<bool, NoMemory>
+    ensures { IfOk result (λ bad. bad ≡ is_bad_expr gives_value scope.now.0.variables (trigger_scope scope.now.0 scope.now.1) (term_of expr.now)) }
 {
-    let undeclared = has_undeclared(alloc, variables, expr)?;
-    let class = class_in(alloc, scope, expr)?;
-    Ok(undeclared || !gives_value(class))
+    if has_undeclared(alloc, scope, expr)? {
+        return Ok(true);
+    }
+    Ok(!gives_value(class_among(alloc, scope, expr)?))
 }
 
-fn is_bad_condition(
-    alloc: Global,
-    variables: &[(Name, Kind)],
-    scope: &Scope,
-    expr: &Expr,
-) -> Result<bool, NoMemory>
-    ensures { IfOk result (λ bad. bad ≡ is_bad_expr gives_truth variables.now scope.now (term_of expr.now)) }
+fn is_bad_condition(alloc: Global, scope: &TriggerScope, expr: &Expr) -> Result<bool, NoMemory>
+    ensures { IfOk result (λ bad. bad ≡ is_bad_expr gives_truth scope.now.0.variables (trigger_scope scope.now.0 scope.now.1) (term_of expr.now)) }
 {
-    let undeclared = has_undeclared(alloc, variables, expr)?;
-    let class = class_in(alloc, scope, expr)?;
-    Ok(undeclared || !gives_truth(class))
+    if has_undeclared(alloc, scope, expr)? {
+        return Ok(true);
+    }
+    Ok(!gives_truth(class_among(alloc, scope, expr)?))
 }
 
-fn has_bad_value(
-    alloc: Global,
-    variables: &[(Name, Kind)],
-    scope: &Scope,
-    values: &[Expr],
-) -> Result<bool, NoMemory>
-    ensures { IfOk result (λ bad. bad ≡ list_any (is_bad_expr gives_value variables.now scope.now) (map term_of values.now)) }
+fn has_bad_value(alloc: Global, scope: &TriggerScope, values: &[Expr]) -> Result<bool, NoMemory>
+    ensures { IfOk result (λ bad. bad ≡ list_any (is_bad_expr gives_value scope.now.0.variables (trigger_scope scope.now.0 scope.now.1)) (map term_of values.now)) }
 {
     let mut rest = values;
     'values: while let Some((value, after)) = rest.split_first() {
-        if is_bad_value(alloc, variables, scope, value)? {
+        if is_bad_value(alloc, scope, value)? {
             return Ok(true);
         }
         rest = after;

@@ -7,8 +7,8 @@ mod absent;
 mod bad;
 mod looking;
 mod naming;
-mod scopes;
+mod scope;
 mod triggers;
 
 pub use naming::is_named;
-pub use triggers::{create_trigger_causes, drop_trigger_causes, trigger_of};
+pub use triggers::{create_trigger_fault, drop_trigger_fault, trigger_of};

@@ -8,7 +8,6 @@ ghost use Rattle.sr_trigger.specs.Triggers.Part.{assigned, inserted, tested};
 
 use sr_ast::{Action, Actions, Expr};
 use sr_base::{Name, NoMemory};
-use sr_schema::first_name;
 use std::alloc::Global;
 
 /// What is looked for in the parts of a trigger's actions.
@@ -67,15 +66,19 @@ fn first_at<L: Look>(look: &L, alloc: Global, action: &Action) -> Result<Option<
             look.in_insert(alloc, table, columns.as_slice(), values.as_slice())
         }
         Action::If(condition, taken) => {
-            let here = look.in_condition(alloc, condition)?;
-            let inside = first_in(look, alloc, taken)?;
-            Ok(first_name(here, inside))
+            if let Some(name) = look.in_condition(alloc, condition)? {
+                return Ok(Some(name));
+            }
+            first_in(look, alloc, taken)
         }
         Action::IfElse(condition, taken, other) => {
-            let here = look.in_condition(alloc, condition)?;
-            let inside = first_in(look, alloc, taken)?;
-            let outside = first_in(look, alloc, other)?;
-            Ok(first_name(here, first_name(inside, outside)))
+            if let Some(name) = look.in_condition(alloc, condition)? {
+                return Ok(Some(name));
+            }
+            if let Some(name) = first_in(look, alloc, taken)? {
+                return Ok(Some(name));
+            }
+            first_in(look, alloc, other)
         }
     }
 }

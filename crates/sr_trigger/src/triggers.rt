@@ -1,49 +1,75 @@
 //! What speaks against CREATE TRIGGER and DROP TRIGGER, and the trigger that is made.
 
 ghost use Rattle.std.specs.Prelude.{◌≡◌, nat_le, length, IfOk};
+ghost use Rattle.std.specs.Option.{option_copied};
+ghost use Rattle.sr_schema.specs.Causes.{first_fault};
 ghost use Rattle.sr_schema.specs.Firsts.{where_true};
-ghost use Rattle.sr_trigger.specs.Triggers.{taken_or_twice, twice_in, create_trigger_causes, trigger_of, drop_trigger_causes};
+ghost use Rattle.sr_trigger.specs.Triggers.{taken_or_twice, twice_in, create_trigger_causes, inside_fault, trigger_of, drop_trigger_causes};
 
-use crate::absent::absent_in_trigger;
-use crate::bad::bad_in_trigger;
+use crate::absent::absent_behind;
+use crate::bad::bad_behind;
 use crate::looking::{Look, first_in};
+use crate::scope::TriggerScope;
 use sr_ast::{CreateTrigger, Expr, Stmt};
 use sr_base::{Copied, Name, NoMemory};
 use sr_schema::{
-    Causes, Schema, Trigger, first_name, first_twice, is_full, limit_where, owned, where_true,
+    DdlFault, Schema, Table, Trigger, first_twice, is_full, limit_where, missing_fault, owned,
+    too_many_fault, where_true,
 };
 use std::alloc::Global;
 
-#[tactic(auto, unfolding(crate::specs::Triggers::create_trigger_causes))]
-pub fn create_trigger_causes(
+/// The fault that refuses CREATE TRIGGER. Each is looked for where those before do not hold, in a time linear in the statement.
+#[tactic(auto, unfolding(crate::specs::Triggers::create_trigger_causes, sr_schema::specs::Causes::first_fault))]
+pub fn create_trigger_fault(
     schema: &Schema,
     alloc: Global,
     rule: &CreateTrigger,
-) -> Result<Causes, NoMemory>
-    ensures { IfOk result (λ causes. causes ≡ create_trigger_causes schema.now rule.now) }
+) -> Result<Option<DdlFault>, NoMemory>
+    ensures { IfOk result (λ fault. fault ≡ first_fault (create_trigger_causes schema.now rule.now)) }
 {
-    let exists = exists(schema, alloc, rule)?;
-    let table = schema.table(&rule.table);
-    let missing = absent_in_trigger(schema, alloc, rule, table)?;
-    let bad_type = bad_in_trigger(schema, alloc, rule, table)?;
-    Ok(Causes {
-        exists,
-        missing,
-        bad_type,
-        too_many: too_many(schema),
-        ..Causes::none()
-    })
+    if let Some(name) = exists(schema, alloc, rule)? {
+        return Ok(Some(DdlFault::Exists { name }));
+    }
+    if let Some(fault) = inside_fault(schema, alloc, rule, schema.table(&rule.table))? {
+        return Ok(Some(fault));
+    }
+    Ok(too_many_fault(too_many(schema)))
+}
+
+/// What a trigger names that is not there, or else a fault in its variables and actions.
+#[tactic(auto, unfolding(crate::specs::Triggers::absent_in_trigger, crate::specs::Triggers::bad_in_trigger))]
+fn inside_fault(
+    schema: &Schema,
+    alloc: Global,
+    rule: &CreateTrigger,
+    table: Option<&Table>,
+) -> Result<Option<DdlFault>, NoMemory>
+    ensures { IfOk result (λ fault. fault ≡ inside_fault schema.now.tables rule.now (option_copied table.entry)) }
+{
+    let Some(table) = table else {
+        let name = rule.table.copy(alloc)?;
+        return Ok(Some(DdlFault::Missing { name }));
+    };
+    let scope = TriggerScope::new(alloc, rule, table)?;
+    if let Some(name) = absent_behind(schema, alloc, &scope)? {
+        return Ok(Some(DdlFault::Missing { name }));
+    }
+    if let Some(name) = bad_behind(schema, alloc, &scope)? {
+        return Ok(Some(DdlFault::BadType { name }));
+    }
+    Ok(None)
 }
 
 fn exists(schema: &Schema, alloc: Global, rule: &CreateTrigger) -> Result<Option<Name>, NoMemory>
     ensures { IfOk result (λ found. found ≡ taken_or_twice schema.now rule.now) }
 {
-    let taken = where_true(schema.has_trigger(&rule.name), &rule.name);
-    let taken = owned(alloc, taken)?;
-    let column = first_twice(alloc, rule.columns.as_slice())?;
-    let column = owned(alloc, column)?;
-    let inserted = first_in(&Twice {}, alloc, &rule.actions)?;
-    Ok(first_name(taken, first_name(column, inserted)))
+    if schema.has_trigger(&rule.name) {
+        return Ok(Some(rule.name.copy(alloc)?));
+    }
+    if let Some(column) = first_twice(alloc, rule.columns.as_slice())? {
+        return Ok(Some(column.copy(alloc)?));
+    }
+    first_in(&Twice {}, alloc, &rule.actions)
 }
 
 /// 1,024 triggers already.
@@ -53,12 +79,17 @@ fn too_many(schema: &Schema) -> Option<u64>
     limit_where(is_full(schema.triggers().len(), 1024), 1024)
 }
 
-#[tactic(auto, unfolding(crate::specs::Triggers::drop_trigger_causes))]
-pub fn drop_trigger_causes(schema: &Schema, alloc: Global, name: &Name) -> Result<Causes, NoMemory>
-    ensures { IfOk result (λ causes. causes ≡ drop_trigger_causes schema.now name.now) }
+/// The fault that refuses DROP TRIGGER.
+#[tactic(auto, unfolding(crate::specs::Triggers::drop_trigger_causes, sr_schema::specs::Causes::first_fault))]
+pub fn drop_trigger_fault(
+    schema: &Schema,
+    alloc: Global,
+    name: &Name,
+) -> Result<Option<DdlFault>, NoMemory>
+    ensures { IfOk result (λ fault. fault ≡ first_fault (drop_trigger_causes schema.now name.now)) }
 {
     let missing = owned(alloc, where_true(!schema.has_trigger(name), name))?;
-    Ok(Causes::only_missing(missing))
+    Ok(missing_fault(missing))
 }
 
 /// The trigger that CREATE TRIGGER makes.

@@ -1,6 +1,6 @@
 use Rattle.std.proofs.Common.{◌≡◌, length}
 use Rattle.sr_ast.specs.Classes.{kind_of}
-use Rattle.sr_ast.proofs.classes.kind_of.Given as goal
+use Rattle.sr_ast.proofs.classes.first_kind.Given as goal
 
 abbrev pub invariant-columns : goal.invariant-columns
 invariant-columns l = kind_of l.rest l.table l.name ≡ kind_of l.columns l.table l.name

@@ -1,0 +1,4 @@
+pub mod Sound
+pub mod Spelled
+pub mod Things
+pub mod Whole
