@@ -6,6 +6,8 @@ ghost use Rattle.sr_ast.specs.declared.create.CreateTable.{CreateTable as Tablin
 ghost use Rattle.sr_ast.specs.declared.create.CreateTrigger.{CreateTrigger as Triggering};
 ghost use Rattle.sr_ast.specs.declared.create.Grant.{Grant as Granting};
 ghost use Rattle.sr_ast.specs.declared.create.SubscriptionRule.{SubscriptionRule as Rule};
+ghost use Rattle.sr_ast.specs.declared.query.Dml.{Dml as Changing};
+ghost use Rattle.sr_ast.specs.declared.query.Select.{Select as Query};
 ghost use Rattle.sr_ast.specs.declared.stmt.Passthrough.{Passthrough as Passing};
 ghost use Rattle.sr_ast.specs.declared.stmt.Stmt.TheVariants as stmt;
 ghost use Rattle.sr_change.specs.Changes.{next, refusal};
@@ -19,7 +21,7 @@ ghost use Rattle.sr_schema.specs.Members.{publication_name, table_name, trigger_
 ghost use Rattle.sr_schema.specs.Names.{without};
 ghost use Rattle.sr_trigger.specs.Triggers.{trigger_of};
 
-/// What each statement on the catalog makes of it: a CREATE or GRANT adds the last of its kind, a DROP takes away what has the name or the rule, START and
+/// What each statement makes of a catalog: a CREATE or GRANT adds the last of its kind, a DROP takes away what has the name or the rule, START and
 /// STOP mark the subscription of the rule, and the others leave the catalog as it is. The table that an accepted CREATE TABLE makes has the
 /// columns and the key that are written.
 pub fn statements_make()
@@ -38,4 +40,9 @@ pub fn statements_make()
     ensures drop_trigger { (c : Lists) (n : List ℕ) → next c (stmt.DropTrigger n) ≡ record c { triggers = without trigger_name n c.triggers } }
     ensures synchronize { (c : Lists) (r : Rule) → next c (stmt.Synchronize r) ≡ c }
     ensures passthrough { (c : Lists) (p : Passing) → next c (stmt.Passthrough p) ≡ c }
+    ensures passthrough_stop { (c : Lists) → next c stmt.PassthroughStop ≡ c }
+    ensures rows { (c : Lists) (d : Changing) → next c (stmt.Dml d) ≡ c }
+    ensures select { (c : Lists) (q : Query) → next c (stmt.Select q) ≡ c }
+    ensures commit { (c : Lists) → next c stmt.Commit ≡ c }
+    ensures rollback { (c : Lists) → next c stmt.Rollback ≡ c }
 {}

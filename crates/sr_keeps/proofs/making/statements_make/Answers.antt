@@ -21,4 +21,9 @@ returns c = record {
   drop_trigger = λ d n. refl;
   synchronize = λ d r. refl;
   passthrough = λ d p. refl;
+  passthrough_stop = λ d. refl;
+  rows = λ d x. refl;
+  select = λ d q. refl;
+  commit = λ d. refl;
+  rollback = λ d. refl;
 }
