@@ -1,6 +1,7 @@
 //! Databases that scripts make: a catalog, and rows that fit it.
 
-ghost use Rattle.std.specs.Prelude.{OnOk};
+ghost use Rattle.std.specs.Prelude.{◌≡◌, IfOk, OnOk, is_some};
+ghost use Rattle.sr_change.specs.Changes.{refusal};
 ghost use Rattle.sr_dml.specs.Conditions.{RowsFit};
 
 use sr_answers::named;
@@ -32,7 +33,7 @@ pub(crate) fn follow(
     catalog: &mut Catalog,
     script: &[Stmt],
 ) -> Result<bool, NoMemory> {
-    for statement in script {
+    'statements: for statement in script {
         if is_refused(alloc, catalog, statement)? {
             return Ok(false);
         }
@@ -41,8 +42,11 @@ pub(crate) fn follow(
     Ok(true)
 }
 
-fn is_refused(alloc: Global, catalog: &Catalog, statement: &Stmt) -> Result<bool, NoMemory> {
-    Ok(catalog.refusal(alloc, statement)?.is_some())
+fn is_refused(alloc: Global, catalog: &Catalog, statement: &Stmt) -> Result<bool, NoMemory>
+    ensures refused { IfOk result (λ told. told ≡ is_some (refusal catalog.now statement.now)) }
+{
+    let fault = catalog.refusal(alloc, statement)?;
+    Ok(fault.is_some())
 }
 
 /// No rows, which fit any catalog.

@@ -1,6 +1,7 @@
 -- The class of an expression.
 use Rattle.std.specs.Prelude.{◌≡◌, ℕ, Bool, true, false, ◌&&◌, cond, List, [], ◌∷◌, Option, Some, None, Result, Ok, Err, bytes_eq, refl}
 use Rattle.std.specs.Option.{option_and_then}
+use Rattle.std.specs.List.{position}
 use Rattle.sr_base.specs.declared.value.Value.{Value}
 use Rattle.sr_base.specs.declared.value.Value.TheVariants as value
 use Rattle.sr_base.specs.declared.value.Kind.{Kind}
@@ -112,6 +113,10 @@ is_meant alias name table reference = bytes_eq name reference && is_alias alias 
 abbrev pub kind_of : List (Option (List ℕ) × List ℕ × Kind) → Option (List ℕ) → List ℕ → Option Kind
 kind_of [] table reference = None
 kind_of (c ∷ columns) table reference = cond (is_meant c.0 c.1 table reference) (Some c.2) (kind_of columns table reference)
+
+-- its place among them
+abbrev pub place_of : List (Option (List ℕ) × List ℕ × Kind) → Option (List ℕ) → List ℕ → Option ℕ
+place_of columns table reference = position (λ c. is_meant c.0 c.1 table reference) columns
 
 -- a class, or a clash
 abbrev pub typed : Option Class → Typing

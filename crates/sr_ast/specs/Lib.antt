@@ -4,7 +4,10 @@ pub mod Chains
 pub mod Classes
 pub mod Exprs
 pub mod Falls
+pub mod Keywords
 pub mod Layout
+pub mod Normal
+pub mod NormalForms
 pub mod Pages
 pub mod Printing
 pub mod Statements

@@ -1,5 +1,5 @@
 -- Expressions as trees, without where they lie in memory.
-use Rattle.std.specs.Prelude.{◌≡◌, ℕ, ◌+◌, List, [], ◌∷◌, Option, ◌⊎◌, refl}
+use Rattle.std.specs.Prelude.{◌≡◌, ℕ, ◌+◌, max, List, [], ◌∷◌, Option, ◌⊎◌, refl}
 use Rattle.std.proofs.Common.{inl, inr, ap, ◌∙◌}
 use Rattle.std.specs.Coded.{Coded, code_by, coded×, coded⊎, coded_ℕ, coded_list, coded_option}
 use Rattle.sr_base.specs.declared.value.Value.{Value as Cell}
@@ -23,6 +23,13 @@ term_size (literal v) = 1
 term_size (column t n) = 1
 term_size (unary op a) = term_size a + 1
 term_size (binary op a b) = term_size a + term_size b + 1
+
+-- the depth of an expression: 1 for a literal or a column, and 1 more than its operands for an operator
+abbrev pub depth : Term → ℕ
+depth (literal v) = 1
+depth (column t n) = 1
+depth (unary op a) = depth a + 1
+depth (binary op a b) = max (depth a) (depth b) + 1
 
 -- The rest of this file tells terms apart by their postfix notation, for the toolchain: a list of symbols.
 abbrev pub Symbol : Type 0

@@ -1,4 +1,4 @@
-ghost use Rattle.std.specs.Prelude.{◌≡◌, Option, List, ℕ, IfOk, bytes_eq};
+ghost use Rattle.std.specs.Prelude.{◌≡◌, ◌<◌, Option, List, ℕ, IfOk, IfSome, bytes_eq, length};
 ghost use Rattle.sr_base.specs.declared.value.Kind.{Kind};
 ghost use Rattle.sr_ast.specs.Exprs.{term_of};
 ghost use Rattle.sr_ast.specs.Classes.{
@@ -11,6 +11,7 @@ ghost use Rattle.sr_ast.specs.Classes.{
   is_comparable,
   is_meant,
   kind_of,
+  place_of,
   typed,
   column_typing,
   unary_typing,
@@ -53,6 +54,24 @@ impl Columns for Scope {
 
     fn kind_of(&self, table: &Option<Name>, name: &Name) -> Option<Kind> {
         first_kind(self.as_slice(), table, name)
+    }
+}
+
+/// The places of the columns that an expression may name, from 0 on in their order, however they are looked up.
+pub trait Places: Drop {
+    ghost scope: { Self → List (Option (List ℕ) × List ℕ × Kind) };
+
+    /// The place of the first column that a reference, with the name before its dot, means.
+    fn place_of(&self, table: &Option<Name>, name: &Name) -> Option<usize>
+        ensures place { result ≡ place_of (scope self.now) table.now name.now };
+}
+
+/// A look-up goes along the columns.
+impl Places for Scope {
+    ghost scope = { λ columns. columns };
+
+    fn place_of(&self, table: &Option<Name>, name: &Name) -> Option<usize> {
+        first_place(self.as_slice(), table, name)
     }
 }
 
@@ -343,6 +362,20 @@ fn first_kind(
         rest = after;
     }
     None
+}
+
+/// The place of the first column that a reference means. It looks at each up to it.
+pub fn first_place(
+    columns: &[(Option<Name>, Name, Kind)],
+    table: &Option<Name>,
+    name: &Name,
+) -> Option<usize>
+    ensures place { result ≡ place_of columns.now table.now name.now }
+    ensures within { IfSome result (λ place. place < length columns.now) }
+{
+    columns
+        .iter()
+        .position(|column| is_meant(&column.0, &column.1, table, name))
 }
 
 /// Whether a reference, with the name before its dot, means a column and its alias.

@@ -9,6 +9,7 @@ mod classes;
 mod copying;
 mod create;
 mod expr;
+mod keyword;
 mod operator;
 mod page;
 mod print_action;
@@ -22,15 +23,19 @@ mod uses;
 
 pub use action::{Action, Actions};
 pub use classes::{
-    Class, Columns, NotTyped, Scope, class_of, is_comparable, is_meant, kind_class, value_class,
+    Class, Columns, NotTyped, Places, Scope, class_of, first_place, is_comparable, is_meant,
+    kind_class, value_class,
 };
 pub use create::{
     ArticleRule, ColumnRule, CreatePublication, CreateTable, CreateTrigger, Grant, Image,
     SubscriptionRule,
 };
 pub use expr::{Expr, Operand};
+pub use keyword::Keyword;
 pub use operator::{Binary, Unary};
 pub use print_stmt::print;
 pub use query::{Delete, Dml, Insert, Item, Items, Join, OrderBy, Select, Source, Update};
 pub use stmt::{Passthrough, Script, Stmt, is_carried, is_ddl};
-pub use uses::{class_among, class_in, gives_truth, gives_value, is_plain, unknown_in};
+pub use uses::{
+    class_among, class_in, gives_truth, gives_value, is_plain, unknown_among, unknown_in,
+};

@@ -5,7 +5,7 @@ ghost use Rattle.sr_ast.specs.Classes.{class_in, unknown_in};
 ghost use Rattle.sr_ast.specs.Exprs.{term_of};
 ghost use Rattle.sr_ast.specs.Uses.{gives_value, gives_truth, is_plain, is_plain_unary, is_plain_binary};
 
-use crate::classes::{Class, Columns, NotTyped, Scope, class_by, class_of};
+use crate::classes::{Class, Columns, NotTyped, Scope, class_by};
 use crate::expr::{Expr, Operand};
 use crate::operator::{Binary, Unary};
 use sr_base::{Name, NoMemory};
@@ -15,7 +15,18 @@ use std::alloc::{AllocError, Global};
 pub fn unknown_in(alloc: Global, scope: &Scope, expr: &Expr) -> Result<Option<Name>, NoMemory>
     ensures unknown { IfOk result (λ found. found ≡ unknown_in scope.now (term_of expr.now)) }
 {
-    match class_of(alloc, expr, scope) {
+    unknown_among(alloc, scope, expr)
+}
+
+/// The same over columns that may be looked up in another way.
+pub fn unknown_among<C: Columns>(
+    alloc: Global,
+    columns: &C,
+    expr: &Expr,
+) -> Result<Option<Name>, NoMemory>
+    ensures unknown { IfOk result (λ found. found ≡ unknown_in (C.scope columns.now) (term_of expr.now)) }
+{
+    match class_by(alloc, expr, columns) {
         Ok(_) => Ok(None),
         Err(NotTyped::Wrong { name: Some(name) }) => Ok(Some(name)),
         Err(NotTyped::Wrong { name: None }) => Ok(None),

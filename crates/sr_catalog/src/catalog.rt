@@ -16,6 +16,8 @@ use std::marker::Model;
 
 /// What a database knows beside its rows: its publisher, users, tables, publications, triggers and subscriptions. Contracts see
 /// the publisher and the lists, each in order of creation.
+///
+/// A catalog is always one that statements have made of a new one, each accepted where it stands; `is_made` says so.
 #[derive(Drop)]
 pub struct Catalog {
     pub(crate) schema: Schema,
@@ -32,6 +34,10 @@ impl Model for Catalog {
     ghost coded = { Prim.hlevel (codes, term_code, chain_code) };
 
     ghost view = { λ c. c.schema };
+
+    ghost use Rattle.sr_replay.specs.Scripts.{IsMade};
+
+    ghost invariant = { λ c. IsMade c.schema };
 }
 
 impl Catalog {
@@ -39,7 +45,6 @@ impl Catalog {
     #[tactic(auto, using(sr_replay::proofs::Made::new_made))]
     pub fn new(alloc: Global, publisher: Name) -> Catalog
         ensures new { result ≡ nothing_but publisher }
-        ensures made { IsMade result }
     {
         Catalog {
             schema: Schema::new(alloc, publisher),
@@ -51,15 +56,21 @@ impl Catalog {
     /// It takes the statements that change the catalog. SYNCHRONIZE and PASSTHROUGH FOR are only checked, and answer an equal
     /// catalog, as any other statement does. A refused statement answers the first fault that applies, in the order of `DdlFault`;
     /// of several places of one fault the leftmost.
-    #[tactic(auto, using(crate::proofs::Refusals::refused, sr_replay::proofs::Made::changed))]
+    #[tactic(auto, using(crate::proofs::Refusals::refused))]
     pub fn change(&self, alloc: Global, stmt: &Stmt) -> Result<Catalog, DdlFault>
         ensures change { IsChange self.now stmt.now result }
-        ensures made { IfOk result (λ after. IsMade self.now → IsMade after) }
     {
         if let Some(fault) = refusal(&self.schema, alloc, stmt)? {
             return Err(fault);
         }
         Ok(changed(&self.schema, alloc, stmt)?)
+    }
+
+    /// That statements have made this catalog of a new one, each accepted where it stands, as of every catalog. It does nothing.
+    pub fn is_made(&self)
+        ensures made { IsMade self.now }
+    {
+        let _ = &self.schema;
     }
 
     /// The fault that refuses a statement, where one does: the one with which `change` answers.
@@ -72,8 +83,8 @@ impl Catalog {
     /// Does to this catalog what a statement does that is not refused: `change` without a copy. Where memory lacks it stays as it was.
     #[tactic(auto, using(sr_replay::proofs::Made::changed))]
     pub fn apply(&mut self, alloc: Global, stmt: &Stmt) -> Result<(), NoMemory>
+        requires accepted { refusal self.old stmt.now ≡ None }
         ensures ok { OnOk result (self.new ≡ next self.old stmt.now) }
-        ensures made { refusal self.old stmt.now ≡ None → IsMade self.old → OnOk result (IsMade self.new) }
         ensures err { OnErr result (self.new ≡ self.old) }
     {
         apply(&mut self.schema, alloc, stmt)
@@ -151,7 +162,10 @@ impl Catalog {
 }
 
 /// The catalog after a statement that is not refused.
+#[tactic(auto, using(sr_replay::proofs::Made::changed))]
 fn changed(schema: &Schema, alloc: Global, stmt: &Stmt) -> Result<Catalog, NoMemory>
+    requires accepted { refusal schema.now stmt.now ≡ None }
+    requires made { IsMade schema.now }
     ensures { IfOk result (λ after. after ≡ next schema.now stmt.now) }
 {
     let mut after = schema.copy(alloc)?;

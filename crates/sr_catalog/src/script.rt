@@ -18,7 +18,6 @@ ghost use Rattle.sr_replay.specs.Scripts.{
   trigger_stmt,
   statements,
   replayed,
-  IsMade,
 };
 
 use crate::catalog::Catalog;
@@ -32,12 +31,13 @@ use std::alloc::{AllocError, Global};
 impl Catalog {
     /// The statements that make this catalog from a new one, as they print: grants, tables, publications with their articles' columns
     /// written out, triggers, subscriptions and starts, each kind in order of creation. A grant has no address where it is the user's
-    /// name. Where accepted statements have made this catalog of a new one, these are accepted too, and make it again.
+    /// name. They are accepted, and make this catalog again.
     #[tactic(auto, using(crate::proofs::Printings::joined, sr_replay::proofs::Made::again))]
     pub fn script(&self, alloc: Global) -> Result<Vec<Text>, NoMemory>
         ensures texts { IfOk result (λ texts. texts.items ≡ map printed (statements self.now)) }
-        ensures makes { IsMade self.now → replayed (nothing_but self.now.publisher) (statements self.now) ≡ Some self.now }
+        ensures makes { replayed (nothing_but self.now.publisher) (statements self.now) ≡ Some self.now }
     {
+        self.is_made();
         let mut texts = Vec::new(alloc);
         match add_script(alloc, self, &mut texts) {
             Ok(()) => Ok(texts),

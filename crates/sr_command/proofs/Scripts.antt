@@ -6,7 +6,7 @@ use Rattle.sr_ast.specs.declared.stmt.Stmt.{Stmt}
 use Rattle.sr_database.specs.Views.{View}
 use Rattle.sr_files.specs.declared.fault.DatabaseFault.{DatabaseFault}
 use Rattle.sr_files.specs.declared.fault.DatabaseFault.TheVariants as store
-use Rattle.sr_grammar.specs.NormalForms.{IsNormal}
+use Rattle.sr_ast.specs.NormalForms.{IsNormal}
 use Rattle.sr_grammar.proofs.Closed.{written-normal}
 use Rattle.sr_site.specs.Seen.{Seen}
 use Rattle.sr_site.specs.Streams.{Input, Output}

@@ -1,7 +1,7 @@
 ghost use Rattle.std.specs.Prelude.{◌≡◌, [], true, ℕ, List, Some, IsTrue, IfOk, IfErr, IfSome, OnOk};
 ghost use Rattle.std.specs.List.{AllByRecursion};
 ghost use Rattle.sr_database.specs.Databases.{HasDatabase};
-ghost use Rattle.sr_grammar.specs.NormalForms.{IsNormal};
+ghost use Rattle.sr_ast.specs.NormalForms.{IsNormal};
 ghost use Rattle.sr_site.specs.Causes.{DiskStays};
 ghost use Rattle.sr_site.specs.Seen.{Seen};
 ghost use Rattle.sr_standing.specs.Items.{attaches_in};

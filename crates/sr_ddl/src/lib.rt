@@ -4,6 +4,7 @@
 //! those before do not hold, and a CREATE or GRANT one more that answers what it makes.
 #![tactic(auto)]
 
+mod elsewhere;
 mod grants;
 mod publications;
 mod subscriptions;

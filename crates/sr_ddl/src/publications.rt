@@ -26,13 +26,13 @@ ghost use Rattle.sr_ddl.specs.Publications.{
 };
 
 use sr_ast::{
-    ArticleRule, CreatePublication, Expr, Scope, class_in, gives_truth, is_plain, unknown_in,
+    ArticleRule, CreatePublication, Expr, class_among, gives_truth, is_plain, unknown_among,
 };
 use sr_base::{Copied, Name, NoMemory, Seq};
 use sr_schema::{
     Article, DdlFault, Publication, Schema, Seen, Subscription, Table, column_names, first,
     first_absent, first_absent_column, first_twice, is_empty, is_operator, key_names, limit_where,
-    owned, paired, scope_of, too_many_fault, where_true,
+    owned, paired, too_many_fault, where_true,
 };
 use std::alloc::Global;
 
@@ -172,7 +172,7 @@ fn absent_column(
 {
     match expr {
         None => Ok(None),
-        Some(expr) => unknown_in(alloc, &scope_of(alloc, table)?, expr),
+        Some(expr) => unknown_among(alloc, table, expr),
     }
 }
 
@@ -222,7 +222,7 @@ fn is_bad_where(alloc: Global, table: &Table, condition: &Option<Expr>) -> Resul
             if !is_plain(expr) {
                 return Ok(true);
             }
-            let class = class_in(alloc, &scope_of(alloc, table)?, expr)?;
+            let class = class_among(alloc, table, expr)?;
             Ok(!gives_truth(class))
         }
     }

@@ -8,7 +8,6 @@ ghost use Rattle.sr_schema.specs.Causes.{first_fault};
 ghost use Rattle.sr_schema.specs.Firsts.{where_true};
 ghost use Rattle.sr_schema.specs.Names.{named};
 ghost use Rattle.sr_schema.specs.Members.{table_name};
-ghost use Rattle.sr_ddl.specs.Elsewhere.{is_other_with, is_started_there};
 ghost use Rattle.sr_ddl.specs.Subscriptions.{
   is_there,
   has_both,
@@ -21,9 +20,6 @@ ghost use Rattle.sr_ddl.specs.Subscriptions.{
   differs,
   is_bad_value,
   create_subscription_causes,
-  has_article,
-  is_elsewhere,
-  twice_subscribed,
   start_causes,
   stop_causes,
   synchronize_causes,
@@ -31,6 +27,7 @@ ghost use Rattle.sr_ddl.specs.Subscriptions.{
   subscription_of,
 };
 
+use crate::elsewhere::twice_subscribed;
 use crate::grants::is_remote;
 use sr_ast::{Class, Expr, SubscriptionRule, is_comparable, kind_class, value_class};
 use sr_base::{Copied, Name, NoMemory, Value};
@@ -60,7 +57,7 @@ fn missing_unless<'a>(found: bool, schema: &Schema, rule: &'a SubscriptionRule) 
     first(either, where_true(!found, &rule.publication))
 }
 
-fn articles_of(publication: Option<&Publication>) -> &[Article]
+pub(crate) fn articles_of(publication: Option<&Publication>) -> &[Article]
     ensures { result.now ≡ articles_of (option_copied publication.entry) }
 {
     match publication {
@@ -192,76 +189,6 @@ fn class_of_column(column: Option<&Column>) -> Class
         None => Class::Any,
         Some(column) => kind_class(column.kind),
     }
-}
-
-fn has_article(publication: Option<&Publication>, table: &Name) -> bool
-    ensures { result ≡ has_article (option_copied publication.entry) table.now }
-{
-    articles_of(publication)
-        .iter()
-        .any(|article| table.bytes() == article.table.bytes())
-}
-
-/// Whether a publication is another one that has the table.
-fn is_other_with(rule: &SubscriptionRule, table: &Name, publication: &Publication) -> bool
-    ensures { result ≡ is_other_with rule.now table.now publication.now }
-{
-    rule.publication.bytes() != publication.name.bytes() && has_article(Some(publication), table)
-}
-
-/// Whether a publication is another one that has the table, and the user has a started subscription of it.
-fn is_started_there(
-    schema: &Schema,
-    alloc: Global,
-    rule: &SubscriptionRule,
-    table: &Name,
-    publication: &Publication,
-) -> Result<bool, NoMemory>
-    ensures { IfOk result (λ started. started ≡ is_started_there schema.now.subscriptions rule.now table.now publication.now) }
-{
-    if !is_other_with(rule, table, publication) {
-        return Ok(false);
-    }
-    schema.has_starts(alloc, &rule.user, &publication.name)
-}
-
-/// Whether the user has a started subscription of another publication that has the table. It looks at the publications, and not at
-/// the subscriptions.
-fn is_subscribed_elsewhere(
-    schema: &Schema,
-    alloc: Global,
-    rule: &SubscriptionRule,
-    table: &Name,
-) -> Result<bool, NoMemory>
-    ensures { IfOk result (λ elsewhere. elsewhere ≡ list_any (is_elsewhere schema.now rule.now table.now) schema.now.subscriptions) }
-{
-    let mut rest = schema.distinct_publications();
-    'publications: while let Some((publication, after)) = rest.split_first() {
-        if is_started_there(schema, alloc, rule, table, publication)? {
-            return Ok(true);
-        }
-        rest = after;
-    }
-    Ok(false)
-}
-
-/// The first table of the publication that such a subscription has already.
-#[tactic(auto, unfolding(crate::specs::Subscriptions::twice_subscribed))]
-fn twice_subscribed<'a>(
-    schema: &'a Schema,
-    alloc: Global,
-    rule: &SubscriptionRule,
-) -> Result<Option<&'a Name>, NoMemory>
-    ensures { IfOk result (λ table. option_copied table ≡ twice_subscribed schema.now rule.now) }
-{
-    let mut rest = articles_of(schema.publication(&rule.publication));
-    'articles: while let Some((article, after)) = rest.split_first() {
-        if is_subscribed_elsewhere(schema, alloc, rule, &article.table)? {
-            return Ok(Some(&article.table));
-        }
-        rest = after;
-    }
-    Ok(None)
 }
 
 /// The fault that refuses START SUBSCRIPTION.

@@ -21,7 +21,8 @@ use Rattle.sr_dml.specs.declared.changes.Changes.{Changes}
 use Rattle.sr_dml.specs.Applying.{place_of, without_row, with_row, applied_in, applied}
 use Rattle.sr_dml.specs.Checks.{unknown_condition, bad_condition}
 use Rattle.sr_schema.specs.Members.{scope_of}
-use Rattle.sr_dml.specs.Conditions.{IsRow, TableFits, RowsFit}
+use Rattle.sr_dml.specs.Conditions.{TableFits, RowsFit}
+use Rattle.sr_fits.specs.Rows.{IsRow}
 use Rattle.sr_dml.specs.Holding.{held}
 use Rattle.sr_dml.specs.FittingChanges.{FitsAt, ChangesFit}
 use Rattle.sr_dml.specs.Laws.{StandUnderKeys, NoRowsFit, RowsStayFit, FittingChangesKeepFit, StatementsChangesFit}

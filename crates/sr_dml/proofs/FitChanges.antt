@@ -13,7 +13,8 @@ use Rattle.sr_schema.specs.declared.table.Table.{Table}
 use Rattle.sr_dml.specs.declared.fate.Fate.{Fate}
 use Rattle.sr_dml.specs.declared.fate.Fate.TheVariants.{Stays, Goes, Becomes}
 use Rattle.sr_dml.specs.Applying.{applied_in}
-use Rattle.sr_dml.specs.Conditions.{IsRow, TableFits}
+use Rattle.sr_dml.specs.Conditions.{TableFits}
+use Rattle.sr_fits.specs.Rows.{IsRow}
 use Rattle.sr_dml.specs.FittingChanges.{FitsAt, ChangesFit}
 use Rattle.sr_dml.specs.Holding.{under, one_of, is_same_row, keys_of, doubled, changes_at, changes_of, held}
 use Rattle.sr_dml.specs.Laws.{StandUnderKeys}

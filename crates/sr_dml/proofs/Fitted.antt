@@ -1,18 +1,9 @@
--- Rows that fit, and answers after nothing.
+-- Answers after nothing, and what was given.
 use Rattle.std.proofs.Common.{◌≡◌, ℕ, map, List, [], ◌∷◌, Option, Some, None, Result, Ok, Err, refl}
 use Rattle.std.specs.Option.{ok_or}
 use Rattle.sr_base.specs.declared.value.Value.{Value}
 use Rattle.sr_schema.specs.declared.table.Column.{Column}
-use Rattle.sr_eval.specs.Bounds.{IsRowOf}
-use Rattle.sr_dml.specs.Conditions.{IsRow}
 use Rattle.sr_dml.specs.Edits.{prefixed}
-
--- a row that fits its table may be evaluated over
-pub row_of : (name : List ℕ) (columns : List Column) (row : List Value) → IsRow columns row → IsRowOf (map (λ c. (Some name, c.name, c.kind)) columns) row
-row_of name [] [] h = tt
-row_of name [] (v ∷ row) h = absurd h
-row_of name (c ∷ columns) [] h = absurd h
-row_of name (c ∷ columns) (v ∷ row) h = (h.0, row_of name columns row h.2)
 
 pub prefixed-none : {A E : Type 0} (rest : Result (List A) E) → prefixed [] rest ≡ rest
 prefixed-none (Ok xs) = refl

@@ -36,7 +36,9 @@ use Rattle.sr_schema.specs.declared.fault.DmlFault.{DmlFault}
 use Rattle.sr_dml.specs.declared.fate.Fate.TheVariants.{Stays}
 use Rattle.sr_dml.specs.Checks.{Scope}
 use Rattle.sr_schema.specs.Members.{scope_of}
-use Rattle.sr_dml.specs.Conditions.{IsRow, TableFits}
+use Rattle.sr_dml.specs.Conditions.{TableFits}
+use Rattle.sr_fits.specs.Rows.{IsRow}
+use Rattle.sr_fits.proofs.Rows.{row_parts}
 use Rattle.sr_dml.specs.Edits.{with_pick, picks_of}
 use Rattle.sr_dml.specs.Fixing.{fixed_side, fixed_binary, fixed_in, fixed_column, with_value, fixed_key, only_key, one_pick}
 use Rattle.sr_dml.specs.Holding.{under, one_of}
@@ -126,12 +128,12 @@ named_before c columns = list_any (λ (d : Column). bytes_eq c.name d.name) colu
 value_at-place : (table : List ℕ) (alias : Option (List ℕ)) (c : Column) → is_alias (Some table) alias ≡ true → (columns : List Column) (row : List Value) (place : ℕ) → IsRow columns row
     → slice_get columns place ≡ Some c → named_before c (take place columns) ≡ false → value_at (scoped table columns) row alias c.name ≡ at_place row place
 value_at-place table alias c al [] row place f g h = cc
-value_at-place table alias c al (d ∷ columns) [] place f g h = absurd f
+value_at-place table alias c al (d ∷ columns) [] place f g h = cc
 value_at-place table alias c al (d ∷ columns) (v ∷ row) zero f g h =
     let is : d ≡ c = cc in
     let meant : is_meant (Some table) d.name alias c.name ≡ true = with_first (bytes_eq d.name c.name) (is_alias (Some table) alias) al ∙ ap (λ (x : Column). bytes_eq x.name c.name) is ∙ bytes_itself c.name in
     ap (λ b. cond b v (value_at (scoped table columns) row alias c.name)) meant
-value_at-place table alias c al (d ∷ columns) (v ∷ row) (suc place) f g h = go (bytes_eq d.name c.name) refl (either_false (bytes_eq c.name d.name) (named_before c (take place columns)) h) (value_at-place table alias c al columns row place f.2 g) where
+value_at-place table alias c al (d ∷ columns) (v ∷ row) (suc place) f g h = go (bytes_eq d.name c.name) refl (either_false (bytes_eq c.name d.name) (named_before c (take place columns)) h) (value_at-place table alias c al columns row place (row_parts d columns v row f).2 g) where
   go : (b : Bool) → bytes_eq d.name c.name ≡ b → (bytes_eq c.name d.name ≡ false) × (named_before c (take place columns) ≡ false) → (named_before c (take place columns) ≡ false → value_at (scoped table columns) row alias c.name ≡ at_place row place)
       → cond (bytes_eq d.name c.name && is_alias (Some table) alias) v (value_at (scoped table columns) row alias c.name) ≡ at_place row place
   go true e k rest = let here : bytes_eq c.name d.name ≡ true = ap (bytes_eq c.name) (same_name d.name c.name e) ∙ bytes_itself c.name in let gone = k.0 in cc
@@ -139,9 +141,9 @@ value_at-place table alias c al (d ∷ columns) (v ∷ row) (suc place) f g h = 
 
 fits_at : (columns : List Column) (row : List Value) (place : ℕ) (c : Column) → IsRow columns row → slice_get columns place ≡ Some c → fitted (at_place row place) c.kind ≡ Some (at_place row place)
 fits_at [] row place c f g = cc
-fits_at (d ∷ columns) [] place c f g = absurd f
-fits_at (d ∷ columns) (v ∷ row) zero c f g = let is : d ≡ c = cc in subst (λ (x : Column). fitted v x.kind ≡ Some v) is f.0
-fits_at (d ∷ columns) (v ∷ row) (suc place) c f g = fits_at columns row place c f.2 g
+fits_at (d ∷ columns) [] place c f g = cc
+fits_at (d ∷ columns) (v ∷ row) zero c f g = let is : d ≡ c = cc in subst (λ (x : Column). fitted v x.kind ≡ Some v) is (row_parts d columns v row f).0
+fits_at (d ∷ columns) (v ∷ row) (suc place) c f g = fits_at columns row place c (row_parts d columns v row f).2 g
 
 -- a row on which the condition is true has the values that are fixed
 module _ (table : List ℕ) (columns : List Column) (row : List Value) (fits : IsRow columns row) (and_is_both : AndIsBoth) where

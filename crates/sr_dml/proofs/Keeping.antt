@@ -23,7 +23,8 @@ use Rattle.sr_dml.specs.declared.fate.Fate.{Fate}
 use Rattle.sr_dml.specs.declared.fate.Fate.TheVariants.{Stays, Goes, Becomes}
 use Rattle.sr_dml.specs.Checks.{Scope}
 use Rattle.sr_schema.specs.Members.{scope_of}
-use Rattle.sr_dml.specs.Conditions.{IsRow}
+use Rattle.sr_fits.specs.Rows.{IsRow}
+use Rattle.sr_fits.proofs.Rows.{row_parts, row_made}
 use Rattle.sr_dml.specs.Sequences.{each, front, followed}
 use Rattle.sr_dml.specs.Statements.{names_of, entry_of, inserted_rows, selected, fate_selected, fate_if, fate_of, fates_of, staying, becoming}
 use Rattle.sr_dml.specs.Storing.{allowed, fitting, stored, constant, value_for, inserted_row, set_for, updated_value, updated_row}
@@ -90,10 +91,10 @@ with_front : (c : Column) (columns : List Column) (v : Result Value DmlFault) (r
     → front v rest ≡ Ok row → IsRow (c ∷ columns) row
 with_front c columns (Err e) rest row f g h = cc
 with_front c columns (Ok w) (Err e) row f g h = cc
-with_front c columns (Ok w) (Ok ws) row f g h = let is : w ∷ ws ≡ row = cc in subst (IsRow (c ∷ columns)) is ((f w refl).0, (f w refl).1, g ws refl)
+with_front c columns (Ok w) (Ok ws) row f g h = let is : w ∷ ws ≡ row = cc in subst (IsRow (c ∷ columns)) is (row_made c columns w ws (f w refl).0 (f w refl).1 (g ws refl))
 
 inserted_row_fits : (names : List (List ℕ)) (es : List Expr) (columns : List Column) (row : List Value) → inserted_row names es columns ≡ Ok row → IsRow columns row
-inserted_row_fits names es [] row h = let is : [] ≡ row = cc in subst (IsRow []) is tt
+inserted_row_fits names es [] row h = let is : [] ≡ row = cc in subst (IsRow []) is refl
 inserted_row_fits names es (c ∷ columns) row h =
     with_front c columns (stored c (constant (value_for names es c.name))) (inserted_row names es columns) row (stored_fits c (constant (value_for names es c.name))) (inserted_row_fits names es columns) h
 
@@ -102,11 +103,12 @@ updated_value_fits scope row c old None f w h = let is : old ≡ w = cc in subst
 updated_value_fits scope row c old (Some e) f w h = stored_fits c (meaning scope row (term_of e)) w h
 
 updated_row_fits : (scope : Scope) (row : List Value) (sets : List (List ℕ × Expr)) (columns : List Column) (olds new : List Value) → IsRow columns olds → updated_row scope row sets columns olds ≡ Ok new → IsRow columns new
-updated_row_fits scope row sets [] olds new f h = let is : [] ≡ new = cc in subst (IsRow []) is tt
-updated_row_fits scope row sets (c ∷ columns) [] new f h = absurd f
+updated_row_fits scope row sets [] olds new f h = let is : [] ≡ new = cc in subst (IsRow []) is refl
+updated_row_fits scope row sets (c ∷ columns) [] new f h = cc
 updated_row_fits scope row sets (c ∷ columns) (old ∷ olds) new f h =
+    let parts = row_parts c columns old olds f in
     with_front c columns (updated_value scope row c old (set_for sets c.name)) (updated_row scope row sets columns olds) new
-    (updated_value_fits scope row c old (set_for sets c.name) (f.0, f.1)) (λ ws is. updated_row_fits scope row sets columns olds ws f.2 is) h
+    (updated_value_fits scope row c old (set_for sets c.name) (parts.0, parts.1)) (λ ws is. updated_row_fits scope row sets columns olds ws parts.2 is) h
 
 -- each row fits the table
 abbrev pub AllFit : Table → List Entry → Type 0

@@ -1,5 +1,5 @@
 -- A statement that is made ready does what it does by its names.
-use Rattle.std.proofs.Common.{◌≡◌, ℕ, suc, Bool, true, false, cond, bytes_eq, slice_get, map, List, [], ◌∷◌, ◌++◌, Option, Some, None, IfSome, Result, Ok, refl, sym, ap, subst, ◌∙◌}
+use Rattle.std.proofs.Common.{◌≡◌, ℕ, suc, Bool, true, false, cond, bytes_eq, slice_get, map, List, [], ◌∷◌, ◌++◌, Option, Some, None, IfSome, IsSome, Result, Ok, Err, refl, sym, ap, subst, ◌∙◌}
 use Rattle.std.specs.Option.{option_copied, option_map, option_and_then}
 use Rattle.std.proofs.lemmas.List.{append-nil, append_assoc, map-append}
 use Rattle.sr_base.specs.declared.value.Value.{Value}
@@ -10,16 +10,15 @@ use Rattle.sr_eval.specs.Meanings.{Meaning, cell_of}
 use Rattle.sr_eval.proofs.Places.{position_next, resolved_meaning}
 use Rattle.sr_schema.specs.declared.table.Column.{Column}
 use Rattle.sr_schema.specs.declared.table.Table.{Table}
+use Rattle.sr_schema.specs.declared.fault.DmlFault.{DmlFault}
 use Rattle.sr_dml.specs.Checks.{Scope}
 use Rattle.sr_schema.specs.Members.{scope_of}
 use Rattle.sr_dml.specs.Preparing.{resolved_in, sets_in, resolution_in, IsPrepared, selected_at, new_value, new_row, place_among, places_in, given_value, given_row}
-use Rattle.sr_dml.specs.Sequences.{each, front}
-use Rattle.sr_dml.specs.Statements.{tested, selected}
+use Rattle.sr_dml.specs.Sequences.{each, followed, front}
+use Rattle.sr_dml.specs.Statements.{tested, selected, fate_if, fate_of, fate_selected}
 use Rattle.sr_dml.specs.Storing.{constant, fitting, inserted_row, set_for, stored, updated_value, updated_row, value_for}
+use Rattle.sr_dml.specs.declared.fate.Fate.TheVariants.{Becomes}
 use Rattle.sr_dml.specs.declared.prepared.Prepared.{Prepared}
-
--- the values of one source are its values
-pub ruleset one_source = (append-nil)
 
 -- a column takes the value that there is
 pub stored_value : (column : Column) (m : Option Meaning) (v : Value) → option_map cell_of m ≡ Some v → stored column m ≡ fitting column (fitted v column.kind)
@@ -54,6 +53,25 @@ updated_by table p row s h is =
     ap (new_row row table.columns row) given ∙ row_same (scope_of table) row s table.columns row
 
 pub ruleset by_names = (selected_by, updated_by)
+
+-- a row over which the condition has no value has no fate
+pub fate_unselected : (table : Table) (p : Prepared) (row : List Value) (f : DmlFault) → IsPrepared table p
+    → selected_at row (resolution_in p.resolved_condition) ≡ Err f → fate_of table (option_copied p.sets) p.condition.now row ≡ Err f
+fate_unselected table p row f h e =
+    ap (λ (r : Result Bool DmlFault). followed r (λ is_selected. fate_if is_selected (fate_selected table (option_copied p.sets) row)))
+    (sym (selected_by table p row h) ∙ e)
+
+-- and neither has one that can not be updated
+pub fate_unmade : (table : Table) (p : Prepared) (row : List Value) (f : DmlFault) → IsPrepared table p → IsSome (option_copied p.sets)
+    → selected_at row (resolution_in p.resolved_condition) ≡ Ok true → new_row row table.columns row (map resolution_in p.resolved_sets) ≡ Err f
+    → fate_of table (option_copied p.sets) p.condition.now row ≡ Err f
+fate_unmade table p row f h there is made = go (option_copied p.sets) refl there where
+  go : (o : Option (List (List ℕ × Expr))) → option_copied p.sets ≡ o → IsSome o → fate_of table (option_copied p.sets) p.condition.now row ≡ Err f
+  go None e t = cc
+  go (Some s) e t =
+      ap (λ (o : Option (List (List ℕ × Expr))). fate_of table o p.condition.now row) e
+      ∙ (ap (λ (r : Result Bool DmlFault). followed r (λ is_selected. fate_if is_selected (fate_selected table (Some s) row))) (sym (selected_by table p row h) ∙ is)
+      ∙ ap (λ (r : Result (List Value) DmlFault). followed r (λ new. Ok (Becomes new))) (sym (updated_by table p row s h e) ∙ made))
 
 -- one more column
 pub ruleset one_more = (map-append, append_assoc, append-nil)

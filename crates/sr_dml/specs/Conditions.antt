@@ -1,22 +1,13 @@
 -- When a statement may be executed, and what is answered.
-use Rattle.std.specs.Prelude.{◌≡◌, ◌≢◌, ℕ, ⊤, not, ◌&&◌, List, [], ◌∷◌, Some, IsSome, Result, Ok, Err, MatchResult, IsTrue}
-use Rattle.sr_dates.specs.Fitting.{fitted}
+use Rattle.std.specs.Prelude.{◌≡◌, ◌≢◌, ℕ, List, Some, IsSome, Result, Ok, Err, MatchResult}
 use Rattle.sr_base.specs.declared.value.Value.{Value as Cell}
-use Rattle.sr_eval.specs.Comparisons.{is_null}
+use Rattle.sr_fits.specs.Rows.{IsRow}
 use Rattle.sr_rows.specs.Marks.{RowMap, rows_of_table}
 use Rattle.sr_schema.specs.Catalogs.{Lists}
-use Rattle.sr_schema.specs.declared.table.Column.{Column}
 use Rattle.sr_schema.specs.declared.table.Table.{Table}
 use Rattle.sr_schema.specs.declared.fault.DmlFault.{DmlFault}
 use Rattle.sr_schema.specs.declared.fault.DmlFault.TheVariants.{Memory}
 use Rattle.sr_dml.specs.Statements.{key_of, table_named}
-
--- a row fits the columns: one value each, fitting leaves it as it is, and no NOT NULL column holds NULL
-abbrev pub IsRow : List Column → List Cell → Type 0
-IsRow [] [] = ⊤
-IsRow [] (v ∷ row) = ⊥
-IsRow (c ∷ columns) [] = ⊥
-IsRow (c ∷ columns) (v ∷ row) = (fitted v c.kind ≡ Some v) × (IsTrue (not (c.not_null && is_null v))) × IsRow columns row
 
 -- each row of a table fits it, and stands under its key
 abbrev pub TableFits : Table → RowMap → Type 0

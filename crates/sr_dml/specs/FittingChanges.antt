@@ -6,7 +6,7 @@ use Rattle.sr_logform.specs.declared.change.Change.{Change}
 use Rattle.sr_schema.specs.Catalogs.{Lists}
 use Rattle.sr_schema.specs.declared.table.Table.{Table}
 use Rattle.sr_dml.specs.Applying.{applied_in}
-use Rattle.sr_dml.specs.Conditions.{IsRow}
+use Rattle.sr_fits.specs.Rows.{IsRow}
 use Rattle.sr_dml.specs.Statements.{key_of, table_named}
 
 -- a row, if there is one, fits the table and has the key

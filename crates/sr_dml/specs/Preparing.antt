@@ -32,7 +32,6 @@ resolution_in r = option_map resolution_of r
 
 -- a statement on a table is made ready
 pub record IsPrepared (table : Table) (p : Prepared) : Type 0 where
-  pub scope : p.scope.now ≡ scope_of table
   pub condition : resolution_in p.resolved_condition ≡ resolved_in (scope_of table) p.condition.now
   pub sets : IfSome (option_copied p.sets) (λ s. map resolution_in p.resolved_sets ≡ sets_in (scope_of table) s table.columns)
 

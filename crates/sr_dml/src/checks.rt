@@ -7,7 +7,7 @@ ghost use Rattle.sr_dml.specs.Statements.{names_of, unknown_in_insert, bad_in_in
 use crate::classes::bad_value;
 use crate::lists::push;
 use crate::names::{is_among, named_again, no_column, unknown_name};
-use sr_ast::{Expr, Insert, Scope, unknown_in};
+use sr_ast::{Expr, Insert, Scope, unknown_among, unknown_in};
 use sr_base::{Copied, Name, NoMemory, Seq};
 use sr_schema::Table;
 use std::alloc::Global;
@@ -63,10 +63,8 @@ fn unknown_in_row(alloc: Global, scope: &Scope, row: &[Expr]) -> Result<Option<N
 pub(crate) fn unknown_in_sets(
     alloc: Global,
     table: &Table,
-    scope: &Scope,
     sets: &[(Name, Expr)],
 ) -> Result<Option<Name>, NoMemory>
-    requires scope { scope.now ≡ scope_of table.now }
     ensures unknown { IfOk result (λ found. found ≡ first_in (unknown_set table.now) sets.now) }
 {
     let mut left = sets;
@@ -74,7 +72,7 @@ pub(crate) fn unknown_in_sets(
         if let Some(unknown) = no_column(alloc, table.columns.as_slice(), &set.0)? {
             return Ok(Some(unknown));
         }
-        if let Some(unknown) = unknown_in(alloc, scope, &set.1)? {
+        if let Some(unknown) = unknown_among(alloc, table, &set.1)? {
             return Ok(Some(unknown));
         }
         left = rest;
@@ -153,10 +151,10 @@ fn bad_row(
 /// at the names before it; there are as many as columns at most.
 pub(crate) fn bad_sets(
     alloc: Global,
-    scope: &Scope,
+    table: &Table,
     sets: &[(Name, Expr)],
 ) -> Result<Option<Name>, NoMemory>
-    ensures bad { IfOk result (λ found. found ≡ bad_sets scope.now [] sets.now) }
+    ensures bad { IfOk result (λ found. found ≡ bad_sets (scope_of table.now) [] sets.now) }
 {
     let mut before = Vec::new(alloc);
     let mut left = sets;
@@ -164,7 +162,7 @@ pub(crate) fn bad_sets(
         if is_among(&set.0, before.as_slice()) {
             return Ok(Some(set.0.copy(alloc)?));
         }
-        if let Some(bad) = bad_value(alloc, scope, &set.0, &set.1)? {
+        if let Some(bad) = bad_value(alloc, table, &set.0, &set.1)? {
             return Ok(Some(bad));
         }
         push(&mut before, set.0.copy(alloc)?)?;

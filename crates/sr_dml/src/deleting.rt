@@ -8,7 +8,7 @@ use crate::moving::moved;
 use sr_ast::Delete;
 use sr_logform::Change;
 use sr_rows::Rows;
-use sr_schema::{DmlFault, Table, scope_of};
+use sr_schema::{DmlFault, Table};
 use std::alloc::Global;
 
 /// DELETE. It goes over the rows of the table; each that is selected takes logarithmic time for its key. The changes stand in the
@@ -23,12 +23,11 @@ pub fn delete(
     requires rows { TableFits table.now rows.now.rows }
     ensures answer { Answers result (deleted table.now delete.now (table_rows rows.now.rows table.now.name)) }
 {
-    let scope = scope_of(alloc, table)?;
-    if let Some(name) = unknown_condition(alloc, &scope, &delete.condition)? {
+    if let Some(name) = unknown_condition(alloc, table, &delete.condition)? {
         return Err(DmlFault::NoColumn { name });
     }
-    if let Some(name) = bad_condition(alloc, &scope, &table.name, &delete.condition)? {
+    if let Some(name) = bad_condition(alloc, table, &delete.condition)? {
         return Err(DmlFault::BadValue { name });
     }
-    moved(alloc, table, rows, &scope, None, &delete.condition, spare)
+    moved(alloc, table, rows, None, &delete.condition, spare)
 }

@@ -21,32 +21,29 @@ use crate::prepared::{Prepared, prepare};
 use crate::settling::settle;
 use crate::single::moved_at;
 use crate::updating::updated_row;
-use sr_ast::{Expr, Scope, is_plain};
+use sr_ast::{Expr, is_plain};
 use sr_base::{Copied, Key, Name, NoMemory, Row, Value};
-use sr_eval::{Bound, EvalFault, Resolved, is_resolved_true};
+use sr_eval::{EvalFault, Resolved, is_resolved_true};
 use sr_logform::Change;
 use sr_rows::Rows;
 use sr_schema::{DmlFault, Table};
 use std::alloc::Global;
-use std::slice;
 
 /// The changes where the selected rows are taken, and put as the assignments of an UPDATE make them; a DELETE has none.
 pub(crate) fn moved(
     alloc: Global,
     table: &Table,
     rows: &Rows,
-    scope: &Scope,
     sets: Option<&[(Name, Expr)]>,
     condition: &Option<Expr>,
     spare: Vec<Change>,
 ) -> Result<Changes, DmlFault>
-    requires scope { scope.now ≡ scope_of table.now }
     requires rows { TableFits table.now rows.now.rows }
-    requires condition { bad_condition scope.now table.now.name condition.now ≡ None }
-    requires sets { IfSome (option_copied sets) (λ s. bad_sets scope.now [] s ≡ None) }
+    requires condition { bad_condition (scope_of table.now) table.now.name condition.now ≡ None }
+    requires sets { IfSome (option_copied sets) (λ s. bad_sets (scope_of table.now) [] s ≡ None) }
     ensures answer { Answers result (followed (fates_of table.now (option_copied sets.entry) condition.now (table_rows rows.now.rows table.now.name)) (moved_rows table.now (table_rows rows.now.rows table.now.name))) }
 {
-    let prepared = prepare(alloc, table, scope, sets, condition)?;
+    let prepared = prepare(alloc, table, sets, condition)?;
     if let Some(key) = only_key(alloc, table, condition)? {
         return moved_at(alloc, table, rows, &prepared, &key, spare);
     }
@@ -134,11 +131,7 @@ pub(crate) fn fate_of(
     requires prepared { IsPrepared table.now prepared.now }
     ensures answer { Answers result (fate_of table.now (option_copied prepared.now.sets) prepared.now.condition.now row.now) }
 {
-    let source = Bound {
-        scope: prepared.scope,
-        values: row,
-    };
-    if !selected(&prepared.resolved_condition, &source)? {
+    if !selected(&prepared.resolved_condition, row)? {
         return Ok(Fate::Stays);
     }
     if prepared.sets.is_none() {
@@ -146,7 +139,7 @@ pub(crate) fn fate_of(
     }
     let new = updated_row(
         alloc,
-        &source,
+        row,
         prepared.resolved_sets.as_slice(),
         table.columns.as_slice(),
     )?;
@@ -154,15 +147,14 @@ pub(crate) fn fate_of(
 }
 
 /// Whether a row is selected: where the condition is true, or where there is none.
-#[tactic(auto, using(crate::proofs::Readied::one_source))]
 #[inline(always)]
-pub(crate) fn selected(condition: &Option<Resolved>, row: &Bound) -> Result<bool, DmlFault>
-    ensures answer { Answers result (selected_at row.now.values.now (resolution_in condition.now)) }
+pub(crate) fn selected(condition: &Option<Resolved>, row: &[Value]) -> Result<bool, DmlFault>
+    ensures answer { Answers result (selected_at row.now (resolution_in condition.now)) }
 {
     let Some(condition) = condition else {
         return Ok(true);
     };
-    match is_resolved_true(condition, slice::from_ref(row)) {
+    match is_resolved_true(condition, &row) {
         Ok(held) => Ok(held),
         Err(EvalFault::Overflow) => Err(DmlFault::Overflow),
         Err(EvalFault::Memory) => Err(DmlFault::Memory),

@@ -8,19 +8,18 @@ ghost use Rattle.sr_dml.specs.Preparing.{IsPrepared, place_among, places_in, res
 use crate::lists::push;
 use crate::names::is_same;
 use crate::updating::set_for;
-use sr_ast::{Expr, Scope};
+use sr_ast::Expr;
 use sr_base::{Name, NoMemory, Seq};
 use sr_eval::{Resolved, resolve};
 use sr_schema::{Column, Table};
 use std::alloc::Global;
 
-/// The assignments of an UPDATE, or none of a DELETE, and the condition of the one or the other; the columns of its table; and the condition
-/// and what each column takes, in the order of the columns, with their names resolved.
+/// The assignments of an UPDATE, or none of a DELETE, and the condition of the one or the other; and the condition and what each column takes,
+/// in the order of the columns, with their names resolved.
 #[derive(Drop)]
 pub(crate) struct Prepared<'a> {
     pub(crate) sets: Option<&'a [(Name, Expr)]>,
     pub(crate) condition: &'a Option<Expr>,
-    pub(crate) scope: &'a Scope,
     pub(crate) resolved_condition: Option<Resolved>,
     pub(crate) resolved_sets: Seq<Option<Resolved>>,
 }
@@ -29,24 +28,21 @@ pub(crate) struct Prepared<'a> {
 pub(crate) fn prepare<'a>(
     alloc: Global,
     table: &Table,
-    scope: &'a Scope,
     sets: Option<&'a [(Name, Expr)]>,
     condition: &'a Option<Expr>,
 ) -> Result<Prepared<'a>, NoMemory>
-    requires scope { scope.now ≡ scope_of table.now }
     ensures prepared { IfOk result (IsPrepared table.now) }
     ensures sets { IfOk result (λ prepared. option_copied prepared.sets ≡ option_copied sets.entry) }
     ensures condition { IfOk result (λ prepared. prepared.condition.now ≡ condition.now) }
 {
-    let resolved_condition = resolved_in(alloc, scope, condition.as_ref())?;
+    let resolved_condition = resolved_in(alloc, table, condition.as_ref())?;
     let resolved_sets = match sets {
         None => Seq::empty(alloc),
-        Some(sets) => sets_in(alloc, scope, sets, table.columns.as_slice())?,
+        Some(sets) => sets_in(alloc, table, sets)?,
     };
     Ok(Prepared {
         sets,
         condition,
-        scope,
         resolved_condition,
         resolved_sets,
     })
@@ -55,14 +51,14 @@ pub(crate) fn prepare<'a>(
 /// An expression that is there or not, its names resolved.
 fn resolved_in(
     alloc: Global,
-    scope: &Scope,
+    table: &Table,
     expr: Option<&Expr>,
 ) -> Result<Option<Resolved>, NoMemory>
-    ensures resolved { IfOk result (λ made. resolution_in made ≡ resolved_in scope.now (option_copied expr.entry)) }
+    ensures resolved { IfOk result (λ made. resolution_in made ≡ resolved_in (scope_of table.now) (option_copied expr.entry)) }
 {
     match expr {
         None => Ok(None),
-        Some(expr) => Ok(Some(resolve(alloc, expr, scope)?)),
+        Some(expr) => Ok(Some(resolve(alloc, expr, table)?)),
     }
 }
 
@@ -70,16 +66,16 @@ fn resolved_in(
 #[tactic(auto, using(crate::proofs::Readied::one_more))]
 fn sets_in(
     alloc: Global,
-    scope: &Scope,
+    table: &Table,
     sets: &[(Name, Expr)],
-    columns: &[Column],
 ) -> Result<Seq<Option<Resolved>>, NoMemory>
-    ensures sets { IfOk result (λ made. map resolution_in made ≡ sets_in scope.now sets.now columns.now) }
+    ensures sets { IfOk result (λ made. map resolution_in made ≡ sets_in (scope_of table.now) sets.now table.now.columns) }
 {
+    let columns = table.columns.as_slice();
     let mut made = Vec::with_capacity(alloc, columns.len())?;
     let mut left = columns;
     'columns: while let Some((column, rest)) = left.split_first() {
-        let set = resolved_in(alloc, scope, set_for(sets, &column.name))?;
+        let set = resolved_in(alloc, table, set_for(sets, &column.name))?;
         push(&mut made, set)?;
         left = rest;
     }

@@ -8,10 +8,9 @@ ghost use Rattle.sr_dml.specs.Storing.{allowed, constant, fitting, stored};
 use sr_ast::Expr;
 use sr_base::{Copied, Kind, Value};
 use sr_dates::fit;
-use sr_eval::{Bound, EvalFault, Resolved, resolved_value, value_over};
+use sr_eval::{EvalFault, Resolved, resolved_value, value_over};
 use sr_schema::{Column, DmlFault};
 use std::alloc::Global;
-use std::slice;
 
 /// A value that fits its column, where NULL may be forbidden.
 fn allowed(alloc: Global, column: &Column, value: Value) -> Result<Value, DmlFault>
@@ -62,17 +61,16 @@ pub(crate) fn stored(alloc: Global, column: &Column, expr: &Expr) -> Result<Valu
 }
 
 /// The same of an expression over a row, its names resolved.
-#[tactic(auto, using(crate::proofs::Readied::one_source))]
 #[inline(always)]
 pub(crate) fn stored_at(
     alloc: Global,
     column: &Column,
-    row: &Bound,
+    row: &[Value],
     resolved: &Resolved,
 ) -> Result<Value, DmlFault>
-    ensures answer { Answers result (stored column.now (meaning_at row.now.values.now (resolution_of resolved.now))) }
+    ensures answer { Answers result (stored column.now (meaning_at row.now (resolution_of resolved.now))) }
 {
-    match resolved_value(alloc, resolved, slice::from_ref(row)) {
+    match resolved_value(alloc, resolved, &row) {
         Ok(value) => fitting(alloc, column, value),
         Err(EvalFault::Overflow) => Err(DmlFault::Overflow),
         Err(EvalFault::Memory) => Err(DmlFault::Memory),

@@ -22,7 +22,7 @@ use crate::prepared::Prepared;
 use crate::settling::note_updated;
 use crate::updating::new_value;
 use sr_base::{Copied, Kind, Name, NoMemory, Row, RowBlock, Seq, Value};
-use sr_eval::{Bound, Resolved};
+use sr_eval::Resolved;
 use sr_logform::Change;
 use sr_rows::Rows;
 use sr_schema::{Column, DmlFault, Table};
@@ -144,16 +144,12 @@ fn add_fate(
     ensures answer { MatchResult result (Adds (fate_of table.now (option_copied prepared.now.sets) prepared.now.condition.now row.now) values.old.items values.new.items)
         (λ fault. fault ≢ DmlFault.Memory → fate_of table.now (option_copied prepared.now.sets) prepared.now.condition.now row.now ≡ Err fault) }
 {
-    let source = Bound {
-        scope: prepared.scope,
-        values: row,
-    };
-    if !selected(&prepared.resolved_condition, &source)? {
+    if !selected(&prepared.resolved_condition, row)? {
         return Ok(false);
     }
     add_updated(
         alloc,
-        &source,
+        row,
         prepared.resolved_sets.as_slice(),
         table.columns.as_slice(),
         values,
@@ -165,16 +161,16 @@ fn add_fate(
 #[inline(always)]
 fn add_updated(
     alloc: Global,
-    row: &Bound,
+    row: &[Value],
     sets: &[Option<Resolved>],
     columns: &[Column],
     values: &mut Vec<Value>,
 ) -> Result<(), DmlFault>
-    ensures answer { MatchResult result (λ _. prefixed values.old.items (new_row row.now.values.now columns.now row.now.values.now (map resolution_in sets.now)) ≡ Ok values.new.items)
-        (λ fault. fault ≢ DmlFault.Memory → new_row row.now.values.now columns.now row.now.values.now (map resolution_in sets.now) ≡ Err fault) }
+    ensures answer { MatchResult result (λ _. prefixed values.old.items (new_row row.now columns.now row.now (map resolution_in sets.now)) ≡ Ok values.new.items)
+        (λ fault. fault ≢ DmlFault.Memory → new_row row.now columns.now row.now (map resolution_in sets.now) ≡ Err fault) }
 {
     let mut left = columns;
-    let mut olds = row.values;
+    let mut olds = row;
     let mut sets_left = sets;
     'columns: while let Some((column, rest)) = left.split_first() {
         let Some((old, olds_rest)) = olds.split_first() else {

@@ -1,7 +1,6 @@
 ghost use Rattle.std.specs.Prelude.{◌≡◌, [], map, None, IfOk};
 ghost use Rattle.std.specs.Option.{option_copied};
 ghost use Rattle.sr_dml.specs.Checks.{bad_sets};
-ghost use Rattle.sr_schema.specs.Members.{scope_of};
 ghost use Rattle.sr_dml.specs.Conditions.{Answers, TableFits};
 ghost use Rattle.sr_dml.specs.Statements.{unknown_in_update, bad_in_update, updated};
 ghost use Rattle.sr_dml.specs.Preparing.{new_row, new_value, resolution_in};
@@ -15,12 +14,12 @@ use crate::lists::push;
 use crate::moving::moved;
 use crate::names::is_same;
 use crate::storing::stored_at;
-use sr_ast::{Expr, Scope, Update};
+use sr_ast::{Expr, Update};
 use sr_base::{Copied, Name, NoMemory, Row, Seq, Value};
-use sr_eval::{Bound, Resolved};
+use sr_eval::Resolved;
 use sr_logform::Change;
 use sr_rows::Rows;
-use sr_schema::{Column, DmlFault, Table, scope_of};
+use sr_schema::{Column, DmlFault, Table};
 use std::alloc::Global;
 
 /// UPDATE. It goes over the rows of the table; each that is selected takes its columns times the assignments, and logarithmic time
@@ -36,18 +35,16 @@ pub fn update(
     requires rows { TableFits table.now rows.now.rows }
     ensures answer { Answers result (updated table.now update.now (table_rows rows.now.rows table.now.name)) }
 {
-    let scope = scope_of(alloc, table)?;
-    if let Some(name) = unknown_in_update(alloc, table, &scope, update)? {
+    if let Some(name) = unknown_in_update(alloc, table, update)? {
         return Err(DmlFault::NoColumn { name });
     }
-    if let Some(name) = bad_in_update(alloc, table, &scope, update)? {
+    if let Some(name) = bad_in_update(alloc, table, update)? {
         return Err(DmlFault::BadValue { name });
     }
     moved(
         alloc,
         table,
         rows,
-        &scope,
         Some(update.sets.as_slice()),
         &update.condition,
         spare,
@@ -57,30 +54,22 @@ pub fn update(
 fn unknown_in_update(
     alloc: Global,
     table: &Table,
-    scope: &Scope,
     update: &Update,
 ) -> Result<Option<Name>, NoMemory>
-    requires scope { scope.now ≡ scope_of table.now }
     ensures unknown { IfOk result (λ found. found ≡ unknown_in_update table.now update.now) }
 {
-    match unknown_in_sets(alloc, table, scope, update.sets.as_slice())? {
+    match unknown_in_sets(alloc, table, update.sets.as_slice())? {
         Some(unknown) => Ok(Some(unknown)),
-        None => unknown_condition(alloc, scope, &update.condition),
+        None => unknown_condition(alloc, table, &update.condition),
     }
 }
 
-fn bad_in_update(
-    alloc: Global,
-    table: &Table,
-    scope: &Scope,
-    update: &Update,
-) -> Result<Option<Name>, NoMemory>
-    requires scope { scope.now ≡ scope_of table.now }
+fn bad_in_update(alloc: Global, table: &Table, update: &Update) -> Result<Option<Name>, NoMemory>
     ensures bad { IfOk result (λ found. found ≡ bad_in_update table.now update.now) }
 {
-    match bad_sets(alloc, scope, update.sets.as_slice())? {
+    match bad_sets(alloc, table, update.sets.as_slice())? {
         Some(bad) => Ok(Some(bad)),
-        None => bad_condition(alloc, scope, &table.name, &update.condition),
+        None => bad_condition(alloc, table, &update.condition),
     }
 }
 
@@ -88,13 +77,13 @@ fn bad_in_update(
 #[inline(always)]
 pub(crate) fn updated_row(
     alloc: Global,
-    row: &Bound,
+    row: &[Value],
     sets: &[Option<Resolved>],
     columns: &[Column],
 ) -> Result<Row, DmlFault>
-    ensures answer { Answers result (new_row row.now.values.now columns.now row.now.values.now (map resolution_in sets.now)) }
+    ensures answer { Answers result (new_row row.now columns.now row.now (map resolution_in sets.now)) }
 {
-    match (columns, row.values, sets) {
+    match (columns, row, sets) {
         ([column, next], [old, next_old], [set, next_set]) => {
             let value = new_value(alloc, row, column, old, set)?;
             let next_value = new_value(alloc, row, next, next_old, next_set)?;
@@ -107,15 +96,15 @@ pub(crate) fn updated_row(
 /// The same for more columns than two, or for one.
 fn updated_row_of_several(
     alloc: Global,
-    row: &Bound,
+    row: &[Value],
     sets: &[Option<Resolved>],
     columns: &[Column],
 ) -> Result<Row, DmlFault>
-    ensures answer { Answers result (new_row row.now.values.now columns.now row.now.values.now (map resolution_in sets.now)) }
+    ensures answer { Answers result (new_row row.now columns.now row.now (map resolution_in sets.now)) }
 {
     let mut values = Vec::with_capacity(alloc, columns.len())?;
     let mut left = columns;
-    let mut olds = row.values;
+    let mut olds = row;
     let mut sets_left = sets;
     'columns: while let Some((column, rest)) = left.split_first() {
         let Some((old, olds_rest)) = olds.split_first() else {
@@ -137,12 +126,12 @@ fn updated_row_of_several(
 #[inline(always)]
 pub(crate) fn new_value(
     alloc: Global,
-    row: &Bound,
+    row: &[Value],
     column: &Column,
     old: &Value,
     set: &Option<Resolved>,
 ) -> Result<Value, DmlFault>
-    ensures answer { Answers result (new_value row.now.values.now column.now old.now (resolution_in set.now)) }
+    ensures answer { Answers result (new_value row.now column.now old.now (resolution_in set.now)) }
 {
     match set {
         None => Ok(old.copy(alloc)?),

@@ -1,13 +1,12 @@
 -- Expressions whose names are resolved: a column is a place among the values of all sources.
 use Rattle.std.specs.Prelude.{◌≡◌, ℕ, ◌+◌, List, [], ◌∷◌, Option, Some, None, ◌⊎◌, refl, slice_get, unwrap_or}
-use Rattle.std.specs.List.{position}
 use Rattle.std.proofs.Common.{inl, inr, ap, ◌∙◌}
 use Rattle.std.specs.Coded.{Coded, code_by, coded⊎, coded_ℕ, coded_list}
 use Rattle.sr_base.specs.declared.value.Value.{Value as Cell}
 use Rattle.sr_base.specs.declared.value.Value.TheVariants.{Null}
 use Rattle.sr_base.specs.declared.value.Kind.{Kind}
 use Rattle.sr_base.specs.contracts.value.Value.{the_row}
-use Rattle.sr_ast.specs.Classes.{is_meant}
+use Rattle.sr_ast.specs.Classes.{place_of}
 use Rattle.sr_ast.specs.Terms.{Term}
 use Rattle.sr_ast.specs.Terms.Term.{literal as a_literal, column as a_column, unary as a_unary, binary as a_binary}
 use Rattle.sr_ast.specs.declared.operator.Unary.{Unary}
@@ -23,10 +22,6 @@ pub data Resolution : Type 0 where
   place : ℕ → Resolution
   unary : Unary → Resolution → Resolution
   binary : Binary → Resolution → Resolution → Resolution
-
--- the place of the first column that a reference means
-abbrev pub place_of : List (Option (List ℕ) × List ℕ × Kind) → Option (List ℕ) → List ℕ → Option ℕ
-place_of columns table name = position (λ c. is_meant c.0 c.1 table name) columns
 
 -- a column at its place; NULL where there is none
 abbrev pub at_place : Option ℕ → Resolution

@@ -16,6 +16,7 @@ mod resolved;
 mod resolved_meaning;
 mod truth;
 mod untyped;
+mod values;
 mod worth;
 
 pub use bound::Bound;
@@ -25,6 +26,7 @@ pub use laws::{
     a_resolved_expression_means_the_same, a_value_is_of_its_class, and_holds_where_both_hold,
     null_equals_nothing, without_arithmetic_there_is_a_value,
 };
-pub use resolved::{Boxed, Resolved, place_of, resolve};
-pub use resolved_meaning::{is_resolved_true, resolved_value, value_at_place};
+pub use resolved::{Boxed, Resolved, resolve};
+pub use resolved_meaning::{is_resolved_true, resolved_value};
 pub use untyped::{is_true_over, value_over};
+pub use values::{Values, value_at_place};

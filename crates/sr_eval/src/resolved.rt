@@ -1,10 +1,10 @@
-ghost use Rattle.std.specs.Prelude.{◌≡◌, ◌<◌, length, IfOk, IfSome};
+ghost use Rattle.std.specs.Prelude.{◌≡◌, IfOk};
 ghost use Rattle.sr_ast.specs.Exprs.{term_of};
-ghost use Rattle.sr_eval.specs.Resolutions.{place_of, at_place, resolved};
+ghost use Rattle.sr_eval.specs.Resolutions.{at_place, resolved};
 ghost use Rattle.sr_eval.specs.Resolving.{resolution_of, operation_of};
 
-use sr_ast::{Binary, Expr, Operand, Scope, Unary, is_meant};
-use sr_base::{Copied, Kind, Name, NoMemory, Value};
+use sr_ast::{Binary, Expr, Operand, Places, Unary};
+use sr_base::{Copied, Name, NoMemory, Value};
 use std::alloc::Global;
 use std::marker::Model;
 
@@ -71,15 +71,15 @@ fn operated(alloc: Global, operation: Operation) -> Result<Resolved, NoMemory>
     }))
 }
 
-/// Resolves the names of an expression among the columns of all sources. Each name looks at the columns up to its own, once, and each
-/// operator takes a block of memory.
+/// Resolves the names of an expression among the columns of all sources. Each name is looked up once, and each operator takes a block of
+/// memory.
 #[cycle(resolving)]
-pub fn resolve(alloc: Global, expr: &Expr, scope: &Scope) -> Result<Resolved, NoMemory>
-    ensures resolved { IfOk result (λ made. resolution_of made ≡ resolved scope.now (term_of expr.now)) }
+pub fn resolve<P: Places>(alloc: Global, expr: &Expr, scope: &P) -> Result<Resolved, NoMemory>
+    ensures resolved { IfOk result (λ made. resolution_of made ≡ resolved (P.scope scope.now) (term_of expr.now)) }
 {
     match expr {
         Expr::Literal(value) => Ok(Resolved::Literal(value.copy(alloc)?)),
-        Expr::Column(table, name) => Ok(column(scope, table, name)),
+        Expr::Column(table, name) => Ok(at_place(scope.place_of(table, name))),
         Expr::Unary(operator, operand) => {
             let operand = resolve_operand(alloc, operand, scope)?;
             operated(alloc, Operation::Unary(*operator, operand))
@@ -93,32 +93,22 @@ pub fn resolve(alloc: Global, expr: &Expr, scope: &Scope) -> Result<Resolved, No
 }
 
 #[cycle(resolving)]
-fn resolve_operand(alloc: Global, operand: &Operand, scope: &Scope) -> Result<Resolved, NoMemory>
-    ensures resolved { IfOk result (λ made. resolution_of made ≡ resolved scope.now operand.now) }
+fn resolve_operand<P: Places>(
+    alloc: Global,
+    operand: &Operand,
+    scope: &P,
+) -> Result<Resolved, NoMemory>
+    ensures resolved { IfOk result (λ made. resolution_of made ≡ resolved (P.scope scope.now) operand.now) }
 {
     resolve(alloc, operand.expr(), scope)
 }
 
-/// The place of a column, or NULL.
-fn column(scope: &Scope, table: &Option<Name>, name: &Name) -> Resolved
-    ensures place { resolution_of result ≡ at_place (place_of scope.now table.now name.now) }
+/// A column at its place; NULL where there is none.
+fn at_place(place: Option<usize>) -> Resolved
+    ensures { resolution_of result ≡ at_place place }
 {
-    match place_of(scope.as_slice(), table, name) {
+    match place {
         Some(place) => Resolved::Place(place),
         None => Resolved::Literal(Value::Null),
     }
-}
-
-/// The place of the first column that a reference means. It looks at each.
-pub fn place_of(
-    columns: &[(Option<Name>, Name, Kind)],
-    table: &Option<Name>,
-    name: &Name,
-) -> Option<usize>
-    ensures place { result ≡ place_of columns.now table.now name.now }
-    ensures within { IfSome result (λ place. place < length columns.now) }
-{
-    columns
-        .iter()
-        .position(|column| is_meant(&column.0, &column.1, table, name))
 }

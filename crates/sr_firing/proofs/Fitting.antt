@@ -8,7 +8,8 @@ use Rattle.sr_base.specs.declared.value.Value.{Value as Cell}
 use Rattle.sr_dates.specs.Fitting.{fitted}
 use Rattle.sr_eval.specs.Bounds.{IsRowOf}
 use Rattle.sr_eval.specs.Comparisons.{is_null}
-use Rattle.sr_dml.specs.Conditions.{IsRow}
+use Rattle.sr_fits.specs.Rows.{IsRow}
+use Rattle.sr_fits.proofs.Rows.{row_parts, row_made}
 use Rattle.sr_dml.proofs.Keeping.{fitted_again}
 use Rattle.sr_schema.specs.declared.table.Column.{Column}
 use Rattle.sr_trigger.specs.Triggers.{variables_scope}
@@ -37,12 +38,14 @@ held_stands c (Some v) w h = stands_held c v (fitted v c.kind) w refl h
 pub set_fits : (columns : List Column) (row : List Cell) (place : ℕ) (c : Column) (w : Cell) → IsRow columns row → slice_get columns place ≡ Some c → Stands c w
     → IsRow columns (set_at row place w)
 set_fits [] row place c w fits at stands = cc
-set_fits (d ∷ columns) [] place c w fits at stands = absurd fits
+set_fits (d ∷ columns) [] place c w fits at stands = cc
 set_fits (d ∷ columns) (v ∷ row) zero c w fits at stands =
     let is : c ≡ d = cc in
     let here : Stands d w = subst (λ (x : Column). Stands x w) is stands in
-    (here.0, here.1, fits.2)
-set_fits (d ∷ columns) (v ∷ row) (suc place) c w fits at stands = (fits.0, fits.1, set_fits columns row place c w fits.2 at stands)
+    row_made d columns w row here.0 here.1 (row_parts d columns v row fits).2
+set_fits (d ∷ columns) (v ∷ row) (suc place) c w fits at stands =
+    let parts = row_parts d columns v row fits in
+    row_made d columns v (set_at row place w) parts.0 parts.1 (set_fits columns row place c w parts.2 at stands)
 
 -- variables with one set that holds the value
 pub variable_fits : (variables : List (List ℕ × Kind)) (values : List Cell) (place : ℕ) (variable : List ℕ × Kind) (v : Option Cell) (w : Cell)

@@ -18,7 +18,8 @@ use Rattle.sr_ast.specs.Chains.Chain.{done, set, insert as put, when, choose}
 use Rattle.sr_ast.specs.Terms.{Term}
 use Rattle.sr_ast.specs.declared.create.CreateTrigger.{CreateTrigger}
 use Rattle.sr_dml.specs.Applying.{place_of, without_row, with_row, applied_in, applied}
-use Rattle.sr_dml.specs.Conditions.{IsRow}
+use Rattle.sr_fits.specs.Rows.{IsRow}
+use Rattle.sr_fits.proofs.Rows.{row_made as fitting_row}
 use Rattle.sr_dml.specs.FittingChanges.{FitsAt, IsFitChange, ChangesFit}
 use Rattle.sr_dml.specs.Sequences.{or_else}
 use Rattle.sr_dml.specs.Statements.{key_of, names_of, table_named}
@@ -127,11 +128,11 @@ all_more P (y ∷ xs) x h p = (h.0, all_more P xs x h.1 p)
 
 row_fits : (value : Term → Option Cell) (names : List (List ℕ)) (es : List Term) (columns : List Column) (row : List Cell)
     → row_made value names es columns ≡ Some row → IsRow columns row
-row_fits value names es [] row h = let is : [] ≡ row = cc in subst (IsRow []) is tt
+row_fits value names es [] row h = let is : [] ≡ row = cc in subst (IsRow []) is refl
 row_fits value names es (c ∷ columns) row h =
     let found = in_front_some (held_by c (given value (term_for names es c.name))) (row_made value names es columns) row h in
     let stands = held_stands c (given value (term_for names es c.name)) found.0 found.2 in
-    subst (IsRow (c ∷ columns)) found.4 (stands.0, stands.1, row_fits value names es columns found.1 found.3)
+    subst (IsRow (c ∷ columns)) found.4 (fitting_row c columns found.0 found.1 stands.0 stands.1 (row_fits value names es columns found.1 found.3))
 
 -- ---- a scene on the way
 

@@ -9,8 +9,8 @@ use Rattle.sr_ast.specs.declared.create.Image.{Image}
 use Rattle.sr_ast.specs.declared.create.Image.TheVariants.{Old, New, Remote}
 use Rattle.sr_eval.specs.Bounds.{IsRowOf, AreRows, columns_of, values_of}
 use Rattle.sr_eval.specs.declared.bound.Bound.{Bound}
-use Rattle.sr_dml.specs.Conditions.{IsRow}
-use Rattle.sr_dml.proofs.Fitted.{row_of as row_of_table}
+use Rattle.sr_fits.specs.Rows.{IsRow}
+use Rattle.sr_fits.proofs.Rows.{row_of as row_of_table}
 use Rattle.sr_schema.specs.declared.table.Column.{Column}
 use Rattle.sr_schema.specs.declared.table.Table.{Table}
 use Rattle.sr_trigger.specs.Triggers.{aliases_scope, variables_scope, trigger_scope}

@@ -4,7 +4,7 @@ use Rattle.std.specs.FinMap as map_of
 use Rattle.std.specs.List.{AllByRecursion}
 use Rattle.sr_base.specs.declared.value.Value.{Value as Cell}
 use Rattle.sr_dml.specs.Applying.{applied}
-use Rattle.sr_dml.specs.Conditions.{IsRow}
+use Rattle.sr_fits.specs.Rows.{IsRow}
 use Rattle.sr_dml.specs.FittingChanges.{ChangesFit}
 use Rattle.sr_dml.specs.Statements.{key_of}
 use Rattle.sr_logform.specs.declared.change.Change.{Change}

@@ -8,7 +8,7 @@ use Rattle.sr_ast.specs.declared.create.CreateTrigger.{CreateTrigger}
 use Rattle.sr_ast.specs.declared.create.Image.{Image}
 use Rattle.sr_ast.specs.declared.create.Image.TheVariants.{Old, New, Remote}
 use Rattle.sr_eval.specs.Bounds.{IsRowOf}
-use Rattle.sr_dml.specs.Conditions.{IsRow}
+use Rattle.sr_fits.specs.Rows.{IsRow}
 use Rattle.sr_logform.specs.contracts.change.Change.{the_row as change_row}
 use Rattle.sr_logform.specs.declared.change.Change.{Change}
 use Rattle.sr_rows.specs.Marks.{RowMap, coded_rows}

@@ -7,10 +7,9 @@ ghost use Rattle.sr_eval.specs.Comparisons.{is_null};
 ghost use Rattle.sr_firing.specs.Holding.{held_by, held_in, is_named};
 ghost use Rattle.sr_schema.specs.Firsts.{has};
 ghost use Rattle.sr_schema.specs.Members.{key_names};
-ghost use Rattle.sr_schema.specs.Names.{place_of};
 
 use sr_base::{Kind, Name, Value};
-use sr_catalog::{Column, HasName, Table};
+use sr_catalog::{Column, Table};
 use sr_dates::fit;
 
 /// What a column or variable of a type holds for a value, if it fits.
@@ -53,15 +52,6 @@ pub(crate) fn held_in(variable: &(Name, Kind), value: Option<Value>) -> Option<V
     ensures { result ≡ held_in variable.now value }
 {
     held_as(value?, variable.1)
-}
-
-/// The place of the first thing of a name.
-pub(crate) fn place_of<T: HasName>(items: &[T], name: &Name) -> Option<usize>
-    ensures { result ≡ place_of T.name_of name.now items.now }
-{
-    items
-        .iter()
-        .position(|item| name.bytes() == item.name().bytes())
 }
 
 /// Whether a name is that of a column of the table's key. It looks at each.

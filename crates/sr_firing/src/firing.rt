@@ -3,7 +3,7 @@
 ghost use Rattle.std.specs.Prelude.{◌≡◌, IfOk, OnOk};
 ghost use Rattle.std.specs.List.{list_any};
 ghost use Rattle.std.specs.Option.{option_copied};
-ghost use Rattle.sr_dml.specs.Conditions.{IsRow};
+ghost use Rattle.sr_fits.specs.Rows.{IsRow};
 ghost use Rattle.sr_firing.specs.Actions.{acted};
 ghost use Rattle.sr_firing.specs.Firing.{after_trigger, entered, fired, firing, is_fired};
 ghost use Rattle.sr_firing.specs.Running.{ground_of, Went};

@@ -2,7 +2,7 @@
 
 ghost use Rattle.std.specs.Prelude.{◌≡◌, ℕ, List, Some};
 ghost use Rattle.sr_base.specs.declared.value.Value.{Value as Cell};
-ghost use Rattle.sr_dml.specs.Conditions.{IsRow};
+ghost use Rattle.sr_fits.specs.Rows.{IsRow};
 ghost use Rattle.sr_firing.specs.Firing.{fired};
 ghost use Rattle.sr_firing.specs.Laws.{IsLeft};
 ghost use Rattle.sr_firing.specs.Scenes.{Ground};

@@ -7,13 +7,13 @@ ghost use Rattle.sr_firing.specs.Running.{ground_of, IsReady, Went};
 ghost use Rattle.sr_firing.specs.Scenes.{GroundFits, SceneFits};
 ghost use Rattle.sr_trigger.specs.Triggers.{image_of, is_new, is_target};
 
-use crate::columns::{held_by, held_in, is_of_key, place_of};
+use crate::columns::{held_by, held_in, is_of_key};
 use crate::running::{Running, value};
 use crate::scene::Scene;
 use sr_ast::{CreateTrigger, Expr, Image};
 use sr_base::{Name, NoMemory, Value};
 use sr_catalog::Table;
-use sr_schema::{item_at, item_named};
+use sr_schema::{item_at, item_named, place_named};
 use std::alloc::Global;
 
 /// SET of a variable, or of a column of NEW that is not of the key. It fails where the value passes its type's end, does not fit, or is a
@@ -48,7 +48,7 @@ fn set_variable(running: &Running, scene: &mut Scene, name: &Name, value: Option
     ensures scene { SceneFits (ground_of running.now.conflict) running.now.trigger.now.variables scene.new }
 {
     let variables = running.trigger.variables.as_slice();
-    let Some(place) = place_of(variables, name) else {
+    let Some(place) = place_named(name, variables) else {
         return false;
     };
     let Some(variable) = item_at(variables, place) else {
@@ -79,7 +79,7 @@ fn set_new(
         return false;
     }
     let columns = table.columns.as_slice();
-    let Some(place) = place_of(columns, name) else {
+    let Some(place) = place_named(name, columns) else {
         return false;
     };
     let Some(column) = item_at(columns, place) else {

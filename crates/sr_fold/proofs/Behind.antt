@@ -1,5 +1,5 @@
 -- The state behind entries and ops that are known to fit.
-use Rattle.std.proofs.Common.{◌≡◌, ℕ, Bool, true, false, List, [], ◌∷◌, ◌++◌, length, Result, OnOk, refl, sym, ap, subst, ◌∙◌, ◌↔◌}
+use Rattle.std.proofs.Common.{◌≡◌, ℕ, Bool, true, false, List, [], ◌∷◌, ◌++◌, length, Result, OnOk, refl, sym, ap, subst, ◌∙◌, ◌↔◌, None}
 use Rattle.std.specs.List.{AllByRecursion}
 use Rattle.sr_base.specs.declared.offset.Offset.{Offset}
 use Rattle.sr_base.specs.declared.value.Value.{Value as Cell}
@@ -7,11 +7,12 @@ use Rattle.sr_ast.specs.Statements.{is_ddl, is_carried}
 use Rattle.sr_ast.specs.declared.stmt.Stmt.{Stmt}
 use Rattle.sr_book.specs.Entries.{Name}
 use Rattle.sr_book.specs.declared.note.Note.{Note}
-use Rattle.sr_change.specs.Changes.{next as catalog_after}
+use Rattle.sr_change.specs.Changes.{refusal, next as catalog_after}
 use Rattle.sr_dml.specs.Applying.{applied}
 use Rattle.sr_dml.specs.Conditions.{RowsFit}
 use Rattle.sr_dml.specs.FittingChanges.{ChangesFit}
 use Rattle.sr_dml.proofs.Applied.{fitting_changes_keep}
+use Rattle.sr_history.specs.Fitting.{IsAccepted, IsAcceptedPass, FitsState}
 use Rattle.sr_history.specs.Folds.{State, with_statement, rows_left, after_done, after_dones, next}
 use Rattle.sr_history.specs.Recorded.{Done, IsNoExec, IsSet}
 use Rattle.sr_logform.specs.declared.change.Change.{Change}
@@ -27,7 +28,7 @@ use Rattle.sr_schema.specs.Catalogs.{Lists}
 use Rattle.sr_fold.specs.Deeds.{DoFit}
 use Rattle.sr_fold.specs.Movements.{change_of}
 use Rattle.sr_fold.specs.Parts.{IsTextOf, after_run}
-use Rattle.sr_fold.specs.Reached.{EntryFits, EntryReaches, OpFits, OpReaches, OpsFit, OpsReach, NoneRuns}
+use Rattle.sr_fold.specs.Reached.{EntryFits, PassFits, EntryReaches, OpFits, OpReaches, OpsFit, OpsReach, NoneRuns}
 use Rattle.sr_fold.specs.Readings.{state_in}
 use Rattle.sr_fold.proofs.Changing.{ok_as}
 use Rattle.sr_fold.proofs.Meant.{own_of, taken_of, ddl_of, pass_of, sync_of, note_of}
@@ -95,6 +96,33 @@ module _ (catalog : Lists) (rows : Marked) where
   unfolding EntryReaches
   pass_never after new users only text changes never = λ r f.
       let p = pass_of (state_in catalog rows) users only text changes r f in absurd (never p.1.0 p.1.2)
+
+  -- ---- what is done is accepted
+
+  pub ddl_accepted : (text : List ℕ) (statement : Stmt) → EntryFits (state_in catalog rows) (entries.Ddl text) → IsTextOf is_ddl text statement
+      → refusal catalog statement ≡ None
+  unfolding EntryFits
+  ddl_accepted text statement e is =
+      let d = ddl_of (state_in catalog rows) text e.0 e.1 in
+      subst (λ (x : Stmt). refusal catalog x ≡ None) (sym (text_once is_ddl text statement d.0 is d.1)) d.2.catalog
+
+  pub pass_fits : (users : List Name) (only : Bool) (text : List ℕ) (changes : List Change) → EntryFits (state_in catalog rows) (entries.Pass users only text changes)
+      → PassFits (state_in catalog rows) only text changes
+  unfolding PassFits
+  pass_fits users only text changes e = (users, e)
+
+  passed_accepted : (users : List Name) (only : Bool) (text : List ℕ) (changes : List Change) (statement : Stmt) → only ≡ false
+      → EntryFits (state_in catalog rows) (entries.Pass users only text changes) → IsTextOf is_carried text statement → refusal catalog statement ≡ None
+  unfolding EntryFits FitsState
+  passed_accepted users only text changes statement here e is =
+      let p = pass_of (state_in catalog rows) users only text changes e.0 e.1 in
+      let accepted : IsAccepted (state_in catalog rows) p.1.0 = subst (λ (b : Bool). IsAcceptedPass (state_in catalog rows) b p.1.0) here p.1.3.2 in
+      subst (λ (x : Stmt). refusal catalog x ≡ None) (sym (text_once is_carried text statement p.1.0 is p.1.2)) accepted.catalog
+
+  pub pass_accepted : (only : Bool) (text : List ℕ) (changes : List Change) (statement : Stmt) → only ≡ false → PassFits (state_in catalog rows) only text changes
+      → IsTextOf is_carried text statement → refusal catalog statement ≡ None
+  unfolding PassFits
+  pass_accepted only text changes statement here e is = passed_accepted e.0 only text changes statement here e.1 is
 
   pub sync_reached : (user : Name) (tables : List (Name × List (List Cell))) → EntryReaches (state_in catalog rows) (entries.Sync user tables) (state_in catalog rows)
   unfolding next EntryReaches
@@ -179,6 +207,14 @@ module _ (catalog : Lists) (rows : Marked) where
   pub run_changes : (text : List ℕ) (changes : List Change) → OpFits (state_in catalog rows) (ops.Exec text) (outcomes.Plain changes) → ChangesFit catalog rows.rows changes
   unfolding OpFits
   run_changes text changes e = (run_of (state_in catalog rows) text changes e.0 e.1).1.fit
+
+  -- and its statement is accepted
+  pub run_accepted : (text : List ℕ) (changes : List Change) (statement : Stmt) → OpFits (state_in catalog rows) (ops.Exec text) (outcomes.Plain changes)
+      → IsTextOf is_carried text statement → refusal catalog statement ≡ None
+  unfolding OpFits
+  run_accepted text changes statement e is =
+      let r = run_of (state_in catalog rows) text changes e.0 e.1 in
+      subst (λ (x : Stmt). refusal catalog x ≡ None) (sym (text_once is_carried text statement r.0 is r.1.stands)) r.1.accepted.catalog
 
   met_here : (new : Marked) (table : Name) (key : List (Name × Cell)) (columns : List (Name × Cell × Cell)) (inserts : List Change) (before after : List Cell)
       → new.rows ≡ applied catalog (inserts ++ change_of table before after ∷ []) rows.rows

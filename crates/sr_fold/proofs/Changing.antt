@@ -5,7 +5,8 @@ use Rattle.std.specs.List.{find as find_in}
 use Rattle.sr_base.specs.declared.value.Value.{Value as Cell}
 use Rattle.sr_book.specs.Entries.{Name}
 use Rattle.sr_dml.specs.Applying.{place_of, with_row, without_row, applied_in, applied}
-use Rattle.sr_dml.specs.Conditions.{IsRow, RowsFit}
+use Rattle.sr_dml.specs.Conditions.{RowsFit}
+use Rattle.sr_fits.specs.Rows.{IsRow}
 use Rattle.sr_dml.specs.FittingChanges.{FitsAt, IsFitChange, ChangesFit}
 use Rattle.sr_dml.specs.Statements.{key_of, table_named}
 use Rattle.sr_dml.proofs.Applied.{fitting_changes_keep}

@@ -9,7 +9,7 @@ use Rattle.sr_base.specs.Order.{name_cmp}
 use Rattle.sr_book.specs.Entries.{Name}
 use Rattle.sr_dates.specs.Fitting.{fitted}
 use Rattle.sr_dml.specs.Applying.{applied_in, applied}
-use Rattle.sr_dml.specs.Conditions.{IsRow}
+use Rattle.sr_fits.specs.Rows.{IsRow}
 use Rattle.sr_dml.specs.FittingChanges.{IsFitChange, ChangesFit}
 use Rattle.sr_dml.specs.Statements.{key_of, table_named}
 use Rattle.sr_history.specs.Fitting.{fitted_in, all_there, IsInsertion, IsNamedKey, AreNamedRows}

@@ -5,7 +5,7 @@ use Rattle.std.specs.FinMap as map_of
 use Rattle.sr_base.specs.declared.value.Value.{Value as Cell}
 use Rattle.sr_book.specs.Entries.{Name}
 use Rattle.sr_dml.specs.Applying.{place_of}
-use Rattle.sr_dml.specs.Conditions.{IsRow}
+use Rattle.sr_fits.specs.Rows.{IsRow}
 use Rattle.sr_dml.specs.Statements.{key_of, table_named}
 use Rattle.sr_logform.specs.declared.change.Change.{Change}
 use Rattle.sr_logform.specs.declared.outcome.Outcome.{Outcome}

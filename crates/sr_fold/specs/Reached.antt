@@ -1,5 +1,5 @@
 -- What is known to fit, and the state that it comes to, each in one word.
-use Rattle.std.specs.Prelude.{◌≡◌, List, None, Ok}
+use Rattle.std.specs.Prelude.{◌≡◌, ℕ, Bool, List, None, Ok}
 use Rattle.std.specs.List.{AllByRecursion}
 use Rattle.sr_ast.specs.declared.query.Dml.{Dml}
 use Rattle.sr_ast.specs.declared.query.Dml.TheVariants as dml
@@ -9,7 +9,9 @@ use Rattle.sr_dml.specs.Applying.{applied}
 use Rattle.sr_dml.specs.Statements.{done}
 use Rattle.sr_history.specs.Folds.{State, after_done, after_dones, next}
 use Rattle.sr_history.specs.Recorded.{Done, Recorded, IsNoExec}
+use Rattle.sr_logform.specs.declared.change.Change.{Change}
 use Rattle.sr_logform.specs.declared.entry.Entry.{Entry}
+use Rattle.sr_logform.specs.declared.entry.Entry.TheVariants as entries
 use Rattle.sr_logform.specs.declared.op.Op.{Op}
 use Rattle.sr_logform.specs.declared.outcome.Outcome.{Outcome}
 use Rattle.sr_rows.specs.Marks.{RowMap}
@@ -20,6 +22,10 @@ use Rattle.sr_fold.specs.Readings.{FitsAs}
 -- the entry is that of a recorded one which fits the state
 unfoldable pub EntryFits : State → Entry → Type 0
 EntryFits s entry = (r : Recorded) × FitsAs s entry r
+
+-- so of a Pass, whoever its users are
+unfoldable pub PassFits : State → Bool → List ℕ → List Change → Type 0
+PassFits s only text changes = (users : List Name) × EntryFits s (entries.Pass users only text changes)
 
 -- whichever one it is that of, this is the state behind it
 unfoldable pub EntryReaches : State → Entry → State → Type 0

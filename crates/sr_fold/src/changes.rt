@@ -15,10 +15,10 @@ ghost use Rattle.sr_fold.specs.Answers.{Tells};
 ghost use Rattle.sr_fold.specs.Movements.{Differs, IsHeld, change_of, MayCome, IsThere, MayBecome, KeyWhere};
 ghost use Rattle.sr_fold.specs.Told.{ChangeTold, ChangesTold};
 
-use crate::fitting::row_fits;
-use crate::keys::{is_key, is_row, key_of};
+use crate::keys::{is_key, is_same_row, key_of};
 use sr_base::{Copied, Key, Name, NoMemory, Row};
 use sr_catalog::{Catalog, Table};
+use sr_fits::is_row;
 use sr_logform::Change;
 use sr_rows::Rows;
 use std::alloc::Global;
@@ -111,7 +111,7 @@ fn insert(alloc: Global, table: &Table, rows: &mut Rows, after: &Row) -> Result<
         (rows.new.rows ≡ with_row table.now (Some after.now) rows.old.rows) told) }
     ensures fresh { rows.new ≡ at_mark rows.new.rows }
 {
-    if !row_fits(table.columns.as_slice(), after) {
+    if !is_row(table.columns.as_slice(), after.values()) {
         return Ok(false);
     }
     let key = key_of(alloc, table, after)?;
@@ -178,7 +178,7 @@ fn kept_key(
 ) -> Result<Option<Key>, NoMemory>
     ensures key { IfOk result (KeyWhere (MayBecome table.now before.now after.now rows.now.rows) (key_at table.now.key after.now)) }
 {
-    if !row_fits(table.columns.as_slice(), after) {
+    if !is_row(table.columns.as_slice(), after.values()) {
         return Ok(None);
     }
     let Some(key) = held_key(alloc, table, rows, before)? else {
@@ -196,6 +196,6 @@ fn is_held(held: Option<&Row>, row: &Row) -> bool
 {
     match held {
         None => false,
-        Some(held) => is_row(held, row),
+        Some(held) => is_same_row(held, row),
     }
 }

@@ -10,11 +10,11 @@ ghost use Rattle.sr_fold.specs.Movements.{Differs};
 ghost use Rattle.sr_fold.specs.Told.{ConflictTold};
 
 use crate::changes::{go_on_changes, go_on_row};
-use crate::fitting::row_fits;
 use crate::keys::{is_key, key_of};
 use crate::naming::named_key;
 use sr_base::{Key, Name, NoMemory, Row, Value};
 use sr_catalog::{Catalog, Table};
+use sr_fits::is_row;
 use sr_logform::Change;
 use sr_rows::Rows;
 use std::alloc::Global;
@@ -78,10 +78,10 @@ fn are_named_rows(
     let Some(table) = catalog.table(name) else {
         return Ok(false);
     };
-    if !row_fits(table.columns.as_slice(), before) {
+    if !is_row(table.columns.as_slice(), before.values()) {
         return Ok(false);
     }
-    if !row_fits(table.columns.as_slice(), after) {
+    if !is_row(table.columns.as_slice(), after.values()) {
         return Ok(false);
     }
     let Some(key) = named_key(alloc, table, columns)? else {

@@ -2,16 +2,17 @@
 //!
 //! What memory can lack for comes first and by steps that lead back, so that want of it leaves catalog and rows as they were.
 
-ghost use Rattle.std.specs.Prelude.{◌≡◌, List, OnOk, OnErr};
+ghost use Rattle.std.specs.Prelude.{◌≡◌, List, None, OnOk, OnErr};
 ghost use Rattle.sr_base.specs.declared.offset.Offset.{Offset as Place};
 ghost use Rattle.sr_book.specs.Entries.{Name as AName};
+ghost use Rattle.sr_change.specs.Changes.{refusal};
 ghost use Rattle.sr_dml.specs.Conditions.{RowsFit};
 ghost use Rattle.sr_history.specs.Folds.{next};
 ghost use Rattle.sr_history.specs.Recorded.{Recorded};
 ghost use Rattle.sr_logform.specs.declared.entry.Entry.{Entry as Body};
 ghost use Rattle.sr_rows.specs.Steps.{at_mark};
 ghost use Rattle.sr_fold.specs.Parts.{after_run};
-ghost use Rattle.sr_fold.specs.Reached.{EntryFits, EntryReaches, OpsFit};
+ghost use Rattle.sr_fold.specs.Reached.{EntryFits, EntryReaches, OpsFit, PassFits};
 ghost use Rattle.sr_fold.specs.Readings.{state_in, FitsAs};
 
 use crate::statements::{carried_statement, ddl_statement, do_statement, drop_rows};
@@ -49,7 +50,7 @@ pub fn takes_effect(
 }
 
 /// An entry, by its kind.
-#[tactic(auto, using(crate::proofs::Behind::taken_fits, crate::proofs::Behind::sync_reached, crate::proofs::Behind::note_reached))]
+#[tactic(auto, using(crate::proofs::Behind::taken_fits, crate::proofs::Behind::pass_fits, crate::proofs::Behind::sync_reached, crate::proofs::Behind::note_reached))]
 fn take_entry(
     alloc: Global,
     catalog: &mut Catalog,
@@ -106,6 +107,7 @@ fn take_ddl(
     text: &Text,
 ) -> Result<(), NoMemory>
     requires fresh { rows.old ≡ at_mark rows.old.rows }
+    requires fits { EntryFits (state_in catalog.old rows.old) (Body.Ddl text.now) }
     ensures effect { OnOk result (EntryReaches (state_in catalog.old rows.old) (Body.Ddl text.now) (state_in catalog.new rows.new)) }
     ensures fresh { rows.new ≡ at_mark rows.new.rows }
     ensures catalog { OnErr result (catalog.new ≡ catalog.old) }
@@ -130,6 +132,7 @@ fn take_pass(
     changes: &[Change],
 ) -> Result<(), NoMemory>
     requires fresh { rows.old ≡ at_mark rows.old.rows }
+    requires fits { PassFits (state_in catalog.old rows.old) only text.now changes.now }
     ensures effect { (users : List AName) → OnOk result (EntryReaches (state_in catalog.old rows.old) (Body.Pass users only text.now changes.now)
         (state_in catalog.new rows.new)) }
     ensures fresh { rows.new ≡ at_mark rows.new.rows }
@@ -157,6 +160,7 @@ fn take_run(
     changes: &[Change],
 ) -> Result<(), NoMemory>
     requires fresh { rows.old ≡ at_mark rows.old.rows }
+    requires accepted { refusal catalog.old stmt.now ≡ None }
     ensures ok { OnOk result (state_in catalog.new rows.new ≡ after_run (state_in catalog.old rows.old) changes.now stmt.now) }
     ensures fresh { rows.new ≡ at_mark rows.new.rows }
     ensures catalog { OnErr result (catalog.new ≡ catalog.old) }

@@ -23,7 +23,7 @@ pub(crate) fn is_key(key: &Key, other: &Key) -> bool
 }
 
 /// Whether two rows are one.
-pub(crate) fn is_row(row: &Row, other: &Row) -> bool
+pub(crate) fn is_same_row(row: &Row, other: &Row) -> bool
     ensures same { IsTrue result ↔ (row.now ≡ other.now) }
 {
     row.values().cmp(other.values()).is_eq()

@@ -10,7 +10,6 @@ mod changes;
 mod conflicts;
 mod effects;
 mod emptying;
-mod fitting;
 mod going;
 mod keys;
 mod naming;
@@ -20,6 +19,5 @@ mod steps;
 mod users;
 
 pub use effects::takes_effect;
-pub use fitting::row_fits;
 pub use going::go_on;
 pub use keys::key_of;

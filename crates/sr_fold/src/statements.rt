@@ -153,6 +153,7 @@ pub(crate) fn do_statement(
     stmt: &Stmt,
 ) -> Result<(), NoMemory>
     requires fresh { rows.old ≡ at_mark rows.old.rows }
+    requires accepted { refusal catalog.old stmt.now ≡ None }
     ensures ok { OnOk result (state_in catalog.new rows.new ≡ with_statement stmt.now (state_in catalog.old rows.old)) }
     ensures fresh { rows.new ≡ at_mark rows.new.rows }
     ensures catalog { OnErr result (catalog.new ≡ catalog.old) }

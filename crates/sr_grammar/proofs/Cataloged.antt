@@ -14,8 +14,8 @@ use Rattle.sr_ast.specs.declared.create.CreatePublication.{CreatePublication}
 use Rattle.sr_ast.specs.declared.create.ArticleRule.{ArticleRule}
 use Rattle.sr_ast.specs.declared.create.Grant.{Grant}
 use Rattle.sr_ast.specs.declared.create.SubscriptionRule.{SubscriptionRule}
-use Rattle.sr_grammar.specs.declared.keyword.Keyword.{Keyword}
-use Rattle.sr_grammar.specs.declared.keyword.Keyword.TheVariants as key
+use Rattle.sr_ast.specs.declared.keyword.Keyword.{Keyword}
+use Rattle.sr_ast.specs.declared.keyword.Keyword.TheVariants as key
 use Rattle.sr_grammar.specs.declared.symbol.Sign.TheVariants as mark
 use Rattle.sr_grammar.specs.declared.symbol.Symbol.{Symbol}
 use Rattle.sr_grammar.specs.declared.symbol.Symbol.TheVariants as symbol
@@ -28,8 +28,8 @@ use Rattle.sr_grammar.specs.Tables.{IsRules, IsColumnRule, IsColumns, IsKeyList,
 use Rattle.sr_grammar.specs.Tables.IsRules.{none as no_rule, not_null}
 use Rattle.sr_grammar.specs.Tables.IsColumns.{one, more}
 use Rattle.sr_grammar.specs.Scripts.{IsBehind, IsBehindTwo}
-use Rattle.sr_grammar.specs.Normal.{IsNoneOr, IsPlain, IsNormalValue, IsNormalKind, IsNormalExpr}
-use Rattle.sr_grammar.specs.NormalForms.{IsNormalRule, IsNormalTable, IsNormalArticle, IsNormalPublication, IsNormalGrant, IsNormalSubscription}
+use Rattle.sr_ast.specs.Normal.{IsNoneOr, IsPlain, IsNormalValue, IsNormalKind, IsNormalExpr}
+use Rattle.sr_ast.specs.NormalForms.{IsNormalRule, IsNormalTable, IsNormalArticle, IsNormalPublication, IsNormalGrant, IsNormalSubscription}
 use Rattle.sr_grammar.proofs.Saying.{Spelt, word_says, phrase_says, phrase, call_parenthesis_says, close_parenthesis_says, comma_says}
 use Rattle.sr_grammar.proofs.Listed.{listed_spelt, enclosed, all_of}
 use Rattle.sr_grammar.proofs.Naming.{name_spelt, names_spelt}

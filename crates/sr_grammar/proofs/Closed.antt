@@ -18,8 +18,8 @@ use Rattle.sr_grammar.specs.Scripts.Pieces.{start, again, empty, stated}
 use Rattle.sr_grammar.specs.Meanings.{IsWritten}
 use Rattle.sr_grammar.specs.Faults.{IsRead, Answers}
 use Rattle.sr_grammar.specs.declared.fault.ParseFault.{ParseFault}
-use Rattle.sr_grammar.specs.Normal.{IsPlain, IsSomeOf, IsNormalDeep, IsNormalExpr}
-use Rattle.sr_grammar.specs.NormalForms.{IsNormalAlias, IsNormalVariable, IsNormalChain, ifs, IsNormalTrigger, IsNormal}
+use Rattle.sr_ast.specs.Normal.{IsPlain, IsSomeOf, IsNormalDeep, IsNormalExpr}
+use Rattle.sr_ast.specs.NormalForms.{IsNormalAlias, IsNormalVariable, IsNormalChain, ifs, IsNormalTrigger, IsNormal}
 use Rattle.sr_grammar.proofs.Listed.{all_of}
 use Rattle.sr_grammar.proofs.Sound.{AreSound, Gives, past, moved, name_gives, listed_gives, row_gives, names_gives, tokens_sound, all_push}
 use Rattle.sr_grammar.proofs.Settled.{past_two, column_gives, expr_gives, row_of_gives, dml_gives, select_gives}

@@ -9,8 +9,8 @@ use Rattle.sr_grammar.specs.Tables.{IsRules, IsColumnRule, IsColumns, IsKeyWords
 use Rattle.sr_grammar.specs.Tables.IsRules.{none as no_rule, not_null, null, primary}
 use Rattle.sr_grammar.specs.Tables.IsColumns.{one, more}
 use Rattle.sr_grammar.specs.Scripts.{IsWork, IsOnly, IsPassthrough}
-use Rattle.sr_grammar.specs.Normal.{IsPlain, IsNoneOr, IsSomeOf, IsNormalValue, IsNormalKind, IsNormalExpr}
-use Rattle.sr_grammar.specs.NormalForms.{IsNormalRule, IsNormalTable, IsNormalArticle, IsNormalPublication, IsNormalGrant, IsNormalSubscription, IsNormalPassthrough}
+use Rattle.sr_ast.specs.Normal.{IsPlain, IsNoneOr, IsSomeOf, IsNormalValue, IsNormalKind, IsNormalExpr}
+use Rattle.sr_ast.specs.NormalForms.{IsNormalRule, IsNormalTable, IsNormalArticle, IsNormalPublication, IsNormalGrant, IsNormalSubscription, IsNormalPassthrough}
 use Rattle.sr_grammar.proofs.Listed.{all_of}
 use Rattle.sr_grammar.proofs.Sound.{AreSound, Gives, past, moved, name_gives, signed_gives, listed_gives, names_gives, some_push}
 use Rattle.sr_grammar.proofs.Settled.{past_two, expr_gives, condition_gives}

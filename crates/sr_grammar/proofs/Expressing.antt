@@ -10,7 +10,7 @@ use Rattle.sr_ast.specs.declared.operator.Unary.TheVariants as one
 use Rattle.sr_ast.specs.declared.operator.Binary.{Binary}
 use Rattle.sr_base.specs.declared.value.Value.{Value}
 use Rattle.sr_dates.specs.Calendar.{day_named}
-use Rattle.sr_grammar.specs.declared.keyword.Keyword.TheVariants as key
+use Rattle.sr_ast.specs.declared.keyword.Keyword.TheVariants as key
 use Rattle.sr_grammar.specs.declared.symbol.Sign.TheVariants as sign
 use Rattle.sr_grammar.specs.declared.symbol.Symbol.{Symbol}
 use Rattle.sr_grammar.specs.declared.symbol.Symbol.TheVariants as symbol

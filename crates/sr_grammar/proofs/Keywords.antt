@@ -4,9 +4,9 @@ use Rattle.std.proofs.Common.{Bor, slice_index_or}
 use Rattle.std.proofs.lemmas.Slice.Eq.{bytes_eq-Decides}
 use Rattle.std.specs.List.{list_all}
 use Rattle.std.specs.Str.{bytes_eq}
-use Rattle.sr_grammar.specs.declared.keyword.Keyword.{Keyword}
+use Rattle.sr_ast.specs.declared.keyword.Keyword.{Keyword}
+use Rattle.sr_ast.specs.Keywords.{lower, spelling, IsKeyword}
 use Rattle.sr_grammar.specs.Keywords.{Entries, are_spelled, has}
-use Rattle.sr_grammar.specs.Meanings.{lower, spelling, IsKeyword}
 
 -- an entry and a row of the table, as they lie in memory
 abbrev pub Entry : Type 0

@@ -8,7 +8,7 @@ use Rattle.sr_grammar.specs.Symbols.{Symbols, sign, IsSign}
 use Rattle.sr_grammar.specs.Listing.{Listed, Row}
 use Rattle.sr_grammar.specs.Listing.Listed.{one, more}
 use Rattle.sr_grammar.specs.Listing.Row.{none, then}
-use Rattle.sr_grammar.specs.Normal.{IsSomeOf}
+use Rattle.sr_ast.specs.Normal.{IsSomeOf}
 use Rattle.sr_grammar.proofs.Saying.{Says, Spelt, regrouped, comma_says, open_parenthesis_says, close_parenthesis_says}
 
 -- what goes on a list

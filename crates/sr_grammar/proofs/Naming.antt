@@ -12,16 +12,16 @@ use Rattle.std.specs.List.{AllByRecursion, list_all}
 use Rattle.sr_ast.specs.Pages.{word, dot, listed}
 use Rattle.sr_ast.specs.Printing.{name_pieces, column_pieces, names_pieces}
 use Rattle.sr_lex.specs.declared.token.TokenKind.TheVariants as kind
-use Rattle.sr_grammar.specs.declared.keyword.Keyword.{Keyword}
-use Rattle.sr_grammar.specs.declared.keyword.Keyword.TheVariants as key
+use Rattle.sr_ast.specs.declared.keyword.Keyword.{Keyword}
+use Rattle.sr_ast.specs.declared.keyword.Keyword.TheVariants as key
 use Rattle.sr_grammar.specs.declared.symbol.Sign.TheVariants as mark
 use Rattle.sr_grammar.specs.declared.symbol.Symbol.{Symbol}
 use Rattle.sr_grammar.specs.declared.symbol.Symbol.TheVariants as symbol
-use Rattle.sr_grammar.specs.Symbols.{IsName, named, name_meant, sign}
-use Rattle.sr_grammar.specs.Meanings.{IsKeyword, lower, spelling}
+use Rattle.sr_grammar.specs.Symbols.{IsName, name_meant, sign}
 use Rattle.sr_grammar.specs.Listing.{Listed, IsNames}
 use Rattle.sr_grammar.specs.Expressions.{IsColumn}
-use Rattle.sr_grammar.specs.Normal.{IsPlain, IsPlainColumn}
+use Rattle.sr_ast.specs.Normal.{IsPlain, IsPlainColumn}
+use Rattle.sr_ast.specs.Keywords.{named, IsKeyword, lower, spelling}
 use Rattle.sr_grammar.proofs.Saying.{Spelt, IsLexeme, word_says, no_part, dot_says}
 use Rattle.sr_grammar.proofs.Listed.{listed_spelt, enclosed}
 

@@ -19,17 +19,17 @@ use Rattle.sr_ast.specs.declared.query.Item.TheVariants as item
 use Rattle.sr_ast.specs.declared.query.Source.{Source}
 use Rattle.sr_ast.specs.declared.query.Join.{Join}
 use Rattle.sr_ast.specs.declared.query.OrderBy.{OrderBy}
-use Rattle.sr_grammar.specs.declared.keyword.Keyword.{Keyword}
-use Rattle.sr_grammar.specs.declared.keyword.Keyword.TheVariants as key
+use Rattle.sr_ast.specs.declared.keyword.Keyword.{Keyword}
+use Rattle.sr_ast.specs.declared.keyword.Keyword.TheVariants as key
 use Rattle.sr_grammar.specs.declared.symbol.Sign.TheVariants as mark
 use Rattle.sr_grammar.specs.Symbols.{Symbols, IsName, word as key_symbol, sign}
-use Rattle.sr_grammar.specs.Meanings.{spelling}
 use Rattle.sr_grammar.specs.Listing.{Listed, Row, IsNames}
 use Rattle.sr_grammar.specs.Expressions.{IsExpr, IsColumn}
 use Rattle.sr_grammar.specs.Writing.{IsLed, IsCondition, IsRow, IsInsert, IsSet, IsUpdate, IsDelete, IsAggregate, IsItem, IsItems, IsSource, IsJoin, IsDirection, IsOrder, IsOrdering, IsSelect}
 use Rattle.sr_grammar.specs.Scripts.{IsBehind, IsDml}
-use Rattle.sr_grammar.specs.Normal.{IsNoneOr, IsSomeOf, IsPlain, IsNormalExpr}
-use Rattle.sr_grammar.specs.NormalForms.{IsNormalInsert, IsNormalSet, IsNormalUpdate, IsNormalDelete, IsNormalDml, IsNormalItem, AreNormalItems, IsNormalSource, IsNormalJoin, IsNormalOrder, IsNormalSelect}
+use Rattle.sr_ast.specs.Normal.{IsNoneOr, IsSomeOf, IsPlain, IsNormalExpr}
+use Rattle.sr_ast.specs.NormalForms.{IsNormalInsert, IsNormalSet, IsNormalUpdate, IsNormalDelete, IsNormalDml, IsNormalItem, AreNormalItems, IsNormalSource, IsNormalJoin, IsNormalOrder, IsNormalSelect}
+use Rattle.sr_ast.specs.Keywords.{spelling}
 use Rattle.sr_grammar.proofs.Saying.{Says, Spelt, word_says, phrase_says, regrouped, call_parenthesis_says, close_parenthesis_says}
 use Rattle.sr_grammar.proofs.Listed.{listed_spelt, row_spelt as in_row_spelt, enclosed}
 use Rattle.sr_grammar.proofs.Naming.{name_spelt, names_spelt, column_spelt}

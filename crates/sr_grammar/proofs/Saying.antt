@@ -7,12 +7,13 @@ use Rattle.sr_lex.specs.declared.token.TokenKind.{TokenKind}
 use Rattle.sr_lex.specs.declared.token.TokenKind.TheVariants as kind
 use Rattle.sr_lex.specs.Tokens.{IsToken, begins, is_part, is_digit, is_quote, is_dash, is_behind_less, is_word}
 use Rattle.sr_lex.specs.Tokens.Skips.{none}
-use Rattle.sr_grammar.specs.declared.keyword.Keyword.{Keyword}
-use Rattle.sr_grammar.specs.declared.keyword.Keyword.TheVariants as key
+use Rattle.sr_ast.specs.declared.keyword.Keyword.{Keyword}
+use Rattle.sr_ast.specs.declared.keyword.Keyword.TheVariants as key
+use Rattle.sr_ast.specs.Keywords.{spelling}
 use Rattle.sr_grammar.specs.declared.symbol.Sign.TheVariants as mark
 use Rattle.sr_grammar.specs.declared.symbol.Symbol.{Symbol}
 use Rattle.sr_grammar.specs.Symbols.{Symbols, word as key_symbol, sign as sign_symbol}
-use Rattle.sr_grammar.specs.Meanings.{IsSymbolOf, spelling}
+use Rattle.sr_grammar.specs.Meanings.{IsSymbolOf}
 use Rattle.sr_grammar.proofs.Lexemes.{Lexes, Lexes-space}
 use Rattle.sr_grammar.proofs.Lexemes.Lexes.{done, token}
 

@@ -8,16 +8,16 @@ use Rattle.sr_ast.specs.declared.operator.Binary.{Binary}
 use Rattle.sr_ast.specs.declared.query.Dml.TheVariants as dml
 use Rattle.sr_ast.specs.declared.query.Items.TheVariants.{All, Each}
 use Rattle.sr_ast.specs.declared.query.Item.TheVariants as item
-use Rattle.sr_grammar.specs.declared.keyword.Keyword.{Keyword}
-use Rattle.sr_grammar.specs.declared.keyword.Keyword.TheVariants as key
+use Rattle.sr_ast.specs.declared.keyword.Keyword.{Keyword}
+use Rattle.sr_ast.specs.declared.keyword.Keyword.TheVariants as key
 use Rattle.sr_grammar.specs.declared.symbol.Symbol.{Symbol}
 use Rattle.sr_grammar.specs.Symbols.{Symbols, IsName}
 use Rattle.sr_grammar.specs.Expressions.{Tightness, Operator, IsNullTest, IsColumn, Reads, IsExpr}
 use Rattle.sr_grammar.specs.Expressions.Reads.{loose, joined, not, compared, null_test, negative, minus, single, named, inside}
 use Rattle.sr_grammar.specs.Writing.{IsLed, IsCondition, IsRow, IsInsert, IsSet, IsUpdate, IsDelete, IsAggregate, IsItem, IsItems, IsSource, IsJoinWord, IsJoin, IsDirection, IsOrder, IsOrdering, IsSelect}
 use Rattle.sr_grammar.specs.Scripts.{IsDml}
-use Rattle.sr_grammar.specs.Normal.{IsPlain, IsNoneOr, IsSomeOf, IsPlainColumn, IsNormalTerm, IsNormalExpr}
-use Rattle.sr_grammar.specs.NormalForms.{IsNormalInsert, IsNormalSet, IsNormalUpdate, IsNormalDelete, IsNormalDml, IsNormalItem, AreNormalItems, IsNormalSource, IsNormalJoin, IsNormalOrder, IsNormalSelect}
+use Rattle.sr_ast.specs.Normal.{IsPlain, IsNoneOr, IsSomeOf, IsPlainColumn, IsNormalTerm, IsNormalExpr}
+use Rattle.sr_ast.specs.NormalForms.{IsNormalInsert, IsNormalSet, IsNormalUpdate, IsNormalDelete, IsNormalDml, IsNormalItem, AreNormalItems, IsNormalSource, IsNormalJoin, IsNormalOrder, IsNormalSelect}
 use Rattle.sr_grammar.proofs.Listed.{all_of}
 use Rattle.sr_grammar.proofs.Sound.{AreSound, Gives, past, moved, name_gives, literal_gives, negative_gives, listed_gives, row_gives, names_gives}
 

@@ -17,7 +17,7 @@ use Rattle.sr_ast.specs.Pages.{word}
 use Rattle.sr_ast.specs.Printing.{value_pieces, quoted}
 use Rattle.sr_lex.specs.declared.token.TokenKind.TheVariants as kind
 use Rattle.sr_lex.specs.Tokens.{is_quote, doubled}
-use Rattle.sr_grammar.specs.declared.keyword.Keyword.TheVariants as key
+use Rattle.sr_ast.specs.declared.keyword.Keyword.TheVariants as key
 use Rattle.sr_grammar.specs.declared.symbol.Sign.TheVariants as mark
 use Rattle.sr_grammar.specs.declared.symbol.Symbol.{Symbol}
 use Rattle.sr_grammar.specs.declared.symbol.Symbol.TheVariants as symbol
@@ -27,7 +27,7 @@ use Rattle.sr_grammar.specs.Catalog.{IsSigned}
 use Rattle.sr_grammar.specs.Expressions.{Reads}
 use Rattle.sr_grammar.specs.Expressions.Tightness.{signed}
 use Rattle.sr_grammar.specs.Expressions.Reads.{loose, single, negative}
-use Rattle.sr_grammar.specs.Normal.{IsNormalValue}
+use Rattle.sr_ast.specs.Normal.{IsNormalValue}
 use Rattle.sr_grammar.proofs.Saying.{Spelt, IsLexeme, word_says, phrase_says, no_quote}
 use Rattle.sr_grammar.proofs.Valued.{number_lexeme, top_lexeme, minus_says, int_bound, int_low, big_bound, big_low}
 

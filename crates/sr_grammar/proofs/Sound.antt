@@ -13,18 +13,19 @@ use Rattle.sr_lex.specs.declared.token.Token.{Token}
 use Rattle.sr_lex.specs.declared.token.TokenKind.{TokenKind}
 use Rattle.sr_lex.specs.declared.token.TokenKind.TheVariants as token
 use Rattle.sr_lex.specs.Tokens.{IsToken, Takes, number}
-use Rattle.sr_grammar.specs.declared.keyword.Keyword.{Keyword}
-use Rattle.sr_grammar.specs.declared.keyword.Keyword.TheVariants as key
+use Rattle.sr_ast.specs.declared.keyword.Keyword.{Keyword}
+use Rattle.sr_ast.specs.declared.keyword.Keyword.TheVariants as key
 use Rattle.sr_grammar.specs.declared.symbol.Symbol.{Symbol}
 use Rattle.sr_grammar.specs.declared.symbol.Symbol.TheVariants as symbol
-use Rattle.sr_grammar.specs.Symbols.{Symbols, IsName, named, name_meant}
-use Rattle.sr_grammar.specs.Meanings.{lower, spelling, IsKeyword, IsWordSymbol, IsSignSymbol, IsSymbolOf, AreSymbols}
+use Rattle.sr_grammar.specs.Symbols.{Symbols, IsName, name_meant}
+use Rattle.sr_grammar.specs.Meanings.{IsWordSymbol, IsSignSymbol, IsSymbolOf, AreSymbols}
 use Rattle.sr_grammar.specs.Literals.{number_value, literal_meant, negative_meant, IsLiteral, IsNegative}
 use Rattle.sr_grammar.specs.Listing.{Listed, Row, IsNames}
 use Rattle.sr_grammar.specs.Listing.Listed.{one, more}
 use Rattle.sr_grammar.specs.Listing.Row.{none, then as and_then}
 use Rattle.sr_grammar.specs.Catalog.{IsSigned}
-use Rattle.sr_grammar.specs.Normal.{IsPlain, IsSomeOf, IsNormalValue}
+use Rattle.sr_ast.specs.Normal.{IsPlain, IsSomeOf, IsNormalValue}
+use Rattle.sr_ast.specs.Keywords.{named, lower, spelling, IsKeyword}
 use Rattle.sr_grammar.proofs.Spellings.{keyword_once}
 use Rattle.sr_grammar.proofs.Naming.{name-lower}
 use Rattle.sr_grammar.proofs.Listed.{all_of}

@@ -1,10 +1,11 @@
 -- A word means one key word at most, and a sign one sign.
 use Rattle.std.proofs.Common.{◌≡◌, ℕ, Bool, true, false, List, [], ◌∷◌, Option, Some, None, nat_eq, refl, sym, ap, ◌∙◌}
-use Rattle.sr_grammar.specs.declared.keyword.Keyword.{Keyword}
-use Rattle.sr_grammar.specs.declared.keyword.Keyword.TheVariants as key
+use Rattle.sr_ast.specs.declared.keyword.Keyword.{Keyword}
+use Rattle.sr_ast.specs.declared.keyword.Keyword.TheVariants as key
+use Rattle.sr_ast.specs.Keywords.{lower, spelling, IsKeyword}
 use Rattle.sr_grammar.specs.declared.symbol.Sign.{Sign}
 use Rattle.sr_grammar.specs.declared.symbol.Sign.TheVariants as mark
-use Rattle.sr_grammar.specs.Meanings.{lower, spelling, sign_text, IsKeyword}
+use Rattle.sr_grammar.specs.Meanings.{sign_text}
 use Rattle.sr_grammar.proofs.Words.{keywords, signs}
 
 abbrev same : List ℕ → List ℕ → Bool

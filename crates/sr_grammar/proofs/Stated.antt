@@ -7,13 +7,13 @@ use Rattle.sr_ast.specs.Layout.{words_if, passthrough_pieces, stmt_pieces, print
 use Rattle.sr_ast.specs.declared.stmt.Passthrough.{Passthrough}
 use Rattle.sr_ast.specs.declared.stmt.Stmt.{Stmt}
 use Rattle.sr_ast.specs.declared.stmt.Stmt.TheVariants as stmt
-use Rattle.sr_grammar.specs.declared.keyword.Keyword.TheVariants as key
+use Rattle.sr_ast.specs.declared.keyword.Keyword.TheVariants as key
 use Rattle.sr_grammar.specs.Symbols.{IsName, word as key_symbol}
 use Rattle.sr_grammar.specs.Meanings.{IsWritten}
 use Rattle.sr_grammar.specs.Scripts.{IsBehind, IsOnly, IsPassthrough, IsStatement}
 use Rattle.sr_grammar.specs.Scripts.Pieces.{start, stated}
-use Rattle.sr_grammar.specs.Normal.{IsPlain}
-use Rattle.sr_grammar.specs.NormalForms.{IsNormalPassthrough, IsNormal}
+use Rattle.sr_ast.specs.Normal.{IsPlain}
+use Rattle.sr_ast.specs.NormalForms.{IsNormalPassthrough, IsNormal}
 use Rattle.sr_grammar.proofs.Lexemes.{Lexes, tokens_of}
 use Rattle.sr_grammar.proofs.Saying.{Says-end, Spelt, rendered, put_all-text, phrase_says}
 use Rattle.sr_grammar.proofs.Listed.{listed_spelt}

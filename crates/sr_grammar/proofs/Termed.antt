@@ -1,6 +1,6 @@
 -- Expressions in print spell expressions of the grammar.
 use Rattle.std.proofs.Common.{◌≡◌, ℕ, ◌+◌, ◌-◌, ◌<◌, ◌≤◌, nat_eq, true, false, List, [], ◌∷◌, ◌++◌, Option, refl, arith, codes}
-use Rattle.sr_ast.specs.Terms.{Term}
+use Rattle.sr_ast.specs.Terms.{Term, depth}
 use Rattle.sr_ast.specs.Terms.Term.{literal, column, unary, binary}
 use Rattle.sr_ast.specs.Exprs.{term_of}
 use Rattle.sr_ast.specs.Pages.{word, in_parentheses}
@@ -12,14 +12,14 @@ use Rattle.sr_ast.specs.declared.operator.Binary.{Binary}
 use Rattle.sr_ast.specs.declared.operator.Binary.TheVariants.{Or, And, Equal, Unequal, Less, AtMost, Greater, AtLeast, Add, Subtract, Multiply}
 use Rattle.sr_lex.specs.declared.token.TokenKind.TheVariants as kind
 use Rattle.sr_lex.specs.Tokens.{is_sign, begins, is_dash, is_behind_less}
-use Rattle.sr_grammar.specs.declared.keyword.Keyword.TheVariants as key
+use Rattle.sr_ast.specs.declared.keyword.Keyword.TheVariants as key
 use Rattle.sr_grammar.specs.declared.symbol.Sign.TheVariants as mark
 use Rattle.sr_grammar.specs.declared.symbol.Symbol.{Symbol}
 use Rattle.sr_grammar.specs.Symbols.{Symbols, word as key_symbol, sign}
-use Rattle.sr_grammar.specs.Expressions.{Reads, IsExpr, depth}
+use Rattle.sr_grammar.specs.Expressions.{Reads, IsExpr}
 use Rattle.sr_grammar.specs.Expressions.Tightness.{disjunction, conjunction, negation, comparison, sum, product, signed}
 use Rattle.sr_grammar.specs.Expressions.Reads.{loose, joined, not, compared, null_test, minus, named, inside}
-use Rattle.sr_grammar.specs.Normal.{IsNormalTerm, IsNormalExpr}
+use Rattle.sr_ast.specs.Normal.{IsNormalTerm, IsNormalExpr}
 use Rattle.sr_grammar.proofs.Saying.{Spelt, IsLexeme, word_says, phrase_says, regrouped, dash_says, no_part, no_dash, no_longer, no_equal}
 use Rattle.sr_grammar.proofs.Listed.{enclosed}
 use Rattle.sr_grammar.proofs.Naming.{column_spelt}

@@ -3,7 +3,7 @@ use Rattle.std.proofs.Common.{◌≡◌, ℕ, ◌-◌, ◌<◌, ◌≤◌, List,
 use Rattle.std.proofs.lemmas.List.{append-nil}
 use Rattle.std.specs.List.{AllByRecursion}
 use Rattle.sr_base.specs.declared.value.Kind.{Kind}
-use Rattle.sr_ast.specs.Terms.{Term}
+use Rattle.sr_ast.specs.Terms.{Term, depth}
 use Rattle.sr_ast.specs.Exprs.{term_of}
 use Rattle.sr_ast.specs.Chains.{Chain}
 use Rattle.sr_ast.specs.Chains.Chain.{done, set, insert, when, choose}
@@ -18,22 +18,22 @@ use Rattle.sr_ast.specs.declared.operator.Binary.TheVariants.{Equal}
 use Rattle.sr_ast.specs.declared.create.CreateTrigger.{CreateTrigger}
 use Rattle.sr_ast.specs.declared.create.Image.{Image}
 use Rattle.sr_ast.specs.declared.create.Image.TheVariants.{Old, New, Remote}
-use Rattle.sr_grammar.specs.declared.keyword.Keyword.TheVariants as key
+use Rattle.sr_ast.specs.declared.keyword.Keyword.TheVariants as key
 use Rattle.sr_grammar.specs.declared.symbol.Sign.TheVariants as mark
 use Rattle.sr_grammar.specs.Symbols.{Symbols, IsName, word as key_symbol, sign}
 use Rattle.sr_grammar.specs.Listing.{Listed, Row, IsNames}
 use Rattle.sr_grammar.specs.Listing.Listed.{one, more}
-use Rattle.sr_grammar.specs.Expressions.{IsExpr, IsColumn, Reads, depth}
+use Rattle.sr_grammar.specs.Expressions.{IsExpr, IsColumn, Reads}
 use Rattle.sr_grammar.specs.Expressions.Tightness.{disjunction}
-use Rattle.sr_grammar.specs.Meanings.{spelling}
 use Rattle.sr_grammar.specs.Writing.{IsRow}
 use Rattle.sr_grammar.specs.Catalog.{IsKind}
 use Rattle.sr_grammar.specs.Scripts.{IsBehindTwo}
 use Rattle.sr_grammar.specs.Triggers.{Acts, IsActions, IsOf, IsAlias, IsVariable, IsTrigger, image_word as image_key}
 use Rattle.sr_grammar.specs.Triggers.Amount.{one as single, many}
 use Rattle.sr_grammar.specs.Triggers.Acts.{none as no_act, then, set as set_act, insert as insert_act, when as when_act, choose as choose_act}
-use Rattle.sr_grammar.specs.Normal.{IsPlain, IsSomeOf, IsNormalDeep}
-use Rattle.sr_grammar.specs.NormalForms.{IsNormalAlias, IsNormalVariable, IsNormalChain, ifs, IsNormalTrigger}
+use Rattle.sr_ast.specs.Normal.{IsPlain, IsSomeOf, IsNormalDeep}
+use Rattle.sr_ast.specs.NormalForms.{IsNormalAlias, IsNormalVariable, IsNormalChain, ifs, IsNormalTrigger}
+use Rattle.sr_ast.specs.Keywords.{spelling}
 use Rattle.sr_grammar.proofs.Saying.{Says, Spelt, word_says, phrase_says, semicolon_says, regrouped}
 use Rattle.sr_grammar.proofs.Expressing.{expr_of, term_of-expr_of}
 use Rattle.sr_grammar.proofs.Listed.{listed_spelt, row_spelt as in_row_spelt, enclosed}

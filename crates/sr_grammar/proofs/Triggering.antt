@@ -9,7 +9,7 @@ use Rattle.sr_ast.specs.declared.action.Action.TheVariants.{Set, Insert, If, IfE
 use Rattle.sr_ast.specs.declared.create.CreateTrigger.{CreateTrigger}
 use Rattle.sr_ast.specs.declared.create.Image.{Image}
 use Rattle.sr_ast.specs.declared.create.Image.TheVariants.{Old, New, Remote}
-use Rattle.sr_grammar.specs.declared.keyword.Keyword.TheVariants as key
+use Rattle.sr_ast.specs.declared.keyword.Keyword.TheVariants as key
 use Rattle.sr_grammar.specs.declared.symbol.Sign.TheVariants as mark
 use Rattle.sr_grammar.specs.declared.symbol.Symbol.{Symbol}
 use Rattle.sr_grammar.specs.declared.symbol.Symbol.TheVariants as symbol

@@ -1,6 +1,6 @@
 -- Expressions of the grammar, from loose to tight.
 use Rattle.std.specs.Prelude.{◌≡◌, ℕ, ◌+◌, ◌-◌, ◌<◌, ◌≤◌, max, List, ◌∷◌, Option, Some, None}
-use Rattle.sr_ast.specs.Terms.{Term}
+use Rattle.sr_ast.specs.Terms.{Term, depth}
 use Rattle.sr_ast.specs.Terms.Term.{literal, column, unary, binary}
 use Rattle.sr_ast.specs.Exprs.{term_of}
 use Rattle.sr_ast.specs.declared.expr.Expr.{Expr}
@@ -9,7 +9,7 @@ use Rattle.sr_ast.specs.declared.operator.Unary.TheVariants as one
 use Rattle.sr_ast.specs.declared.operator.Binary.{Binary}
 use Rattle.sr_ast.specs.declared.operator.Binary.TheVariants as two
 use Rattle.sr_base.specs.declared.value.Value.{Value}
-use Rattle.sr_grammar.specs.declared.keyword.Keyword.TheVariants as key
+use Rattle.sr_ast.specs.declared.keyword.Keyword.TheVariants as key
 use Rattle.sr_grammar.specs.declared.symbol.Sign.TheVariants as sign
 use Rattle.sr_grammar.specs.declared.symbol.Symbol.{Symbol}
 use Rattle.sr_grammar.specs.declared.symbol.Symbol.TheVariants as symbol
@@ -92,13 +92,6 @@ pub data Reads : Tightness → ℕ → Symbols → Term → Symbols → Type 0 w
   named : {room : ℕ} {before after : Symbols} {table : Option (List ℕ)} {name : List ℕ} → IsColumn before table name after → Reads operand room before (column table name) after
   inside : {room : ℕ} {before next middle after : Symbols} {t : Term}
       → 0 < room → IsSign before sign.Open next → Reads disjunction (room - 1) next t middle → IsSign middle sign.Close after → Reads operand room before t after
-
--- the depth of an expression: 1 for a literal or a column, and 1 more than its operands for an operator
-abbrev pub depth : Term → ℕ
-depth (literal v) = 1
-depth (column t n) = 1
-depth (unary op a) = depth a + 1
-depth (binary op a b) = max (depth a) (depth b) + 1
 
 -- a whole expression: at most 200 deep, with at most 200 parentheses open
 pub record IsExpr (before : Symbols) (e : Expr) (after : Symbols) : Type 0 where

@@ -1,6 +1,6 @@
 -- Where a production may end.
 use Rattle.std.specs.Prelude.{◌≡◌, Bool, true, false, ◌||◌, [], ◌∷◌, Option, Some, None, ◌⊎◌}
-use Rattle.sr_grammar.specs.declared.keyword.Keyword.TheVariants as key
+use Rattle.sr_ast.specs.declared.keyword.Keyword.TheVariants as key
 use Rattle.sr_grammar.specs.declared.symbol.Sign.TheVariants as sign
 use Rattle.sr_grammar.specs.declared.symbol.Symbol.{Symbol}
 use Rattle.sr_grammar.specs.declared.symbol.Symbol.TheVariants as symbol

@@ -2,8 +2,8 @@
 use Rattle.std.specs.Prelude.{◌≡◌, ℕ, ◌-◌, Bool, true, List, [], get_or}
 use Rattle.std.specs.List.{list_all, list_any}
 use Rattle.std.specs.Str.{bytes_eq}
-use Rattle.sr_grammar.specs.declared.keyword.Keyword.{Keyword}
-use Rattle.sr_grammar.specs.Meanings.{lower, spelling}
+use Rattle.sr_ast.specs.declared.keyword.Keyword.{Keyword}
+use Rattle.sr_ast.specs.Keywords.{lower, spelling}
 
 -- key words with their spellings
 abbrev pub Entries : Type 0

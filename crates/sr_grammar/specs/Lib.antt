@@ -8,8 +8,6 @@ pub mod Listing
 pub mod Literals
 pub mod Meanings
 pub mod Meant
-pub mod Normal
-pub mod NormalForms
 pub mod Places
 pub mod Scripts
 pub mod Symbols

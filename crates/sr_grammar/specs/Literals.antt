@@ -5,7 +5,7 @@ use Rattle.sr_base.specs.declared.value.Value.{Value}
 use Rattle.sr_base.specs.declared.value.Value.TheVariants as value
 use Rattle.sr_base.specs.Fitting.{is_int}
 use Rattle.sr_dates.specs.Calendar.{day_named}
-use Rattle.sr_grammar.specs.declared.keyword.Keyword.TheVariants.{Null, Date}
+use Rattle.sr_ast.specs.declared.keyword.Keyword.TheVariants.{Null, Date}
 use Rattle.sr_grammar.specs.declared.symbol.Symbol.{Symbol}
 use Rattle.sr_grammar.specs.declared.symbol.Symbol.TheVariants as symbol
 use Rattle.sr_grammar.specs.Symbols.{Symbols, first, IsWord}

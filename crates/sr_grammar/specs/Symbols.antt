@@ -1,7 +1,7 @@
 -- What stands next in a list of symbols.
 use Rattle.std.specs.Prelude.{◌≡◌, ℕ, List, [], ◌∷◌, Option, Some, None, codes}
-use Rattle.sr_grammar.specs.declared.keyword.Keyword.{Keyword}
-use Rattle.sr_grammar.specs.declared.keyword.Keyword.TheVariants as key
+use Rattle.sr_ast.specs.declared.keyword.Keyword.{Keyword}
+use Rattle.sr_ast.specs.Keywords.{named}
 use Rattle.sr_grammar.specs.declared.symbol.Sign.{Sign}
 use Rattle.sr_grammar.specs.declared.symbol.Symbol.{Symbol}
 use Rattle.sr_grammar.specs.declared.symbol.Symbol.TheVariants as symbol
@@ -18,16 +18,6 @@ first (s ∷ after) = Some s
 abbrev pub behind : Symbols → Symbols
 behind [] = []
 behind (s ∷ after) = after
-
--- the name that a key word also is
-abbrev pub named : Keyword → Option (List ℕ)
-named key.Old = Some (codes "old")
-named key.New = Some (codes "new")
-named key.Remote = Some (codes "remote")
-named key.Type = Some (codes "type")
-named key.File = Some (codes "file")
-named key.Address = Some (codes "address")
-named k = None
 
 -- the name that a symbol is: a word that is no key word, or one of the key words that are also names
 abbrev pub name_meant : Symbol → Option (List ℕ)

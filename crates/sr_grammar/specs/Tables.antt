@@ -2,7 +2,7 @@
 use Rattle.std.specs.Prelude.{◌≡◌, ℕ, Bool, true, false, List, [], ◌∷◌, ◌++◌, ◌⊎◌, if◌then◌else◌, ◌↔◌, IsTrue, Contains}
 use Rattle.sr_ast.specs.declared.create.CreateTable.{CreateTable}
 use Rattle.sr_ast.specs.declared.create.ColumnRule.{ColumnRule}
-use Rattle.sr_grammar.specs.declared.keyword.Keyword.TheVariants as kw
+use Rattle.sr_ast.specs.declared.keyword.Keyword.TheVariants as kw
 use Rattle.sr_grammar.specs.declared.symbol.Sign.TheVariants as mark
 use Rattle.sr_grammar.specs.Symbols.{Symbols, word, sign, IsName, IsWord, IsSign}
 use Rattle.sr_grammar.specs.Listing.{Listed}

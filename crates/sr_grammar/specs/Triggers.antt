@@ -3,14 +3,15 @@ use Rattle.std.specs.Prelude.{◌≡◌, ◌≢◌, ℕ, ◌-◌, ◌<◌, List,
 use Rattle.sr_base.specs.declared.value.Kind.{Kind}
 use Rattle.sr_ast.specs.Chains.{Chain}
 use Rattle.sr_ast.specs.Actions.{chain_of}
+use Rattle.sr_ast.specs.NormalForms.{Differ}
 use Rattle.sr_ast.specs.declared.expr.Expr.{Expr}
 use Rattle.sr_ast.specs.declared.action.Action.{Action}
 use Rattle.sr_ast.specs.declared.action.Action.TheVariants.{Set, Insert, If, IfElse}
 use Rattle.sr_ast.specs.declared.create.CreateTrigger.{CreateTrigger}
 use Rattle.sr_ast.specs.declared.create.Image.{Image}
 use Rattle.sr_ast.specs.declared.create.Image.TheVariants.{Old, New, Remote}
-use Rattle.sr_grammar.specs.declared.keyword.Keyword.{Keyword}
-use Rattle.sr_grammar.specs.declared.keyword.Keyword.TheVariants as key
+use Rattle.sr_ast.specs.declared.keyword.Keyword.{Keyword}
+use Rattle.sr_ast.specs.declared.keyword.Keyword.TheVariants as key
 use Rattle.sr_grammar.specs.declared.symbol.Sign.TheVariants as mark
 use Rattle.sr_grammar.specs.Symbols.{Symbols, word, IsName, IsWord, IsSign}
 use Rattle.sr_grammar.specs.Listing.{Listed, Row, IsNames}
@@ -85,10 +86,6 @@ pub record IsAlias (before : Symbols) (a : Image × List ℕ) (after : Symbols) 
   pub next : Symbols
   pub image : before ≡ word (image_word a.0) ∷ word key.As ∷ next
   pub name : IsName next a.1 after
-
--- two aliases have a row and a name of their own each
-abbrev pub Differ : Image × List ℕ → Image × List ℕ → Type 0
-Differ a b = (a.0 ≢ b.0) × (a.1 ≢ b.1)
 
 -- {(OLD | NEW | REMOTE) AS n}, each row and each name at most once
 pub record AreAliases (before : Symbols) (aliases : List (Image × List ℕ)) (after : Symbols) : Type 0 where

@@ -12,8 +12,8 @@ use Rattle.sr_ast.specs.declared.query.Item.TheVariants as item
 use Rattle.sr_ast.specs.declared.query.Source.{Source}
 use Rattle.sr_ast.specs.declared.query.Join.{Join}
 use Rattle.sr_ast.specs.declared.query.OrderBy.{OrderBy}
-use Rattle.sr_grammar.specs.declared.keyword.Keyword.TheVariants as key
-use Rattle.sr_grammar.specs.declared.keyword.Keyword.{Keyword}
+use Rattle.sr_ast.specs.declared.keyword.Keyword.TheVariants as key
+use Rattle.sr_ast.specs.declared.keyword.Keyword.{Keyword}
 use Rattle.sr_grammar.specs.declared.symbol.Sign.TheVariants as mark
 use Rattle.sr_grammar.specs.Symbols.{Symbols, word, sign, IsName, IsWord, IsSign}
 use Rattle.sr_grammar.specs.Listing.{Listed, Row, IsNames}

@@ -7,7 +7,7 @@ ghost use Rattle.sr_ast.specs.declared.stmt.Stmt.{Stmt as Statement};
 ghost use Rattle.sr_grammar.specs.Symbols.{Symbols};
 ghost use Rattle.sr_grammar.specs.Scripts.{IsScript};
 ghost use Rattle.sr_grammar.specs.Meanings.{IsWritten};
-ghost use Rattle.sr_grammar.specs.NormalForms.{IsNormal};
+ghost use Rattle.sr_ast.specs.NormalForms.{IsNormal};
 ghost use Rattle.sr_grammar.specs.Faults.{IsRead, Answers};
 ghost use Rattle.sr_grammar.specs.declared.fault.ParseFault.{ParseFault as Fault};
 

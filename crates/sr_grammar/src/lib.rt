@@ -13,7 +13,6 @@ mod level;
 mod symbol;
 
 pub use fault::ParseFault;
-pub use keyword::Keyword;
 pub use laws::{a_text_spells_one_script, what_prints_is_read_so};
 pub use level::Level;
 pub use symbol::{Sign, Symbol, symbol_of};

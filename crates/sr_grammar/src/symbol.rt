@@ -1,7 +1,8 @@
 ghost use Rattle.std.specs.Prelude.{◌≡◌, ◌≤◌, length, slice_range, IfOk, IfSome, None};
 ghost use Rattle.sr_grammar.specs.Meanings.{sign_text, IsNoSign, IsSpan, IsWordSymbol, IsSymbol};
 
-use crate::keyword::{Keyword, keyword_of};
+use crate::keyword::keyword_of;
+use sr_ast::Keyword;
 use sr_base::{BadName, Name, NoMemory, Text, name_of};
 use sr_lex::{Token, TokenKind};
 use std::alloc::{AllocError, Global};

@@ -4,7 +4,7 @@ use Rattle.std.specs.List.{AllByRecursion}
 use Rattle.sr_ast.specs.Layout.{printed}
 use Rattle.sr_ast.specs.declared.stmt.Stmt.{Stmt}
 use Rattle.sr_grammar.specs.Meanings.{IsWritten}
-use Rattle.sr_grammar.specs.NormalForms.{IsNormal}
+use Rattle.sr_ast.specs.NormalForms.{IsNormal}
 use Rattle.sr_grammar.proofs.Meaning.{written_once}
 use Rattle.sr_grammar.proofs.Stated.{printed-is_written}
 use Rattle.sr_logform.specs.Entries.{entry_spelling, IsEntry}

@@ -37,12 +37,11 @@ use Rattle.sr_logform.specs.declared.outcome.Clash.TheVariants.{NoRow}
 use Rattle.sr_logform.specs.declared.outcome.Outcome.TheVariants.{Plain, Conflict, Clash}
 use Rattle.sr_book.specs.declared.note.Note.TheVariants.{Raised}
 use Rattle.sr_logform.specs.Outcomes.{outcome_spelling, clash_spelling, note_spelling, OutcomeHas, IsOutcome, IsChange, IsNote}
-use Rattle.sr_grammar.specs.declared.keyword.Keyword.{Keyword}
-use Rattle.sr_grammar.specs.declared.keyword.Keyword.TheVariants as key
-use Rattle.sr_grammar.specs.Meanings.{IsKeyword}
-use Rattle.sr_grammar.specs.Normal.{IsPlain}
-use Rattle.sr_grammar.specs.Symbols.{named}
-use Rattle.sr_grammar.specs.NormalForms.{IsNormal}
+use Rattle.sr_ast.specs.declared.keyword.Keyword.{Keyword}
+use Rattle.sr_ast.specs.declared.keyword.Keyword.TheVariants as key
+use Rattle.sr_ast.specs.Normal.{IsPlain}
+use Rattle.sr_ast.specs.NormalForms.{IsNormal}
+use Rattle.sr_ast.specs.Keywords.{IsKeyword, named}
 use Rattle.sr_history.specs.Recorded.{Recorded, entry_of, ddl, own, taken, sync, pass, note, IsRecorded}
 use Rattle.sr_history.specs.Fitting.{AreNamedRows, FitsState, stored_from, Stored}
 use Rattle.sr_dml.specs.FittingChanges.{IsFitChange}
@@ -374,14 +373,7 @@ fits2 = (
     named = refl;
     key = Int (pos 1) ∷ [];
     held = get-empty place_cmp (place 1);
-    fits = (
-      (
-        refl,
-        refl,
-        (refl, refl, tt),
-      ),
-      refl,
-    );
+    fits = (refl, refl);
   },
   tt,
 )
@@ -400,15 +392,15 @@ conflict_changes = record {
   named = refl;
   key = Int (pos 1) ∷ [];
   held = get-insert place_cmp_total map_of.empty (place 1) (row 1 (Int (pos 2147483647))) (place 1);
-  fits = ((refl, refl, (refl, refl, tt)), refl);
+  fits = (refl, refl);
 }
 
 conflict_rows : AreNamedRows s3.catalog table_t ((column_id, Int (pos 1)) ∷ []) (row 1 (Int (pos 2147483647))) (row 1 (Int (pos 7)))
 conflict_rows = record {
   table = the_t;
   named = refl;
-  fits_before = (refl, refl, (refl, refl, tt));
-  fits_after = (refl, refl, (refl, refl, tt));
+  fits_before = refl;
+  fits_after = refl;
   key = Int (pos 1) ∷ [];
   meant = record { count = refl; values = (refl, tt) };
   key_before = refl;
@@ -424,7 +416,7 @@ held2 =
     ∙ get-empty place_cmp (place 2)
 
 insert_changes : IsFitChange s3.catalog later_rows (inserted (row 2 Null))
-insert_changes = record { table = the_t; named = refl; key = Int (pos 2) ∷ []; held = held2; fits = ((refl, refl, (refl, refl, tt)), refl) }
+insert_changes = record { table = the_t; named = refl; key = Int (pos 2) ∷ []; held = held2; fits = (refl, refl) }
 
 accepted_u : refusal s3.catalog (Create create_u) ≡ None
 unfolding refusal first_fault create_table_causes

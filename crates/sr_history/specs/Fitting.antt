@@ -8,7 +8,7 @@ use Rattle.sr_ast.specs.declared.stmt.Stmt.TheVariants as stmt
 use Rattle.sr_book.specs.Entries.{Name}
 use Rattle.sr_change.specs.Changes.{refusal}
 use Rattle.sr_dates.specs.Fitting.{fitted}
-use Rattle.sr_dml.specs.Conditions.{IsRow}
+use Rattle.sr_fits.specs.Rows.{IsRow}
 use Rattle.sr_dml.specs.FittingChanges.{ChangesFit}
 use Rattle.sr_dml.specs.declared.changes.Changes.{Changes}
 use Rattle.sr_dml.specs.Statements.{done, key_of, table_named}

@@ -16,7 +16,7 @@ use Rattle.sr_ast.specs.declared.stmt.Stmt.TheVariants as stmt
 use Rattle.sr_change.specs.Changes.{refusal}
 use Rattle.sr_ddl.specs.Publications.{twice_in_articles, absent_column, absent_in, is_bad_where, is_bad_by, is_bad_article, key_lacking, key_outside, key_outside_columns, table_in, create_publication_causes, columns_of, article_of, publication_of}
 use Rattle.sr_ddl.specs.Users.{grant_causes, is_taken}
-use Rattle.sr_grammar.specs.Normal.{IsNoneOr}
+use Rattle.sr_ast.specs.Normal.{IsNoneOr}
 use Rattle.sr_logform.specs.Rules.{AreDistinct}
 use Rattle.sr_publish.specs.Laws.{HasKey}
 use Rattle.sr_publish.proofs.Orderly.{distinct_from, table_has_key}

@@ -7,7 +7,7 @@ use Rattle.sr_ast.specs.declared.stmt.Stmt.TheVariants as stmt
 use Rattle.sr_change.specs.Changes.{refusal, next}
 use Rattle.sr_grammar.proofs.Stated.{printed-is_written}
 use Rattle.sr_grammar.specs.Meanings.{IsWritten}
-use Rattle.sr_grammar.specs.NormalForms.{IsNormal, IsNormalGrant, IsNormalPublication, IsNormalSubscription, IsNormalTable}
+use Rattle.sr_ast.specs.NormalForms.{IsNormal, IsNormalGrant, IsNormalPublication, IsNormalSubscription, IsNormalTable}
 use Rattle.sr_replay.specs.Scripts.{create_publication_of, create_subscription_of, create_table_of, grant_of, grant_rule, replayed, start_of, statements, subscription_rule, trigger_stmt, unless_refused, IsMade}
 use Rattle.sr_replay.proofs.Made.{again}
 use Rattle.sr_replay.proofs.ReplayLists.{AllByRecursion-append, AllByRecursion-filter, AllByRecursion-map, AllByRecursion-step}

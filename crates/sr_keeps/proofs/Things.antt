@@ -20,8 +20,8 @@ use Rattle.sr_ddl.specs.Publications.{table_in, columns_of, article_of, publicat
 use Rattle.sr_ddl.specs.Subscriptions.{marked, subscription_of}
 use Rattle.sr_ddl.specs.Tables.{rule_name, column_of, table_of, create_table_causes}
 use Rattle.sr_ddl.specs.Users.{is_bad_address, address_of, grant_causes, user_of}
-use Rattle.sr_grammar.specs.Normal.{IsPlain, IsNoneOr, IsSomeOf}
-use Rattle.sr_grammar.specs.NormalForms.{IsNormalRule, IsNormalTable, IsNormalArticle, IsNormalPublication, IsNormalGrant, IsNormalSubscription, IsNormal}
+use Rattle.sr_ast.specs.Normal.{IsPlain, IsNoneOr, IsSomeOf}
+use Rattle.sr_ast.specs.NormalForms.{IsNormalRule, IsNormalTable, IsNormalArticle, IsNormalPublication, IsNormalGrant, IsNormalSubscription, IsNormal}
 use Rattle.sr_replay.specs.Scripts.{column_rule, article_rule, grant_rule, subscription_rule}
 use Rattle.sr_replay.proofs.ReplayCauses.{NoCause, no_cause_of, where_true-None}
 use Rattle.sr_replay.proofs.ReplayLists.{AllByRecursion-append, AllByRecursion-filter, AllByRecursion-map, AllByRecursion-unmap}

@@ -4,7 +4,7 @@ use Rattle.std.specs.List.{AllByRecursion}
 use Rattle.sr_ast.specs.declared.stmt.Stmt.{Stmt}
 use Rattle.sr_book.specs.Entries.{Name}
 use Rattle.sr_change.specs.Changes.{refusal}
-use Rattle.sr_grammar.specs.NormalForms.{IsNormal}
+use Rattle.sr_ast.specs.NormalForms.{IsNormal}
 use Rattle.sr_history.specs.Fitting.{IsAcceptedPass, DoneFits, DonesFit, FitsState, stored_from, Stored}
 use Rattle.sr_history.specs.Folds.{State, fresh, with_changes, with_statement, after_done, after_dones, after_pass, next, state_from, state_of, size}
 use Rattle.sr_history.specs.Recorded.{Done, plain, ran, conflict, clash, IsDone, IsRecorded, IsCarried}

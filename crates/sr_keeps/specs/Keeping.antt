@@ -9,7 +9,7 @@ use Rattle.sr_ast.specs.Uses.{gives_truth, is_plain}
 use Rattle.sr_ast.specs.declared.create.CreateTrigger.{CreateTrigger}
 use Rattle.sr_ast.specs.declared.expr.Expr.{Expr}
 use Rattle.sr_dml.specs.Statements.{table_named}
-use Rattle.sr_grammar.specs.Normal.{IsNoneOr}
+use Rattle.sr_ast.specs.Normal.{IsNoneOr}
 use Rattle.sr_logform.specs.Rules.{AreDistinct}
 use Rattle.sr_publish.specs.Laws.{HasKey, IsTheSource}
 use Rattle.sr_schema.specs.Catalogs.{Lists}

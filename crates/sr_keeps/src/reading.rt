@@ -7,7 +7,7 @@ ghost use Rattle.sr_ast.specs.declared.stmt.Stmt.{Stmt as Statement};
 ghost use Rattle.sr_book.specs.Entries.{Name};
 ghost use Rattle.sr_change.specs.Changes.{next, refusal};
 ghost use Rattle.sr_grammar.specs.Meanings.{IsWritten};
-ghost use Rattle.sr_grammar.specs.NormalForms.{IsNormal};
+ghost use Rattle.sr_ast.specs.NormalForms.{IsNormal};
 ghost use Rattle.sr_history.specs.Fitting.{Stored};
 ghost use Rattle.sr_history.specs.Folds.{state_of};
 ghost use Rattle.sr_history.specs.Recorded.{Recorded};

@@ -6,12 +6,13 @@ use Rattle.std.proofs.lemmas.List.Quantifiers.{all_pairs_push}
 use Rattle.sr_reader.specs.declared.reader.Broken.{Broken}
 use Rattle.sr_reader.specs.declared.reader.Broken.TheVariants.{Memory}
 use Rattle.sr_ast.specs.declared.create.Image.{Image}
-use Rattle.sr_grammar.specs.declared.keyword.Keyword.TheVariants as key
+use Rattle.sr_ast.specs.declared.keyword.Keyword.TheVariants as key
+use Rattle.sr_ast.specs.NormalForms.{Differ}
 use Rattle.sr_grammar.specs.declared.symbol.Symbol.{Symbol}
 use Rattle.sr_grammar.specs.declared.symbol.Symbol.TheVariants as symbol
 use Rattle.sr_grammar.specs.Symbols.{Symbols, first, behind, word, IsName, IsWord}
 use Rattle.sr_grammar.specs.Listing.{Row}
-use Rattle.sr_grammar.specs.Triggers.{image_word, IsAlias, Differ, AreAliases}
+use Rattle.sr_grammar.specs.Triggers.{image_word, IsAlias, AreAliases}
 use Rattle.sr_grammar.specs.Going.{Stop, is_image}
 use Rattle.sr_grammar.proofs.Steps.{Stop-begins}
 use Rattle.sr_grammar.proofs.Lists.{File}

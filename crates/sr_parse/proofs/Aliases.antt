@@ -5,14 +5,16 @@ use Rattle.std.proofs.lemmas.Slice.Eq.{bytes_eq-Decides}
 use Rattle.std.proofs.lemmas.List.Quantifiers.{all_pairs_push}
 use Rattle.sr_ast.specs.declared.create.Image.{Image}
 use Rattle.sr_ast.specs.declared.create.Image.TheVariants.{Old, New, Remote}
-use Rattle.sr_grammar.specs.declared.keyword.Keyword.{Keyword}
-use Rattle.sr_grammar.specs.declared.keyword.Keyword.TheVariants as key
+use Rattle.sr_ast.specs.declared.keyword.Keyword.{Keyword}
+use Rattle.sr_ast.specs.declared.keyword.Keyword.TheVariants as key
+use Rattle.sr_ast.specs.Keywords.{named}
+use Rattle.sr_ast.specs.NormalForms.{Differ}
 use Rattle.sr_reader.specs.declared.reader.Broken.{Broken}
 use Rattle.sr_reader.specs.declared.reader.Broken.TheVariants.{Memory, Refused}
-use Rattle.sr_grammar.specs.Symbols.{Symbols, first, behind, named, name_meant, word, IsName, IsWord}
+use Rattle.sr_grammar.specs.Symbols.{Symbols, first, behind, name_meant, word, IsName, IsWord}
 use Rattle.sr_grammar.specs.Meant.{AreMeant}
 use Rattle.sr_grammar.specs.Listing.{Row}
-use Rattle.sr_grammar.specs.Triggers.{image_word, IsAlias, Differ, AreAliases}
+use Rattle.sr_grammar.specs.Triggers.{image_word, IsAlias, AreAliases}
 use Rattle.sr_grammar.specs.Going.{Stop, is_image}
 use Rattle.sr_reader.specs.Reading.{Spells, GoesOn, Alike, Reading, Anywhere}
 use Rattle.sr_reader.specs.Reading.Reading.{read, refused, memory}

@@ -3,7 +3,7 @@ use Rattle.std.proofs.Common.{◌≡◌, ℕ, List, [], ◌∷◌, Option, Some,
 use Rattle.sr_ast.specs.declared.expr.Expr.{Expr}
 use Rattle.sr_ast.specs.declared.create.ArticleRule.{ArticleRule}
 use Rattle.sr_ast.specs.declared.create.CreatePublication.{CreatePublication}
-use Rattle.sr_grammar.specs.declared.keyword.Keyword.TheVariants as key
+use Rattle.sr_ast.specs.declared.keyword.Keyword.TheVariants as key
 use Rattle.sr_grammar.specs.declared.symbol.Sign.TheVariants as mark
 use Rattle.sr_reader.specs.declared.reader.Broken.{Broken}
 use Rattle.sr_grammar.specs.Symbols.{Symbols, first, word, IsName, IsWord}

@@ -5,7 +5,7 @@ use Rattle.sr_ast.specs.Actions.{chain_of}
 use Rattle.sr_ast.specs.declared.expr.Expr.{Expr}
 use Rattle.sr_ast.specs.declared.action.Action.{Action}
 use Rattle.sr_ast.specs.declared.action.Action.TheVariants.{Set, Insert, If, IfElse}
-use Rattle.sr_grammar.specs.declared.keyword.Keyword.TheVariants as key
+use Rattle.sr_ast.specs.declared.keyword.Keyword.TheVariants as key
 use Rattle.sr_grammar.specs.declared.symbol.Sign.TheVariants as mark
 use Rattle.sr_grammar.specs.Symbols.{Symbols, word, IsWord, IsSign}
 use Rattle.sr_grammar.specs.Expressions.{IsExpr}

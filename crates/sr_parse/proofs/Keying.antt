@@ -2,7 +2,7 @@
 use Rattle.std.proofs.Common.{◌≡◌, ℕ, List, [], ◌∷◌, ◌++◌, refl, sym, subst, ◌∙◌, append_assoc, inl, inr}
 use Rattle.std.proofs.lemmas.List.{append-nil}
 use Rattle.sr_ast.specs.declared.create.ColumnRule.{ColumnRule}
-use Rattle.sr_grammar.specs.declared.keyword.Keyword.TheVariants as kw
+use Rattle.sr_ast.specs.declared.keyword.Keyword.TheVariants as kw
 use Rattle.sr_grammar.specs.declared.symbol.Sign.TheVariants as mark
 use Rattle.sr_reader.specs.declared.reader.Broken.{Broken}
 use Rattle.sr_reader.specs.declared.reader.Broken.TheVariants.{Memory}

@@ -1,6 +1,6 @@
 -- Rules of a column as a reader goes through them: all rules from the start go on where the reader stands.
 use Rattle.std.proofs.Common.{◌≡◌, Bool, true, false, ◌∷◌, refl, subst, inl, inr, ◌⊎◌}
-use Rattle.sr_grammar.specs.declared.keyword.Keyword.TheVariants as kw
+use Rattle.sr_ast.specs.declared.keyword.Keyword.TheVariants as kw
 use Rattle.sr_reader.specs.declared.reader.Broken.{Broken}
 use Rattle.sr_reader.specs.declared.reader.Broken.TheVariants.{Memory}
 use Rattle.sr_grammar.specs.Symbols.{Symbols, word, IsWord}

@@ -6,7 +6,7 @@ use Rattle.sr_ast.specs.declared.expr.Expr.{Expr}
 use Rattle.sr_ast.specs.declared.action.Action.TheVariants.{If, IfElse}
 use Rattle.sr_ast.specs.declared.create.ColumnRule.{ColumnRule}
 use Rattle.sr_ast.specs.declared.stmt.Stmt.{Stmt}
-use Rattle.sr_grammar.specs.declared.keyword.Keyword.TheVariants as kw
+use Rattle.sr_ast.specs.declared.keyword.Keyword.TheVariants as kw
 use Rattle.sr_grammar.specs.declared.symbol.Sign.TheVariants as mark
 use Rattle.sr_grammar.specs.Symbols.{Symbols, word, IsWord, IsSign}
 use Rattle.sr_grammar.specs.Expressions.{IsExpr}

@@ -2,8 +2,8 @@
 use Rattle.std.proofs.Common.{arith, pos, ◌≡◌, ℕ, [], ◌∷◌, Result, Ok, Err, refl, sym, subst, ap, ◌∙◌}
 use Rattle.sr_base.specs.declared.value.Kind.{Kind}
 use Rattle.sr_base.specs.declared.value.Kind.TheVariants as kind
-use Rattle.sr_grammar.specs.declared.keyword.Keyword.{Keyword}
-use Rattle.sr_grammar.specs.declared.keyword.Keyword.TheVariants as key
+use Rattle.sr_ast.specs.declared.keyword.Keyword.{Keyword}
+use Rattle.sr_ast.specs.declared.keyword.Keyword.TheVariants as key
 use Rattle.sr_grammar.specs.declared.symbol.Sign.TheVariants as mark
 use Rattle.sr_grammar.specs.declared.symbol.Symbol.TheVariants as symbol
 use Rattle.sr_reader.specs.declared.reader.Broken.{Broken}

@@ -21,17 +21,17 @@ ghost use Rattle.sr_grammar.specs.Catalog.{
 };
 ghost use Rattle.sr_grammar.specs.Tables.{IsTable, IsKeyWords};
 ghost use Rattle.sr_grammar.specs.Triggers.{IsOf, AreAliases, IsVariable, IsTrigger, image_word};
-ghost use Rattle.sr_grammar.specs.declared.keyword.Keyword.TheVariants as key;
+ghost use Rattle.sr_ast.specs.declared.keyword.Keyword.TheVariants as key;
 ghost use Rattle.sr_grammar.specs.declared.symbol.Sign.TheVariants as mark;
 
 use crate::acting::{IFS, actions};
 use crate::normal::normal;
 use sr_ast::{
     ArticleRule, ColumnRule, CreatePublication, CreateTable, CreateTrigger, Expr, Grant, Image,
-    Stmt, SubscriptionRule,
+    Keyword, Stmt, SubscriptionRule,
 };
 use sr_base::{Kind, Name, Seq, Text, Value};
-use sr_grammar::{Keyword, Sign, Symbol};
+use sr_grammar::{Sign, Symbol};
 use sr_reader::{Broken, Reader, condition, expr, literal, negative};
 use std::alloc::Global;
 

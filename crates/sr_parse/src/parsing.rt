@@ -10,9 +10,9 @@ ghost use Rattle.sr_grammar.specs.Meanings.{IsWritten};
 ghost use Rattle.sr_grammar.specs.Scripts.{Pieces, IsStatement, IsPiece};
 
 use crate::creating::{create, drop_statement, grant, subscription};
-use sr_ast::{Dml, Script, Stmt};
+use sr_ast::{Dml, Keyword, Script, Stmt};
 use sr_base::{Seq, Text};
-use sr_grammar::{Keyword, ParseFault, Sign};
+use sr_grammar::{ParseFault, Sign};
 use sr_lex::LexFault;
 use sr_reader::{
     Broken, Reader, delete, insert, passthrough, select, start_behind, symbols, update,

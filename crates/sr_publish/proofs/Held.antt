@@ -18,7 +18,7 @@ use Rattle.sr_schema.specs.Names.{named}
 use Rattle.sr_schema.specs.declared.publication.Article.{Article}
 use Rattle.sr_schema.specs.declared.subscription.Subscription.{Subscription}
 use Rattle.sr_schema.specs.declared.table.Table.{Table}
-use Rattle.sr_publish.specs.Fits.{is_row}
+use Rattle.sr_fits.specs.Rows.{is_row}
 use Rattle.sr_publish.specs.Laws.{values_in, holds_by, holds, IsTheSource}
 use Rattle.sr_publish.specs.Shares.{is_live, article_in, source_in, source_of, value_in, share_by, share_in, share_of}
 use Rattle.sr_publish.specs.Views.{meets, by_value, equals, is_one_of, goes_to, is_in, shown, shown_in, seen}

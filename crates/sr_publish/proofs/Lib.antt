@@ -1,7 +1,6 @@
 pub mod Equalities
 pub mod Fitted
 pub mod Held
-pub mod Kinded
 pub mod Orderly
 pub mod Sets
 pub mod Sources

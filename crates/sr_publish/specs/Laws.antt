@@ -10,7 +10,7 @@ use Rattle.sr_schema.specs.declared.publication.Article.{Article}
 use Rattle.sr_schema.specs.declared.subscription.Subscription.{Subscription}
 use Rattle.sr_schema.specs.declared.table.Column.{Column}
 use Rattle.sr_schema.specs.declared.table.Table.{Table}
-use Rattle.sr_publish.specs.Fits.{is_row}
+use Rattle.sr_fits.specs.Rows.{is_row}
 use Rattle.sr_publish.specs.Shares.{Share, is_live, article_in, source_of}
 use Rattle.sr_publish.specs.Views.{meets, goes_to}
 

@@ -1,4 +1,3 @@
-pub mod Fits
 pub mod Laws
 pub mod Numbers
 pub mod Shares

@@ -15,7 +15,7 @@ use Rattle.sr_rows.specs.Marks.{RowMap, rows_of_table}
 use Rattle.sr_schema.specs.Catalogs.{Lists}
 use Rattle.sr_schema.specs.Members.{scope_of}
 use Rattle.sr_schema.specs.declared.table.Table.{Table}
-use Rattle.sr_publish.specs.Fits.{is_row}
+use Rattle.sr_fits.specs.Rows.{is_row}
 use Rattle.sr_publish.specs.Shares.{Share, share_of}
 
 -- whether a row meets a WHERE: false and unknown do not; each row meets one that is not there

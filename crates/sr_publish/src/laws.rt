@@ -1,26 +1,18 @@
 //! What holds of views. Each function does nothing: it carries a law as its clauses.
 
-ghost use Rattle.std.specs.Prelude.{◌≡◌, ◌↔◌, ◌&&◌, true, ℕ, List, Some, None, is_some};
+ghost use Rattle.std.specs.Prelude.{◌≡◌, ◌&&◌, ℕ, List, Some, None, is_some};
 ghost use Rattle.std.specs.List.{list_any, AllByRecursion};
 ghost use Rattle.sr_ast.specs.declared.stmt.Stmt.TheVariants.{DropTable};
 ghost use Rattle.sr_base.specs.declared.value.Value.{Value as Cell};
 ghost use Rattle.sr_change.specs.Changes.{refusal};
-ghost use Rattle.sr_dml.specs.Conditions.{IsRow};
 ghost use Rattle.sr_dml.specs.Statements.{table_named};
 ghost use Rattle.sr_replay.specs.Scripts.{IsMade};
 ghost use Rattle.sr_schema.specs.Catalogs.{Lists};
-ghost use Rattle.sr_schema.specs.declared.table.Column.{Column as AColumn};
 ghost use Rattle.sr_schema.specs.declared.table.Table.{Table as ATable};
-ghost use Rattle.sr_publish.specs.Fits.{is_row};
+ghost use Rattle.sr_fits.specs.Rows.{is_row};
 ghost use Rattle.sr_publish.specs.Laws.{holds, IsTheSource, HasKey, IsInOrder};
 ghost use Rattle.sr_publish.specs.Shares.{Share, share_of};
 ghost use Rattle.sr_publish.specs.Views.{seen};
-
-/// The test of rows says what is asked of them elsewhere: a row passes it exactly where it fits.
-#[tactic(auto, using(crate::proofs::Fitted::fits_iff))]
-pub fn rows_fit_where_the_test_says()
-    ensures fits { (columns : List AColumn) (row : List Cell) → (is_row columns row ≡ true) ↔ IsRow columns row }
-{}
 
 /// START takes no second publication of a table for one user: so whichever of his started subscriptions has the table, he has it by that one's
 /// publication and article.

@@ -5,18 +5,13 @@
 #![tactic(auto)]
 
 mod articles;
-mod fits;
 mod laws;
 mod seeing;
 mod subscribed;
 mod table_view;
 mod values;
 
-pub use fits::is_row;
-pub use laws::{
-    catalogs_are_in_order, nobody_has_a_dropped_table, one_article, rows_fit_where_the_test_says,
-    seen_where_held,
-};
+pub use laws::{catalogs_are_in_order, nobody_has_a_dropped_table, one_article, seen_where_held};
 pub use seeing::sees;
 pub use table_view::TableView;
-pub use values::{is_null, is_same, value_or_null, values_at};
+pub use values::{is_same, value_or_null, values_at};

@@ -4,20 +4,20 @@ ghost use Rattle.std.specs.Prelude.{◌≡◌, true, Some, IfOk, filter_map};
 ghost use Rattle.std.specs.Option.{option_copied};
 ghost use Rattle.sr_ast.specs.Exprs.{term_of};
 ghost use Rattle.sr_eval.specs.Meanings.{found_at};
-ghost use Rattle.sr_publish.specs.Fits.{is_row};
+ghost use Rattle.sr_fits.specs.Rows.{IsRow, is_row};
 ghost use Rattle.sr_publish.specs.Shares.{share_of, share_by};
 ghost use Rattle.sr_publish.specs.Views.{meets, by_value, goes_to, is_in, shown_in};
 ghost use Rattle.sr_schema.specs.Members.{column_name, scope_of};
 ghost use Rattle.sr_schema.specs.Names.{named, place_of};
 
 use crate::articles::{columns_of, places_of, source_of};
-use crate::fits::is_row;
 use crate::subscribed::Subscribed;
 use crate::values::values_at;
 use sr_ast::{Expr, Scope, is_meant};
 use sr_base::{Copied, Name, NoMemory, Row, Seq, Value};
 use sr_catalog::Catalog;
 use sr_eval::{Bound, holds_plain};
+use sr_fits::is_row;
 use sr_schema::{Article, Column, Table, scope_of};
 use std::alloc::Global;
 use std::marker::Model;
@@ -160,7 +160,7 @@ impl TableView {
     /// Whether a row that fits the table meets the article's WHERE.
     #[tactic(auto, using(crate::proofs::Fitted::row_bound))]
     fn meets(&self, row: &[Value]) -> bool
-        requires { is_row self.now.table.columns row.now ≡ true }
+        requires { IsRow self.now.table.columns row.now }
         ensures meets { result ≡ meets self.now.table self.now.condition row.now }
     {
         match &self.condition {

@@ -4,21 +4,10 @@ ghost use Rattle.std.specs.Prelude.{◌≡◌, IfOk, slice_get, unwrap_or};
 ghost use Rattle.std.specs.Ordering.{eq_by_cmp};
 ghost use Rattle.sr_base.specs.Order.{value_cmp};
 ghost use Rattle.sr_base.specs.declared.value.Value.TheVariants.{Null};
-ghost use Rattle.sr_eval.specs.Comparisons.{is_null};
 ghost use Rattle.sr_dml.specs.Statements.{key_of};
 
 use sr_base::{Copied, NoMemory, Seq, Value};
 use std::alloc::{AllocError, Global};
-
-/// Whether a value is NULL.
-pub fn is_null(value: &Value) -> bool
-    ensures null { result ≡ is_null value.now }
-{
-    match value {
-        Value::Null => true,
-        Value::Int(_) | Value::Big(_) | Value::Str(_) | Value::Date(_) => false,
-    }
-}
 
 /// Whether two values are one: NULL is NULL, and an INTEGER is no BIGINT.
 pub fn is_same(value: &Value, other: &Value) -> bool

@@ -10,7 +10,7 @@ use Rattle.sr_ast.specs.declared.expr.Expr.{Expr}
 use Rattle.sr_schema.specs.declared.fault.DmlFault.{DmlFault}
 use Rattle.sr_dml.specs.Edits.{prefixed}
 use Rattle.sr_dml.specs.Sequences.{front}
-use Rattle.sr_dml.proofs.Fitted.{row_of}
+use Rattle.sr_fits.proofs.Rows.{row_of}
 use Rattle.sr_query.specs.Combinations.{combinations, kept, over_each}
 use Rattle.sr_query.specs.Sources.{Origin, rows_by_key}
 use Rattle.sr_dml.specs.Checks.{Scope}

@@ -27,9 +27,10 @@ use Rattle.sr_eval.specs.Comparisons.{tested}
 use Rattle.sr_eval.specs.Laws.{AndIsBoth}
 use Rattle.sr_eval.specs.Meanings.{Meaning, meaning, binary_meaning, of_both, is_true}
 use Rattle.sr_eval.specs.Meanings.Meaning.{value, truth}
-use Rattle.sr_eval.specs.Resolutions.{Resolution, place_of, meaning_at, at_place as at_resolution}
+use Rattle.sr_eval.specs.Resolutions.{Resolution, meaning_at, at_place as at_resolution}
 use Rattle.sr_eval.specs.Resolutions.Resolution.{literal, place, unary, binary}
 use Rattle.sr_ast.specs.Uses.{is_plain}
+use Rattle.sr_ast.specs.Classes.{place_of}
 use Rattle.sr_eval.proofs.Plain.{plain_have_values}
 use Rattle.sr_eval.proofs.Places.{resolved_meaning}
 use Rattle.sr_schema.specs.declared.fault.DmlFault.{DmlFault}

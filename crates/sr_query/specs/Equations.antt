@@ -8,7 +8,8 @@ use Rattle.sr_ast.specs.Uses.{is_plain}
 use Rattle.sr_ast.specs.declared.expr.Expr.{Expr}
 use Rattle.sr_ast.specs.declared.operator.Binary.{Binary}
 use Rattle.sr_ast.specs.declared.operator.Binary.TheVariants.{And, Equal}
-use Rattle.sr_eval.specs.Resolutions.{Resolution, place_of}
+use Rattle.sr_ast.specs.Classes.{place_of}
+use Rattle.sr_eval.specs.Resolutions.{Resolution}
 use Rattle.sr_eval.specs.Resolutions.Resolution.{literal, place, unary, binary}
 use Rattle.sr_dml.specs.Checks.{Scope}
 use Rattle.sr_query.specs.declared.equations.Equation.{Equation as OfProgram}

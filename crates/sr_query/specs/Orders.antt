@@ -10,8 +10,8 @@ use Rattle.sr_base.specs.declared.value.Value.{Value as Cell}
 use Rattle.sr_base.specs.declared.value.Value.TheVariants.{Null}
 use Rattle.sr_base.specs.Order.{value_cmp, value_cmp_total}
 use Rattle.sr_ast.specs.declared.query.OrderBy.{OrderBy}
+use Rattle.sr_ast.specs.Classes.{place_of}
 use Rattle.sr_eval.specs.Meanings.{value_at}
-use Rattle.sr_eval.specs.Resolutions.{place_of}
 use Rattle.sr_dml.specs.Checks.{Scope}
 use Rattle.sr_query.specs.declared.placing.Placed.{Placed}
 use Rattle.sr_query.specs.declared.rank.Rank.{Rank}

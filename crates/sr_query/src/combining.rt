@@ -194,7 +194,7 @@ fn meets_at(conditions: &[Resolved], combination: &[Bound]) -> Result<bool, DmlF
 fn tested(condition: &Resolved, combination: &[Bound]) -> Result<bool, DmlFault>
     ensures answer { Answers result (tested (meaning_at (values_of combination.now) (resolution_of condition.now))) }
 {
-    match is_resolved_true(condition, combination) {
+    match is_resolved_true(condition, &combination) {
         Ok(held) => Ok(held),
         Err(EvalFault::Overflow) => Err(DmlFault::Overflow),
         Err(EvalFault::Memory) => Err(DmlFault::Memory),

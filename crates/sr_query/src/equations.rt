@@ -7,9 +7,8 @@ ghost use Rattle.sr_query.specs.Equations.{equation_of, equations, equations_in,
 ghost use Rattle.sr_query.specs.Sources.{conditions_of};
 
 use crate::lists::push;
-use sr_ast::{Binary, Expr, Operand, Scope, Select, is_plain};
+use sr_ast::{Binary, Expr, Operand, Places, Scope, Select, is_plain};
 use sr_base::{NoMemory, Seq, Value};
-use sr_eval::place_of;
 use std::alloc::Global;
 
 /// A side of an equation: a literal, or the place of a column among those of all sources. No value is copied.
@@ -135,7 +134,7 @@ fn side_in<'a>(scope: &Scope, expr: &'a Expr) -> Option<Side<'a>>
     match expr {
         Expr::Literal(value) => Some(Side::Literal(value)),
         Expr::Column(table, name) => {
-            let place = place_of(scope.as_slice(), table, name)?;
+            let place = scope.place_of(table, name)?;
             Some(Side::Place(place))
         }
         Expr::Unary(_, _) => None,

@@ -148,7 +148,7 @@ pub(crate) fn value_by(
 ) -> Result<Value, DmlFault>
     ensures answer { Answers result (value_by (resolution_of resolved.now) (values_of (bounds_of combination.now))) }
 {
-    match resolved_value(alloc, resolved, combination.rows()) {
+    match resolved_value(alloc, resolved, &combination.rows()) {
         Ok(value) => Ok(value),
         Err(EvalFault::Overflow) => Err(DmlFault::Overflow),
         Err(EvalFault::Memory) => Err(DmlFault::Memory),

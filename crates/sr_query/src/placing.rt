@@ -2,9 +2,8 @@ ghost use Rattle.std.specs.Prelude.{◌≡◌, map, IfOk};
 ghost use Rattle.sr_query.specs.Orders.{placed_in};
 
 use crate::lists::push;
-use sr_ast::{OrderBy, Scope};
+use sr_ast::{OrderBy, Places, Scope};
 use sr_base::NoMemory;
-use sr_eval::place_of;
 use std::alloc::Global;
 
 /// A column of ORDER BY: whether it is descending, and the place of its value among those of a combination.
@@ -36,6 +35,6 @@ fn placed_in(scope: &Scope, by: &OrderBy) -> Placed
 {
     Placed {
         descending: by.descending,
-        place: place_of(scope.as_slice(), &by.table, &by.column),
+        place: scope.place_of(&by.table, &by.column),
     }
 }

@@ -1,13 +1,12 @@
 ghost use Rattle.std.specs.Prelude.{◌≡◌, ◌++◌, map, IfOk};
 ghost use Rattle.std.specs.Option.{option_copied};
-ghost use Rattle.sr_ast.specs.Classes.{kind_of};
 ghost use Rattle.sr_dml.specs.Checks.{unknown_in};
 ghost use Rattle.sr_dml.specs.Sequences.{first_in};
 ghost use Rattle.sr_query.specs.Checks.{unknown_in_item, unknown_in_items, unknown_in_order, unknown_in_select};
 ghost use Rattle.sr_query.specs.Sources.{conditions_of};
 
-use sr_ast::{Item, Items, OrderBy, Scope, Select, is_meant, unknown_in};
-use sr_base::{Copied, Kind, Name, NoMemory};
+use sr_ast::{Columns, Item, Items, OrderBy, Scope, Select, unknown_in};
+use sr_base::{Copied, Name, NoMemory};
 use std::alloc::Global;
 
 /// The leftmost unknown column of a SELECT. Each expression is looked at once.
@@ -90,28 +89,10 @@ fn unknown_in_orders(
 {
     let mut left = order;
     'order: while let Some((by, rest)) = left.split_first() {
-        if kind_of(scope.as_slice(), &by.table, &by.column).is_none() {
+        if scope.kind_of(&by.table, &by.column).is_none() {
             return Ok(Some(by.column.copy(alloc)?));
         }
         left = rest;
     }
     Ok(None)
-}
-
-/// The type of the first column that a reference means. It looks at each.
-fn kind_of(
-    columns: &[(Option<Name>, Name, Kind)],
-    table: &Option<Name>,
-    name: &Name,
-) -> Option<Kind>
-    ensures { result ≡ kind_of columns.now table.now name.now }
-{
-    let mut left = columns;
-    'columns: while let Some((column, rest)) = left.split_first() {
-        if is_meant(&column.0, &column.1, table, name) {
-            return Some(column.2);
-        }
-        left = rest;
-    }
-    None
 }

@@ -1,12 +1,12 @@
 -- An operand of one symbol, behind which no expression of a level goes on, is the whole expression of that level.
 use Rattle.std.proofs.Common.{◌≡◌, ℕ, ◌<◌, arith, Bool, true, false, [], ◌∷◌, Option, Some, None, Ok, Err, refl, sym, subst, inl}
 use Rattle.std.specs.Option.{option_and_then}
-use Rattle.sr_ast.specs.Terms.{Term}
+use Rattle.sr_ast.specs.Terms.{Term, depth}
 use Rattle.sr_ast.specs.Terms.Term.{literal, column}
 use Rattle.sr_ast.specs.Exprs.{term_of}
 use Rattle.sr_ast.specs.declared.operator.Binary.{Binary}
 use Rattle.sr_base.specs.declared.value.Value.TheVariants.{Str}
-use Rattle.sr_grammar.specs.declared.keyword.Keyword.TheVariants as key
+use Rattle.sr_ast.specs.declared.keyword.Keyword.TheVariants as key
 use Rattle.sr_grammar.specs.declared.symbol.Sign.TheVariants as mark
 use Rattle.sr_grammar.specs.declared.symbol.Symbol.{Symbol}
 use Rattle.sr_grammar.specs.declared.symbol.Symbol.TheVariants as symbol
@@ -19,7 +19,7 @@ use Rattle.sr_reader.specs.declared.exprs.Sized.{Sized}
 use Rattle.sr_grammar.specs.Symbols.{Symbols, first, behind, IsWord, IsSign}
 use Rattle.sr_grammar.specs.Literals.{number_value}
 use Rattle.sr_grammar.specs.Levels.{tightness}
-use Rattle.sr_grammar.specs.Expressions.{Tightness, Reads, IsDeep, depth, joins, compares}
+use Rattle.sr_grammar.specs.Expressions.{Tightness, Reads, IsDeep, joins, compares}
 use Rattle.sr_grammar.specs.Expressions.Tightness.{disjunction, conjunction, negation, sum, product, signed, operand}
 use Rattle.sr_grammar.specs.Expressions.Reads.{single, named}
 use Rattle.sr_grammar.specs.Going.{Stop, is_there, is_dot, factor_goes, sum_goes, relation_goes, and_goes, expression_goes, goes_on}

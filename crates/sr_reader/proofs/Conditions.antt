@@ -1,8 +1,8 @@
 -- A part that may be left out, and conditions.
 use Rattle.std.proofs.Common.{◌≡◌, Bool, true, false, ◌||◌, [], Option, Some, None, Result, Ok, refl, sym, ap, ◌∙◌}
 use Rattle.sr_ast.specs.declared.expr.Expr.{Expr}
-use Rattle.sr_grammar.specs.declared.keyword.Keyword.{Keyword}
-use Rattle.sr_grammar.specs.declared.keyword.Keyword.TheVariants as key
+use Rattle.sr_ast.specs.declared.keyword.Keyword.{Keyword}
+use Rattle.sr_ast.specs.declared.keyword.Keyword.TheVariants as key
 use Rattle.sr_grammar.specs.Symbols.{Symbols, first, IsWord}
 use Rattle.sr_grammar.specs.Expressions.{IsExpr}
 use Rattle.sr_grammar.specs.Writing.{IsLed, IsCondition}

@@ -1,14 +1,14 @@
 -- Readers of expressions find what the symbols spell.
 use Rattle.std.proofs.Common.{◌≡◌, ℕ, Result, ◌+◌, ◌-◌, ◌<◌, ◌≤◌, arith, List, [], ◌∷◌, Option, Some, None, Ok, Err, refl, sym, subst, ap, ◌∙◌}
 use Rattle.std.specs.Option.{option_and_then}
-use Rattle.sr_ast.specs.Terms.{Term}
+use Rattle.sr_ast.specs.Terms.{Term, depth}
 use Rattle.sr_ast.specs.Terms.Term.{literal, column, unary, binary}
 use Rattle.sr_ast.specs.Exprs.{term_of}
 use Rattle.sr_ast.specs.declared.operator.Unary.{Unary}
 use Rattle.sr_ast.specs.declared.operator.Unary.TheVariants as one
 use Rattle.sr_ast.specs.declared.operator.Binary.{Binary}
 use Rattle.sr_base.specs.declared.value.Value.{Value}
-use Rattle.sr_grammar.specs.declared.keyword.Keyword.TheVariants as key
+use Rattle.sr_ast.specs.declared.keyword.Keyword.TheVariants as key
 use Rattle.sr_grammar.specs.declared.symbol.Sign.TheVariants as sign
 use Rattle.sr_grammar.specs.declared.symbol.Symbol.{Symbol}
 use Rattle.sr_reader.specs.declared.reader.Broken.{Broken}
@@ -20,7 +20,7 @@ use Rattle.sr_grammar.specs.declared.level.Level.TheVariants.{Or, And, Sum, Prod
 use Rattle.sr_grammar.specs.Symbols.{Symbols, first, behind as rest_of, IsName, IsWord, IsSign}
 use Rattle.sr_grammar.specs.Literals.{IsLiteral, negative_meant, begins_number}
 use Rattle.sr_grammar.specs.Levels.{tightness}
-use Rattle.sr_grammar.specs.Expressions.{Tightness, IsNullTest, IsColumn, Reads, IsDeep, depth, tighter, joins, compares}
+use Rattle.sr_grammar.specs.Expressions.{Tightness, IsNullTest, IsColumn, Reads, IsDeep, tighter, joins, compares}
 use Rattle.sr_grammar.specs.Expressions.Tightness.{disjunction, negation, comparison, sum, signed, operand}
 use Rattle.sr_grammar.specs.Expressions.Reads.{loose, joined, not, compared, null_test, negative, minus, single, named, inside}
 use Rattle.sr_reader.specs.Reading.{Gives}

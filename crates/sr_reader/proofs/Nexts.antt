@@ -3,11 +3,12 @@ use Rattle.std.proofs.Common.{◌≡◌, ℕ, true, List, [], ◌∷◌, Option,
 use Rattle.std.specs.Option.{option_copied, is_some}
 use denote.Bor.{Bor}
 use Rattle.sr_base.specs.declared.value.Value.{Value}
-use Rattle.sr_grammar.specs.declared.keyword.Keyword.{Keyword}
-use Rattle.sr_grammar.specs.declared.keyword.Keyword.TheVariants as key
+use Rattle.sr_ast.specs.declared.keyword.Keyword.{Keyword}
+use Rattle.sr_ast.specs.declared.keyword.Keyword.TheVariants as key
+use Rattle.sr_ast.specs.Keywords.{named}
 use Rattle.sr_grammar.specs.declared.symbol.Symbol.{Symbol}
 use Rattle.sr_grammar.specs.declared.symbol.Symbol.TheVariants as symbol
-use Rattle.sr_grammar.specs.Symbols.{Symbols, first, behind, named, name_meant, IsName, IsWord}
+use Rattle.sr_grammar.specs.Symbols.{Symbols, first, behind, name_meant, IsName, IsWord}
 use Rattle.sr_grammar.specs.Literals.{IsLiteral, IsDateText, literal_meant}
 
 -- a key word that is also a name

@@ -1,6 +1,6 @@
 -- Readers of a part that stands behind a key word, and may be left out with it.
 use Rattle.std.proofs.Common.{◌≡◌, Bool, true, Some, None, Result, Ok, refl, sym, subst, ap, ◌∙◌}
-use Rattle.sr_grammar.specs.declared.keyword.Keyword.{Keyword}
+use Rattle.sr_ast.specs.declared.keyword.Keyword.{Keyword}
 use Rattle.sr_grammar.specs.declared.symbol.Symbol.{Symbol}
 use Rattle.sr_reader.specs.declared.reader.Broken.{Broken}
 use Rattle.sr_grammar.specs.Symbols.{Symbols, first, word, IsWord}

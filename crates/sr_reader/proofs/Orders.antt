@@ -1,7 +1,7 @@
 -- Readers of what orders rows.
 use Rattle.std.proofs.Common.{◌≡◌, ℕ, Bool, true, false, List, [], ◌∷◌, Option, Result, Ok, Err, IsTrue, IsFalse, refl, sym, ap, ◌∙◌, inl, inr}
 use Rattle.sr_ast.specs.declared.query.OrderBy.{OrderBy}
-use Rattle.sr_grammar.specs.declared.keyword.Keyword.TheVariants as key
+use Rattle.sr_ast.specs.declared.keyword.Keyword.TheVariants as key
 use Rattle.sr_reader.specs.declared.reader.Broken.{Broken}
 use Rattle.sr_grammar.specs.Symbols.{Symbols, first, word, IsWord}
 use Rattle.sr_grammar.specs.Listing.{Listed}

@@ -1,10 +1,10 @@
 -- Expressions, read from one symbol to the next.
 use Rattle.std.proofs.Common.{◌≡◌, ℕ, ◌+◌, ◌<◌, max, ap, arith, List, Option, sym, subst}
-use Rattle.sr_ast.specs.Terms.{Term}
+use Rattle.sr_ast.specs.Terms.{Term, depth}
 use Rattle.sr_ast.specs.Terms.Term.{column, binary}
 use Rattle.sr_ast.specs.declared.operator.Binary.{Binary}
 use Rattle.sr_grammar.specs.Symbols.{Symbols}
-use Rattle.sr_grammar.specs.Expressions.{Tightness, IsColumn, Reads, IsDeep, depth}
+use Rattle.sr_grammar.specs.Expressions.{Tightness, IsColumn, Reads, IsDeep}
 use Rattle.sr_grammar.specs.Expressions.Tightness.{operand}
 use Rattle.sr_grammar.specs.Expressions.Reads.{named}
 

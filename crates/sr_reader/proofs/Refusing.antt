@@ -4,13 +4,13 @@ use Rattle.std.proofs.lemmas.List.{append-nil}
 use Rattle.std.specs.Option.{option_and_then}
 use Rattle.sr_base.specs.declared.value.Value.{Value}
 use Rattle.sr_base.specs.declared.value.Value.TheVariants.{Int}
-use Rattle.sr_ast.specs.Terms.{Term}
+use Rattle.sr_ast.specs.Terms.{Term, depth}
 use Rattle.sr_ast.specs.Terms.Term.{literal, unary, binary}
 use Rattle.sr_ast.specs.Exprs.{term_of}
 use Rattle.sr_ast.specs.declared.operator.Unary.{Unary}
 use Rattle.sr_ast.specs.declared.operator.Unary.TheVariants as one
 use Rattle.sr_ast.specs.declared.operator.Binary.{Binary}
-use Rattle.sr_grammar.specs.declared.keyword.Keyword.TheVariants as key
+use Rattle.sr_ast.specs.declared.keyword.Keyword.TheVariants as key
 use Rattle.sr_grammar.specs.declared.symbol.Sign.TheVariants as mark
 use Rattle.sr_grammar.specs.declared.symbol.Symbol.{Symbol}
 use Rattle.sr_grammar.specs.declared.symbol.Symbol.TheVariants as symbol
@@ -22,7 +22,7 @@ use Rattle.sr_grammar.specs.declared.level.Level.{Level}
 use Rattle.sr_grammar.specs.Symbols.{Symbols, first, behind, word, sign, IsName, IsWord, IsSign}
 use Rattle.sr_grammar.specs.Literals.{IsLiteral, negative_meant, begins_number}
 use Rattle.sr_grammar.specs.Levels.{tightness}
-use Rattle.sr_grammar.specs.Expressions.{Tightness, IsExpr, Reads, IsNullTest, IsDeep, depth, tighter, joins, compares}
+use Rattle.sr_grammar.specs.Expressions.{Tightness, IsExpr, Reads, IsNullTest, IsDeep, tighter, joins, compares}
 use Rattle.sr_grammar.specs.Expressions.Tightness.{disjunction, conjunction, negation, comparison, sum, product, signed, operand}
 use Rattle.sr_grammar.specs.Expressions.Reads.{loose, joined, not, compared, null_test, negative, minus, single, inside}
 use Rattle.sr_grammar.specs.Going.{Stop, goes_on, expression_goes, is_dot}

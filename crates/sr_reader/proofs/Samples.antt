@@ -1,7 +1,7 @@
 -- Symbols that spell a value of a production.
 use Rattle.std.proofs.Common.{arith, false, [], ◌∷◌, ◌++◌, None, refl, inl}
-use Rattle.sr_grammar.specs.declared.keyword.Keyword.{Keyword}
-use Rattle.sr_grammar.specs.declared.keyword.Keyword.TheVariants as key
+use Rattle.sr_ast.specs.declared.keyword.Keyword.{Keyword}
+use Rattle.sr_ast.specs.declared.keyword.Keyword.TheVariants as key
 use Rattle.sr_grammar.specs.declared.symbol.Sign.TheVariants as mark
 use Rattle.sr_grammar.specs.Symbols.{Symbols, IsName}
 use Rattle.sr_grammar.specs.Listing.{Listed, IsNames}

@@ -9,8 +9,8 @@ use Rattle.sr_ast.specs.declared.query.Source.{Source}
 use Rattle.sr_ast.specs.declared.query.Join.{Join}
 use Rattle.sr_ast.specs.declared.query.OrderBy.{OrderBy}
 use Rattle.sr_ast.specs.declared.query.Select.{Select}
-use Rattle.sr_grammar.specs.declared.keyword.Keyword.{Keyword}
-use Rattle.sr_grammar.specs.declared.keyword.Keyword.TheVariants as key
+use Rattle.sr_ast.specs.declared.keyword.Keyword.{Keyword}
+use Rattle.sr_ast.specs.declared.keyword.Keyword.TheVariants as key
 use Rattle.sr_grammar.specs.declared.symbol.Sign.TheVariants as mark
 use Rattle.sr_grammar.specs.declared.symbol.Symbol.{Symbol}
 use Rattle.sr_reader.specs.declared.reader.Broken.{Broken}

@@ -4,18 +4,19 @@ use Rattle.sr_base.specs.declared.value.Value.TheVariants.{Int}
 use Rattle.sr_ast.specs.declared.expr.Expr.TheVariants.{Literal}
 use Rattle.sr_grammar.specs.Expressions.{IsExpr}
 use Rattle.sr_grammar.specs.Expressions.Reads.{loose, single}
-use Rattle.sr_grammar.specs.declared.keyword.Keyword.TheVariants as key
+use Rattle.sr_ast.specs.declared.keyword.Keyword.TheVariants as key
 use Rattle.sr_grammar.specs.declared.symbol.Symbol.TheVariants as symbol
 use Rattle.std.specs.Prelude.{IsUtf8}
 use Rattle.sr_lex.specs.declared.token.TokenKind.TheVariants as token
 use Rattle.sr_lex.specs.Tokens.{is_sign, quoted}
 use Rattle.sr_grammar.specs.declared.symbol.Sign.TheVariants as mark
-use Rattle.sr_grammar.specs.declared.keyword.Keyword.{Keyword}
+use Rattle.sr_ast.specs.declared.keyword.Keyword.{Keyword}
+use Rattle.sr_ast.specs.Keywords.{spelling}
 use Rattle.sr_grammar.specs.declared.symbol.Sign.{Sign}
 use Rattle.sr_grammar.specs.declared.symbol.Symbol.{Symbol}
 use Rattle.sr_reader.specs.declared.reader.Broken.TheVariants.{Refused}
 use Rattle.sr_grammar.specs.Symbols.{Symbols, first, behind, word, sign, IsName, IsWord, IsSign, IsTextAt}
-use Rattle.sr_grammar.specs.Meanings.{spelling, sign_text}
+use Rattle.sr_grammar.specs.Meanings.{sign_text}
 use Rattle.sr_grammar.specs.Meant.{IsMeant}
 use Rattle.sr_reader.specs.Reading.{Alike, Reading, Anywhere}
 use Rattle.sr_reader.specs.Productions.{Word, Mark}

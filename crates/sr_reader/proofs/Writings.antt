@@ -4,7 +4,7 @@ use Rattle.sr_ast.specs.declared.expr.Expr.{Expr}
 use Rattle.sr_ast.specs.declared.query.Insert.{Insert}
 use Rattle.sr_ast.specs.declared.query.Update.{Update}
 use Rattle.sr_ast.specs.declared.query.Delete.{Delete}
-use Rattle.sr_grammar.specs.declared.keyword.Keyword.TheVariants as key
+use Rattle.sr_ast.specs.declared.keyword.Keyword.TheVariants as key
 use Rattle.sr_grammar.specs.declared.symbol.Sign.TheVariants as mark
 use Rattle.sr_grammar.specs.Symbols.{Symbols, IsName}
 use Rattle.sr_grammar.specs.Listing.{Listed, IsNames}

@@ -1,6 +1,6 @@
 -- Productions as their readers answer them: the parts in one value, with what a reader may not pass.
 use Rattle.std.specs.Prelude.{◌≡◌, ℕ, ◌≤◌, Bool, true, List, [], ◌∷◌, length, Option, Result}
-use Rattle.sr_ast.specs.Terms.{Term}
+use Rattle.sr_ast.specs.Terms.{Term, depth}
 use Rattle.sr_ast.specs.Terms.Term.{column}
 use Rattle.sr_ast.specs.Exprs.{term_of}
 use Rattle.sr_ast.specs.declared.action.Action.{Action}
@@ -8,16 +8,16 @@ use Rattle.sr_ast.specs.declared.expr.Expr.{Expr}
 use Rattle.sr_ast.specs.declared.create.ColumnRule.{ColumnRule}
 use Rattle.sr_ast.specs.declared.query.Join.{Join}
 use Rattle.sr_ast.specs.declared.stmt.Stmt.{Stmt}
-use Rattle.sr_grammar.specs.declared.keyword.Keyword.{Keyword}
+use Rattle.sr_ast.specs.declared.keyword.Keyword.{Keyword}
 use Rattle.sr_grammar.specs.declared.symbol.Sign.{Sign}
-use Rattle.sr_grammar.specs.declared.keyword.Keyword.TheVariants as key
+use Rattle.sr_ast.specs.declared.keyword.Keyword.TheVariants as key
 use Rattle.sr_grammar.specs.declared.symbol.Sign.TheVariants as mark
 use Rattle.sr_reader.specs.declared.reader.Broken.{Broken}
 use Rattle.sr_reader.specs.declared.exprs.Room.{Room}
 use Rattle.sr_reader.specs.declared.exprs.Sized.{Sized}
 use Rattle.sr_grammar.specs.Symbols.{Symbols, word, sign, IsWord, IsSign}
 use Rattle.sr_grammar.specs.Listing.{Row}
-use Rattle.sr_grammar.specs.Expressions.{Tightness, Reads, IsColumn, depth}
+use Rattle.sr_grammar.specs.Expressions.{Tightness, Reads, IsColumn}
 use Rattle.sr_grammar.specs.Writing.{IsJoin, IsJoinWord}
 use Rattle.sr_grammar.specs.Triggers.{Acts, IsAssigned, IsInserted}
 use Rattle.sr_grammar.specs.Triggers.Amount.{one}

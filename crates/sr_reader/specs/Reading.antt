@@ -1,6 +1,6 @@
 -- What a reader of a production owes: what it read, and where and why it is refused.
 use Rattle.std.specs.Prelude.{◌≡◌, [], ◌++◌, Result, Ok, Err}
-use Rattle.sr_grammar.specs.declared.keyword.Keyword.{Keyword}
+use Rattle.sr_ast.specs.declared.keyword.Keyword.{Keyword}
 use Rattle.sr_grammar.specs.declared.symbol.Sign.{Sign}
 use Rattle.sr_reader.specs.declared.reader.Broken.{Broken}
 use Rattle.sr_reader.specs.declared.reader.Broken.TheVariants.{Memory, Refused}

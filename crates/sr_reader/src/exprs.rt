@@ -2,6 +2,7 @@ ghost use Rattle.std.specs.Prelude.{◌≡◌, ◌+◌, ◌<◌, ◌≤◌, leng
 ghost use Rattle.std.specs.Option.{option_copied, option_and_then};
 ghost use Rattle.sr_ast.specs.Terms.Term.{unary, binary};
 ghost use Rattle.sr_ast.specs.Exprs.{term_of};
+ghost use Rattle.sr_ast.specs.Terms.{depth};
 ghost use Rattle.sr_reader.specs.Reading.{Reading, Anywhere, mapped};
 ghost use Rattle.sr_reader.specs.Productions.{Named, ReadsLevel};
 ghost use Rattle.sr_reader.specs.Alone.{IsAlone, is_operand, is_loose};
@@ -9,14 +10,14 @@ ghost use Rattle.sr_reader.specs.declared.reader.Broken.TheVariants.{Memory};
 ghost use Rattle.sr_grammar.specs.Levels.{tightness};
 ghost use Rattle.sr_grammar.specs.Going.{Stop, expression_goes, goes_on, is_dot};
 ghost use Rattle.sr_grammar.specs.Literals.{IsLiteral, IsDateText, number_value, negated, negative_meant};
-ghost use Rattle.sr_grammar.specs.Expressions.{IsExpr, IsDeep, IsNullTest, tighter, joins, compares, depth};
+ghost use Rattle.sr_grammar.specs.Expressions.{IsExpr, IsDeep, IsNullTest, tighter, joins, compares};
 ghost use Rattle.sr_grammar.specs.Expressions.Tightness.{negation, comparison, signed, operand};
 
 use crate::reader::{Broken, Reader};
-use sr_ast::{Binary, Expr, Operand, Unary};
+use sr_ast::{Binary, Expr, Keyword, Operand, Unary};
 use sr_base::Value;
 use sr_dates::day_of;
-use sr_grammar::{Keyword, Level, Sign, Symbol};
+use sr_grammar::{Level, Sign, Symbol};
 
 /// How deep an expression may be, and how many parentheses it may open.
 #[derive(Clone, Copy)]

@@ -24,15 +24,16 @@ ghost use Rattle.sr_grammar.specs.Writing.{
   IsDirection,
 };
 ghost use Rattle.sr_grammar.specs.Scripts.{IsOnly, IsPassthrough};
-ghost use Rattle.sr_grammar.specs.declared.keyword.Keyword.TheVariants as key;
+ghost use Rattle.sr_ast.specs.declared.keyword.Keyword.TheVariants as key;
 
 use crate::exprs::expr;
 use crate::reader::{Broken, Reader, sealed};
 use sr_ast::{
-    Delete, Expr, Insert, Item, Items, Join, OrderBy, Passthrough, Select, Source, Stmt, Update,
+    Delete, Expr, Insert, Item, Items, Join, Keyword, OrderBy, Passthrough, Select, Source, Stmt,
+    Update,
 };
 use sr_base::{Name, Seq};
-use sr_grammar::{Keyword, Sign};
+use sr_grammar::Sign;
 
 /// How many tables a FROM may have.
 const SOURCES: usize = 8;

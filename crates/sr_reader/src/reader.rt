@@ -1,13 +1,15 @@
+ghost use Rattle.sr_ast.specs.Keywords.{named};
 ghost use Rattle.std.specs.Prelude.{◌≡◌, ◌<◌, ◌≤◌, ℕ, List, length, OnOk, IfSome, IsTrue, IsFalse, reverse};
 ghost use Rattle.std.specs.Option.{option_copied};
 ghost use Rattle.sr_reader.specs.Reading.{Reading, Anywhere, mapped};
 ghost use Rattle.sr_reader.specs.Productions.{Word, Mark, Reference};
-ghost use Rattle.sr_grammar.specs.Symbols.{Symbols, first, behind, named, IsName, IsSign, IsWord, IsTextAt};
+ghost use Rattle.sr_grammar.specs.Symbols.{Symbols, first, behind, IsName, IsSign, IsWord, IsTextAt};
 ghost use Rattle.sr_grammar.specs.Listing.{Listed, IsNames};
 ghost use Rattle.sr_grammar.specs.Going.{Stop, is_dot, is_comma, is_open};
 
+use sr_ast::Keyword;
 use sr_base::{Name, Seq, Text, name_of};
-use sr_grammar::{Keyword, Sign, Symbol};
+use sr_grammar::{Sign, Symbol};
 use std::alloc::{AllocError, AllocFailed, Global};
 use std::marker::Model;
 

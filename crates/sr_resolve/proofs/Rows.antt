@@ -10,7 +10,8 @@ use Rattle.sr_book.specs.Entries.{Name}
 use Rattle.sr_dates.specs.Fitting.{fitted}
 use Rattle.sr_eval.specs.Bounds.{IsRowOf}
 use Rattle.sr_eval.specs.Comparisons.{is_null}
-use Rattle.sr_dml.specs.Conditions.{IsRow}
+use Rattle.sr_fits.specs.Rows.{IsRow}
+use Rattle.sr_fits.proofs.Rows.{row_parts, row_made}
 use Rattle.sr_dml.specs.Statements.{key_of}
 use Rattle.sr_dml.proofs.Fixed.{same_name, bytes_itself}
 use Rattle.sr_dml.proofs.Keeping.{fitted_again}
@@ -45,9 +46,9 @@ one_new c o v (Some w) fits h n = (new_fits c o w h, ap not n)
 pub news_fit : (updates : Updates) (columns : List Column) (row : List Cell) (news : List (Option Cell)) → IsRow columns row
     → new_values updates columns ≡ Some news
     → sets_null columns news ≡ false → IsRow columns (with_news news row)
-news_fit updates [] [] news fits h n = tt
-news_fit updates [] (v ∷ row) news fits h n = absurd fits
-news_fit updates (c ∷ columns) [] news fits h n = absurd fits
+news_fit updates [] [] news fits h n = refl
+news_fit updates [] (v ∷ row) news fits h n = cc
+news_fit updates (c ∷ columns) [] news fits h n = cc
 news_fit updates (c ∷ columns) (v ∷ row) [] fits h n =
     let found = in_front_some (new_value c (update_of updates c)) (new_values updates columns) [] h in
     let gone = found.4 in
@@ -58,8 +59,9 @@ news_fit updates (c ∷ columns) (v ∷ row) (new ∷ news) fits h n =
     let head : found.0 ≡ new = cc in
     let tail : found.1 ≡ news = cc in
     let split = or_fails (c.not_null && is_new_null new) (sets_null columns news) n in
-    let one = one_new c (update_of updates c) v new (fits.0, fits.1) (found.2 ∙ ap (λ x. Some x) head) split.0 in
-    (one.0, one.1, news_fit updates columns row news fits.2 (found.3 ∙ ap (λ xs. Some xs) tail) split.1)
+    let parts = row_parts c columns v row fits in
+    let one = one_new c (update_of updates c) v new (parts.0, parts.1) (found.2 ∙ ap (λ x. Some x) head) split.0 in
+    row_made c columns (unwrap_or new v) (with_news news row) one.0 one.1 (news_fit updates columns row news parts.2 (found.3 ∙ ap (λ xs. Some xs) tail) split.1)
 
 pub taken_fit : (columns : List Column) (updates : Updates) (stored : List Cell) (news : List (Option Cell)) → CanTake columns updates stored news
     → IsRow columns (with_news news stored)
@@ -89,7 +91,7 @@ one_filled c (Some v) w h = fitted_again v.1 c.kind w h
 
 pub filled_fits : (values : Values) (columns : List Column) (row : List Cell) → filled_row values columns ≡ Some row → has_null columns row ≡ false
     → IsRow columns row
-filled_fits values [] [] h n = tt
+filled_fits values [] [] h n = refl
 filled_fits values [] (v ∷ row) h n = cc
 filled_fits values (c ∷ columns) [] h n =
     let found = in_front_some (filled c (named (λ v. v.0) c.name values)) (filled_row values columns) [] h in
@@ -100,11 +102,9 @@ filled_fits values (c ∷ columns) (v ∷ row) h n =
     let same = found.4 in
     let head : found.0 ≡ v = cc in
     let tail : found.1 ≡ row = cc in
-    let split = or_fails (c.not_null && is_null v) (has_null columns row) n in (
-      one_filled c (named (λ v. v.0) c.name values) v (found.2 ∙ ap (λ x. Some x) head),
-      ap not split.0,
-      filled_fits values columns row (found.3 ∙ ap (λ xs. Some xs) tail) split.1,
-    )
+    let split = or_fails (c.not_null && is_null v) (has_null columns row) n in
+    row_made c columns v row (one_filled c (named (λ v. v.0) c.name values) v (found.2 ∙ ap (λ x. Some x) head)) (ap not split.0)
+    (filled_fits values columns row (found.3 ∙ ap (λ xs. Some xs) tail) split.1)
 
 -- ---- the named key
 

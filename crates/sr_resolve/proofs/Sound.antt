@@ -18,7 +18,8 @@ use Rattle.sr_book.specs.Entries.{Name}
 use Rattle.sr_change.specs.Changes.{refusal}
 use Rattle.sr_eval.specs.Comparisons.{is_null}
 use Rattle.sr_dml.specs.Applying.{place_of, applied_in, applied}
-use Rattle.sr_dml.specs.Conditions.{IsRow, RowsFit}
+use Rattle.sr_dml.specs.Conditions.{RowsFit}
+use Rattle.sr_fits.specs.Rows.{IsRow}
 use Rattle.sr_dml.specs.FittingChanges.{IsFitChange, ChangesFit}
 use Rattle.sr_dml.specs.Holding.{is_same_row}
 use Rattle.sr_dml.specs.Statements.{key_of, table_named, done}

@@ -10,7 +10,7 @@ use Rattle.sr_base.specs.Order.{value_cmp}
 use Rattle.sr_book.specs.Entries.{Name}
 use Rattle.sr_dates.specs.Fitting.{fitted}
 use Rattle.sr_eval.specs.Comparisons.{is_null}
-use Rattle.sr_dml.specs.Conditions.{IsRow}
+use Rattle.sr_fits.specs.Rows.{IsRow}
 use Rattle.sr_firing.specs.Actions.{in_front}
 use Rattle.sr_history.specs.Fitting.{fitted_in}
 use Rattle.sr_schema.specs.Firsts.{has}

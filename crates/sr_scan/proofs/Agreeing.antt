@@ -26,10 +26,9 @@ use Rattle.sr_logform.specs.declared.op.Op.TheVariants.{Insert, Remove, Set, Cle
 use Rattle.sr_logform.specs.declared.op.Transaction.{Transaction}
 use Rattle.sr_logform.specs.declared.outcome.Clash.{Clash as Why}
 use Rattle.sr_logform.specs.declared.outcome.Outcome.TheVariants as outcomes
-use Rattle.sr_publish.specs.Fits.{is_row}
+use Rattle.sr_fits.specs.Rows.{is_row}
 use Rattle.sr_publish.specs.Shares.{share_of}
 use Rattle.sr_publish.specs.Views.{shown_row}
-use Rattle.sr_publish.proofs.Fitted.{fitting_row}
 use Rattle.sr_rows.specs.Marks.{RowMap, rows_of_table}
 use Rattle.sr_schema.specs.Catalogs.{Lists}
 use Rattle.sr_schema.specs.Firsts.{has}
@@ -67,8 +66,8 @@ rows_are : (c : Lists) (table : Name) (columns : List (Name × Cell)) (before af
 rows_are c table columns before after h =
     let t = h.table in
     let meant = key_named t columns h.key h.meant in
-    and_true (is_row t.columns before) _ (fitting_row t.columns before h.fits_before)
-    (and_true (is_row t.columns after) _ (fitting_row t.columns after h.fits_after)
+    and_true (is_row t.columns before) _ h.fits_before
+    (and_true (is_row t.columns after) _ h.fits_after
     (and_true (stands_under t (key_meant t columns) before) _ (stands t (key_meant t columns) h.key before meant h.key_before)
     (stands t (key_meant t columns) h.key after meant h.key_after)))
 

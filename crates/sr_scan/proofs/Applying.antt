@@ -6,7 +6,8 @@ use Rattle.std.specs.Ordering.{eq_by_cmp}
 use Rattle.sr_base.specs.declared.value.Value.{Value as Cell}
 use Rattle.sr_book.specs.Entries.{Name}
 use Rattle.sr_dml.specs.Applying.{without_row, with_row, applied_in, applied}
-use Rattle.sr_dml.specs.Conditions.{IsRow, RowsFit}
+use Rattle.sr_dml.specs.Conditions.{RowsFit}
+use Rattle.sr_fits.specs.Rows.{IsRow}
 use Rattle.sr_dml.specs.FittingChanges.{FitsAt, IsFitChange, ChangesFit}
 use Rattle.sr_dml.specs.Statements.{key_of, table_named}
 use Rattle.sr_dml.proofs.Fixed.{same_name}

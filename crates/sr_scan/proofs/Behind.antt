@@ -25,6 +25,12 @@ accepted c x e = go (refusal c x) e where
   go None f = refl
   go (Some fault) f = cc
 
+pub not_refused : (c : Lists) (x : Stmt) → is_some (refusal c x) ≡ false → refusal c x ≡ None
+not_refused c x e = go (refusal c x) e where
+  go : (o : Option DdlFault) → is_some o ≡ false → o ≡ None
+  go None f = refl
+  go (Some fault) f = cc
+
 -- a statement that is no DDL leaves the catalog as it is, refused or not
 left : (o : Option DdlFault) (c : Lists) → unless_refused o c c ≡ c
 left None c = refl

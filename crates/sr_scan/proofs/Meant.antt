@@ -4,7 +4,7 @@ use Rattle.std.specs.List.{AllByRecursion}
 use Rattle.sr_ast.specs.Layout.{printed}
 use Rattle.sr_ast.specs.declared.stmt.Stmt.{Stmt}
 use Rattle.sr_book.specs.Entries.{Name}
-use Rattle.sr_grammar.specs.NormalForms.{IsNormal}
+use Rattle.sr_ast.specs.NormalForms.{IsNormal}
 use Rattle.sr_history.specs.Recorded.{Done, plain, ran, conflict, clash, done_of, IsDone, IsNoExec}
 use Rattle.sr_history.specs.Recorded.{Recorded, own, taken, ddl, sync, pass, note, entry_of, IsRecorded}
 use Rattle.sr_logform.specs.declared.change.Change.{Change}

@@ -5,7 +5,8 @@ use Rattle.sr_base.specs.Order.{value_cmp}
 use Rattle.sr_base.specs.declared.value.Value.{Value as Cell}
 use Rattle.sr_book.specs.Entries.{Name}
 use Rattle.sr_dml.specs.Applying.{applied_in, without_row, with_row}
-use Rattle.sr_dml.specs.Conditions.{IsRow, RowsFit}
+use Rattle.sr_dml.specs.Conditions.{RowsFit}
+use Rattle.sr_fits.specs.Rows.{IsRow}
 use Rattle.sr_dml.specs.FittingChanges.{IsFitChange, ChangesFit}
 use Rattle.sr_dml.specs.Statements.{key_of, table_named}
 use Rattle.sr_dml.proofs.Applied.{fitting_changes_keep}
@@ -13,7 +14,7 @@ use Rattle.sr_history.specs.Folds.{State, with_changes}
 use Rattle.sr_logform.specs.declared.change.Change.{Change}
 use Rattle.sr_publish.specs.Shares.{Share, share_in, source_of, share_of}
 use Rattle.sr_publish.specs.Views.{shown_row}
-use Rattle.sr_publish.proofs.Fitted.{fitting_row, value_itself}
+use Rattle.sr_fits.proofs.Rows.{value_itself}
 use Rattle.sr_rows.specs.Marks.{RowMap, rows_of_table}
 use Rattle.sr_schema.specs.Catalogs.{Lists}
 use Rattle.sr_schema.specs.declared.publication.Article.{Article}
@@ -49,7 +50,7 @@ told_nothing s key (Some row) = ap (update_of s.table key) (differs_not s.column
 -- a row that is there and fits passes the test
 pub fits_there : (t : Table) (o : Option (List Cell)) → ((row : List Cell) → o ≡ Some row → IsRow t.columns row) → fits_if t o ≡ true
 fits_there t None f = refl
-fits_there t (Some row) f = fitting_row t.columns row (f row refl)
+fits_there t (Some row) f = f row refl
 
 -- the key of a change, where its rows have one
 pub key_is : (t : Table) (key : List Cell) (before after : Option (List Cell)) → ((row : List Cell) → before ≡ Some row → key_of t.key row ≡ key)

@@ -16,7 +16,7 @@ use Rattle.sr_dml.specs.Statements.{key_of}
 use Rattle.sr_logform.specs.Ops.{OpHas, IsOp}
 use Rattle.sr_logform.specs.Rules.{is_present, AreDistinct, AreColumns}
 use Rattle.sr_logform.specs.declared.op.Op.TheVariants.{Insert, Remove}
-use Rattle.sr_publish.specs.Fits.{is_kept, may_hold, is_row}
+use Rattle.sr_fits.specs.Rows.{is_kept, may_hold, is_row}
 use Rattle.sr_publish.specs.Laws.{AreAt, HasKey, IsInOrder}
 use Rattle.sr_publish.specs.Shares.{Share}
 use Rattle.sr_publish.specs.Views.{is_in, shown, shown_row}

@@ -13,8 +13,8 @@ use Rattle.sr_book.specs.Entries.{Name}
 use Rattle.sr_change.specs.Changes.{refusal, next as catalog_next}
 use Rattle.sr_ddl.specs.Tables.{rule_name, column_of, table_of}
 use Rattle.sr_dml.specs.Statements.{table_named}
-use Rattle.sr_grammar.specs.Normal.{IsSomeOf}
-use Rattle.sr_grammar.specs.NormalForms.{IsNormal, IsNormalRule, IsNormalTable}
+use Rattle.sr_ast.specs.Normal.{IsSomeOf}
+use Rattle.sr_ast.specs.NormalForms.{IsNormal, IsNormalRule, IsNormalTable}
 use Rattle.sr_history.specs.Fitting.{IsAcceptedPass, DoneFits, DonesFit, FitsState, stored_from, Stored}
 use Rattle.sr_history.specs.Folds.{State, fresh, with_changes, with_statement, after_done, after_dones, after_pass, next, state_from, state_of}
 use Rattle.sr_history.specs.Recorded.{Done, plain, ran, conflict, clash, IsDone}

@@ -10,7 +10,7 @@ use Rattle.sr_history.specs.Recorded.{Recorded, own, taken, ddl, sync, pass, not
 use Rattle.sr_logform.specs.declared.change.Change.{Change}
 use Rattle.sr_logform.specs.declared.op.Op.{Op}
 use Rattle.sr_logform.specs.declared.op.Op.TheVariants.{Insert, Remove, Set, Clear, Exec}
-use Rattle.sr_publish.specs.Fits.{is_row}
+use Rattle.sr_fits.specs.Rows.{is_row}
 use Rattle.sr_publish.specs.Shares.{Share, share_of}
 use Rattle.sr_publish.specs.Views.{view}
 use Rattle.sr_schema.specs.Catalogs.{Lists}

@@ -15,7 +15,7 @@ use Rattle.sr_logform.specs.declared.op.Op.{Op}
 use Rattle.sr_logform.specs.declared.op.Op.TheVariants.{Insert, Remove, Set, Clear, Exec}
 use Rattle.sr_logform.specs.declared.outcome.Outcome.{Outcome}
 use Rattle.sr_logform.specs.declared.outcome.Outcome.TheVariants.{Plain, Conflict, Clash}
-use Rattle.sr_publish.specs.Fits.{is_row}
+use Rattle.sr_fits.specs.Rows.{is_row}
 use Rattle.sr_publish.specs.Shares.{Share, share_of}
 use Rattle.sr_publish.specs.Views.{shown_row}
 use Rattle.sr_schema.specs.Catalogs.{Lists}

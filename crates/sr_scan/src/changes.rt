@@ -14,8 +14,9 @@ use crate::columns::{differing_at, present_at};
 use crate::keys::key_of_row;
 use crate::views::Views;
 use sr_base::{Copied, Name, NoMemory, Row, Seq, Value};
+use sr_fits::is_row;
 use sr_logform::{Change, Op};
-use sr_publish::{TableView, is_row};
+use sr_publish::TableView;
 use sr_schema::Table;
 use std::alloc::{AllocError, Global};
 

@@ -10,7 +10,8 @@ ghost use Rattle.sr_schema.specs.Firsts.{has};
 ghost use Rattle.sr_scan.specs.Ops.{present_columns, differing, outside_key};
 
 use sr_base::{Copied, Name, NoMemory, Seq, Value};
-use sr_publish::{is_null, is_same, value_or_null};
+use sr_fits::is_null;
+use sr_publish::{is_same, value_or_null};
 use sr_schema::Column;
 use std::alloc::{AllocError, Global};
 

@@ -12,7 +12,8 @@ ghost use Rattle.sr_scan.specs.Ops.{key_columns};
 use crate::columns::add_copies;
 use sr_base::{Copied, Key, Name, NoMemory, Row, Seq, Value};
 use sr_dates::fit;
-use sr_publish::{is_row, values_at};
+use sr_fits::is_row;
+use sr_publish::values_at;
 use sr_schema::{Column, Table, item_at, key_names};
 use std::alloc::Global;
 

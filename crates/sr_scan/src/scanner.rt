@@ -142,7 +142,7 @@ impl Scanner {
     }
 
     /// Lets the catalog follow a statement that it does not refuse.
-    #[tactic(auto, using(crate::proofs::Behind::refused, crate::proofs::Behind::accepted))]
+    #[tactic(auto, using(crate::proofs::Behind::refused, crate::proofs::Behind::accepted, crate::proofs::Behind::not_refused))]
     fn apply(&mut self, alloc: Global, statement: &Stmt) -> Result<(), NoMemory>
         ensures catalog { OnOk result (self.new.catalog ≡ catalog_behind self.old.catalog (Some statement.now)) }
         ensures user { self.new.user ≡ self.old.user }

@@ -1,6 +1,6 @@
 //! The catalog behind the statements of an entry.
 
-ghost use Rattle.std.specs.Prelude.{◌≡◌, Some, is_some, IfOk};
+ghost use Rattle.std.specs.Prelude.{◌≡◌, None, Some, is_some, IfOk};
 ghost use Rattle.std.specs.Option.{option_copied};
 ghost use Rattle.sr_change.specs.Changes.{refusal, next};
 ghost use Rattle.sr_scan.specs.Changed.{or_before, LeavesBehind};
@@ -41,7 +41,7 @@ pub(crate) fn meant_by(alloc: Global, text: &Text) -> Result<Option<Stmt>, NoMem
 }
 
 /// The catalog behind a statement: `None` where it stays as it is. It is copied only where it changes.
-#[tactic(auto, using(crate::proofs::Behind::rows_only, crate::proofs::Behind::refused, crate::proofs::Behind::accepted))]
+#[tactic(auto, using(crate::proofs::Behind::rows_only, crate::proofs::Behind::refused, crate::proofs::Behind::accepted, crate::proofs::Behind::not_refused))]
 fn behind(alloc: Global, catalog: &Catalog, statement: &Stmt) -> Result<Option<Catalog>, NoMemory>
     ensures behind { IfOk result (λ after. or_before after catalog.now ≡ catalog_behind catalog.now (Some statement.now)) }
 {
@@ -71,12 +71,13 @@ pub(crate) fn is_refused(
     }
 }
 
-/// A copy of a catalog, behind a statement.
+/// A copy of a catalog, behind a statement that it does not refuse.
 fn copy_behind(
     alloc: Global,
     catalog: &Catalog,
     statement: &Stmt,
 ) -> Result<Option<Catalog>, NoMemory>
+    requires accepted { refusal catalog.now statement.now ≡ None }
     ensures behind { IfOk result (λ after. after ≡ Some (next catalog.now statement.now)) }
 {
     let mut after = catalog.copy(alloc)?;

@@ -12,8 +12,9 @@ use crate::columns::present_columns;
 use crate::views::Views;
 use sr_base::{Copied, Name, NoMemory, Row, Seq};
 use sr_catalog::Catalog;
+use sr_fits::is_row;
 use sr_logform::Op;
-use sr_publish::{TableView, is_row};
+use sr_publish::TableView;
 use std::alloc::Global;
 
 /// Adds, for each table, a Clear, and an Insert for each of its rows.

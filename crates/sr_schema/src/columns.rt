@@ -1,15 +1,16 @@
 //! The columns of a table: their names, those of its key, and the scope that they make for an expression.
 
-ghost use Rattle.std.specs.Prelude.{◌≡◌, option_map, slice_get, IfOk};
+ghost use Rattle.std.specs.Prelude.{◌≡◌, Some, option_map, slice_get, IfOk};
 ghost use Rattle.std.specs.Option.{option_copied};
+ghost use Rattle.sr_ast.specs.Classes.{is_alias};
 ghost use Rattle.sr_schema.specs.Firsts.{first_absent};
 ghost use Rattle.sr_schema.specs.Members.{column_name, has_column, column_names, key_names, scope_of};
 
-use crate::firsts::{first_absent, owned};
+use crate::firsts::{first_absent, item_named, owned, place_named};
 use crate::named::item_at;
 use crate::table::Table;
-use sr_ast::Scope;
-use sr_base::{Copied, Name, NoMemory, Seq};
+use sr_ast::{Columns, Places, Scope};
+use sr_base::{Copied, Kind, Name, NoMemory, Seq};
 use std::alloc::Global;
 
 /// The first name that is no column of the table.
@@ -72,4 +73,43 @@ pub fn scope_of(alloc: Global, table: &Table) -> Result<Scope, NoMemory>
         rest = after;
     }
     Ok(Seq::from_vec(scope))
+}
+
+/// A table is its own scope: an expression may name each column, also behind the table's name and a dot. No list of them is made; a
+/// look-up goes along the columns.
+impl Columns for Table {
+    ghost scope = { scope_of };
+
+    #[tactic(auto, using(crate::proofs::Scoped::kind_own, crate::proofs::Scoped::kind_other))]
+    fn kind_of(&self, table: &Option<Name>, name: &Name) -> Option<Kind> {
+        if !is_own(&self.name, table) {
+            return None;
+        }
+        match item_named(name, self.columns.as_slice()) {
+            None => None,
+            Some(column) => Some(column.kind),
+        }
+    }
+}
+
+impl Places for Table {
+    ghost scope = { scope_of };
+
+    #[tactic(auto, using(crate::proofs::Scoped::place_own, crate::proofs::Scoped::place_other))]
+    fn place_of(&self, table: &Option<Name>, name: &Name) -> Option<usize> {
+        if !is_own(&self.name, table) {
+            return None;
+        }
+        place_named(name, self.columns.as_slice())
+    }
+}
+
+/// Whether a reference with this name before its dot, or with none, may mean a column of the table.
+fn is_own(name: &Name, table: &Option<Name>) -> bool
+    ensures { result ≡ is_alias (Some name.now) table.now }
+{
+    match table {
+        None => true,
+        Some(table) => name.bytes() == table.bytes(),
+    }
 }

@@ -3,7 +3,7 @@
 ghost use Rattle.std.specs.Prelude.{◌≡◌, ◌∷◌, ◌++◌, [], false, Option, IfOk, nat_eq, nat_le, length, map, option_map, bytes_eq};
 ghost use Rattle.std.specs.Option.{option_copied};
 ghost use Rattle.sr_schema.specs.Firsts.{first_of, where_true, first_twice, first_absent, has};
-ghost use Rattle.sr_schema.specs.Names.{named, taken};
+ghost use Rattle.sr_schema.specs.Names.{named, place_of, taken};
 
 use crate::named::HasName;
 use indexmap::IndexSet;
@@ -32,6 +32,13 @@ impl Seen {
         Seen {
             names: IndexSet::new(alloc),
         }
+    }
+
+    /// Whether the name was seen.
+    pub fn holds(&self, name: &Name) -> bool
+        ensures has { result ≡ has self.now name.now }
+    {
+        self.names.contains(name.bytes())
     }
 
     /// Whether the name was seen before; it is now.
@@ -137,14 +144,13 @@ pub fn item_named<'a, T: HasName>(name: &Name, items: &'a [T]) -> Option<&'a T>
     None
 }
 
-/// The first of two names that is there.
-pub fn first_name(one: Option<Name>, other: Option<Name>) -> Option<Name>
-    ensures { result ≡ first_of one other }
+/// The place of the first item of this name.
+pub fn place_named<T: HasName>(name: &Name, items: &[T]) -> Option<usize>
+    ensures { result ≡ place_of T.name_of name.now items.now }
 {
-    match one {
-        Some(name) => Some(name),
-        None => other,
-    }
+    items
+        .iter()
+        .position(|item| name.bytes() == item.name().bytes())
 }
 
 /// A limit, where it applies.

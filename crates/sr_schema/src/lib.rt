@@ -26,8 +26,8 @@ pub use columns::{column_names, first_absent_column, key_names, scope_of};
 pub use exprs::{add_refs, is_operator};
 pub use fault::{DdlFault, DmlFault, missing_fault, too_many_fault};
 pub use firsts::{
-    Seen, first, first_absent, first_name, first_twice, first_twice_of, is_empty, is_full,
-    is_taken, item_named, limit_where, owned, paired, where_true,
+    Seen, first, first_absent, first_twice, first_twice_of, is_empty, is_full, is_taken,
+    item_named, limit_where, owned, paired, place_named, where_true,
 };
 pub use named::{HasName, Named, item_at};
 pub use publication::{Article, Publication};

@@ -5,7 +5,7 @@ use Rattle.std.specs.List.{AllByRecursion}
 use Rattle.std.proofs.lemmas.List.{append-nil}
 use Rattle.sr_ast.specs.declared.stmt.Passthrough.{Passthrough}
 use Rattle.sr_ast.specs.declared.stmt.Stmt.{Stmt}
-use Rattle.sr_grammar.specs.NormalForms.{IsNormal}
+use Rattle.sr_ast.specs.NormalForms.{IsNormal}
 use Rattle.sr_history.specs.Folds.{State}
 use Rattle.sr_history.specs.Recorded.{Recorded}
 use Rattle.sr_logform.specs.declared.change.Change.{Change}

@@ -3,7 +3,7 @@ use Rattle.std.specs.Prelude.{◌≡◌, ◌+◌, ⊤, ℕ, List, [], ◌++◌, 
 use Rattle.std.specs.List.{AllByRecursion}
 use Rattle.sr_ast.specs.declared.stmt.Passthrough.{Passthrough}
 use Rattle.sr_ast.specs.declared.stmt.Stmt.{Stmt}
-use Rattle.sr_grammar.specs.NormalForms.{IsNormal}
+use Rattle.sr_ast.specs.NormalForms.{IsNormal}
 use Rattle.sr_history.specs.Recorded.{Recorded}
 use Rattle.sr_database.specs.Views.{View, committed}
 use Rattle.sr_script.specs.Acts.{Act, commits, text_from}

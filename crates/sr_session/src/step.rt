@@ -3,7 +3,7 @@
 ghost use Rattle.std.specs.Prelude.{◌≡◌, true, ◌&&◌, OnOk};
 ghost use Rattle.sr_ast.specs.Statements.{is_carried, is_ddl};
 ghost use Rattle.sr_ast.specs.declared.stmt.Stmt.TheVariants.{Dml as DmlStmt, Passthrough as PassthroughStmt, Synchronize as SynchronizeStmt};
-ghost use Rattle.sr_grammar.specs.NormalForms.{IsNormal};
+ghost use Rattle.sr_ast.specs.NormalForms.{IsNormal};
 ghost use Rattle.sr_history.specs.Recorded.{IsCarried, IsDdl};
 ghost use Rattle.sr_database.specs.Views.{committed};
 ghost use Rattle.sr_script.specs.Meaning.{done_by, once_closed, on_catalog, on_rows, on_users, on_views, began, ended};

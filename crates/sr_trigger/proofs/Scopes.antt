@@ -11,6 +11,7 @@ use Rattle.sr_schema.specs.Names.{named, taken}
 use Rattle.sr_schema.specs.declared.table.Table.{Table}
 use Rattle.sr_schema.specs.declared.table.Column.{Column}
 use Rattle.sr_schema.proofs.Places.{flipped}
+use Rattle.sr_schema.proofs.Scoped.{and_true, and_false, found, columns_behind, column_alone, other_alias, this_alias}
 use Rattle.sr_trigger.specs.Scopes.{variable_kind, column_kind, behind_any, kind_behind, kind_behind_any}
 use Rattle.sr_trigger.specs.Triggers.{Scope, variable_name, alias_name, variables_scope, aliases_scope, trigger_scope}
 
@@ -23,19 +24,6 @@ behind (x ∷ xs) ys table n =
       | false ↦ behind xs ys table n
     ]
 
-and_true : (b : Bool) → (b && true) ≡ b
-and_true true = refl
-and_true false = refl
-
-and_false : (b : Bool) → (b && false) ≡ false
-and_false true = refl
-and_false false = refl
-
--- a thing that is found, by what is asked of it
-found : {A B : Type 0} (f : A → B) (b : Bool) (x : A) (rest : Option A) → option_map f (cond b (Some x) rest) ≡ cond b (Some (f x)) (option_map f rest)
-found f true x rest = refl
-found f false x rest = refl
-
 -- a name without a dot among the variables
 variable_alone : (vs : List (List ℕ × Kind)) (n : List ℕ) → kind_of (variables_scope vs) None n ≡ option_map (λ v. v.1) (named variable_name n vs)
 variable_alone [] n = refl
@@ -47,31 +35,6 @@ variable_alone (v ∷ vs) n =
 variable_behind : (vs : List (List ℕ × Kind)) (alias n : List ℕ) → kind_of (variables_scope vs) (Some alias) n ≡ None
 variable_behind [] alias n = refl
 variable_behind (v ∷ vs) alias n = (λ i. cond (and_false (bytes_eq v.0 n) i) (Some v.1) (kind_of (variables_scope vs) (Some alias) n)) ∙ variable_behind vs alias n
-
-abbrev columns_behind : List ℕ → List Column → Scope
-columns_behind alias columns = map (λ c. (Some alias, c.name, c.kind)) columns
-
--- a name without a dot among the columns behind an alias
-column_alone : (a : List ℕ) (cs : List Column) (n : List ℕ) → kind_of (columns_behind a cs) None n ≡ option_map (λ c. c.kind) (named column_name n cs)
-column_alone a [] n = refl
-column_alone a (c ∷ cs) n =
-    let same : (bytes_eq c.name n && true) ≡ bytes_eq n c.name = and_true (bytes_eq c.name n) ∙ flipped c.name n in
-    (λ i. cond (same i) (Some c.kind) (column_alone a cs n i)) ∙ sym (found (λ (d : Column). d.kind) (bytes_eq n c.name) c (named column_name n cs))
-
--- a name behind another alias
-other_alias : (a : List ℕ) (cs : List Column) (alias n : List ℕ) → bytes_eq a alias ≡ false → kind_of (columns_behind a cs) (Some alias) n ≡ None
-other_alias a [] alias n other = refl
-other_alias a (c ∷ cs) alias n other =
-    let none : (bytes_eq c.name n && bytes_eq a alias) ≡ false = ap (λ b. bytes_eq c.name n && b) other ∙ and_false (bytes_eq c.name n) in
-    (λ i. cond (none i) (Some c.kind) (kind_of (columns_behind a cs) (Some alias) n)) ∙ other_alias a cs alias n other
-
--- a name behind this alias
-this_alias : (a : List ℕ) (cs : List Column) (alias n : List ℕ) → bytes_eq a alias ≡ true → kind_of (columns_behind a cs) (Some alias) n ≡ option_map (λ c. c.kind) (named column_name n cs)
-this_alias a [] alias n this = refl
-this_alias a (c ∷ cs) alias n this =
-    let same : (bytes_eq c.name n && bytes_eq a alias) ≡ bytes_eq n c.name =
-    ap (λ b. bytes_eq c.name n && b) this ∙ (and_true (bytes_eq c.name n) ∙ flipped c.name n) in
-    (λ i. cond (same i) (Some c.kind) (this_alias a cs alias n this i)) ∙ sym (found (λ (d : Column). d.kind) (bytes_eq n c.name) c (named column_name n cs))
 
 first_again : {A : Type 0} (a : Option A) → first_of a a ≡ a
 first_again None = refl

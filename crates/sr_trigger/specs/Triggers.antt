@@ -165,6 +165,10 @@ unfoldable pub bad_in_trigger : List Table → CreateTrigger → Option Table �
 bad_in_trigger tables g None = None
 bad_in_trigger tables g (Some t) = bad_behind tables g t
 
+-- the fault of the two on a table that is there
+abbrev pub fault_behind : List Table → CreateTrigger → Table → Option DdlFault
+fault_behind tables g t = first_of (option_map Missing (absent_behind tables g t)) (option_map BadType (bad_behind tables g t))
+
 -- the fault of the two, where there is one
 abbrev pub inside_fault : List Table → CreateTrigger → Option Table → Option DdlFault
 inside_fault tables g t = first_of (option_map Missing (absent_in_trigger tables g t)) (option_map BadType (bad_in_trigger tables g t))

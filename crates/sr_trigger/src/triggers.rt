@@ -4,7 +4,7 @@ ghost use Rattle.std.specs.Prelude.{◌≡◌, nat_le, length, IfOk};
 ghost use Rattle.std.specs.Option.{option_copied};
 ghost use Rattle.sr_schema.specs.Causes.{first_fault};
 ghost use Rattle.sr_schema.specs.Firsts.{where_true};
-ghost use Rattle.sr_trigger.specs.Triggers.{taken_or_twice, twice_in, create_trigger_causes, inside_fault, trigger_of, drop_trigger_causes};
+ghost use Rattle.sr_trigger.specs.Triggers.{taken_or_twice, twice_in, create_trigger_causes, fault_behind, inside_fault, trigger_of, drop_trigger_causes};
 
 use crate::absent::absent_behind;
 use crate::bad::bad_behind;
@@ -46,15 +46,41 @@ fn inside_fault(
 ) -> Result<Option<DdlFault>, NoMemory>
     ensures { IfOk result (λ fault. fault ≡ inside_fault schema.now.tables rule.now (option_copied table.entry)) }
 {
-    let Some(table) = table else {
-        let name = rule.table.copy(alloc)?;
-        return Ok(Some(DdlFault::Missing { name }));
-    };
+    match table {
+        None => Ok(Some(DdlFault::Missing {
+            name: rule.table.copy(alloc)?,
+        })),
+        Some(table) => fault_behind(schema, alloc, rule, table),
+    }
+}
+
+/// The same, where its table is there. The scope is made for both.
+fn fault_behind(
+    schema: &Schema,
+    alloc: Global,
+    rule: &CreateTrigger,
+    table: &Table,
+) -> Result<Option<DdlFault>, NoMemory>
+    ensures { IfOk result (λ fault. fault ≡ fault_behind schema.now.tables rule.now table.now) }
+{
     let scope = TriggerScope::new(alloc, rule, table)?;
-    if let Some(name) = absent_behind(schema, alloc, &scope)? {
+    let found = fault_in(schema, alloc, &scope);
+    drop(scope);
+    found
+}
+
+/// The same over its scope.
+fn fault_in(
+    schema: &Schema,
+    alloc: Global,
+    scope: &TriggerScope,
+) -> Result<Option<DdlFault>, NoMemory>
+    ensures { IfOk result (λ fault. fault ≡ fault_behind schema.now.tables scope.now.0 scope.now.1) }
+{
+    if let Some(name) = absent_behind(schema, alloc, scope)? {
         return Ok(Some(DdlFault::Missing { name }));
     }
-    if let Some(name) = bad_behind(schema, alloc, &scope)? {
+    if let Some(name) = bad_behind(schema, alloc, scope)? {
         return Ok(Some(DdlFault::BadType { name }));
     }
     Ok(None)

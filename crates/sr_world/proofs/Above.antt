@@ -241,7 +241,7 @@ is15 : IsLine (c_at c_rows5) line15
 unfolding size entry_spelling value_spelling next
 is15 = own_line (c_at c_rows5) (c_at c_rows7) (updated 5 7) 37 (set 5 7 ∷ []) refl refl (omega arith)
     (update_ok 5 7 (omega arith) (omega arith) (λ h. omega (arith, h)))
-    (next_fits (c_at c_rows5).catalog c_rows5 5 7 refl held_new ((refl, refl, (refl, refl, tt)), refl))
+    (next_fits (c_at c_rows5).catalog c_rows5 5 7 refl held_new (refl, refl))
 
 abbrev line16 : Line
 line16 = still (sent_to r1 612 0) 25 (c_at c_rows7)
@@ -275,8 +275,8 @@ met_rows : AreNamedRows (c_at c_rows7).catalog table_t ((column_id, Int (pos 1))
 met_rows = record {
   table = the_t;
   named = refl;
-  fits_before = (refl, refl, (refl, refl, tt));
-  fits_after = (refl, refl, (refl, refl, tt));
+  fits_before = refl;
+  fits_after = refl;
   key = Int (pos 1) ∷ [];
   meant = record { count = refl; values = (refl, tt) };
   key_before = refl;
@@ -306,7 +306,7 @@ is20 = record {
       record {
         changes = (
           next_fits (c_at c_rows7).catalog c_rows7 7 6 refl (held_next c_rows5 7)
-              ((refl, refl, (refl, refl, tt)), refl),
+              (refl, refl),
           tt,
         );
         outcome = (tt, met_rows);

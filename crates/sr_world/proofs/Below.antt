@@ -151,7 +151,7 @@ is_up9 : IsLine (a_at a_rows5) up9
 unfolding size entry_spelling value_spelling next
 is_up9 = own_line (a_at a_rows5) (a_at a_rows6) (updated 5 6) 37 (set 5 6 ∷ []) refl refl (omega arith)
     (update_ok 5 6 (omega arith) (omega arith) (λ h. omega (arith, h)))
-    (next_fits (a_at a_rows5).catalog a_rows5 5 6 refl held_new ((refl, refl, (refl, refl, tt)), refl))
+    (next_fits (a_at a_rows5).catalog a_rows5 5 6 refl held_new (refl, refl))
 
 -- an update from above is made, whatever value it meets
 made : done_judged (a_at a_rows6) true (set 5 7) None ≡ plain (set 5 7) (updated 6 7 ∷ [])
@@ -165,7 +165,7 @@ is_up10 : IsLine (a_at a_rows6) up10
 unfolding size entry_spelling op_spelling outcome_spelling value_spelling next
 is_up10 = taken_line (a_at a_rows6) (a_at a_rows7) 612 (set 5 7) (updated 6 7) 86 refl refl (omega arith) tt (omega arith)
     (set_ok 5 7 (omega arith) (omega arith)) (update_outcome 6 7 (omega arith) (omega arith) (λ h. omega (arith, h))) refl
-    (next_fits (a_at a_rows6).catalog a_rows6 6 7 refl (held_next a_rows5 6) ((refl, refl, (refl, refl, tt)), refl)) refl made
+    (next_fits (a_at a_rows6).catalog a_rows6 6 7 refl (held_next a_rows5 6) (refl, refl)) refl made
 
 abbrev up11 : Line
 up11 = still (sent_to cons 389 612) 27 (a_at a_rows7)
@@ -184,7 +184,7 @@ is_up12 : IsLine (a_at a_rows7) up12
 unfolding size entry_spelling op_spelling outcome_spelling value_spelling next
 is_up12 = taken_line (a_at a_rows7) (a_at a_last) 801 (set 7 6) (updated 7 6) 86 refl refl (omega arith) tt (omega arith)
     (set_ok 7 6 (omega arith) (omega arith)) (update_outcome 7 6 (omega arith) (omega arith) (λ h. omega (arith, h))) refl
-    (next_fits (a_at a_rows7).catalog a_rows7 7 6 refl (held_next a_rows6 7) ((refl, refl, (refl, refl, tt)), refl)) refl made_again
+    (next_fits (a_at a_rows7).catalog a_rows7 7 6 refl (held_next a_rows6 7) (refl, refl)) refl made_again
 
 abbrev pub r1_lines : List Line
 r1_lines = up1 ∷ up2 ∷ up3 ∷ up4 ∷ up5 ∷ up6 ∷ up7 ∷ up8 ∷ up9 ∷ up10 ∷ up11 ∷ up12 ∷ []
@@ -264,7 +264,7 @@ is_far3 = record {
               named = refl;
               key = Int (pos 1) ∷ [];
               held = get-empty place_cmp here;
-              fits = ((refl, refl, tt), refl);
+              fits = (refl, refl);
             },
             tt,
           );

@@ -170,7 +170,7 @@ entries_new row = entries-insert place_cmp_total map_of.empty here row ∙ ap (p
 pub new_fits : (catalog : Lists) (rows : RowMap) → table_named catalog table_t ≡ Some the_t → get rows here ≡ None
     → IsFitChange catalog rows (inserted (first_row 5))
 new_fits catalog rows there held =
-    record { table = the_t; named = there; key = Int (pos 1) ∷ []; held = held; fits = ((refl, refl, (refl, refl, tt)), refl) }
+    record { table = the_t; named = there; key = Int (pos 1) ∷ []; held = held; fits = (refl, refl) }
 
 pub next_fits : (catalog : Lists) (rows : RowMap) (a b : ℕ) → table_named catalog table_t ≡ Some the_t → get rows here ≡ Some (first_row a)
     → FitsAt the_t (Int (pos 1) ∷ []) (Some (first_row b)) → IsFitChange catalog rows (updated a b)

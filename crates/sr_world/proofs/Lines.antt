@@ -7,7 +7,7 @@ use Rattle.sr_base.specs.Fields.{IsText, IsName}
 use Rattle.sr_book.specs.declared.note.Note.{Note}
 use Rattle.sr_book.specs.Entries.{Name}
 use Rattle.sr_change.specs.Changes.{refusal}
-use Rattle.sr_grammar.specs.NormalForms.{IsNormal}
+use Rattle.sr_ast.specs.NormalForms.{IsNormal}
 use Rattle.sr_history.specs.Fitting.{Knows, IsDone, FitsState, Fits}
 use Rattle.sr_history.specs.Folds.{State, next, size, state_from}
 use Rattle.sr_history.specs.Laws.{Holds}

@@ -18,12 +18,11 @@ use Rattle.sr_base.specs.Fields.{IsText, IsListOf}
 use Rattle.sr_base.specs.Values.{IsValue}
 use Rattle.sr_base.specs.declared.value.Value.{Value as Cell}
 use Rattle.sr_base.specs.declared.value.Value.TheVariants.{Int}
-use Rattle.sr_grammar.specs.declared.keyword.Keyword.{Keyword}
-use Rattle.sr_grammar.specs.declared.keyword.Keyword.TheVariants as key
-use Rattle.sr_grammar.specs.Meanings.{IsKeyword}
-use Rattle.sr_grammar.specs.Normal.{IsPlain}
-use Rattle.sr_grammar.specs.NormalForms.{IsNormal}
-use Rattle.sr_grammar.specs.Symbols.{named}
+use Rattle.sr_ast.specs.declared.keyword.Keyword.{Keyword}
+use Rattle.sr_ast.specs.declared.keyword.Keyword.TheVariants as key
+use Rattle.sr_ast.specs.Normal.{IsPlain}
+use Rattle.sr_ast.specs.NormalForms.{IsNormal}
+use Rattle.sr_ast.specs.Keywords.{IsKeyword, named}
 use Rattle.sr_book.specs.Entries.{Name}
 use Rattle.sr_history.specs.Folds.{size}
 use Rattle.sr_history.specs.Recorded.{ddl}

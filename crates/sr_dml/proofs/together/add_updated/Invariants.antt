@@ -4,7 +4,7 @@ use Rattle.sr_dml.specs.Preparing.{new_row, resolution_in}
 use Rattle.sr_dml.proofs.together.add_updated.Given as goal
 
 abbrev pub invariant-columns : goal.invariant-columns
-invariant-columns l = prefixed l.values.items (new_row l.row.values.now l.left l.olds (map resolution_in l.sets_left)) ≡ prefixed l.fn.values.items (new_row l.row.values.now l.columns l.row.values.now (map resolution_in l.sets))
+invariant-columns l = prefixed l.values.items (new_row l.row l.left l.olds (map resolution_in l.sets_left)) ≡ prefixed l.fn.values.items (new_row l.row l.columns l.row (map resolution_in l.sets))
 
 abbrev pub decreases-columns : goal.decreases-columns
 decreases-columns l = length l.left

@@ -1,5 +1,5 @@
 use Rattle.std.proofs.Common.{◌≡◌, length}
-use Rattle.sr_dml.specs.Conditions.{IsRow}
+use Rattle.sr_fits.specs.Rows.{IsRow}
 use Rattle.sr_firing.specs.Firing.{after_triggers, first_scene}
 use Rattle.sr_firing.specs.Running.{ground_of}
 use Rattle.sr_firing.proofs.firing.fire.Given as goal

@@ -17,3 +17,6 @@ pub returns-clause-told : goal.returns-clause-told
 returns-clause-told c = λ text is.
     ran_here c.args.catalog.now c.args.rows.now _ c.do_statement.new.rows c.go_on_changes.new.rows text c.args.changes.now c.args.stmt.now _ is
     (c.in_ok-accepts.ensures.accepted.0 c.if-not-branch.false) c.if-not-branch-2.false c.in_ok-go_on_changes.ensures.told c.in_ok-do_statement.ensures.ok
+
+pub do_statement-requires-clause-accepted : goal.do_statement-requires-clause-accepted
+do_statement-requires-clause-accepted c = (c.in_ok-accepts.ensures.accepted.0 c.if-not-branch.false).catalog

@@ -1,5 +1,5 @@
 use Rattle.std.proofs.Common.{rules, ◌≡◌, ◌+◌, suc, refl, arith, subst, drop, []}
-use Rattle.sr_grammar.specs.declared.keyword.Keyword.TheVariants as key
+use Rattle.sr_ast.specs.declared.keyword.Keyword.TheVariants as key
 use Rattle.sr_grammar.proofs.Keywords.{Left, found_here, left_behind}
 use Rattle.sr_grammar.proofs.keyword.found_among.Goals as goal
 

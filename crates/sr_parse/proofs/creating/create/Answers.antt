@@ -1,5 +1,5 @@
 use Rattle.std.proofs.Common.{rules, sym, ◌∙◌, subst}
-use Rattle.sr_grammar.specs.declared.keyword.Keyword.TheVariants as key
+use Rattle.sr_ast.specs.declared.keyword.Keyword.TheVariants as key
 use Rattle.sr_grammar.specs.Symbols.{Symbols}
 use Rattle.sr_grammar.specs.Catalog.{IsPublication}
 use Rattle.sr_grammar.specs.Tables.{IsTable}

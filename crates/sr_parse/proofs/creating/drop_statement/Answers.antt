@@ -1,5 +1,5 @@
 use Rattle.std.proofs.Common.{rules, sym, ◌∙◌, subst}
-use Rattle.sr_grammar.specs.declared.keyword.Keyword.TheVariants as key
+use Rattle.sr_ast.specs.declared.keyword.Keyword.TheVariants as key
 use Rattle.sr_grammar.specs.Symbols.{Symbols, IsName}
 use Rattle.sr_grammar.proofs.Statements.Form.{drops_table, drops_publication, drops_trigger}
 use Rattle.sr_reader.proofs.Conditions.{Lacks}

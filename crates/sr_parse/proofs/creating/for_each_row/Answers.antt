@@ -1,5 +1,5 @@
 use Rattle.std.proofs.Common.{rules}
-use Rattle.sr_grammar.specs.declared.keyword.Keyword.TheVariants as key
+use Rattle.sr_ast.specs.declared.keyword.Keyword.TheVariants as key
 use Rattle.sr_reader.specs.Productions.{EachRow}
 use Rattle.sr_reader.proofs.Parts.{then, first_fails, recast, handed}
 use Rattle.sr_reader.proofs.Starts.{word_sample}

@@ -1,5 +1,5 @@
 use Rattle.std.proofs.Common.{rules}
-use Rattle.sr_grammar.specs.declared.keyword.Keyword.TheVariants as key
+use Rattle.sr_ast.specs.declared.keyword.Keyword.TheVariants as key
 use Rattle.sr_grammar.specs.Catalog.{IsGrant}
 use Rattle.sr_grammar.proofs.Statements.Form.{grants_remote}
 use Rattle.std.proofs.Common.{refl}

@@ -1,6 +1,6 @@
 use Rattle.std.proofs.Common.{rules, [], refl, inl, inr, sym, ◌∙◌}
 use Rattle.sr_base.specs.declared.value.Kind.TheVariants as kind
-use Rattle.sr_grammar.specs.declared.keyword.Keyword.TheVariants as key
+use Rattle.sr_ast.specs.declared.keyword.Keyword.TheVariants as key
 use Rattle.sr_grammar.specs.declared.symbol.Sign.TheVariants as mark
 use Rattle.sr_grammar.specs.Catalog.{IsLength}
 use Rattle.sr_reader.specs.Productions.{Mark}

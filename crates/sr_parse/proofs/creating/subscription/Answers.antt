@@ -1,7 +1,7 @@
 use Rattle.std.proofs.Common.{rules, [], refl}
 use Rattle.sr_grammar.specs.Going.{is_open}
 use Rattle.sr_grammar.proofs.Steps.{Stop-at}
-use Rattle.sr_grammar.specs.declared.keyword.Keyword.TheVariants as key
+use Rattle.sr_ast.specs.declared.keyword.Keyword.TheVariants as key
 use Rattle.sr_grammar.specs.Catalog.{IsSubscription}
 use Rattle.sr_reader.specs.Productions.{Word}
 use Rattle.sr_parse.proofs.Grants.{subscription_of, subscription_to, subscription_back, for_sample, valued_sample, published_sample}

@@ -1,5 +1,5 @@
 use Rattle.std.proofs.Common.{rules, refl, arith}
-use Rattle.sr_grammar.specs.declared.keyword.Keyword.TheVariants as key
+use Rattle.sr_ast.specs.declared.keyword.Keyword.TheVariants as key
 use Rattle.std.proofs.lemmas.Grind.{common_steps}
 use Rattle.sr_reader.proofs.Parts.{then, first_fails, handed}
 use Rattle.sr_reader.proofs.Optionals.{lacking}

@@ -1,5 +1,5 @@
 use Rattle.std.proofs.Common.{rules, refl}
-use Rattle.sr_grammar.specs.declared.keyword.Keyword.TheVariants as key
+use Rattle.sr_ast.specs.declared.keyword.Keyword.TheVariants as key
 use Rattle.sr_grammar.specs.Symbols.{IsName}
 use Rattle.sr_grammar.specs.Going.{is_as, Stop}
 use Rattle.sr_reader.proofs.Parts.{handed}

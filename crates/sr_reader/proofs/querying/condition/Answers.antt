@@ -1,5 +1,5 @@
 use Rattle.std.proofs.Common.{rules}
-use Rattle.sr_grammar.specs.declared.keyword.Keyword.TheVariants as key
+use Rattle.sr_ast.specs.declared.keyword.Keyword.TheVariants as key
 use Rattle.sr_grammar.specs.Expressions.{IsExpr}
 use Rattle.sr_grammar.specs.Going.{Stop, condition_goes}
 use Rattle.sr_reader.proofs.Parts.{then, handed}

@@ -1,6 +1,6 @@
 use Rattle.std.proofs.Common.{rules, sym, ◌∙◌}
 use Rattle.sr_ast.specs.declared.query.Item.TheVariants as item
-use Rattle.sr_grammar.specs.declared.keyword.Keyword.TheVariants as key
+use Rattle.sr_ast.specs.declared.keyword.Keyword.TheVariants as key
 use Rattle.sr_reader.proofs.Missing.{Item-sum, Item-min, Item-max}
 use Rattle.sr_reader.proofs.Parts.{handed}
 use Rattle.sr_reader.proofs.Optionals.{moved, lacking}

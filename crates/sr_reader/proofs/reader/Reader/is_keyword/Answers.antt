@@ -1,6 +1,6 @@
 use Rattle.std.proofs.Common.{rules, ◌≡◌, sym, ◌∙◌, true}
 use denote.Enum.Bare.{same_true}
-use Rattle.sr_grammar.specs.contracts.keyword.Keyword.{the_type}
+use Rattle.sr_ast.specs.contracts.keyword.Keyword.{the_type}
 use Rattle.sr_reader.proofs.reader.Reader.is_keyword.Goals as goal
 
 pub returns-in-Some-Keyword-clause-found : goal.returns-in-Some-Keyword-clause-found

@@ -1,9 +1,0 @@
-use Rattle.std.proofs.Common.{◌≡◌, length}
-use Rattle.sr_ast.specs.Classes.{kind_of}
-use Rattle.sr_query.proofs.unknown.kind_of.Given as goal
-
-abbrev pub invariant-columns : goal.invariant-columns
-invariant-columns l = kind_of l.left l.table l.name ≡ kind_of l.columns l.table l.name
-
-abbrev pub decreases-columns : goal.decreases-columns
-decreases-columns l = length l.left
