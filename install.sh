@@ -1,5 +1,5 @@
 #!/bin/sh
-# Puts dbremote, its man page and the completion of its words for bash into place, or takes them away.
+# Puts dbremote, its man page, the pages for whoever uses it and the completion of its words for bash into place, or takes them away.
 #
 # Usage: ./install.sh PREFIX             PREFIX/bin/dbremote and PREFIX/share/...; the program is proved and built first where neither release/ has the
 #                                        tree's nor one was built
@@ -7,6 +7,7 @@
 #
 # It prints each file that it places or takes away. The status is 0, 2 where the words are others, or 1 where something could not be done.
 top=$(cd "$(dirname "$0")" && pwd -P) || exit 1
+pages='SQL.md REPLICATION.md message.svg windows.svg status.png'
 
 refuse() {
     echo "usage: $0 [--remove] PREFIX" >&2
@@ -55,9 +56,15 @@ if [ -n "$remove" ]; then
     take bin/dbremote
     take share/man/man1/dbremote.1
     take share/bash-completion/completions/dbremote
+    for page in $pages; do
+        take "share/doc/dbremote/$page"
+    done
     exit 0
 fi
 program=$("$top/release/program.sh") || fail 'the program could not be built'
 place 755 "$program" bin/dbremote
 place 644 "$top/docs/dbremote.1" share/man/man1/dbremote.1
 place 644 "$top/docs/dbremote.bash" share/bash-completion/completions/dbremote
+for page in $pages; do
+    place 644 "$top/docs/$page" "share/doc/dbremote/$page"
+done

@@ -13,6 +13,65 @@ say() {
     wrong=1
 }
 
+# Whether these words, of which the last one is completed, come to those of the first argument, in any order. bash has `=` as a word of its own.
+completes() {
+    wanted=$1
+    shift
+    words=$(cd "$folder/data" && bash -c 'source "$1"; shift; COMP_WORDS=("$@"); COMP_CWORD=$(($# - 1)); _dbremote; printf "%s\n" "${COMPREPLY[@]}"' \
+        - "$folder/share/bash-completion/completions/dbremote" dbremote "$@" 2>&1 | sort)
+    [ "$words" = "$(echo "$wanted" | tr ' ' '\n' | sort)" ] || say "the completion of '$*' is: $words"
+}
+
+# In a folder with two databases, one more in a folder below, a root without a byte, and what else may lie there.
+complete_all() {
+    mkdir -p "$folder/data/east/deep" "$folder/data/box/shop" "$folder/data/folder.root"
+    cd "$folder/data" || exit 125
+    for name in c1 c2 east/deep/e1; do
+        echo 0 >$name.root
+        : >$name.log0
+    done
+    : >none.root
+    : >box/none.root
+    echo 0 >c3
+    completes 'sql show' s
+    completes 'init sql agent show demo' ''
+    completes 'c1 c2 east' sql ''
+    completes 'c1 c2' show c
+    completes 'c1 c2' show -- c
+    completes 'east/deep' sql east/
+    completes 'east/deep/e1' sql east/deep/
+    completes '' sql none
+    completes '' sql c3
+    completes '' sql c1 ''
+    completes 'box east folder.root' init ''
+    completes '' init c1 ''
+    completes '' demo ''
+    completes 'c1 c2 east' agent ''
+    completes 'c1 c2' agent c
+    completes '--mail -r -s -p -l' agent -
+    completes '--mail -r -s -p -l' agent c1 ''
+    completes '--mail' agent c1 --
+    completes '-s -p -l' agent c1 --mail box -r ''
+    completes 'box' agent c1 --mail b
+    completes 'box/shop' agent c1 --mail = box/
+    completes 'box east folder.root' agent c1 --mail =
+    completes 'c1 c2' agent --mail box c
+    completes 'c1 c2' agent --mail = box c
+    completes 'c1 c2' agent -r --mail box -s c
+    completes 'c1 c2 east' agent -l 10000 ''
+    completes 'c1 c2 east' agent -l10000 ''
+    completes 'c1 c2 east' agent -l = 10000 ''
+    completes '' agent -l ''
+    completes '' agent -rl ''
+    completes '--mail -p' agent c1 -rsl 10000 ''
+    completes '--mail -s -p' agent -r c1 -l = 10000 ''
+    completes 'c1 c2' agent --mail box -- c
+    completes '' agent --mail box -- -
+    completes '' agent --mail box -- c1 ''
+    cd "$top" || exit 125
+    rm -rf "$folder/data"
+}
+
 page=$folder/share/man/man1/dbremote.1
 if "$top/install.sh" "$folder" >/dev/null; then
     made=$(cd "$folder" && bin/dbremote init here cons) || say 'the program does not run where it was placed'
@@ -24,14 +83,18 @@ if "$top/install.sh" "$folder" >/dev/null; then
         warnings=$(groff -ww -man -Tutf8 "$page" 2>&1 >/dev/null)
         [ -z "$warnings" ] || say "the man page has warnings: $warnings"
     fi
-    for command in init sql agent show; do
+    for command in init sql agent show demo; do
         grep -q "^\.B dbremote $command$" "$page" || say "the man page lacks $command"
     done
+    for name in SQL REPLICATION; do
+        cmp -s "$top/docs/$name.md" "$folder/share/doc/dbremote/$name.md" || say "$name.md is not beside the man page"
+        for picture in $(sed -n 's/.*!\[[^]]*\](\([^)]*\)).*/\1/p' "$top/docs/$name.md"); do
+            cmp -s "$top/docs/$picture" "$folder/share/doc/dbremote/$picture" || say "$picture is not beside $name.md"
+        done
+        grep -q "^\.IR $name\.md " "$page" || say "the man page does not name $name.md"
+    done
     if command -v bash >/dev/null; then
-        words=$(bash -c 'source "$1" && COMP_WORDS=(dbremote s) && COMP_CWORD=1 && _dbremote && echo "${COMPREPLY[*]}"' - "$folder/share/bash-completion/completions/dbremote")
-        [ "$words" = 'sql show' ] || say "the completion of s is: $words"
-        words=$(bash -c 'source "$1" && COMP_WORDS=(dbremote agent c1 --mail m -r "") && COMP_CWORD=6 && _dbremote && echo "${COMPREPLY[*]}"' - "$folder/share/bash-completion/completions/dbremote")
-        [ "$words" = '-s -p -l' ] || say "the completion behind -r is: $words"
+        complete_all
     fi
     "$top/install.sh" --remove "$folder" >/dev/null || say 'it could not be taken away'
     left=$(find "$folder" -mindepth 1)

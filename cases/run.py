@@ -56,6 +56,11 @@ def fault(met):
     return "" if met else "the status, a line or a file is another"
 
 
+def word_of(text):
+    """A word; in it %XX is the byte XX."""
+    return os.fsdecode(re.sub(rb"%([0-9a-f]{2})", lambda found: bytes.fromhex(found[1].decode()), text.encode()))
+
+
 def words(program):
     """Words, each with the status and the lines that are wanted of it. Where they are refused, or ask for the demonstration, nothing is made."""
     wanted = 0, b""
@@ -65,7 +70,7 @@ def words(program):
             wanted = int(status), line.replace("\\n", "\n").encode() + b"\n"
             continue
         with tempfile.TemporaryDirectory() as folder:
-            told = run(program, shlex.split(many_times(row)), folder) == wanted
+            told = run(program, [word_of(word) for word in shlex.split(many_times(row))], folder) == wanted
             made = os.listdir(folder)
         yield f"words.txt: {row}", fault(told and not (made and (wanted[0] == 2 or row.startswith("demo"))))
 

@@ -5,16 +5,21 @@ rules, share nothing with the program, and keep no files.
 """
 
 import os
+import subprocess
 import sys
 import tempfile
 
+import demonstration
 from forging import Forging
 from kinds import TREES, Conflicting, Cutting, Differing
+from sizes import FIXED
 from world import Difference
 
 KINDS = [Differing, Conflicting, Cutting, Forging]
 WORLDS = len(KINDS) * len(TREES)
 ROUNDS = 80
+# a seed and a count each; the logs of 1,001 statements have more than 9,000 bytes
+DEMONSTRATIONS = [(7, 0), (1, 101), (11, 1001), (2**64 - 1, 301)]
 
 
 def live(program, number):
@@ -31,6 +36,31 @@ def live(program, number):
         return drawn.world.runs, None
 
 
+def fixed(program, build):
+    """A fixed world: how many runs it took, and the difference that ended it or None."""
+    with tempfile.TemporaryDirectory() as folder:
+        try:
+            return build(program, folder).runs, None
+        except Difference as difference:
+            return 0, f"{build.__name__}, {difference}"
+
+
+def shown(program, seed, count):
+    """A demonstration: that it is a run, and the difference or None."""
+    wanted = "".join(line + "\n" for line in demonstration.lines_of(seed, count))
+    done = subprocess.run([program, "demo", str(seed), str(count)], stdin=subprocess.DEVNULL, capture_output=True, check=False)
+    if (done.returncode, done.stdout.decode(errors="replace")) == (0, wanted):
+        return 1, None
+    return 1, f"demo {seed} {count} is to end with 0 and print\n{wanted}and ends with {done.returncode} and prints\n{done.stdout.decode(errors='replace')}"
+
+
+def lives(program, count):
+    """The demonstrations, the fixed worlds, and so many drawn ones."""
+    yield from (shown(program, seed, count_of) for seed, count_of in DEMONSTRATIONS)
+    yield from (fixed(program, build) for build in FIXED)
+    yield from (live(program, number) for number in range(count))
+
+
 def main(arguments):
     """Compares worlds, and answers the exit status."""
     if len(arguments) not in (2, 3):
@@ -39,13 +69,12 @@ def main(arguments):
     program = os.path.abspath(arguments[1])
     count = int(arguments[2]) if len(arguments) == 3 else WORLDS
     runs = differences = 0
-    for number in range(count):
-        added, difference = live(program, number)
+    for added, difference in lives(program, count):
         runs += added
         if difference is not None:
             print(f"worlds: {difference}")
             differences += 1
-    print(f"worlds: {count}, {runs} runs, {len(TREES)} trees, {differences} differences")
+    print(f"worlds: {count}, {len(FIXED)} of fixed sizes, {len(DEMONSTRATIONS)} demonstrations, {runs} runs, {len(TREES)} trees, {differences} differences")
     return 1 if differences else 0
 
 

@@ -1,6 +1,8 @@
 //! Databases that scripts make: a catalog, and rows that fit it.
 
 ghost use Rattle.std.specs.Prelude.{◌≡◌, IfOk, OnOk, is_some};
+ghost use Rattle.std.specs.List.{AllByRecursion};
+ghost use Rattle.sr_ast.specs.NormalForms.{IsNormal};
 ghost use Rattle.sr_change.specs.Changes.{refusal};
 ghost use Rattle.sr_dml.specs.Conditions.{RowsFit};
 
@@ -10,12 +12,15 @@ use sr_base::{NoMemory, Text};
 use sr_catalog::Catalog;
 use sr_dml::rows_stay_fitting;
 use sr_exec::{apply, exec};
-use sr_parse::parse;
+use sr_parse::{parse, what_prints_is_read_so};
 use sr_rows::Rows;
 use std::alloc::{AllocError, Global};
 
-/// The statements of a script. A text that is none counts as want of memory.
-pub(crate) fn script_of(alloc: Global, text: &str) -> Result<Script, NoMemory> {
+/// The statements of a script, each in normal form. A text that is none counts as want of memory.
+pub(crate) fn script_of(alloc: Global, text: &str) -> Result<Script, NoMemory>
+    ensures normal { IfOk result (λ script. AllByRecursion IsNormal script) }
+{
+    what_prints_is_read_so();
     match parse(alloc, &Text::from_str(alloc, text)?) {
         Ok(script) => Ok(script),
         Err(_) => Err(AllocError),
@@ -32,12 +37,16 @@ pub(crate) fn follow(
     alloc: Global,
     catalog: &mut Catalog,
     script: &[Stmt],
-) -> Result<bool, NoMemory> {
-    'statements: for statement in script {
+) -> Result<bool, NoMemory>
+    requires normal { AllByRecursion IsNormal script.now }
+{
+    let mut left = script;
+    'statements: while let Some((statement, rest)) = left.split_first() {
         if is_refused(alloc, catalog, statement)? {
             return Ok(false);
         }
         catalog.apply(alloc, statement)?;
+        left = rest;
     }
     Ok(true)
 }

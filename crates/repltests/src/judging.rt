@@ -1,5 +1,7 @@
 //! Ops that are judged on the database of a script.
 
+ghost use Rattle.std.specs.List.{AllByRecursion};
+ghost use Rattle.sr_ast.specs.NormalForms.{IsNormal};
 ghost use Rattle.sr_dml.specs.Conditions.{RowsFit};
 
 use crate::databases::{follow, new_catalog, no_rows, run_all, script_of};
@@ -32,7 +34,9 @@ fn say_on_script(
     script: &[Stmt],
     written: &str,
     out: &mut Vec<u8>,
-) -> Result<(), NoMemory> {
+) -> Result<(), NoMemory>
+    requires normal { AllByRecursion IsNormal script.now }
+{
     let mut catalog = new_catalog(alloc, "cons")?;
     let said = match follow(alloc, &mut catalog, script) {
         Ok(true) => say_on_catalog(alloc, &catalog, script, written, out),

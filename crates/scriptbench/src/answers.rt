@@ -2,6 +2,8 @@
 //! with a new database. A statement that is refused changes nothing, and the section goes on.
 
 ghost use Rattle.std.specs.Prelude.{◌≡◌, Ok, OnOk};
+ghost use Rattle.std.specs.List.{AllByRecursion};
+ghost use Rattle.sr_ast.specs.NormalForms.{IsNormal};
 ghost use Rattle.sr_dml.specs.Conditions.{RowsFit};
 ghost use Rattle.sr_dml.specs.Statements.{done};
 
@@ -14,7 +16,7 @@ use sr_base::{NoMemory, Text};
 use sr_catalog::Catalog;
 use sr_dml::Changes;
 use sr_exec::exec;
-use sr_parse::{ParseFault, parse};
+use sr_parse::{ParseFault, parse, what_prints_is_read_so};
 use sr_query::select;
 use sr_rows::Rows;
 use std::alloc::{AllocError, Global};
@@ -46,6 +48,7 @@ fn say_section(alloc: Global, out: &mut Vec<u8>, section: &str) -> Result<(), No
 
 /// Appends the answers to a script: a line for each statement, as it prints; or the script and the byte at which it is refused.
 fn say_script(alloc: Global, out: &mut Vec<u8>, script: &Text) -> Result<(), NoMemory> {
+    what_prints_is_read_so();
     match parse(alloc, script) {
         Ok(statements) => {
             let said = say_answers(alloc, out, statements.as_slice());
@@ -64,7 +67,9 @@ fn say_refused(out: &mut Vec<u8>, script: &Text, at: u64) -> Result<(), NoMemory
 }
 
 /// Appends the answers to statements on a new database, and what they leave.
-fn say_answers(alloc: Global, out: &mut Vec<u8>, script: &[Stmt]) -> Result<(), NoMemory> {
+fn say_answers(alloc: Global, out: &mut Vec<u8>, script: &[Stmt]) -> Result<(), NoMemory>
+    requires normal { AllByRecursion IsNormal script.now }
+{
     let mut catalog = new_catalog(alloc)?;
     let said = say_on(alloc, out, &mut catalog, script);
     drop(catalog);
@@ -77,7 +82,9 @@ fn say_on(
     out: &mut Vec<u8>,
     catalog: &mut Catalog,
     script: &[Stmt],
-) -> Result<(), NoMemory> {
+) -> Result<(), NoMemory>
+    requires normal { AllByRecursion IsNormal script.now }
+{
     let mut rows = no_rows(alloc, catalog);
     let said = say_all(alloc, out, catalog, &mut rows, script);
     drop(rows);
@@ -91,6 +98,7 @@ fn say_all(
     rows: &mut Rows,
     script: &[Stmt],
 ) -> Result<(), NoMemory>
+    requires normal { AllByRecursion IsNormal script.now }
     requires rows { RowsFit catalog.old rows.old.rows }
     requires marked { RowsFit catalog.old rows.old.marked }
 {
@@ -109,6 +117,7 @@ fn say_each(
     rows: &mut Rows,
     script: &[Stmt],
 ) -> Result<(), NoMemory>
+    requires normal { AllByRecursion IsNormal script.now }
     requires rows { RowsFit catalog.old rows.old.rows }
     requires marked { RowsFit catalog.old rows.old.marked }
 {
@@ -138,6 +147,7 @@ fn say_answer(
     rows: &mut Rows,
     statement: &Stmt,
 ) -> Result<(), NoMemory>
+    requires normal { IsNormal statement.now }
     requires rows { RowsFit catalog.old rows.old.rows }
     requires marked { RowsFit catalog.old rows.old.marked }
     ensures rows { OnOk result (RowsFit catalog.new rows.new.rows) }
@@ -236,6 +246,7 @@ fn say_accepted(
     rows: &mut Rows,
     statement: &Stmt,
 ) -> Result<(), NoMemory>
+    requires normal { IsNormal statement.now }
     requires rows { RowsFit catalog.old rows.old.rows }
     requires marked { RowsFit catalog.old rows.old.marked }
     ensures rows { OnOk result (RowsFit catalog.new rows.new.rows) }

@@ -1,6 +1,8 @@
 //! How many rows the statements of a script insert, update, delete and answer.
 
 ghost use Rattle.std.specs.Prelude.{OnOk};
+ghost use Rattle.std.specs.List.{AllByRecursion};
+ghost use Rattle.sr_ast.specs.NormalForms.{IsNormal};
 ghost use Rattle.sr_dml.specs.Conditions.{RowsFit};
 
 use crate::database::{accept, change, go_back, keep, new_catalog, no_rows};
@@ -27,8 +29,10 @@ impl From<AllocError> for Stopped {
     }
 }
 
-/// The count of a whole script, on a new database.
-pub fn changed_rows(alloc: Global, script: &[Stmt]) -> Result<u64, Stopped> {
+/// The count of a whole script, of statements in normal form, on a new database.
+pub fn changed_rows(alloc: Global, script: &[Stmt]) -> Result<u64, Stopped>
+    requires normal { AllByRecursion IsNormal script.now }
+{
     match new_catalog(alloc) {
         Ok(mut catalog) => {
             let count = counted(alloc, &mut catalog, script);
@@ -40,7 +44,9 @@ pub fn changed_rows(alloc: Global, script: &[Stmt]) -> Result<u64, Stopped> {
 }
 
 /// The count of a script, where there are no rows at first.
-fn counted(alloc: Global, catalog: &mut Catalog, script: &[Stmt]) -> Result<u64, Stopped> {
+fn counted(alloc: Global, catalog: &mut Catalog, script: &[Stmt]) -> Result<u64, Stopped>
+    requires normal { AllByRecursion IsNormal script.now }
+{
     let mut rows = no_rows(alloc, catalog);
     let count = count_each(alloc, catalog, &mut rows, script);
     drop(rows);
@@ -53,6 +59,7 @@ fn count_each(
     rows: &mut Rows,
     script: &[Stmt],
 ) -> Result<u64, Stopped>
+    requires normal { AllByRecursion IsNormal script.now }
     requires rows { RowsFit catalog.old rows.old.rows }
     requires marked { RowsFit catalog.old rows.old.marked }
 {
@@ -74,6 +81,7 @@ fn count_one(
     statement: &Stmt,
     spare: &mut Vec<Change>,
 ) -> Result<u64, Stopped>
+    requires normal { IsNormal statement.now }
     requires rows { RowsFit catalog.old rows.old.rows }
     requires marked { RowsFit catalog.old rows.old.marked }
     ensures rows { OnOk result (RowsFit catalog.new rows.new.rows) }
@@ -147,6 +155,7 @@ fn count_accepted(
     rows: &mut Rows,
     statement: &Stmt,
 ) -> Result<u64, Stopped>
+    requires normal { IsNormal statement.now }
     requires rows { RowsFit catalog.old rows.old.rows }
     ensures rows { OnOk result (RowsFit catalog.new rows.new.rows) }
     ensures marked { OnOk result (RowsFit catalog.new rows.new.marked) }

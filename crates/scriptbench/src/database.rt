@@ -1,6 +1,7 @@
 //! A database in memory: a catalog, and rows of which each fits its table, at the mark too.
 
 ghost use Rattle.std.specs.Prelude.{◌≡◌, None, Ok, OnOk};
+ghost use Rattle.sr_ast.specs.NormalForms.{IsNormal};
 ghost use Rattle.sr_change.specs.Changes.{refusal as refusal_of};
 ghost use Rattle.sr_dml.specs.Conditions.{RowsFit};
 ghost use Rattle.sr_dml.specs.Statements.{done};
@@ -81,6 +82,7 @@ pub fn accept(
     rows: &mut Rows,
     statement: &Stmt,
 ) -> Result<(), NoMemory>
+    requires normal { IsNormal statement.now }
     requires accepted { refusal_of catalog.old statement.now ≡ None }
     requires rows { RowsFit catalog.old rows.old.rows }
     ensures rows { OnOk result (RowsFit catalog.new rows.new.rows) }

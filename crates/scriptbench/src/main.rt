@@ -5,6 +5,9 @@
 //! It is there to measure and to try the SQL front, the catalog and the statements on rows: it keeps no database in files.
 #![tactic(auto)]
 
+ghost use Rattle.std.specs.List.{AllByRecursion};
+ghost use Rattle.sr_ast.specs.NormalForms.{IsNormal};
+
 mod answers;
 mod counting;
 mod database;
@@ -16,7 +19,7 @@ use counting::{Stopped, changed_rows};
 use sr_answers::print;
 use sr_ast::Stmt;
 use sr_base::Text;
-use sr_parse::{ParseFault, parse};
+use sr_parse::{ParseFault, parse, what_prints_is_read_so};
 use std::env;
 use std::io::Read;
 use std::process::ExitCode;
@@ -83,6 +86,7 @@ fn done(rt: HostRuntime, text: &Text) -> u8 {
 
 /// Reads a text as a script and says what it has, or where it is refused; answers the status.
 fn read(rt: HostRuntime, text: &Text, runs: bool) -> u8 {
+    what_prints_is_read_so();
     match parse(rt.alloc(), text) {
         Ok(script) => {
             let status = told(rt, script.as_slice(), runs);
@@ -98,7 +102,9 @@ fn read(rt: HostRuntime, text: &Text, runs: bool) -> u8 {
 }
 
 /// Says how many statements a script has, and what it does where it is to be run; answers the status.
-fn told(rt: HostRuntime, script: &[Stmt], runs: bool) -> u8 {
+fn told(rt: HostRuntime, script: &[Stmt], runs: bool) -> u8
+    requires normal { AllByRecursion IsNormal script.now }
+{
     if println!(rt; "{} statements", script.len()).is_err() {
         return FAILED;
     }

@@ -55,7 +55,7 @@ names_of_history view publisher es names is names_are = names_are ∙ ap (λ (c 
 
 pub names_once : (view : View) (publisher : Name) (es : List Recorded) (names : List Name) → IsOf view publisher es → names ≡ map user_name view.catalog.users → AreOnce names
 names_once view publisher es names is names_are =
-    subst (λ (l : List Name). AreOnce l) (sym (names_of_history view publisher es names is names_are)) (users_once (state_of publisher es).catalog (stored_holds publisher es is.stored).catalog)
+    subst (λ (l : List Name). AreOnce l) (sym (names_of_history view publisher es names is names_are)) (users_once (state_of publisher es).catalog (stored_holds publisher es is.stored).catalog.made)
 
 pub quiet_may : (view : View) (users : List Name) → AllByRecursion (IsUser view) users → AllByRecursion (MaySendTo view) (map quiet users)
 quiet_may view [] are = tt

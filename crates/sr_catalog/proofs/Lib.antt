@@ -1,2 +1,3 @@
 pub mod Printings
 pub mod Refusals
+pub mod Spelling

@@ -2,7 +2,8 @@ ghost use Rattle.std.specs.Prelude.{◌≡◌, None, IfOk, OnErr, OnOk};
 ghost use Rattle.std.specs.Option.{option_copied};
 ghost use Rattle.sr_change.specs.Changes.{IsChange, next, refusal};
 ghost use Rattle.sr_ddl.specs.Subscriptions.{is_started};
-ghost use Rattle.sr_replay.specs.Scripts.{IsMade};
+ghost use Rattle.sr_ast.specs.NormalForms.{IsNormal};
+ghost use Rattle.sr_replay.specs.Scripts.{IsSpelled};
 ghost use Rattle.sr_schema.specs.Catalogs.{nothing_but};
 ghost use Rattle.sr_schema.specs.Members.{publication_name, table_name, user_name};
 ghost use Rattle.sr_schema.specs.Names.{named};
@@ -17,7 +18,8 @@ use std::marker::Model;
 /// What a database knows beside its rows: its publisher, users, tables, publications, triggers and subscriptions. Contracts see
 /// the publisher and the lists, each in order of creation.
 ///
-/// A catalog is always one that statements have made of a new one, each accepted where it stands; `is_made` says so.
+/// A catalog is always one that statements in normal form have made of a new one, each accepted where it stands; `is_made` says so. Those are the
+/// statements that a text spells, so the catalog's script is read back as itself.
 #[derive(Drop)]
 pub struct Catalog {
     pub(crate) schema: Schema,
@@ -35,14 +37,13 @@ impl Model for Catalog {
 
     ghost view = { λ c. c.schema };
 
-    ghost use Rattle.sr_replay.specs.Scripts.{IsMade};
+    ghost use Rattle.sr_replay.specs.Scripts.{IsSpelled};
 
-    ghost invariant = { λ c. IsMade c.schema };
+    ghost invariant = { λ c. IsSpelled c.schema };
 }
 
 impl Catalog {
     /// The catalog of a new database: nothing but its publisher. It takes no memory.
-    #[tactic(auto, using(sr_replay::proofs::Made::new_made))]
     pub fn new(alloc: Global, publisher: Name) -> Catalog
         ensures new { result ≡ nothing_but publisher }
     {
@@ -55,9 +56,10 @@ impl Catalog {
     ///
     /// It takes the statements that change the catalog. SYNCHRONIZE and PASSTHROUGH FOR are only checked, and answer an equal
     /// catalog, as any other statement does. A refused statement answers the first fault that applies, in the order of `DdlFault`;
-    /// of several places of one fault the leftmost.
+    /// of several places of one fault the leftmost. The statement is in normal form, as each one that `parse` gives.
     #[tactic(auto, using(crate::proofs::Refusals::refused))]
     pub fn change(&self, alloc: Global, stmt: &Stmt) -> Result<Catalog, DdlFault>
+        requires normal { IsNormal stmt.now }
         ensures change { IsChange self.now stmt.now result }
     {
         if let Some(fault) = refusal(&self.schema, alloc, stmt)? {
@@ -66,9 +68,9 @@ impl Catalog {
         Ok(changed(&self.schema, alloc, stmt)?)
     }
 
-    /// That statements have made this catalog of a new one, each accepted where it stands, as of every catalog. It does nothing.
+    /// That statements in normal form have made this catalog of a new one, each accepted where it stands, as of every catalog. It does nothing.
     pub fn is_made(&self)
-        ensures made { IsMade self.now }
+        ensures made { IsSpelled self.now }
     {
         let _ = &self.schema;
     }
@@ -80,14 +82,14 @@ impl Catalog {
         refusal(&self.schema, alloc, stmt)
     }
 
-    /// Does to this catalog what a statement does that is not refused: `change` without a copy. Where memory lacks it stays as it was.
-    #[tactic(auto, using(sr_replay::proofs::Made::changed))]
-    pub fn apply(&mut self, alloc: Global, stmt: &Stmt) -> Result<(), NoMemory>
-        requires accepted { refusal self.old stmt.now ≡ None }
-        ensures ok { OnOk result (self.new ≡ next self.old stmt.now) }
+    /// Does to this catalog what a statement in normal form does that is not refused: `change` without a copy. Where memory lacks it stays as it was.
+    pub fn apply(&mut self, alloc: Global, statement: &Stmt) -> Result<(), NoMemory>
+        requires normal { IsNormal statement.now }
+        requires accepted { refusal self.old statement.now ≡ None }
+        ensures ok { OnOk result (self.new ≡ next self.old statement.now) }
         ensures err { OnErr result (self.new ≡ self.old) }
     {
-        apply(&mut self.schema, alloc, stmt)
+        apply(&mut self.schema, alloc, statement)
     }
 
     /// The publisher.
@@ -161,11 +163,11 @@ impl Catalog {
     }
 }
 
-/// The catalog after a statement that is not refused.
-#[tactic(auto, using(sr_replay::proofs::Made::changed))]
+/// The catalog after a statement in normal form that is not refused.
 fn changed(schema: &Schema, alloc: Global, stmt: &Stmt) -> Result<Catalog, NoMemory>
+    requires normal { IsNormal stmt.now }
     requires accepted { refusal schema.now stmt.now ≡ None }
-    requires made { IsMade schema.now }
+    requires spelled { IsSpelled schema.now }
     ensures { IfOk result (λ after. after ≡ next schema.now stmt.now) }
 {
     let mut after = schema.copy(alloc)?;

@@ -9,7 +9,9 @@ mod catalog;
 mod script;
 
 pub use catalog::Catalog;
-pub use sr_replay::{accepted_statements_make_it, statements_make_it_again};
+pub use sr_replay::{
+    accepted_statements_make_it, statements_in_normal_form_make_it, statements_make_it_again,
+};
 pub use sr_schema::{
     Article, Column, DdlFault, DmlFault, HasName, Named, Publication, Subscription, Table, Trigger,
     User,

@@ -1,7 +1,9 @@
 //! The statements that make a catalog from a new one.
 
 ghost use Rattle.std.specs.Prelude.{◌≡◌, ◌++◌, map, filter, Some, IfOk, OnOk};
+ghost use Rattle.std.specs.List.{AllByRecursion};
 ghost use Rattle.sr_ast.specs.Layout.{printed};
+ghost use Rattle.sr_ast.specs.NormalForms.{IsNormal};
 ghost use Rattle.sr_ast.specs.declared.stmt.Stmt.{Stmt};
 ghost use Rattle.sr_schema.specs.Catalogs.{nothing_but};
 ghost use Rattle.sr_replay.specs.Scripts.{
@@ -31,10 +33,11 @@ use std::alloc::{AllocError, Global};
 impl Catalog {
     /// The statements that make this catalog from a new one, as they print: grants, tables, publications with their articles' columns
     /// written out, triggers, subscriptions and starts, each kind in order of creation. A grant has no address where it is the user's
-    /// name. They are accepted, and make this catalog again.
-    #[tactic(auto, using(crate::proofs::Printings::joined, sr_replay::proofs::Made::again))]
+    /// name. They are in normal form, so that each text is read back as its statement; and a new catalog accepts them, and they make this one again.
+    #[tactic(auto, using(crate::proofs::Printings::joined, sr_replay::proofs::Spelled::script_again, sr_replay::proofs::Spelled::script_normal))]
     pub fn script(&self, alloc: Global) -> Result<Vec<Text>, NoMemory>
         ensures texts { IfOk result (λ texts. texts.items ≡ map printed (statements self.now)) }
+        ensures normal { AllByRecursion IsNormal (statements self.now) }
         ensures makes { replayed (nothing_but self.now.publisher) (statements self.now) ≡ Some self.now }
     {
         self.is_made();

@@ -129,15 +129,15 @@ module _ (order : Order) (old new : Outside) (status : ℕ) (ran : RanOrder orde
 -- ---- of files
 
 module _ (before now : Seen) (told : IsTrue before.told) where
-  make_refuses : IsMissing before.files → (d : DatabaseFault) → StoreCause before now d → IsStoreRefusal d → ⊥
+  make_refuses : (name : List ℕ) → IsMissing before.files → (d : DatabaseFault) → StoreCause name before now d → IsStoreRefusal d → ⊥
   unfolding IsStoreRefusal
-  make_refuses missing Missing cause refuses = cause
-  make_refuses missing Exists cause refuses = (cause.0 told).0 missing
-  make_refuses missing (Damaged file at) cause refuses = cause
-  make_refuses missing Disk cause refuses = refuses
-  make_refuses missing (Full end need) cause refuses = refuses
-  make_refuses missing (Long size limit) cause refuses = refuses
-  make_refuses missing Memory cause refuses = refuses
+  make_refuses name missing Missing cause refuses = cause
+  make_refuses name missing Exists cause refuses = (cause.0 told).0 missing
+  make_refuses name missing (Damaged file at) cause refuses = cause
+  make_refuses name missing Disk cause refuses = refuses
+  make_refuses name missing (Full end need) cause refuses = refuses
+  make_refuses name missing (Long size limit) cause refuses = refuses
+  make_refuses name missing Memory cause refuses = refuses
 
   open_refuses : AreDatabase before.files → (d : DatabaseFault) → OpenedCause before now d → IsStoreRefusal d → ⊥
   unfolding IsStoreRefusal
@@ -155,7 +155,7 @@ module _ (name : List ℕ) (user : Name) (before now : Seen) (written written' :
   init_refuses : (f : Fault) → MakeCause name user before now written written' f → IsRefusal f → ⊥
   unfolding IsRefusal
   init_refuses Words cause refuses = cause
-  init_refuses (Database d) cause refuses = make_refuses before now told missing d cause.0 refuses
+  init_refuses (Database d) cause refuses = make_refuses before now told name missing d cause.0 refuses
   init_refuses Source cause refuses = cause
   init_refuses TooLong cause refuses = cause
   init_refuses (Script at) cause refuses = cause
@@ -163,7 +163,7 @@ module _ (name : List ℕ) (user : Name) (before now : Seen) (written written' :
   init_refuses Sink cause refuses = refuses
   init_refuses Mail cause refuses = cause
 
-  make_bound : (d : DatabaseFault) → StoreCause before now d → IsLimit (Database d) → ⊥
+  make_bound : (d : DatabaseFault) → StoreCause name before now d → IsLimit (Database d) → ⊥
   make_bound Missing cause bound = bound
   make_bound Exists cause bound = bound
   make_bound (Damaged file at) cause bound = bound

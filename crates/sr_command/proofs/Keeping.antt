@@ -35,7 +35,7 @@ not_attached name mail before now attaches (store.Damaged file at) cause = absur
 not_attached name mail before now attaches store.Disk cause = cause
 not_attached name mail before now attaches (store.Full end need) cause = cause
 not_attached name mail before now attaches (store.Long size limit) cause = cause
-not_attached name mail before now attaches store.Memory cause = inl (name, mail, attaches.happened)
+not_attached name mail before now attaches store.Memory cause = cause
 
 -- why no database is opened on the attached site is why it is not from before
 pub not_opened : (name mail : List ℕ) (before middle now : Seen) (fault : DatabaseFault) → Attaches name mail true before middle → middle.disk_faults ≡ before.disk_faults → OpenCause middle now fault → OpenedCause before now fault
@@ -45,7 +45,7 @@ not_opened name mail before middle now (store.Damaged file at) attaches steady c
 not_opened name mail before middle now store.Disk attaches steady cause = subst (λ n. Rose n now.disk_faults) steady cause
 not_opened name mail before middle now (store.Full end need) attaches steady cause = cause
 not_opened name mail before middle now (store.Long size limit) attaches steady cause = cause
-not_opened name mail before middle now store.Memory attaches steady cause = inr (cause ∙ steady)
+not_opened name mail before middle now store.Memory attaches steady cause = cause ∙ steady
 
 module _ (name mail : List ℕ) (before now : Seen) (view : View) (attaches : Attaches name mail true before now) where
   database_still : (publisher : Name) (es : List Recorded) → IsTrue before.told → IsDatabase view publisher es before → IsDatabase view publisher es now

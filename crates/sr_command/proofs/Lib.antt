@@ -9,3 +9,4 @@ pub mod Statuses
 pub mod Scripts
 pub mod Shown
 mod Spelled
+pub mod Unmade

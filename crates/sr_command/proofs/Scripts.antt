@@ -39,7 +39,7 @@ stopped_open name before now input output fault untouched cause = inl (record { 
 
 wanting : (name : List ℕ) (before now : Seen) (input left : Input) (output : Output) (fault : DatabaseFault) → now.disk_faults ≡ before.disk_faults → fault ≡ store.Memory → left.faults ≡ input.faults
     → BeginCause name (outside before input output) (outside now left output) (Database fault)
-wanting name before now input left output fault still is steady = subst (λ (f : DatabaseFault). BeginCause name (outside before input output) (outside now left output) (Database f)) (sym is) (inr still, steady)
+wanting name before now input left output fault still is steady = subst (λ (f : DatabaseFault). BeginCause name (outside before input output) (outside now left output) (Database f)) (sym is) (still, steady)
 
 begin_cause : (name : List ℕ) (before now : Seen) (input left : Input) (output : Output) (view : View) (fault : Fault) → IsOpened name [] view before now → ReadCause input left fault
     → BeginCause name (outside before input output) (outside now left output) fault

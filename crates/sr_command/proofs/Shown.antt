@@ -1,5 +1,5 @@
 -- How `show` ends, from how its steps do.
-use Rattle.std.proofs.Common.{◌≡◌, inr, ℕ, List, [], ◌++◌, sym, subst}
+use Rattle.std.proofs.Common.{◌≡◌, ℕ, List, [], ◌++◌, sym, subst}
 use Rattle.std.specs.Prelude.{IsTrue}
 use Rattle.sr_database.specs.Views.{View}
 use Rattle.sr_files.specs.declared.fault.DatabaseFault.{DatabaseFault}
@@ -13,7 +13,7 @@ use Rattle.sr_command.specs.declared.fault.Fault.{Fault}
 use Rattle.sr_command.specs.declared.fault.Fault.TheVariants.{Words, Database, Source, TooLong, Script, Statement, Sink, Mail}
 
 wanting : (before now : Seen) (fault : DatabaseFault) → now.disk_faults ≡ before.disk_faults → fault ≡ store.Memory → OpenedCause before now fault
-wanting before now fault steady is = subst (OpenedCause before now) (sym is) (inr steady)
+wanting before now fault steady is = subst (OpenedCause before now) (sym is) steady
 
 pub show_cause : (name : List ℕ) (before now : Seen) (old new : Output) (view : View) (fault : Fault) → IsOpened name [] view before now → view.pending ≡ []
     → TellCause (shown view) old new fault → ShowCause name before now old new fault

@@ -1,5 +1,5 @@
 -- How a database is attached, and why it is not.
-use Rattle.std.specs.Prelude.{◌≡◌, ⊤, ℕ, Bool, List, ◌∷◌, IsTrue}
+use Rattle.std.specs.Prelude.{◌≡◌, ℕ, Bool, List, ◌∷◌, IsTrue}
 use Rattle.sr_files.specs.declared.fault.DatabaseFault.{DatabaseFault}
 use Rattle.sr_files.specs.declared.fault.DatabaseFault.TheVariants as store
 use Rattle.sr_site.specs.Causes.{DiskStays, Rose}
@@ -12,7 +12,7 @@ pub record Attaches (name mail : List ℕ) (done : Bool) (before now : Seen) : T
   pub files : IsTrue before.told → now.files ≡ before.files
   pub stays : DiskStays before now
 
--- why it was refused
+-- why it was refused: but for the disk's refusal no call of the disk failed
 abbrev pub AttachCause : Seen → Seen → DatabaseFault → Type 0
 AttachCause before now store.Missing = ⊥
 AttachCause before now store.Exists = ⊥
@@ -20,4 +20,4 @@ AttachCause before now (store.Damaged file at) = ⊥
 AttachCause before now store.Disk = Rose before.disk_faults now.disk_faults
 AttachCause before now (store.Full end need) = ⊥
 AttachCause before now (store.Long size limit) = ⊥
-AttachCause before now store.Memory = ⊤
+AttachCause before now store.Memory = now.disk_faults ≡ before.disk_faults

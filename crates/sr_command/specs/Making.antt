@@ -1,11 +1,12 @@
 -- What `init` does.
-use Rattle.std.specs.Prelude.{◌≡◌, ◌≢◌, ⊤, ℕ, List, [], ◌++◌, codes, IsTrue}
+use Rattle.std.specs.Prelude.{◌≡◌, ◌≢◌, ℕ, Bool, List, [], ◌∷◌, ◌++◌, codes, IsTrue}
 use Rattle.sr_book.specs.Entries.{Name}
 use Rattle.sr_files.specs.Fresh.{IsNoneOrNew, IsThere}
 use Rattle.sr_files.specs.declared.fault.DatabaseFault.{DatabaseFault}
 use Rattle.sr_files.specs.declared.fault.DatabaseFault.TheVariants as store
 use Rattle.sr_script.specs.Acts.{line}
 use Rattle.sr_site.specs.Causes.{Rose}
+use Rattle.sr_site.specs.Happenings.{attached}
 use Rattle.sr_site.specs.Images.{IsImage, IsSettled, RestsThroughout}
 use Rattle.sr_site.specs.Seen.{Seen}
 use Rattle.sr_site.specs.Streams.{Output}
@@ -32,20 +33,27 @@ pub record IsMade (name : List ℕ) (user : Name) (before now : Seen) : Type 0 w
   pub settled : IsTrue before.told → IsSettled (StandsFor user [] 0) now
   pub steady : now.disk_faults ≡ before.disk_faults
 
--- why a database's fault ends it: where there is a database, no call of the disk failed
-abbrev pub StoreCause : Seen → Seen → DatabaseFault → Type 0
-StoreCause before now store.Missing = ⊥
-StoreCause before now store.Exists = (IsTrue before.told → (before.files.root ≢ []) × (now.files ≡ before.files)) × (now.disk_faults ≡ before.disk_faults)
-StoreCause before now (store.Damaged file at) = ⊥
-StoreCause before now store.Disk = Rose before.disk_faults now.disk_faults
-StoreCause before now (store.Full end need) = ⊥
-StoreCause before now (store.Long size limit) = ⊥
-StoreCause before now store.Memory = ⊤
+-- nothing was made: all that happened is that the site was attached, or that this was refused, and no call of the disk failed
+pub record IsUnmade (name : List ℕ) (before now : Seen) : Type 0 where
+  pub done : Bool
+  pub happened : IsTrue before.told → now.happened ≡ attached name [] done ∷ before.happened
+  pub files : IsTrue before.told → now.files ≡ before.files
+  pub steady : now.disk_faults ≡ before.disk_faults
+
+-- why a database's fault ends it: where there is a database, no call of the disk failed; and without memory nothing was made
+abbrev pub StoreCause : List ℕ → Seen → Seen → DatabaseFault → Type 0
+StoreCause name before now store.Missing = ⊥
+StoreCause name before now store.Exists = (IsTrue before.told → (before.files.root ≢ []) × (now.files ≡ before.files)) × (now.disk_faults ≡ before.disk_faults)
+StoreCause name before now (store.Damaged file at) = ⊥
+StoreCause name before now store.Disk = Rose before.disk_faults now.disk_faults
+StoreCause name before now (store.Full end need) = ⊥
+StoreCause name before now (store.Long size limit) = ⊥
+StoreCause name before now store.Memory = IsUnmade name before now
 
 -- why a fault ends it, and what was written before the fault's line
 abbrev pub MakeCause : List ℕ → Name → Seen → Seen → Output → Output → Fault → Type 0
 MakeCause name user before now old new Words = ⊥
-MakeCause name user before now old new (Database fault) = StoreCause before now fault × (new ≡ old)
+MakeCause name user before now old new (Database fault) = StoreCause name before now fault × (new ≡ old)
 MakeCause name user before now old new Source = ⊥
 MakeCause name user before now old new TooLong = ⊥
 MakeCause name user before now old new (Script at) = ⊥

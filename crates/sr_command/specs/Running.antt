@@ -22,7 +22,7 @@ use Rattle.sr_site.specs.Streams.{Input}
 use Rattle.sr_standing.specs.Damage.{IsMissing, IsDamagedAt}
 use Rattle.sr_standing.specs.Standing.{StandsAs}
 use Rattle.sr_command.specs.Limits.{most_script}
-use Rattle.sr_command.specs.Outside.{Outside, IsAttached, IsAttachRefused, HasRead}
+use Rattle.sr_command.specs.Outside.{Outside, IsAttached, HasRead}
 use Rattle.sr_command.specs.declared.fault.Fault.{Fault}
 use Rattle.sr_command.specs.declared.fault.Fault.TheVariants.{Words, Database, Source, TooLong, Script, Statement, Sink, Mail}
 
@@ -83,11 +83,7 @@ ReadCause old new (Statement number fault) = ⊥
 ReadCause old new Sink = ⊥
 ReadCause old new Mail = ⊥
 
--- all that happened is that the site was not attached
-abbrev pub IsUnattached : Seen → Seen → Type 0
-IsUnattached before now = (name : List ℕ) × (mail : List ℕ) × IsAttachRefused name mail before now
-
--- why a database is not opened: but for the disk's refusal no call of the disk failed, unless there was no memory to attach the site
+-- why a database is not opened: but for the disk's refusal no call of the disk failed
 abbrev pub OpenedCause : Seen → Seen → DatabaseFault → Type 0
 OpenedCause before now store.Missing = (IsTrue before.told → IsMissing before.files) × (now.disk_faults ≡ before.disk_faults)
 OpenedCause before now store.Exists = ⊥
@@ -95,7 +91,7 @@ OpenedCause before now (store.Damaged file at) = (IsTrue before.told → IsDamag
 OpenedCause before now store.Disk = Rose before.disk_faults now.disk_faults
 OpenedCause before now (store.Full end need) = ⊥
 OpenedCause before now (store.Long size limit) = ⊥
-OpenedCause before now store.Memory = IsUnattached before now ⊎ (now.disk_faults ≡ before.disk_faults)
+OpenedCause before now store.Memory = now.disk_faults ≡ before.disk_faults
 
 -- nothing was read of the source, but where there was no memory to read all of it: then no read failed
 abbrev pub IsUnread : Input → Input → DatabaseFault → Type 0

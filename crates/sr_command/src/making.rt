@@ -36,7 +36,7 @@ fn make_files<S: Site>(
     ensures guarded { IsGuarded user.now (S.seen site.old) (S.seen site.new) }
     ensures made { OnOk result (IsMade name.now user.now (S.seen site.old) (S.seen site.new)) }
     ensures stays { DiskStays (S.seen site.old) (S.seen site.new) }
-    ensures cause { IfErr result (StoreCause (S.seen site.old) (S.seen site.new)) }
+    ensures cause { IfErr result (StoreCause name.now (S.seen site.old) (S.seen site.new)) }
 {
     attach_alone(alloc, name, no_mail, site)?;
     let line = created_line(alloc, user)?;

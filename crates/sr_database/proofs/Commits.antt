@@ -29,7 +29,7 @@ use Rattle.sr_standing.specs.Generations.{Generation, even, odd, snapshot_of, lo
 use Rattle.sr_standing.specs.Items.{commit, puts_in}
 use Rattle.sr_standing.specs.Standing.{body, bodies, StandsAs}
 use Rattle.sr_standing.specs.Trails.{Went}
-use Rattle.sr_standing.proofs.Going.{one_commit, puts_of_mail}
+use Rattle.sr_standing.proofs.Going.{one_commit}
 use Rattle.sr_standing.proofs.Standing.{Stands, stands, size_is, ends_are}
 use Rattle.sr_database.specs.Commits.{MayFollow, CanCommit, framed_size, HasRoom}
 use Rattle.sr_database.specs.Databases.{ArePending, IsOf, IsHeld, IsDatabase, HasDatabase}
@@ -210,7 +210,7 @@ module _ (old new : View) (publisher : Name) (es : List Recorded) (r : Recorded)
   pub went : RestsThroughout (HasOrLacks old.log (bodies es) framed) before now → HappenedOn old.log.file before.happened now.happened → DiskStays before now → ¬ (now.happened ≡ before.happened) → Went before now publisher es (commit r ∷ [])
   went rests on stay some =
       one_commit before now publisher es r stay.told stay.first (λ image there. stands_before image (database.settled image there))
-      (sym (puts_of_mail now.happened) ∙ ap puts_in stay.mail ∙ puts_of_mail before.happened) (on_attaches old.log.file before.happened now.happened on) some
+      stay.mail (on_attaches old.log.file before.happened now.happened on) some
       (rests_each (λ image. IsHeld new publisher es image ⊎ IsHeld new publisher (es ++ r ∷ []) image) (λ image. StandsAs publisher es image ⊎ StandsAs publisher (es ++ r ∷ []) image) before now
       (λ image either. either_stands image either) (held_moments rests on))
     where

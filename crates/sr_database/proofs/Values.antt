@@ -15,7 +15,7 @@ use Rattle.sr_history.specs.Recorded.{Recorded}
 use Rattle.sr_history.proofs.Joined.{stored_from-more}
 use Rattle.sr_history.proofs.Kept.{stored_holds}
 use Rattle.sr_logform.specs.Outcomes.{IsShortChange}
-use Rattle.sr_replay.specs.Scripts.{IsMade}
+use Rattle.sr_replay.specs.Scripts.{IsSpelled}
 use Rattle.sr_logform.specs.declared.change.Change.{Change}
 use Rattle.sr_rows.specs.Marks.{Marked, RowMap}
 use Rattle.sr_rows.specs.Steps.{at_mark}
@@ -68,7 +68,7 @@ pub present_holds : (view : View) (publisher : Name) (es : List Recorded) → Is
 present_holds view publisher es is =
     record {
       rows = subst (λ (m : RowMap). RowsFit view.catalog m) (sym is.pending.rows_are) (fitting_changes_keep view.catalog view.rows.marked view.pending (fit_committed view publisher es is) is.pending.fit);
-      catalog = subst (λ (c : Lists). IsMade c) (sym is.catalog) (stored_holds publisher es is.stored).catalog;
+      catalog = subst (λ (c : Lists). IsSpelled c) (sym is.catalog) (stored_holds publisher es is.stored).catalog;
     }
 
 pub some_holds : (view : View) → IsOfSome view → Holds (present view)

@@ -3,6 +3,7 @@
 //! What memory can lack for comes first and by steps that lead back, so that want of it leaves catalog and rows as they were.
 
 ghost use Rattle.std.specs.Prelude.{◌≡◌, List, None, OnOk, OnErr};
+ghost use Rattle.sr_ast.specs.NormalForms.{IsNormal};
 ghost use Rattle.sr_base.specs.declared.offset.Offset.{Offset as Place};
 ghost use Rattle.sr_book.specs.Entries.{Name as AName};
 ghost use Rattle.sr_change.specs.Changes.{refusal};
@@ -160,6 +161,7 @@ fn take_run(
     changes: &[Change],
 ) -> Result<(), NoMemory>
     requires fresh { rows.old ≡ at_mark rows.old.rows }
+    requires normal { IsNormal stmt.now }
     requires accepted { refusal catalog.old stmt.now ≡ None }
     ensures ok { OnOk result (state_in catalog.new rows.new ≡ after_run (state_in catalog.old rows.old) changes.now stmt.now) }
     ensures fresh { rows.new ≡ at_mark rows.new.rows }

@@ -2,6 +2,7 @@
 
 ghost use Rattle.std.specs.Prelude.{◌≡◌, IfOk};
 ghost use Rattle.std.specs.List.{AllByRecursion};
+ghost use Rattle.sr_ast.specs.NormalForms.{IsNormal};
 ghost use Rattle.sr_base.specs.declared.offset.Offset.{Offset as Place};
 ghost use Rattle.sr_dml.specs.Conditions.{RowsFit};
 ghost use Rattle.sr_history.specs.Folds.{next};
@@ -163,6 +164,7 @@ fn go_on_statement(
 ) -> Result<bool, NoMemory>
     requires rows { RowsFit catalog.old rows.old.rows }
     requires fresh { rows.old ≡ at_mark rows.old.rows }
+    requires normal { IsNormal stmt.now }
     ensures told { IfOk result (λ told. StatementTold (state_in catalog.old rows.old) stmt.now (state_in catalog.new rows.new) told) }
     ensures fresh { rows.new ≡ at_mark rows.new.rows }
 {

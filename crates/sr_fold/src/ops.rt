@@ -2,6 +2,7 @@
 
 ghost use Rattle.std.specs.Prelude.{◌≡◌, ◌↔◌, ℕ, false, IfOk, IsTrue, List};
 ghost use Rattle.std.specs.List.{AllByRecursion};
+ghost use Rattle.sr_ast.specs.NormalForms.{IsNormal};
 ghost use Rattle.sr_ast.specs.Statements.{is_carried};
 ghost use Rattle.sr_dml.specs.Conditions.{RowsFit};
 ghost use Rattle.sr_history.specs.Fitting.{MayHaveChanges};
@@ -166,6 +167,7 @@ fn go_on_both(
     requires rows { RowsFit catalog.old rows.old.rows }
     requires fresh { rows.old ≡ at_mark rows.old.rows }
     requires differ { AllByRecursion Differs changes.now }
+    requires normal { IsNormal stmt.now }
     ensures told { (text : List ℕ) → IsTextOf is_carried text stmt.now
         → IfOk result (λ told. RunTold (state_in catalog.old rows.old) text changes.now (state_in catalog.new rows.new) told) }
     ensures fresh { rows.new ≡ at_mark rows.new.rows }
@@ -215,6 +217,7 @@ fn go_on_beside(
     requires rows { RowsFit catalog.old rows.old.rows }
     requires fresh { rows.old ≡ at_mark rows.old.rows }
     requires differ { AllByRecursion Differs changes.now }
+    requires normal { IsNormal stmt.now }
     ensures told { (text : List ℕ) → IsTextOf is_carried text stmt.now
         → IfOk result (λ told. PassRunTold (state_in catalog.old rows.old) text changes.now (state_in catalog.new rows.new) told) }
     ensures fresh { rows.new ≡ at_mark rows.new.rows }

@@ -1,6 +1,7 @@
 //! The statement of a text, whether it is accepted, and what it does.
 
-ghost use Rattle.std.specs.Prelude.{◌≡◌, ◌≢◌, ◌↔◌, IfOk, IsTrue, OnOk, OnErr, None};
+ghost use Rattle.std.specs.Prelude.{◌≡◌, ◌≢◌, ◌↔◌, IfOk, IfSome, IsTrue, OnOk, OnErr, None};
+ghost use Rattle.sr_ast.specs.NormalForms.{IsNormal};
 ghost use Rattle.sr_ast.specs.Statements.{is_ddl as is_ddl_stmt, is_carried as is_carried_stmt};
 ghost use Rattle.sr_change.specs.Changes.{refusal};
 ghost use Rattle.sr_dml.specs.Conditions.{RowsFit};
@@ -19,10 +20,11 @@ use sr_parse::printed_statement;
 use sr_rows::Rows;
 use std::alloc::{AllocError, Global};
 
-/// The statement that changes the catalog and prints this text, where one does.
+/// The statement in normal form that changes the catalog and prints this text, where one does.
 #[tactic(auto, using(crate::proofs::Told::no_text))]
 pub(crate) fn ddl_statement(alloc: Global, text: &Text) -> Result<Option<Stmt>, NoMemory>
     ensures found { IfOk result (λ found. IsOneOrNone (IsTextOf is_ddl_stmt text.now) found) }
+    ensures normal { IfOk result (λ found. IfSome found (λ stmt. IsNormal stmt)) }
 {
     match printed_statement(alloc, text)? {
         Some(stmt) => {
@@ -36,10 +38,11 @@ pub(crate) fn ddl_statement(alloc: Global, text: &Text) -> Result<Option<Stmt>, 
     }
 }
 
-/// The statement that passthrough carries and that prints this text, where one does.
+/// The statement in normal form that passthrough carries and that prints this text, where one does.
 #[tactic(auto, using(crate::proofs::Told::no_text))]
 pub(crate) fn carried_statement(alloc: Global, text: &Text) -> Result<Option<Stmt>, NoMemory>
     ensures found { IfOk result (λ found. IsOneOrNone (IsTextOf is_carried_stmt text.now) found) }
+    ensures normal { IfOk result (λ found. IfSome found (λ stmt. IsNormal stmt)) }
 {
     match printed_statement(alloc, text)? {
         Some(stmt) => {
@@ -153,6 +156,7 @@ pub(crate) fn do_statement(
     stmt: &Stmt,
 ) -> Result<(), NoMemory>
     requires fresh { rows.old ≡ at_mark rows.old.rows }
+    requires normal { IsNormal stmt.now }
     requires accepted { refusal catalog.old stmt.now ≡ None }
     ensures ok { OnOk result (state_in catalog.new rows.new ≡ with_statement stmt.now (state_in catalog.old rows.old)) }
     ensures fresh { rows.new ≡ at_mark rows.new.rows }

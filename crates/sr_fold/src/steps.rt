@@ -1,6 +1,7 @@
 //! Ops that are known to fit, by steps that lead back: what is done of a transaction before it is known that there is memory for all of it.
 
 ghost use Rattle.std.specs.Prelude.{◌≡◌, ◌↔◌, ◌∷◌, ◌++◌, [], false, None, IfSome, IsTrue, OnOk, OnErr};
+ghost use Rattle.sr_ast.specs.NormalForms.{IsNormal};
 ghost use Rattle.sr_change.specs.Changes.{refusal};
 ghost use Rattle.sr_dml.specs.Applying.{applied, applied_in};
 ghost use Rattle.sr_dml.specs.Conditions.{RowsFit};
@@ -233,6 +234,7 @@ fn do_both(
 ) -> Result<(), NoMemory>
     requires rows { RowsFit catalog.old rows.old.rows }
     requires fits { ChangesFit catalog.old rows.old.rows changes.now }
+    requires normal { IsNormal stmt.now }
     requires accepted { refusal catalog.old stmt.now ≡ None }
     ensures effect { OnOk result (state_in catalog.new rows.new ≡ after_run (state_in catalog.old rows.old) changes.now stmt.now) }
     ensures on { GoesOn rows.old rows.new }

@@ -1,14 +1,16 @@
 -- What holds of a state goes on to hold behind each entry that fits it.
 use Rattle.std.proofs.Common.{◌≡◌, ℕ, ◌+◌, Bool, true, false, List, [], ◌∷◌, None}
+use Rattle.std.specs.List.{AllByRecursion}
+use Rattle.sr_ast.specs.NormalForms.{IsNormal}
 use Rattle.sr_ast.specs.declared.stmt.Stmt.{Stmt}
 use Rattle.sr_book.specs.Entries.{Name}
 use Rattle.sr_change.specs.Changes.{refusal}
 use Rattle.sr_dml.specs.FittingChanges.{ChangesFit}
 use Rattle.sr_dml.proofs.Applied.{no_rows_fit, fitting_changes_keep}
 use Rattle.sr_logform.specs.declared.change.Change.{Change}
-use Rattle.sr_replay.proofs.Made.{new_made, still_made}
-use Rattle.sr_history.specs.Recorded.{Done, plain, ran, conflict, clash}
-use Rattle.sr_history.specs.Recorded.{Recorded, own, taken, ddl, sync, pass, note}
+use Rattle.sr_replay.proofs.Spelled.{new_spelled, still_spelled}
+use Rattle.sr_history.specs.Recorded.{Done, plain, ran, conflict, clash, IsDone}
+use Rattle.sr_history.specs.Recorded.{Recorded, own, taken, ddl, sync, pass, note, IsCarried, IsRecorded}
 use Rattle.sr_history.specs.Folds.{State, fresh, with_changes, with_statement, done_changes, after_done, after_dones, after_pass}
 use Rattle.sr_history.specs.Folds.{next, state_from, state_of, size}
 use Rattle.sr_history.specs.Fitting.{IsAcceptedPass, DoneFits, DonesFit, FitsState, Fits, stored_from, Stored}
@@ -16,44 +18,46 @@ use Rattle.sr_history.specs.Laws.{Holds}
 use Rattle.sr_history.proofs.Tables.{statement_keeps}
 
 pub fresh_holds : (publisher : Name) → Holds (fresh publisher)
-fresh_holds publisher = record { rows = no_rows_fit (fresh publisher).catalog; catalog = new_made publisher }
+fresh_holds publisher = record { rows = no_rows_fit (fresh publisher).catalog; catalog = new_spelled publisher }
 
 changes_hold : (s : State) (changes : List Change) → Holds s → ChangesFit s.catalog s.rows changes → Holds (with_changes changes s)
 changes_hold s changes h fit = record { rows = fitting_changes_keep s.catalog s.rows changes h.rows fit; catalog = h.catalog }
 
-statement_holds : (s : State) (statement : Stmt) → Holds s → refusal s.catalog statement ≡ None → Holds (with_statement statement s)
+statement_holds : (s : State) (statement : Stmt) → Holds s → IsNormal statement → refusal s.catalog statement ≡ None → Holds (with_statement statement s)
 unfolding with_statement
-statement_holds s statement h accepted = record {
+statement_holds s statement h normal accepted = record {
   rows = statement_keeps statement s.catalog s.rows accepted h.rows;
-  catalog = still_made s.catalog statement h.catalog accepted;
+  catalog = still_spelled s.catalog statement h.catalog normal accepted;
 }
 
-done_holds : (s : State) (d : Done) → Holds s → DoneFits s d → Holds (after_done d s)
-done_holds s (plain op changes) h fit = changes_hold s changes h fit.changes
-done_holds s (ran statement changes) h fit = statement_holds (with_changes changes s) statement (changes_hold s changes h fit.changes) fit.outcome.catalog
-done_holds s (conflict op inserts before after) h fit = changes_hold s (done_changes (conflict op inserts before after)) h fit.changes
-done_holds s (clash op why) h fit = h
+done_holds : (s : State) (d : Done) → Holds s → IsDone d → DoneFits s d → Holds (after_done d s)
+done_holds s (plain op changes) h meant fit = changes_hold s changes h fit.changes
+done_holds s (ran statement changes) h meant fit =
+    statement_holds (with_changes changes s) statement (changes_hold s changes h fit.changes) meant.0 fit.outcome.catalog
+done_holds s (conflict op inserts before after) h meant fit = changes_hold s (done_changes (conflict op inserts before after)) h fit.changes
+done_holds s (clash op why) h meant fit = h
 
-dones_hold : (s : State) (dones : List Done) → Holds s → DonesFit s dones → Holds (after_dones dones s)
-dones_hold s [] h fit = h
-dones_hold s (d ∷ dones) h fit = dones_hold (after_done d s) dones (done_holds s d h fit.0) fit.1
+dones_hold : (s : State) (dones : List Done) → Holds s → AllByRecursion IsDone dones → DonesFit s dones → Holds (after_dones dones s)
+dones_hold s [] h meant fit = h
+dones_hold s (d ∷ dones) h meant fit = dones_hold (after_done d s) dones (done_holds s d h meant.0 fit.0) meant.1 fit.1
 
-pass_holds : (s : State) (only : Bool) (statement : Stmt) (changes : List Change) → Holds s → ChangesFit s.catalog s.rows changes
+pass_holds : (s : State) (only : Bool) (statement : Stmt) (changes : List Change) → Holds s → IsCarried statement → ChangesFit s.catalog s.rows changes
     → IsAcceptedPass s only statement → Holds (after_pass only statement changes s)
-pass_holds s true statement changes h fit accepted = h
-pass_holds s false statement changes h fit accepted = statement_holds (with_changes changes s) statement (changes_hold s changes h fit) accepted.catalog
+pass_holds s true statement changes h meant fit accepted = h
+pass_holds s false statement changes h meant fit accepted =
+    statement_holds (with_changes changes s) statement (changes_hold s changes h fit) meant.0 accepted.catalog
 
-entry_holds : (s : State) (r : Recorded) → Holds s → FitsState s r → Holds (next s r)
+entry_holds : (s : State) (r : Recorded) → Holds s → IsRecorded r → FitsState s r → Holds (next s r)
 unfolding next FitsState
-entry_holds s (own changes) h fit = changes_hold s changes h fit
-entry_holds s (taken user at dones) h fit = dones_hold s dones h fit.1
-entry_holds s (ddl statement) h fit = statement_holds s statement h fit.catalog
-entry_holds s (sync user tables) h fit = h
-entry_holds s (pass users only statement changes) h fit = pass_holds s only statement changes h fit.1 fit.2
-entry_holds s (note user what) h fit = h
+entry_holds s (own changes) h meant fit = changes_hold s changes h fit
+entry_holds s (taken user at dones) h meant fit = dones_hold s dones h meant fit.1
+entry_holds s (ddl statement) h meant fit = statement_holds s statement h meant.0 fit.catalog
+entry_holds s (sync user tables) h meant fit = h
+entry_holds s (pass users only statement changes) h meant fit = pass_holds s only statement changes h meant fit.1 fit.2
+entry_holds s (note user what) h meant fit = h
 
 pub stays_held : (s : State) (place : ℕ) (r : Recorded) → Holds s → Fits s place r → Holds (next s r)
-stays_held s place r h fit = entry_holds s r h fit.state
+stays_held s place r h fit = entry_holds s r h fit.meant fit.state
 
 pub held_from : (s : State) (place : ℕ) (rs : List Recorded) → Holds s → stored_from s place rs → Holds (state_from s rs)
 held_from s place [] h stored = h

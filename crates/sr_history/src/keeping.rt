@@ -18,8 +18,8 @@ ghost use Rattle.sr_history.specs.Folds.{State, fresh, next, state_from, state_o
 ghost use Rattle.sr_history.specs.Laws.{Holds};
 ghost use Rattle.sr_history.specs.Recorded.{Done, Recorded, conflict, own, taken, ddl, sync, entry_of};
 
-/// Each row fits its table, and accepted statements have made the catalog: so it is at first, behind each entry that fits a state in which
-/// it is so, and behind each history that may stand in a log.
+/// Each row fits its table, and accepted statements in normal form have made the catalog: so it is at first, behind each entry that fits a state
+/// in which it is so, and behind each history that may stand in a log.
 pub fn what_holds_stays()
     ensures at_first { (publisher : Name) → Holds (fresh publisher) }
     ensures kept { (s : State) (place : ℕ) (r : Recorded) → Holds s → Fits s place r → Holds (next s r) }

@@ -3,12 +3,19 @@ ghost use Rattle.std.specs.Prelude.{◌≤◌, length, IfOk};
 
 use crate::disk_file::DiskFile;
 use crate::folder::{folder_of, sync_folder};
+use crate::waiting::held;
 use crate::window::Window;
 use sr_base::NoMemory;
 use sr_site::File;
 use std::alloc::Global;
 use std::rt::{Files, Runtime};
 use std::{fs, io};
+
+/// So often the root is opened anew, where its name went to another file before its lock was had.
+const MOST_OPENED: u32 = 8;
+
+/// The files beside the root.
+const OTHERS: [File; 4] = [File::Log0, File::Log1, File::Snap0, File::Snap1];
 
 /// The files of the database with one name.
 #[derive(Drop)]
@@ -17,6 +24,11 @@ pub struct DatabaseFiles {
     folder: String,
     five: FiveFiles,
     window: Window,
+    /// `NAME.root` is there, and this run has its lock. Before that it counts as a file without bytes: one that another run makes meanwhile is
+    /// not looked at.
+    is_held: bool,
+    /// The folder was synced since the lock was taken, and since a file was made: the names in it stand after a crash.
+    is_settled: bool,
 }
 
 #[derive(Drop)]
@@ -58,13 +70,58 @@ impl DatabaseFiles {
                 snap1: named(alloc, name, "snap1")?,
             },
             window: Window::new(alloc)?,
+            is_held: false,
+            is_settled: false,
         })
     }
 
-    /// Takes the lock on `NAME.root`, which is made without a byte where it is not there. It is held until the files are let go.
+    /// Takes the lock on `NAME.root`, where it is there. It is held until the files are let go. Nothing is made: where there is no root, the
+    /// first write or cut makes it and takes its lock.
     pub fn lock<R: Runtime + Files<File = fs::File>>(&mut self, rt: &R) -> io::Result<()> {
-        self.five.root.make(rt)?.try_lock()?;
+        for _ in 0..MOST_OPENED {
+            if !self.five.root.find(rt)? {
+                return Ok(());
+            }
+            if self.five.root.lock(rt)? {
+                self.is_held = true;
+                return Ok(());
+            }
+            self.five.root.close();
+        }
+        Err(held(rt, self.five.root.path()))
+    }
+
+    /// Makes the files that are not there, before the first write or cut of a database that had no root: the root first, which is locked, and
+    /// then the others.
+    ///
+    /// Before that the others are looked for, so that a name which the system does not take leaves nothing behind. A root that another run made
+    /// meanwhile is refused, and so is one that got a byte from another run before its lock was had: what this run has read would be wrong.
+    fn claim<R: Runtime + Files<File = fs::File>>(&mut self, rt: &R) -> io::Result<()> {
+        if self.is_held {
+            return Ok(());
+        }
+        for other in OTHERS {
+            self.five.of(other).find(rt)?;
+        }
+        self.five.root.make(rt)?;
+        let is_named = self.five.root.lock(rt)?;
+        self.five.root.forget();
+        if !is_named || self.five.root.length(rt)? > 0 {
+            return Err(held(rt, self.five.root.path()));
+        }
+        self.is_held = true;
+        self.is_settled = false;
+        for other in OTHERS {
+            self.window.forget(other);
+            self.five.of(other).forget();
+            self.five.of(other).ensure(rt)?;
+        }
         Ok(())
+    }
+
+    /// The file counts as one without bytes: it is the root of a database that was not there.
+    fn is_awaited(&self, file: File) -> bool {
+        !self.is_held && file == File::Root
     }
 
     /// The length of `file` in bytes.
@@ -73,6 +130,9 @@ impl DatabaseFiles {
         rt: &R,
         file: File,
     ) -> io::Result<u64> {
+        if self.is_awaited(file) {
+            return Ok(0);
+        }
         self.five.of(file).length(rt)
     }
 
@@ -86,11 +146,14 @@ impl DatabaseFiles {
     ) -> io::Result<usize>
         ensures within { IfOk result (λ n. n ≤ length buffer.old) }
     {
+        if self.is_awaited(file) {
+            return Ok(0);
+        }
         let from = self.five.of(file);
         self.window.read(rt, file, from, at, buffer)
     }
 
-    /// Puts `bytes` at the place `at` of `file`.
+    /// Puts `bytes` at the place `at` of `file`, which is made where it is not there.
     pub fn write<R: Runtime + Files<File = fs::File>>(
         &mut self,
         rt: &R,
@@ -98,7 +161,11 @@ impl DatabaseFiles {
         at: u64,
         bytes: &[u8],
     ) -> io::Result<()> {
+        self.claim(rt)?;
         self.window.forget(file);
+        if self.five.of(file).ensure(rt)? {
+            self.is_settled = false;
+        }
         self.five.of(file).write(rt, at, bytes)
     }
 
@@ -109,7 +176,11 @@ impl DatabaseFiles {
         file: File,
         to: u64,
     ) -> io::Result<()> {
+        self.claim(rt)?;
         self.window.forget(file);
+        if to > 0 && self.five.of(file).ensure(rt)? {
+            self.is_settled = false;
+        }
         self.five.of(file).cut(rt, to)
     }
 
@@ -119,9 +190,12 @@ impl DatabaseFiles {
         rt: &R,
         file: File,
     ) -> io::Result<()> {
-        if self.five.of(file).sync(rt)? {
+        if self.is_awaited(file) {
+            return Ok(());
+        }
+        if self.five.of(file).sync(rt)? && !self.is_settled {
             sync_folder(rt, self.folder.as_str())?;
-            self.five.of(file).settle();
+            self.is_settled = true;
         }
         Ok(())
     }

@@ -4,8 +4,10 @@
 //! link.
 ghost use Rattle.std.specs.Prelude.{◌≤◌, length, IfOk, IfSome};
 
+use crate::opening;
+use crate::telling::told;
 use std::alloc::Global;
-use std::fs::{self, DirEntry, OpenOptions};
+use std::fs::{self, DirEntry, OpenFile};
 use std::io::{self, ErrorKind, Read, Write};
 use std::os::unix::fs::MetadataExt;
 use std::rt::{Files, Runtime};
@@ -18,9 +20,20 @@ const MOST_HELD: usize = 262_144;
 
 /// Makes the names in a folder durable. A file system that knows no sync of a folder counts as having done it.
 pub fn sync_folder<R: Runtime + Files<File = fs::File>>(rt: &R, folder: &str) -> io::Result<()> {
-    match fs::open(rt, folder)?.sync_all() {
+    let opened = open_folder(rt, folder)?;
+    sync_opened(rt, folder, &opened)
+}
+
+/// Opens a folder, to sync it.
+fn open_folder<R: Runtime + Files<File = fs::File>>(rt: &R, folder: &str) -> io::Result<fs::File> {
+    told(rt, folder, opening::to_read(rt, folder))
+}
+
+/// The same of a folder that is open.
+fn sync_opened<R: Runtime>(rt: &R, folder: &str, opened: &fs::File) -> io::Result<()> {
+    match opened.sync_all() {
         Err(fault) if is_unknown(fault.kind()) => Ok(()),
-        answer => answer,
+        answer => told(rt, folder, answer),
     }
 }
 
@@ -58,6 +71,11 @@ impl Names {
     }
 }
 
+/// Whether a message file may have the name: it is not empty, has no `/` and does not begin with a dot.
+pub fn is_message_name(name: &str) -> bool {
+    !name.is_empty() && !name.starts_with('.') && !name.contains('/')
+}
+
 /// The name of a message file, where the entry is one.
 fn message_name<R: Runtime>(
     alloc: Global,
@@ -81,18 +99,16 @@ pub fn list<R: Runtime>(rt: &R, alloc: Global, folder: &str) -> io::Result<Names
         first: Vec::new(alloc),
         more: false,
     };
-    let entries = match fs::read_dir(rt, folder) {
-        Ok(entries) => entries,
-        Err(fault) if fault.kind() == ErrorKind::NotFound => return Ok(names),
-        Err(fault) => return Err(fault),
+    let Some(entries) = told(rt, folder, if_there(fs::read_dir(rt, folder)))? else {
+        return Ok(names);
     };
     for entry in entries {
         let entry = match entry {
             Ok(entry) => entry,
             Err(fault) if fault.kind() == ErrorKind::InvalidFilename => continue,
-            Err(fault) => return Err(fault),
+            Err(fault) => return told(rt, folder, Err(fault)),
         };
-        if let Some(name) = message_name(alloc, &entry)? {
+        if let Some(name) = told(rt, folder, message_name(alloc, &entry))? {
             names.first.push(name)?;
         }
         if names.first.len() >= MOST_HELD {
@@ -112,11 +128,12 @@ pub fn fetch<R: Runtime + Files<File = fs::File>>(
 ) -> io::Result<Option<Vec<u8>>>
     ensures within { IfOk result (λ found. IfSome found (λ bytes. length bytes.items ≤ limit)) }
 {
-    let Some(file) = plain_file(rt, path)? else {
+    let Some(file) = told(rt, path, plain_file(rt, path))? else {
         return Ok(None);
     };
     let mut bytes = Vec::new(alloc);
-    file.take(limit as u64).read_to_end(&mut bytes)?;
+    let read = file.take(limit as u64).read_to_end(&mut bytes);
+    told(rt, path, read)?;
     bytes.truncate(limit);
     Ok(Some(bytes))
 }
@@ -135,7 +152,7 @@ fn plain_file<R: Runtime + Files<File = fs::File>>(
     if !listed.is_file() {
         return Ok(None);
     }
-    let Some(file) = if_there(fs::open(rt, path))? else {
+    let Some(file) = if_there(opening::to_read(rt, path))? else {
         return Ok(None);
     };
     let opened = file.metadata()?;
@@ -156,23 +173,15 @@ fn if_there<T: Drop>(answer: io::Result<T>) -> io::Result<Option<T>> {
     }
 }
 
-/// Makes an empty file and opens it for writing. One that a cut-off run left there is removed first.
+/// Makes an empty file. One that a cut-off run left there is removed first.
 fn new_file<R: Runtime + Files<File = fs::File>>(rt: &R, path: &str) -> io::Result<fs::File> {
-    match created(rt, path) {
+    match opening::made(rt, path) {
         Err(fault) if fault.kind() == ErrorKind::AlreadyExists => {
             fs::remove_file(rt, path)?;
-            created(rt, path)
+            opening::made(rt, path)
         }
         answer => answer,
     }
-}
-
-/// Makes a file that is not there and opens it for writing.
-fn created<R: Runtime + Files<File = fs::File>>(rt: &R, path: &str) -> io::Result<fs::File> {
-    OpenOptions::new()
-        .write(true)
-        .create_new(true)
-        .open(rt, path)
 }
 
 /// Writes a new file, whole and durable.
@@ -186,12 +195,12 @@ fn write_whole<R: Runtime + Files<File = fs::File>>(
     file.sync_all()
 }
 
-/// Makes a folder, and answers whether it was not there.
-fn make_folder<R: Runtime>(rt: &R, path: &str) -> io::Result<bool> {
+/// Makes a folder, where there is none.
+fn make_folder<R: Runtime>(rt: &R, path: &str) -> io::Result<()> {
     match fs::create_dir(rt, path) {
-        Ok(()) => Ok(true),
+        Ok(()) => Ok(()),
         Err(fault) => match fs::metadata(rt, path) {
-            Ok(found) if found.is_dir() => Ok(false),
+            Ok(found) if found.is_dir() => Ok(()),
             _ => Err(fault),
         },
     }
@@ -200,51 +209,50 @@ fn make_folder<R: Runtime>(rt: &R, path: &str) -> io::Result<bool> {
 /// The front of a path of `end` bytes, where it names one of the folders on the way or all of it.
 fn folder_at(path: &str, end: usize) -> Option<&str> {
     match path.split_at_checked(end) {
-        Some((front, rest)) if rest.is_empty() || rest.starts_with('/') => Some(front),
+        Some((front, rest))
+            if !front.ends_with('/') && (rest.is_empty() || rest.starts_with('/')) => {
+            Some(front)
+        }
         _ => None,
     }
 }
 
-/// Makes the folders of a path that are not there, and answers how long the path of the first is that was made; that of all, where none was.
-fn make_folders<R: Runtime>(rt: &R, path: &str) -> io::Result<usize> {
+/// Makes the folders of a path that are not there.
+pub fn make<R: Runtime>(rt: &R, path: &str) -> io::Result<()> {
     match make_folder(rt, path) {
-        Ok(_) => return Ok(path.len()),
         Err(fault) if fault.kind() == ErrorKind::NotFound => {}
-        Err(fault) => return Err(fault),
+        answer => return told(rt, path, answer),
     }
-    let mut first = path.len();
     for end in 1..=path.len() {
         if let Some(folder) = folder_at(path, end) {
-            if make_folder(rt, folder)? {
-                first = first.min(end);
-            }
-        }
-    }
-    Ok(first)
-}
-
-/// Makes the names of the folders of a path durable, from that of `from` bytes on: each is one in the folder that holds it.
-fn sync_entries<R: Runtime + Files<File = fs::File>>(
-    rt: &R,
-    path: &str,
-    from: usize,
-) -> io::Result<()> {
-    for end in from..=path.len() {
-        if let Some(folder) = folder_at(path, end) {
-            sync_folder(rt, folder_of(folder))?;
+            told(rt, folder, make_folder(rt, folder))?;
         }
     }
     Ok(())
 }
 
-/// Makes the folders of a path that are not there, and syncs the name of the last one and of each that was made.
-pub fn make<R: Runtime + Files<File = fs::File>>(rt: &R, path: &str) -> io::Result<()> {
-    let first = make_folders(rt, path)?;
-    sync_entries(rt, path, first)
+/// Whether there is a folder at the path.
+pub fn is_there<R: Runtime>(rt: &R, path: &str) -> bool {
+    match fs::metadata(rt, path) {
+        Ok(found) => found.is_dir(),
+        Err(_) => false,
+    }
+}
+
+/// Syncs each folder on a path, and before them the one in which the path begins: then each name on it stands after a crash, whoever made it.
+pub fn sync_path<R: Runtime + Files<File = fs::File>>(rt: &R, path: &str) -> io::Result<()> {
+    sync_folder(rt, if path.starts_with('/') { "/" } else { "." })?;
+    for end in 1..=path.len() {
+        if let Some(folder) = folder_at(path, end) {
+            sync_folder(rt, folder)?;
+        }
+    }
+    Ok(())
 }
 
 /// Puts a file of these bytes at FOLDER/ADDRESS/NAME, where `inbox`, FOLDER/ADDRESS, is there: it is written under another name, synced, and
-/// then renamed. Then its name is synced.
+/// then renamed. Then its name is synced; the folder was opened for that before anything was written. A put that fails takes the other
+/// name away.
 pub fn put<R: Runtime + Files<File = fs::File>>(
     rt: &R,
     alloc: Global,
@@ -254,15 +262,32 @@ pub fn put<R: Runtime + Files<File = fs::File>>(
 ) -> io::Result<()> {
     let draft = format!(in alloc; "{inbox}/.{name}")?;
     let path = format!(in alloc; "{inbox}/{name}")?;
-    write_whole(rt, draft.as_str(), bytes)?;
-    fs::rename(rt, draft.as_str(), path.as_str())?;
-    sync_folder(rt, inbox)
+    let folder = open_folder(rt, inbox)?;
+    let answer = place(rt, draft.as_str(), path.as_str(), bytes);
+    if answer.is_err() {
+        match fs::remove_file(rt, draft.as_str()) {
+            Ok(()) | Err(_) => {}
+        }
+    }
+    told(rt, path.as_str(), answer)?;
+    sync_opened(rt, inbox, &folder)
+}
+
+/// Writes the draft, and renames it.
+fn place<R: Runtime + Files<File = fs::File>>(
+    rt: &R,
+    draft: &str,
+    path: &str,
+    bytes: &[u8],
+) -> io::Result<()> {
+    write_whole(rt, draft, bytes)?;
+    fs::rename(rt, draft, path)
 }
 
 /// Removes the file. That it is not there is no fault.
 pub fn remove<R: Runtime>(rt: &R, path: &str) -> io::Result<()> {
     match fs::remove_file(rt, path) {
         Err(fault) if fault.kind() == ErrorKind::NotFound => Ok(()),
-        answer => answer,
+        answer => told(rt, path, answer),
     }
 }

@@ -9,10 +9,13 @@ mod disk_file;
 mod files;
 mod folder;
 mod mail;
+mod opening;
 mod sink;
 mod site;
 mod source;
 mod start;
+mod telling;
+mod waiting;
 mod window;
 
 pub use sink::HostSink;

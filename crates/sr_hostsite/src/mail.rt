@@ -2,10 +2,11 @@
 ghost use Rattle.std.specs.Prelude.{◌≡◌, ◌≤◌, length, true, Ok, IfOk, IfSome, OnOk, IsErrOf};
 ghost use Rattle.sr_site.specs.Causes.{Rose};
 ghost use Rattle.sr_site.specs.Listings.{IsListing, AreAscending};
-ghost use Rattle.sr_site.specs.declared.mail.MailFault.TheVariants.{Failed as failed_mail};
+ghost use Rattle.sr_site.specs.declared.mail.MailFault.TheVariants.{Failed as failed_mail, Memory as no_memory};
 
-use crate::folder::{self, MOST_NAMES};
+use crate::folder::{self, MOST_NAMES, folder_of};
 use crate::site::{HostSite, unattached};
+use crate::telling::say;
 use sr_base::{Name, Seq, Text};
 use sr_site::{Listing, Mail, MailFault};
 use std::alloc::Global;
@@ -49,6 +50,7 @@ impl<R: Runtime + Files<File = fs::File>> HostSite<R> {
         ensures later { self.old.mail_faults ≤ self.new.mail_faults }
         ensures cause { IsErrOf result failed_mail → Rose self.old.mail_faults self.new.mail_faults }
         ensures steady { OnOk result (self.new.mail_faults ≡ self.old.mail_faults) }
+        ensures short { IsErrOf result no_memory → self.new.mail_faults ≡ self.old.mail_faults }
         ensures disk { self.new.disk_faults ≡ self.old.disk_faults }
     {
         match answer {
@@ -78,11 +80,21 @@ impl<R: Runtime + Files<File = fs::File>> HostSite<R> {
         }
     }
 
-    /// FOLDER/ADDRESS/NAME.
+    /// FOLDER/ADDRESS/NAME. A name that no message file has is refused.
     fn message(&self, alloc: Global, address: &Name, name: &Text) -> io::Result<String> {
         let inbox = self.inbox(alloc, address)?;
         let name = name.as_str();
+        self.check_name(inbox.as_str(), name)?;
         Ok(format!(in alloc; "{inbox}/{name}")?)
+    }
+
+    /// Refuses a name that no message file has: none such is ever listed.
+    fn check_name(&self, inbox: &str, name: &str) -> io::Result<()> {
+        if folder::is_message_name(name) {
+            return Ok(());
+        }
+        say(&self.rt, inbox, "a name that no message file has");
+        Err(io::Error::from(ErrorKind::InvalidFilename))
     }
 
     fn listed(&self, alloc: Global, address: &Name) -> io::Result<Listing>
@@ -110,22 +122,36 @@ impl<R: Runtime + Files<File = fs::File>> HostSite<R> {
         folder::fetch(&self.rt, alloc, path.as_str(), limit)
     }
 
-    /// Puts a message. Its folder is made where it is not there; the folders above it are looked at and synced once for as long as the
-    /// messages go to the same address.
+    /// Puts a message. Before the first one of a run for its address, and where the folder went away, the folders are made and synced.
     fn sent(&mut self, alloc: Global, address: &Name, name: &Text, bytes: &[u8]) -> io::Result<()>
         ensures mail { self.new.mail_faults ≡ self.old.mail_faults }
         ensures disk { self.new.disk_faults ≡ self.old.disk_faults }
     {
         let inbox = self.inbox(alloc, address)?;
-        if self.is_settled(inbox.as_str()) {
-            match folder::put(&self.rt, alloc, inbox.as_str(), name.as_str(), bytes) {
-                Err(fault) if fault.kind() == ErrorKind::NotFound => {}
-                answer => return answer,
-            }
+        self.check_name(inbox.as_str(), name.as_str())?;
+        if self.is_settled(inbox.as_str()) && folder::is_there(&self.rt, inbox.as_str()) {
+            return folder::put(&self.rt, alloc, inbox.as_str(), name.as_str(), bytes);
         }
-        folder::make(&self.rt, inbox.as_str())?;
+        self.settle(inbox.as_str())?;
         folder::put(&self.rt, alloc, inbox.as_str(), name.as_str(), bytes)?;
         self.settled = Some(inbox);
+        Ok(())
+    }
+
+    /// Makes the folders down to FOLDER/ADDRESS where they are not there, and syncs them, also those that were there: another run, or another
+    /// database, may have made one and ended before its sync. The folders down to FOLDER are synced once a run.
+    fn settle(&mut self, inbox: &str) -> io::Result<()>
+        ensures mail { self.new.mail_faults ≡ self.old.mail_faults }
+        ensures disk { self.new.disk_faults ≡ self.old.disk_faults }
+    {
+        let was_there = folder::is_there(&self.rt, folder_of(inbox));
+        folder::make(&self.rt, inbox)?;
+        if was_there && self.is_path_settled {
+            folder::sync_folder(&self.rt, folder_of(inbox))?;
+            return folder::sync_folder(&self.rt, inbox);
+        }
+        folder::sync_path(&self.rt, inbox)?;
+        self.is_path_settled = true;
         Ok(())
     }
 

@@ -20,6 +20,8 @@ pub struct HostSite<R: Runtime + Files<File = fs::File>> {
     pub(super) folder: Option<String>,
     /// FOLDER/ADDRESS of the last message that was put: the folder was there then, and its name stands after a crash.
     pub(super) settled: Option<String>,
+    /// The folders down to FOLDER were synced in this run.
+    pub(super) is_path_settled: bool,
     /// How many calls of the disk have failed; it stands still at its end.
     pub(super) disk_faults: u64,
     /// Likewise of the mail.
@@ -34,6 +36,7 @@ impl<R: Runtime + Files<File = fs::File>> HostSite<R> {
             files: None,
             folder: None,
             settled: None,
+            is_path_settled: false,
             disk_faults: 0,
             mail_faults: 0,
         }
@@ -76,7 +79,7 @@ fn is_want_of_memory<T>(answer: &io::Result<T>) -> bool {
     }
 }
 
-/// Attaches to the files of `name`, and takes their lock.
+/// Attaches to the files of `name`, and takes their lock where they are there. No file is made.
 fn attached<R: Runtime + Files<File = fs::File>>(
     rt: &R,
     alloc: Global,
@@ -91,6 +94,7 @@ impl<R: Runtime + Files<File = fs::File>> Site for HostSite<R> {
     fn attach(&mut self, alloc: Global, name: &Text, mail: &Text) -> Result<(), MailFault> {
         self.files = None;
         self.settled = None;
+        self.is_path_settled = false;
         let Ok(folder) = String::from_str(alloc, mail.as_str()) else {
             return Err(MailFault::Memory);
         };

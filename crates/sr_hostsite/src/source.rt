@@ -1,13 +1,16 @@
 //! Standard input as the script's source. It keeps no bytes back: each read is a call of the system.
 ghost use Rattle.std.specs.Prelude.{◌-◌, ◌≤◌, [], false, length, IfOk};
 
+use crate::telling::told;
+use crate::waiting::pause;
 use sr_site::{Failed, Source};
 use std::io::{self, ErrorKind, Read};
-use std::rt::Runtime;
+use std::rt::{Clock, Runtime};
 
 /// Standard input.
 #[derive(Drop)]
 pub struct HostSource<R: Runtime> {
+    rt: R,
     reader: R::Reader,
     /// How many of its reads have failed; it stands still at its end.
     faults: u64,
@@ -16,20 +19,24 @@ pub struct HostSource<R: Runtime> {
 impl<R: Runtime> HostSource<R> {
     /// Standard input, read from where it stands.
     pub fn new(rt: R) -> HostSource<R> {
+        let reader = rt.reader();
         HostSource {
-            reader: rt.reader(),
+            rt,
+            reader,
             faults: 0,
         }
     }
 }
 
-/// Reads once. A read that a signal broke off is made again.
-fn read_some<T: Read>(reader: &mut T, buffer: &mut [u8]) -> io::Result<usize>
+/// Reads once. A read that a signal broke off is made again; so is one that would have to wait for its input and does not, behind a pause.
+fn read_some<C: Clock, T: Read>(clock: &C, reader: &mut T, buffer: &mut [u8]) -> io::Result<usize>
     ensures within { IfOk result (λ n. n ≤ length buffer.old) }
 {
+    let mut length = 1;
     for _ in 0..u64::MAX {
         match reader.read(buffer) {
             Err(fault) if fault.kind() == ErrorKind::Interrupted => {}
+            Err(fault) if fault.kind() == ErrorKind::WouldBlock => length = pause(clock, length),
             answer => return answer,
         }
     }
@@ -40,7 +47,8 @@ impl<R: Runtime> Source for HostSource<R> {
     ghost seen = { λ s. record { told = false; left = []; faults = s.faults } };
 
     fn read(&mut self, buffer: &mut [u8]) -> Result<usize, Failed> {
-        match read_some(&mut self.reader, buffer) {
+        let answer = read_some(&self.rt, &mut self.reader, buffer);
+        match told(&self.rt, "standard input", answer) {
             Ok(count) => Ok(count),
             Err(_) => {
                 self.faults = self.faults.saturating_add(1);

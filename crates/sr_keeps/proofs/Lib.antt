@@ -1,4 +1,2 @@
 pub mod Sound
-pub mod Spelled
-pub mod Things
-pub mod Whole
+pub mod Written

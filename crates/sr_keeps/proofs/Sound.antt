@@ -22,7 +22,7 @@ use Rattle.sr_publish.specs.Laws.{HasKey}
 use Rattle.sr_publish.proofs.Orderly.{distinct_from, table_has_key}
 use Rattle.sr_publish.proofs.Sources.{one_source}
 use Rattle.sr_replay.specs.Scripts.{IsMade, article_rule, grant_of, grant_rule}
-use Rattle.sr_replay.proofs.ReplayCauses.{NoCause, no_cause_of, first_of-None, option_map-None, where_true-None}
+use Rattle.sr_replay.proofs.ReplayCauses.{NoCause, no_cause_of, all_there, first_of-None, option_map-None, where_true-None}
 use Rattle.sr_replay.proofs.ReplayLists.{AllByRecursion-step}
 use Rattle.sr_replay.proofs.ReplayNexts.{made_stands}
 use Rattle.sr_replay.proofs.Standing.{InOrder, HasRoom, UserStands, PublicationStands, TriggerStands, only_tables, publication_rule}
@@ -92,14 +92,6 @@ user_is_new publisher before u stands = by u.above stands.accepted
 
 users_once : (publisher : List ℕ) (us : List User) → InOrder (UserStands publisher) [] us → AreDistinct (map user_name us)
 users_once publisher us all = (distinct_names user_name [] us (InOrder-step (UserStands publisher) (IsNew user_name) (user_is_new publisher) [] us all)).1
-
--- ---- names that are there
-
-pub all_there : (there : List ℕ → Bool) (names : List (List ℕ)) → first_absent there names ≡ None → AllByRecursion (λ n. there n ≡ true) names
-all_there there [] h = tt
-all_there there (n ∷ names) h =
-    let parts = first_of-None (where_true (not (there n)) n) (first_absent there names) h in
-    (not-false (there n) (where_true-None (not (there n)) n parts.0), all_there there names parts.1)
 
 -- ---- articles
 

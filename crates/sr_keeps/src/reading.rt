@@ -11,8 +11,7 @@ ghost use Rattle.sr_ast.specs.NormalForms.{IsNormal};
 ghost use Rattle.sr_history.specs.Fitting.{Stored};
 ghost use Rattle.sr_history.specs.Folds.{state_of};
 ghost use Rattle.sr_history.specs.Recorded.{Recorded};
-ghost use Rattle.sr_keeps.specs.Normals.{IsSpelled};
-ghost use Rattle.sr_replay.specs.Scripts.{replayed, statements};
+ghost use Rattle.sr_replay.specs.Scripts.{replayed, statements, IsSpelled};
 ghost use Rattle.sr_schema.specs.Catalogs.{Lists, nothing_but};
 
 /// Of a catalog that accepted statements in normal form have made of a new one, each statement of its script is in normal form, so the text that

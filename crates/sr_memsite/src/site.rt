@@ -166,9 +166,10 @@ impl MemorySite {
 }
 
 impl Site for MemorySite {
-    ghost use Rattle.std.specs.Prelude.{◌≡◌, ◌∷◌, OnOk, OnErr, IfErr, is_ok, is_err};
+    ghost use Rattle.std.specs.Prelude.{◌≡◌, ◌∷◌, OnOk, OnErr, IfErr, IsErrOf, is_ok, is_err};
     ghost use Rattle.sr_site.specs.Causes.{DiskStays, Rose};
     ghost use Rattle.sr_site.specs.Happenings.{attached};
+    ghost use Rattle.sr_site.specs.declared.mail.MailFault.TheVariants.{Memory as no_memory};
     ghost use Rattle.sr_memsite.specs.Meaning.{seen_of, folders_of, numbering_of, wanted_of};
     ghost use Rattle.sr_memsite.specs.Numbering.{fails, counted};
 
@@ -182,6 +183,7 @@ impl Site for MemorySite {
         ensures attached { (seen_of self.new).happened ≡ attached name.now mail.now (is_ok result) ∷ (seen_of self.old).happened }
         ensures stays { DiskStays (seen_of self.old) (seen_of self.new) }
         ensures steady { OnOk result ((seen_of self.new).disk_faults ≡ (seen_of self.old).disk_faults) }
+        ensures short { IsErrOf result no_memory → (seen_of self.new).disk_faults ≡ (seen_of self.old).disk_faults }
         ensures cause { OnErr result (Rose (seen_of self.old).disk_faults (seen_of self.new).disk_faults) }
         ensures failed { IfErr result (λ fault. fault ≡ MailFault.Failed) }
     {

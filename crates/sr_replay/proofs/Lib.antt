@@ -1,4 +1,5 @@
 pub mod Made
+pub mod Normals
 pub mod ReplayCauses
 pub mod ReplayLists
 pub mod ReplayNexts
@@ -9,4 +10,5 @@ pub mod ReplayTables
 pub mod ReplayTriggers
 pub mod ReplayUsers
 pub mod Replays
+pub mod Spelled
 pub mod Standing

@@ -11,14 +11,16 @@ use Rattle.sr_replay.proofs.Replays.{made_again, replayed-cons, replayed-append}
 pub again : (c : Lists) → IsMade c → replayed (nothing_but c.publisher) (statements c) ≡ Some c
 again c made = made_again c (made_stands c made)
 
--- an accepted statement makes such a catalog of it
+-- an accepted statement behind those that made it makes the next one
+pub makes_next : (c : Lists) (history : List Stmt) (s : Stmt) → replayed (nothing_but c.publisher) history ≡ Some c → refusal c s ≡ None
+    → replayed (nothing_but (next c s).publisher) (history ++ s ∷ []) ≡ Some (next c s)
+makes_next c history s makes accepted =
+    ap (λ p. replayed (nothing_but p) (history ++ s ∷ [])) (publisher_next c s)
+    ∙ (replayed-append (nothing_but c.publisher) c history (s ∷ []) makes ∙ replayed-cons c (next c s) s [] accepted refl)
+
+-- it makes such a catalog of it
 pub still_made : (c : Lists) (s : Stmt) → IsMade c → refusal c s ≡ None → IsMade (next c s)
-still_made c s made accepted = record {
-  history = made.history ++ s ∷ [];
-  makes =
-      ap (λ p. replayed (nothing_but p) (made.history ++ s ∷ [])) (publisher_next c s)
-      ∙ (replayed-append (nothing_but c.publisher) c made.history (s ∷ []) made.makes ∙ replayed-cons c (next c s) s [] accepted refl);
-}
+still_made c s made accepted = record { history = made.history ++ s ∷ []; makes = makes_next c made.history s made.makes accepted }
 
 -- what is the catalog after an accepted statement is one
 pub changed : (c after : Lists) (s : Stmt) → refusal c s ≡ None → after ≡ next c s → IsMade c → IsMade after

@@ -1,11 +1,13 @@
 -- A statement is accepted where nothing speaks against it.
-use Rattle.std.proofs.Common.{◌≡◌, ℕ, Bool, true, false, List, Option, Some, None, refl, ap}
+use Rattle.std.proofs.Common.{◌≡◌, ℕ, Bool, true, false, not, List, [], ◌∷◌, Option, Some, None, refl, ap}
 use Rattle.std.specs.Prelude.{option_map}
+use Rattle.std.specs.List.{AllByRecursion}
+use Rattle.std.proofs.lemmas.Bool.{not-false}
 use Rattle.sr_ast.specs.declared.stmt.Stmt.{Stmt}
 use Rattle.sr_schema.specs.Catalogs.{Lists}
 use Rattle.sr_schema.specs.Causes.{Causes, first_fault}
 use Rattle.sr_change.specs.Changes.{causes, refusal}
-use Rattle.sr_schema.specs.Firsts.{first_of, where_true}
+use Rattle.sr_schema.specs.Firsts.{first_of, first_absent, where_true}
 use Rattle.sr_schema.specs.declared.fault.DdlFault.TheVariants.{Exists, Missing, BadType, NoKey, KeyNotInArticle, TwiceSubscribed, InUse}
 
 -- nothing speaks against a statement
@@ -61,3 +63,10 @@ no_cause_of c s h = no_cause_from (causes c s) h
 pub refused_alike : (c d : Lists) (s t : Stmt) → causes c s ≡ causes d t → refusal c s ≡ refusal d t
 unfolding refusal
 refused_alike c d s t e = ap first_fault e
+
+-- none of the names is absent
+pub all_there : (there : List ℕ → Bool) (names : List (List ℕ)) → first_absent there names ≡ None → AllByRecursion (λ n. there n ≡ true) names
+all_there there [] h = tt
+all_there there (n ∷ names) h =
+    let parts = first_of-None (where_true (not (there n)) n) (first_absent there names) h in
+    (not-false (there n) (where_true-None (not (there n)) n parts.0), all_there there names parts.1)

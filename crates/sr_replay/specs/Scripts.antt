@@ -1,5 +1,7 @@
 -- The statements that make a catalog from a new one.
 use Rattle.std.specs.Prelude.{◌≡◌, ℕ, cond, List, [], ◌∷◌, ◌++◌, map, filter, Option, Some, None, bytes_eq}
+use Rattle.std.specs.List.{AllByRecursion}
+use Rattle.sr_ast.specs.NormalForms.{IsNormal}
 use Rattle.sr_ast.specs.declared.create.ColumnRule.{ColumnRule}
 use Rattle.sr_ast.specs.declared.create.ArticleRule.{ArticleRule}
 use Rattle.sr_ast.specs.declared.create.Grant.{Grant}
@@ -78,3 +80,8 @@ replayed c (s ∷ ss) = unless_refused (refusal c s) (replayed (next c s) ss)
 pub record IsMade (c : Lists) : Type 0 where
   pub history : List Stmt
   pub makes : replayed (nothing_but c.publisher) history ≡ Some c
+
+-- so statements in normal form did, which are those that a text can spell
+pub record IsSpelled (c : Lists) : Type 0 where
+  pub made : IsMade c
+  pub normal : AllByRecursion IsNormal made.history

@@ -1,10 +1,12 @@
 //! Laws of the catalogs that accepted statements have made of a new one. Each is the contract of a function that does nothing.
 
 ghost use Rattle.std.specs.Prelude.{◌≡◌, ℕ, List, Some, None};
+ghost use Rattle.std.specs.List.{AllByRecursion};
+ghost use Rattle.sr_ast.specs.NormalForms.{IsNormal};
 ghost use Rattle.sr_ast.specs.declared.stmt.Stmt.{Stmt};
 ghost use Rattle.sr_schema.specs.Catalogs.{Lists, nothing_but};
 ghost use Rattle.sr_change.specs.Changes.{refusal, next};
-ghost use Rattle.sr_replay.specs.Scripts.{statements, replayed, IsMade};
+ghost use Rattle.sr_replay.specs.Scripts.{statements, replayed, IsMade, IsSpelled};
 
 /// The statements of such a catalog are accepted by a new one, one after the other, and make it again.
 #[tactic(auto, using(crate::proofs::Made::again))]
@@ -17,4 +19,12 @@ pub fn statements_make_it_again()
 pub fn accepted_statements_make_it()
     ensures new { (publisher : List ℕ) → IsMade (nothing_but publisher) }
     ensures next { (c : Lists) (s : Stmt) → IsMade c → refusal c s ≡ None → IsMade (next c s) }
+{}
+
+/// A new catalog is one that statements in normal form have made, each accepted, and so is what an accepted statement in normal form makes of
+/// one. Of such a catalog each statement of its script is in normal form, so that the text which it prints spells it.
+pub fn statements_in_normal_form_make_it()
+    ensures new { (publisher : List ℕ) → IsSpelled (nothing_but publisher) }
+    ensures next { (c : Lists) (s : Stmt) → IsSpelled c → IsNormal s → refusal c s ≡ None → IsSpelled (next c s) }
+    ensures normal { (c : Lists) → IsSpelled c → AllByRecursion IsNormal (statements c) }
 {}

@@ -1,15 +1,15 @@
 -- What a run keeps of the partners of a database, of what it puts, of what is decided, of what its history says, and of the steps that it makes.
-use Rattle.std.proofs.Common.{ℕ, List, Option}
+use Rattle.std.proofs.Common.{ℕ, List, [], ◌∷◌, ◌++◌, Option, inl, inr}
 use Rattle.std.specs.Prelude.{IsTrue}
 use Rattle.sr_book.specs.Entries.{Name}
 use Rattle.sr_files.specs.Fresh.{IsThere}
 use Rattle.sr_history.specs.Fitting.{Stored}
 use Rattle.sr_history.specs.Recorded.{Recorded}
-use Rattle.sr_model.specs.Steps.{history_after_all}
 use Rattle.sr_model.specs.Worlds.{World, history}
+use Rattle.sr_msgform.specs.declared.message.Message.{Message}
 use Rattle.sr_site.specs.Causes.{Stays}
 use Rattle.sr_site.specs.Files.{Files}
-use Rattle.sr_site.specs.Images.{RestsThroughout}
+use Rattle.sr_site.specs.Images.{IsImage, RestsThroughout}
 use Rattle.sr_site.specs.Seen.{Seen}
 use Rattle.sr_standing.specs.Standing.{StandsAs}
 use Rattle.sr_standing.proofs.Standing.{missing_is_none}
@@ -19,7 +19,7 @@ use Rattle.sr_prefix.specs.Good.{KeepsGood, StandGood}
 use Rattle.sr_prefix.specs.Keeping.{KeepsPartner}
 use Rattle.sr_prefix.specs.Partners.{StandInStep}
 use Rattle.sr_prefix.specs.Puts.{BacksPuts, PutsTrue}
-use Rattle.sr_steps.specs.Worlds.{AllKnown, MakesSteps, RestsAtEach}
+use Rattle.sr_steps.specs.Worlds.{AllKnown, IsFaithfulThroughout, MakesSteps, Rests, on_one, on_two}
 use Rattle.sr_steps.proofs.AgentSteps.{agent_steps}
 use Rattle.sr_prefix.proofs.Deciders.{agent_decided, script_decided, untouched_decided}
 use Rattle.sr_prefix.proofs.Goodness.{agent_good, script_good, untouched_good}
@@ -83,15 +83,22 @@ good_kept wanted old new status ran stays publisher told settled =
           script_good publisher owner es view view' old.site opened now written written' statements result told on still database did settled;
     }) wanted status ran
 
+rested_there : (messages : List Message) (publisher : Name) (es : List Recorded) (seen : Seen) → Rests messages publisher es (IsImage seen) → (image : Files) → IsImage seen image → IsThere image
+rested_there messages publisher es seen (on_one all) image there = some_there publisher es image (all image there)
+rested_there messages publisher es seen (on_two r each) image there = elim (each image there) [
+  | inl short ↦ some_there publisher es image short
+  | inr long ↦ some_there publisher (es ++ r ∷ []) image long.stands
+]
+
 pub steps_made : (wanted : Option Asked) (old new : Outside) (status : ℕ) → Ran wanted old new status → Stays old.site new.site → (w : World Recorded) (publisher : Name) → IsTrue old.site.told
     → MakesSteps w publisher old.site new.site
-steps_made wanted old new status ran stays w publisher told good named settled =
-    run_holds old new told stays (λ image there. let stood = settled image there in some_there publisher (history_after_all (history w publisher) stood.deeds) image stood.stands)
-    (λ (s : Seen). AllKnown w.messages publisher old.site s → RestsAtEach w.messages publisher (history w publisher) old.site s)
+steps_made wanted old new status ran stays w publisher told good named rested =
+    run_holds old new told stays (rested_there w.messages publisher (history w publisher) old.site rested)
+    (λ (s : Seen). AllKnown w.messages publisher old.site s → IsFaithfulThroughout w publisher old.site s)
     (record {
-      still = λ now still quiet. untouched_steps w publisher old.site now still quiet good named settled;
+      still = λ now still quiet. untouched_steps w publisher old.site now still quiet good named rested;
       agent = λ owner es options view view' opened now written written' result on still quiet database did.
-          agent_steps w publisher owner es options view view' old.site opened now written written' result told on still quiet database did good named settled;
+          agent_steps w publisher owner es options view view' old.site opened now written written' result told on still quiet database did good named rested;
       script = λ owner es view view' opened now written written' statements result on still quiet database did.
-          script_steps w publisher owner es view view' old.site opened now written written' statements result told on still quiet database did good named settled;
+          script_steps w publisher owner es view view' old.site opened now written written' statements result told on still quiet database did good named rested;
     }) wanted status ran

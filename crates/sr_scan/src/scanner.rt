@@ -1,6 +1,7 @@
 //! Scanners, and what a single entry gives.
 
 ghost use Rattle.std.specs.Prelude.{◌≡◌, Some, None, IfOk, OnOk, OnErr};
+ghost use Rattle.sr_ast.specs.NormalForms.{IsNormal};
 ghost use Rattle.sr_logform.specs.declared.entry.Entry.TheVariants.{Own};
 ghost use Rattle.sr_scan.specs.Changed.{IsTold, or_before};
 ghost use Rattle.sr_scan.specs.Images.{catalog_behind};
@@ -141,9 +142,10 @@ impl Scanner {
         done
     }
 
-    /// Lets the catalog follow a statement that it does not refuse.
+    /// Lets the catalog follow a statement in normal form that it does not refuse.
     #[tactic(auto, using(crate::proofs::Behind::refused, crate::proofs::Behind::accepted, crate::proofs::Behind::not_refused))]
     fn apply(&mut self, alloc: Global, statement: &Stmt) -> Result<(), NoMemory>
+        requires normal { IsNormal statement.now }
         ensures catalog { OnOk result (self.new.catalog ≡ catalog_behind self.old.catalog (Some statement.now)) }
         ensures user { self.new.user ≡ self.old.user }
         ensures err { OnErr result (self.new ≡ self.old) }

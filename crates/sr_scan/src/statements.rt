@@ -1,7 +1,8 @@
 //! The catalog behind the statements of an entry.
 
-ghost use Rattle.std.specs.Prelude.{◌≡◌, None, Some, is_some, IfOk};
+ghost use Rattle.std.specs.Prelude.{◌≡◌, None, Some, is_some, IfOk, IfSome};
 ghost use Rattle.std.specs.Option.{option_copied};
+ghost use Rattle.sr_ast.specs.NormalForms.{IsNormal};
 ghost use Rattle.sr_change.specs.Changes.{refusal, next};
 ghost use Rattle.sr_scan.specs.Changed.{or_before, LeavesBehind};
 ghost use Rattle.sr_scan.specs.Images.{catalog_behind};
@@ -32,17 +33,19 @@ pub(crate) fn behind_text(
     after
 }
 
-/// The statement that a text prints, if it prints one.
+/// The statement in normal form that a text prints, if it prints one.
 #[tactic(auto, using(crate::proofs::Behind::meant_so))]
 pub(crate) fn meant_by(alloc: Global, text: &Text) -> Result<Option<Stmt>, NoMemory>
     ensures meant { IfOk result (λ meant. IsMeant (Some text.now) meant) }
+    ensures normal { IfOk result (λ meant. IfSome meant (λ statement. IsNormal statement)) }
 {
     printed_statement(alloc, text)
 }
 
-/// The catalog behind a statement: `None` where it stays as it is. It is copied only where it changes.
+/// The catalog behind a statement in normal form: `None` where it stays as it is. It is copied only where it changes.
 #[tactic(auto, using(crate::proofs::Behind::rows_only, crate::proofs::Behind::refused, crate::proofs::Behind::accepted, crate::proofs::Behind::not_refused))]
 fn behind(alloc: Global, catalog: &Catalog, statement: &Stmt) -> Result<Option<Catalog>, NoMemory>
+    requires normal { IsNormal statement.now }
     ensures behind { IfOk result (λ after. or_before after catalog.now ≡ catalog_behind catalog.now (Some statement.now)) }
 {
     if !is_ddl(statement) {
@@ -77,6 +80,7 @@ fn copy_behind(
     catalog: &Catalog,
     statement: &Stmt,
 ) -> Result<Option<Catalog>, NoMemory>
+    requires normal { IsNormal statement.now }
     requires accepted { refusal catalog.now statement.now ≡ None }
     ensures behind { IfOk result (λ after. after ≡ Some (next catalog.now statement.now)) }
 {

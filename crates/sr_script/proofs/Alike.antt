@@ -1,11 +1,13 @@
--- A row is one with itself.
-use Rattle.std.proofs.Common.{◌≡◌, true, List, ap, subst}
-use Rattle.std.specs.Cmp.{tied_itself}
+-- Rows that compare as equal are one.
+use Rattle.std.proofs.Common.{◌≡◌, ◌↔◌, Bool, List, IsTrue, sym, ap, ◌∙◌}
+use Rattle.std.specs.Cmp.{Equal-is, tied_itself}
 use Rattle.std.specs.Ordering.{is_eq}
 use Rattle.sr_base.specs.Order.{key_cmp, key_cmp_total}
 use Rattle.sr_base.specs.declared.value.Value.{Value as Cell}
+use Rattle.sr_base.proofs.Exact.{exact_keys}
 
-pub same_row : (before after : List Cell) → before ≡ after → is_eq (key_cmp before after) ≡ true
-same_row before after same = subst (λ (row : List Cell). is_eq (key_cmp before row) ≡ true) same (ap is_eq (tied_itself key_cmp_total before))
-
-pub ruleset same_rows = (same_row)
+pub same_where : (told : Bool) (a b : List Cell) → told ≡ is_eq (key_cmp a b) → IsTrue told ↔ (a ≡ b)
+same_where told a b is = (
+  λ h. exact_keys a b ((Equal-is (key_cmp a b)).0 (sym is ∙ h)),
+  λ e. is ∙ ap is_eq (ap (key_cmp a) (sym e) ∙ tied_itself key_cmp_total a),
+)

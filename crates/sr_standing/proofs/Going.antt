@@ -9,7 +9,29 @@ use Rattle.sr_site.specs.Images.{MayLeave, IsImage, IsSettled, RestsThroughout}
 use Rattle.sr_site.specs.Seen.{Seen}
 use Rattle.sr_standing.specs.Items.{Item, Letter, commit, put, commits, puts, puts_in, attaches_in, IsBetween, AreQuiet}
 use Rattle.sr_standing.specs.Standing.{StandsAs}
-use Rattle.sr_standing.specs.Trails.{MayStandFor, HasBegun, IsOnTrail, AtEach, Went}
+use Rattle.sr_standing.specs.Trails.{HasJoints, Joint, MayStandFor, HasBegun, IsOnTrail, AtEach, Went}
+
+-- ---- before an item
+
+-- a trail of none has no item, one of one item has nothing before it
+no_item : (front back : List Item) (item : Item) → [] ≡ front ++ item ∷ back → ⊥
+no_item [] back item e = cc
+no_item (x ∷ front) back item e = cc
+
+nothing_before : (x : Item) (front back : List Item) (item : Item) → x ∷ [] ≡ front ++ item ∷ back → front ≡ []
+nothing_before x [] back item e = refl
+nothing_before x (y ∷ front) back item e = let rest : [] ≡ front ++ item ∷ back = cc in absurd (no_item front back item rest)
+
+pub one_joint : (first : Files) (publisher : Name) (es : List Recorded) (before : List Happening) (x : Item) (more : List Happening) → ((image : Files) → MayLeave first before image → StandsAs publisher es image)
+    → HasJoints first publisher es before (x ∷ []) more
+one_joint first publisher es before x more stood front back item e = record {
+  later = more;
+  since = [];
+  is = sym (append-nil more);
+  settled = λ image there.
+      subst (λ (l : List Item). StandsAs publisher (es ++ commits l) image) (sym (nothing_before x front back item e))
+      (subst (λ (l : List Recorded). StandsAs publisher l image) (sym (append-nil es)) (stood image there));
+}
 
 -- ---- quiet happenings
 
@@ -88,6 +110,7 @@ quiet before now publisher es more settled told same is still =
       is = is;
       moments = quiet_moments before.first publisher es before.happened settled more still;
       end = begun_quiet before.first publisher es before.happened settled more still;
+      joints = λ front back item e. absurd (no_item front back item e);
     }
 
 pub nothing : (seen : Seen) (publisher : Name) (es : List Recorded) → IsSettled (StandsAs publisher es) seen → Went seen seen publisher es []
@@ -115,6 +138,7 @@ one_put before now publisher es address name bytes done settled told same is =
       is = is;
       moments = (record { begun = put address name bytes ∷ []; left = []; front = refl; has = begun_put }, on_none before.first publisher es before.happened settled (put address name bytes ∷ []));
       end = begun_put;
+      joints = one_joint before.first publisher es before.happened (put address name bytes) (sent address name bytes done ∷ []) settled;
     }
   where
     stands : (image : Files) → MayLeave before.first before.happened image → StandsAs publisher (es ++ commits []) image
@@ -151,16 +175,30 @@ puts_of_mail (fetched address name limit found ∷ before) = puts_of_mail before
 puts_of_mail (sent address name bytes done ∷ before) = ap (λ (l : List Letter). l ++ (address, name, bytes) ∷ []) (puts_of_mail before)
 puts_of_mail (removed address name done ∷ before) = puts_of_mail before
 
--- where nothing was put in the end, nothing was put by the step before, and the last step was no put
-step_before : (step : Happening) (more : List Happening) → puts_in (step ∷ more) ≡ [] → (puts_in more ≡ []) × (IsBetween (step ∷ more) → ⊥)
+-- where nothing happened to the mail in the end, nothing did by the step before, and the last step was no call of it
+pub step_before : (step : Happening) (more : List Happening) → mail_in (step ∷ more) ≡ [] → (mail_in more ≡ []) × (IsBetween (step ∷ more) → ⊥)
 step_before (attached name folder done) more none = (none, λ at. at)
 step_before (wrote file place bytes done after) more none = (none, λ at. at)
 step_before (cut_to file to done after) more none = (none, λ at. at)
 step_before (synced file done after) more none = (none, λ at. at)
-step_before (listed address folder listing) more none = (none, λ at. at)
-step_before (fetched address name limit found) more none = (none, λ at. at)
-step_before (sent address name bytes done) more none = absurd (omega (arith, ap length none, length-append (puts_in more) ((address, name, bytes) ∷ [])))
-step_before (removed address name done) more none = (none, λ at. at)
+step_before (listed address folder listing) more none = absurd (cc none)
+step_before (fetched address name limit found) more none = absurd (cc none)
+step_before (sent address name bytes done) more none = absurd (cc none)
+step_before (removed address name done) more none = absurd (cc none)
+
+pub none_put : (more : List Happening) → mail_in more ≡ [] → puts_in more ≡ []
+none_put more none = sym (puts_of_mail more) ∙ ap puts_in none
+
+pub mail_more : (before more : List Happening) → mail_in (more ++ before) ≡ mail_in more ++ mail_in before
+mail_more before [] = refl
+mail_more before (attached name folder done ∷ more) = mail_more before more
+mail_more before (wrote file place bytes done after ∷ more) = mail_more before more
+mail_more before (cut_to file to done after ∷ more) = mail_more before more
+mail_more before (synced file done after ∷ more) = mail_more before more
+mail_more before (listed address folder listing ∷ more) = ap (λ (l : List Happening). listed address folder listing ∷ l) (mail_more before more)
+mail_more before (fetched address name limit found ∷ more) = ap (λ (l : List Happening). fetched address name limit found ∷ l) (mail_more before more)
+mail_more before (sent address name bytes done ∷ more) = ap (λ (l : List Happening). sent address name bytes done ∷ l) (mail_more before more)
+mail_more before (removed address name done ∷ more) = ap (λ (l : List Happening). removed address name done ∷ l) (mail_more before more)
 
 -- ---- one commit
 
@@ -182,24 +220,23 @@ module _ (first : Files) (publisher : Name) (es : List Recorded) (r : Recorded) 
       }
 
   -- at each moment
-  commit_moments : (more : List Happening) → puts_in more ≡ [] → Throughout either before more → AtEach (IsOnTrail first publisher es before (commit r ∷ [])) more
+  commit_moments : (more : List Happening) → mail_in more ≡ [] → Throughout either before more → AtEach (IsOnTrail first publisher es before (commit r ∷ [])) more
   commit_moments [] none rests = on_none first publisher es before stood (commit r ∷ [])
   commit_moments (step ∷ more) none rests =
       let s = step_before step more none in
-      (record { begun = commit r ∷ []; left = []; front = refl; has = begun_commit (step ∷ more) none s.1 rests.0 }, commit_moments more s.0 rests.1)
+      (record { begun = commit r ∷ []; left = []; front = refl; has = begun_commit (step ∷ more) (none_put (step ∷ more) none) s.1 rests.0 }, commit_moments more s.0 rests.1)
 
   -- in the end
-  commit_end : (more : List Happening) → ¬ (more ≡ []) → puts_in more ≡ [] → Throughout either before more → HasBegun first publisher es before (commit r ∷ []) more
+  commit_end : (more : List Happening) → ¬ (more ≡ []) → mail_in more ≡ [] → Throughout either before more → HasBegun first publisher es before (commit r ∷ []) more
   commit_end [] some none rests = absurd (some refl)
-  commit_end (step ∷ more) some none rests = begun_commit (step ∷ more) none (step_before step more none).1 rests.0
+  commit_end (step ∷ more) some none rests = begun_commit (step ∷ more) (none_put (step ∷ more) none) (step_before step more none).1 rests.0
 
 pub one_commit : (before now : Seen) (publisher : Name) (es : List Recorded) (r : Recorded) → now.told ≡ before.told → now.first ≡ before.first → IsSettled (StandsAs publisher es) before
-    → puts_in now.happened ≡ puts_in before.happened → attaches_in now.happened ≡ attaches_in before.happened → ¬ (now.happened ≡ before.happened)
+    → mail_in now.happened ≡ mail_in before.happened → attaches_in now.happened ≡ attaches_in before.happened → ¬ (now.happened ≡ before.happened)
     → RestsThroughout (λ image. StandsAs publisher es image ⊎ StandsAs publisher (es ++ r ∷ []) image) before now → Went before now publisher es (commit r ∷ [])
 unfolding Went
 one_commit before now publisher es r told same settled silent alone some rests =
-    let all : puts_in before.happened ++ puts_in rests.more ≡ puts_in before.happened ++ [] = sym (puts_more before.happened rests.more) ∙ ap puts_in (sym rests.is) ∙ silent ∙ sym (append-nil (puts_in before.happened)) in
-    let none : puts_in rests.more ≡ [] = append_cancel_left (puts_in before.happened) (puts_in rests.more) [] all in
+    let none : mail_in rests.more ≡ [] = append_cancel_right (mail_in rests.more) [] (mail_in before.happened) (sym (mail_more before.happened rests.more) ∙ ap mail_in (sym rests.is) ∙ silent) in
     record {
       told = told;
       first = same;
@@ -208,6 +245,7 @@ one_commit before now publisher es r told same settled silent alone some rests =
       is = rests.is;
       moments = commit_moments before.first publisher es r before.happened settled rests.more none rests.moments;
       end = commit_end before.first publisher es r before.happened settled rests.more (λ e. some (rests.is ∙ ap (λ (l : List Happening). l ++ before.happened) e)) none rests.moments;
+      joints = one_joint before.first publisher es before.happened (commit r) rests.more settled;
     }
 
 -- ---- what is told
@@ -242,4 +280,9 @@ pub told_attaches : (before now : Seen) (publisher : Name) (es : List Recorded) 
 unfolding Went
 told_attaches before now publisher es trail went = went.attached
 
-pub ruleset telling = (told_puts, told_images, told_moments, told_same, told_attaches)
+pub told_joints : (before now : Seen) (publisher : Name) (es : List Recorded) (trail : List Item) → Went before now publisher es trail → (front back : List Item) (item : Item) → trail ≡ front ++ item ∷ back
+    → (more : List Happening) × (now.happened ≡ more ++ before.happened) × Joint before.first publisher es before.happened front more
+unfolding Went
+told_joints before now publisher es trail went front back item e = (went.more, went.is, went.joints front back item e)
+
+pub ruleset telling = (told_puts, told_images, told_moments, told_same, told_attaches, told_joints)

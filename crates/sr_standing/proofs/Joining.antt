@@ -8,7 +8,7 @@ use Rattle.sr_site.specs.Images.{MayLeave}
 use Rattle.sr_site.specs.Seen.{Seen}
 use Rattle.sr_standing.specs.Items.{Item, Letter, commit, put, commits, puts, puts_in, IsBetween}
 use Rattle.sr_standing.specs.Standing.{StandsAs}
-use Rattle.sr_standing.specs.Trails.{MayStandFor, HasBegun, IsOnTrail, AtEach, Went}
+use Rattle.sr_standing.specs.Trails.{HasJoints, Joint, MayStandFor, HasBegun, IsOnTrail, AtEach, Went}
 use Rattle.sr_standing.proofs.Going.{puts_more}
 
 commits_more : (trail more : List Item) → commits (trail ++ more) ≡ commits trail ++ commits more
@@ -101,6 +101,45 @@ module _ (publisher : Name) (es : List Recorded) (trail : List Item) where
           both_moments more since ones others.1,
         )
 
+-- an item of two trails is one of the first, or one of the second
+data Where (trail more front back : List Item) (item : Item) : Type 0 where
+  in_first : (rest : List Item) → trail ≡ front ++ item ∷ rest → Where trail more front back item
+  in_second : (others : List Item) → front ≡ trail ++ others → more ≡ others ++ item ∷ back → Where trail more front back item
+
+deeper : (x : Item) (trail more front back : List Item) (item : Item) → Where trail more front back item → Where (x ∷ trail) more (x ∷ front) back item
+deeper x trail more front back item (in_first rest e) = in_first rest (ap (λ (l : List Item). x ∷ l) e)
+deeper x trail more front back item (in_second others e f) = in_second others (ap (λ (l : List Item). x ∷ l) e) f
+
+where_it_is : (trail more front back : List Item) (item : Item) → trail ++ more ≡ front ++ item ∷ back → Where trail more front back item
+where_it_is [] more front back item e = in_second front refl e
+where_it_is (x ∷ trail) more [] back item e = in_first trail (let same : x ≡ item = cc in ap (λ (y : Item). y ∷ trail) same)
+where_it_is (x ∷ trail) more (y ∷ front) back item e =
+    let same : x ≡ y = cc in
+    let rest : trail ++ more ≡ front ++ item ∷ back = cc in
+    subst (λ (z : Item). Where (x ∷ trail) more (z ∷ front) back item) same (deeper x trail more front back item (where_it_is trail more front back item rest))
+
+module _ (first : Files) (publisher : Name) (es : List Recorded) (trail more : List Item) (before middle before_middle since : List Happening) (is : middle ≡ before_middle ++ before)
+    (ones : HasJoints first publisher es before trail before_middle) (others : HasJoints first publisher (es ++ commits trail) middle more since) where
+  joint_at : (front back : List Item) (item : Item) → Where trail more front back item → Joint first publisher es before front (since ++ before_middle)
+  joint_at front back item (in_first rest e) =
+      let j = ones front rest item e in
+      record { later = since ++ j.later; since = j.since; is = ap (λ (h : List Happening). since ++ h) j.is ∙ sym (append_assoc since j.later j.since); settled = j.settled }
+  joint_at front back item (in_second behind e f) =
+      let j = others behind back item f in
+      record {
+        later = j.later;
+        since = j.since ++ before_middle;
+        is = ap (λ (h : List Happening). h ++ before_middle) j.is ∙ append_assoc j.later j.since before_middle;
+        settled = λ image there.
+            subst (λ (l : List Item). StandsAs publisher (es ++ commits l) image) (sym e)
+            (stands_on publisher es trail behind image
+            (j.settled image
+            (subst (λ (h : List Happening). MayLeave first h image) (append_assoc j.since before_middle before ∙ ap (λ (h : List Happening). j.since ++ h) (sym is)) there)));
+      }
+
+  both_joints : HasJoints first publisher es before (trail ++ more) (since ++ before_middle)
+  both_joints front back item e = joint_at front back item (where_it_is trail more front back item e)
+
 pub joined : (before middle now : Seen) (publisher : Name) (es : List Recorded) (trail more : List Item) → Went before middle publisher es trail → Went middle now publisher (es ++ commits trail) more → Went before now publisher es (trail ++ more)
 unfolding Went
 joined before middle now publisher es trail more one other =
@@ -114,4 +153,6 @@ joined before middle now publisher es trail more one other =
       is = other.is ∙ ap (λ (h : List Happening). other.more ++ h) one.is ∙ sym (append_assoc other.more one.more before.happened);
       moments = both_moments publisher es trail before.first before.happened middle.happened one.more one.is one.end.put more other.more one.moments moments;
       end = both_end publisher es trail before.first before.happened middle.happened one.more one.is one.end.put more other.more end;
+      joints = both_joints before.first publisher es trail more before.happened middle.happened one.more other.more one.is one.joints
+          (subst (λ (f : Files). HasJoints f publisher (es ++ commits trail) middle.happened more other.more) one.first other.joints);
     }

@@ -50,17 +50,17 @@ attaches_in (fetched address name limit found ∷ before) = attaches_in before
 attaches_in (sent address name bytes done ∷ before) = attaches_in before
 attaches_in (removed address name done ∷ before) = attaches_in before
 
--- no commit is under way: nothing has happened yet, or the last that did is a put
+-- no commit is under way: nothing has happened yet, or the last that did is a call of the mail
 abbrev pub IsBetween : List Happening → Type 0
 IsBetween [] = Unit {0}
 IsBetween (attached name folder done ∷ before) = ⊥
 IsBetween (wrote file place bytes done after ∷ before) = ⊥
 IsBetween (cut_to file to done after ∷ before) = ⊥
 IsBetween (synced file done after ∷ before) = ⊥
-IsBetween (listed address folder listing ∷ before) = ⊥
-IsBetween (fetched address name limit found ∷ before) = ⊥
+IsBetween (listed address folder listing ∷ before) = Unit {0}
+IsBetween (fetched address name limit found ∷ before) = Unit {0}
 IsBetween (sent address name bytes done ∷ before) = Unit {0}
-IsBetween (removed address name done ∷ before) = ⊥
+IsBetween (removed address name done ∷ before) = Unit {0}
 
 -- these changed no file, put nothing, and attached nothing
 abbrev pub AreQuiet : List Happening → Type 0

@@ -39,6 +39,17 @@ abbrev pub AtEach : (List Happening → Type 0) → List Happening → Type 0
 AtEach holds [] = holds []
 AtEach holds (step ∷ more) = holds (step ∷ more) × AtEach holds more
 
+-- at one of these moments no commit was under way, and what a crash may leave is the history with the commits of this front
+pub record Joint (first : Files) (publisher : Name) (es : List Recorded) (before : List Happening) (front : List Item) (more : List Happening) : Type 0 where
+  pub later : List Happening
+  pub since : List Happening
+  pub is : more ≡ later ++ since
+  pub settled : (image : Files) → MayLeave first (since ++ before) image → StandsAs publisher (es ++ commits front) image
+
+-- so it is before each item of the trail: the one before it is done then
+abbrev pub HasJoints : Files → Name → List Recorded → List Happening → List Item → List Happening → Type 0
+HasJoints first publisher es before trail more = (front back : List Item) (item : Item) → trail ≡ front ++ item ∷ back → Joint first publisher es before front more
+
 -- at each moment from the one to the other a front of the trail has begun, and at the end all of it; and no other files were attached
 pub record GoesThrough (before now : Seen) (publisher : Name) (es : List Recorded) (trail : List Item) : Type 0 where
   pub told : now.told ≡ before.told
@@ -48,6 +59,7 @@ pub record GoesThrough (before now : Seen) (publisher : Name) (es : List Recorde
   pub is : now.happened ≡ more ++ before.happened
   pub moments : AtEach (IsOnTrail before.first publisher es before.happened trail) more
   pub end : HasBegun before.first publisher es before.happened trail more
+  pub joints : HasJoints before.first publisher es before.happened trail more
 
 -- between two moments of a site it went through a trail, from files that stood for this history
 unfoldable pub Went : Seen → Seen → Name → List Recorded → List Item → Type 0

@@ -4,12 +4,12 @@ ghost use Rattle.std.specs.Prelude.{◌≡◌, ◌⊎◌, Bool, List, ℕ, [], �
 ghost use Rattle.sr_book.specs.Entries.{Name};
 ghost use Rattle.sr_history.specs.Recorded.{Recorded};
 ghost use Rattle.sr_site.specs.Files.{Files};
-ghost use Rattle.sr_site.specs.Happenings.{Happening, sent};
+ghost use Rattle.sr_site.specs.Happenings.{Happening, mail_in, sent};
 ghost use Rattle.sr_site.specs.Images.{IsImage, IsSettled, RestsThroughout};
 ghost use Rattle.sr_site.specs.Seen.{Seen};
 ghost use Rattle.sr_standing.specs.Items.{Item, commit, put, commits, puts, puts_in, attaches_in, AreQuiet};
 ghost use Rattle.sr_standing.specs.Standing.{StandsAs};
-ghost use Rattle.sr_standing.specs.Trails.{MayStandFor, IsOnTrail, Went};
+ghost use Rattle.sr_standing.specs.Trails.{Joint, MayStandFor, IsOnTrail, Went};
 
 /// Where nothing happens, and where nothing happens but listings, fetches and removals, a settled site goes through the empty trail, and a
 /// crash leaves what it might have left before.
@@ -22,12 +22,12 @@ pub fn nothing_is_no_item()
         → IsImage now image → IsImage before image }
 {}
 
-/// Where each image at each moment stands for the history before or for it and one entry more, and something happens but no put and no attach,
+/// Where each image at each moment stands for the history before or for it and one entry more, and something happens but no call of the mail and no attach,
 /// the site goes through that one commit.
 #[tactic(auto, using(crate::proofs::Going::one_commit))]
 pub fn a_commit_is_an_item()
     ensures went_one_commit { (before now : Seen) (publisher : Name) (es : List Recorded) (r : Recorded) → now.told ≡ before.told → now.first ≡ before.first
-        → IsSettled (StandsAs publisher es) before → puts_in now.happened ≡ puts_in before.happened → attaches_in now.happened ≡ attaches_in before.happened
+        → IsSettled (StandsAs publisher es) before → mail_in now.happened ≡ mail_in before.happened → attaches_in now.happened ≡ attaches_in before.happened
         → ¬ (now.happened ≡ before.happened)
         → RestsThroughout (λ image. StandsAs publisher es image ⊎ StandsAs publisher (es ++ r ∷ []) image) before now
         → Went before now publisher es (commit r ∷ []) }
@@ -52,7 +52,7 @@ pub fn trails_join()
 {}
 
 /// What one may read off: the messages that were put, in order; what a crash may leave in the end; at each moment on the way a front of the
-/// trail that has begun; and that nothing was attached.
+/// trail that has begun; before each item a moment at which all that a crash may leave has just the items before it; and that nothing was attached.
 #[tactic(auto, using(crate::proofs::Going::telling))]
 pub fn trails_tell()
     ensures put { (before now : Seen) (publisher : Name) (es : List Recorded) (trail : List Item) → Went before now publisher es trail
@@ -61,6 +61,9 @@ pub fn trails_tell()
         → (image : Files) → IsImage now image → MayStandFor publisher es trail image }
     ensures moments { (before now : Seen) (publisher : Name) (es : List Recorded) (trail : List Item) (later earlier : List Happening) → Went before now publisher es trail
         → now.happened ≡ later ++ (earlier ++ before.happened) → IsOnTrail before.first publisher es before.happened trail earlier }
+    ensures joints { (before now : Seen) (publisher : Name) (es : List Recorded) (trail : List Item) → Went before now publisher es trail
+        → (front back : List Item) (item : Item) → trail ≡ front ++ item ∷ back
+        → (more : List Happening) × (now.happened ≡ more ++ before.happened) × Joint before.first publisher es before.happened front more }
     ensures grows { (before now : Seen) (publisher : Name) (es : List Recorded) (trail : List Item) → Went before now publisher es trail
         → (now.told ≡ before.told) × (now.first ≡ before.first) }
     ensures attached { (before now : Seen) (publisher : Name) (es : List Recorded) (trail : List Item) → Went before now publisher es trail

@@ -12,3 +12,4 @@ pub mod Knowing
 pub mod Receiving
 pub mod AgentSteps
 pub mod NextRuns
+pub mod Living

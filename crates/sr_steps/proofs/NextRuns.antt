@@ -5,7 +5,7 @@ use Rattle.std.specs.Prelude.{ℕ, Contains, map}
 use Rattle.std.specs.List.{AllByRecursion}
 use Rattle.sr_book.specs.Entries.{Name}
 use Rattle.sr_history.specs.Recorded.{Recorded}
-use Rattle.sr_model.specs.Steps.{Deed, history_after, history_after_all, messages_after, messages_after_all}
+use Rattle.sr_model.specs.Steps.{Deed, append, history_after, history_after_all, messages_after, messages_after_all}
 use Rattle.sr_model.specs.Worlds.{World, Act, AreAmong, IsNamed, after_all, acts_by, happens, history}
 use Rattle.sr_model.proofs.Good.{deed_kept, history_in-histories_after}
 use Rattle.sr_model.proofs.Leave.{after_among, all_more, do_more, messages_kept, named_kept}
@@ -14,14 +14,15 @@ use Rattle.sr_msgform.specs.declared.message.Message.{Message}
 use Rattle.sr_msgform.proofs.Whole.{one_message}
 use Rattle.sr_site.specs.Files.{Files}
 use Rattle.sr_site.specs.Happenings.{Happening}
-use Rattle.sr_site.specs.Images.{MayLeave}
+use Rattle.sr_site.specs.Images.{IsImage, IsSettled, MayLeave}
 use Rattle.sr_site.specs.Seen.{Seen}
 use Rattle.sr_standing.specs.Items.{Letter, puts_in}
 use Rattle.sr_standing.specs.Standing.{StandsAs}
 use Rattle.sr_standing.specs.Trails.{AtEach}
+use Rattle.sr_untouched.proofs.All.{keys_agree}
 use Rattle.sr_world.specs.Real.{HasSpelling, IsGoodWorld, LawfulHistory, MayDo, layers}
 use Rattle.sr_world.proofs.Keeping.{real_laws}
-use Rattle.sr_steps.specs.Worlds.{AreFiles, IsKnown, RestsAtEach, RestsBehind, StandReached, put_in}
+use Rattle.sr_steps.specs.Worlds.{AreFiles, IsFaithful, IsFaithfulThroughout, IsKnown, Rests, on_one, on_two, RestsAt, RestsAtEach, RestsBehind, put_in}
 use Rattle.sr_steps.proofs.Deeds.{deeds_messages}
 use Rattle.sr_steps.proofs.Ordered.{own_history}
 
@@ -90,10 +91,33 @@ module _ (w : World Recorded) (owner : Name) (letters : List Letter) (first : Fi
       (recursion_from_All (λ (m : Message). IsKnown there.messages receiver (message_spelling m)) (put_in rest.deeds)
       (λ k d lt. put_known receiver _ (Contains-get_or (put_in rest.deeds) k d lt)))
 
-  pub rests_on : IsNamed w owner → (image : Files) → MayLeave first moment image → StandReached there.messages owner (history there owner) [] image
-  rests_on named image left =
-      subst (λ (ms : List Message). StandReached ms owner (history there owner) [] image) (sym (messages_all w owner rest.deeds))
-      (subst (λ (rs : List Recorded). StandReached (messages_after_all w.messages rest.deeds) owner rs [] image) (sym (history_all w owner rest.deeds named)) (rest.rests image left))
+  pub rests_on : IsNamed w owner → Rests there.messages owner (history there owner) (MayLeave first moment)
+  rests_on named =
+      subst (λ (ms : List Message). Rests ms owner (history there owner) (MayLeave first moment)) (sym (messages_all w owner rest.deeds))
+      (subst (λ (rs : List Recorded). Rests (messages_after_all w.messages rest.deeds) owner rs (MayLeave first moment)) (sym (history_all w owner rest.deeds named)) rest.rests)
+
+-- ---- at each moment the world behind is good
+
+module _ (w : World Recorded) (owner : Name) (before : Seen) (good : IsGoodWorld w) (named : IsNamed w owner) where
+  one_faithful : (since : List Happening) → RestsAt w.messages owner (history w owner) since (MayLeave before.first (since ++ before.happened)) → IsFaithful w owner before since
+  one_faithful since at =
+      let there : World Recorded = after_all w (acts_by owner at.rest.deeds) in
+      let good_here : IsGoodWorld there = good_all w w.messages owner (history w owner) at.rest.deeds good named refl (λ m has. has) at.rest.may in
+      record {
+        at = at;
+        good = good_here;
+        keys = keys_agree there good_here;
+        longer = λ r may.
+            good_all there (messages_after_all w.messages at.rest.deeds) owner (history_after_all (history w owner) at.rest.deeds) (append r ∷ []) good_here (named_all w owner at.rest.deeds owner named)
+            (history_all w owner at.rest.deeds named) (λ m has. subst (λ (ms : List Message). Contains ms m) (sym (messages_all w owner at.rest.deeds)) has) may;
+      }
+
+  each_faithful : (more : List Happening) → AtEach (λ since. RestsAt w.messages owner (history w owner) since (MayLeave before.first (since ++ before.happened))) more → AtEach (IsFaithful w owner before) more
+  each_faithful [] at = one_faithful [] at
+  each_faithful (step ∷ more) at = (one_faithful (step ∷ more) at.0, each_faithful more at.1)
+
+  pub faithful : (now : Seen) → RestsAtEach w.messages owner (history w owner) before now → IsFaithfulThroughout w owner before now
+  faithful now run = record { more = run.more; is = run.is; moments = each_faithful run.more run.moments }
 
 -- at the last of some moments it is so
 last_of : (holds : List Happening → Type 0) (more : List Happening) → AtEach holds more → holds more
@@ -104,19 +128,21 @@ pub rests_last : (messages : List Message) (owner : Name) (es : List Recorded) (
     → RestsBehind messages owner es (puts_in run.more) (MayLeave before.first now.happened)
 rests_last messages owner es before now run =
     subst (λ (moment : List Happening). RestsBehind messages owner es (puts_in run.more) (MayLeave before.first moment)) (sym run.is)
-    (last_of (λ since. RestsBehind messages owner es (puts_in since) (MayLeave before.first (since ++ before.happened))) run.more run.moments)
+    (last_of (λ since. RestsAt messages owner es since (MayLeave before.first (since ++ before.happened))) run.more run.moments).rest
 
-pub others_step : (w : World Recorded) (owner : Name) (act : Act Recorded) (letters : List Letter) (files : Files) → act.owner ≢ owner → StandReached w.messages owner (history w owner) letters files
-    → StandReached (happens w act).messages owner (history (happens w act) owner) letters files
-others_step w owner act letters files apart stood =
+pub more_messages : (fewer messages : List Message) (owner : Name) (es : List Recorded) (Left : Files → Type 0) → AreAmong fewer messages → Rests fewer owner es Left → Rests messages owner es Left
+more_messages fewer messages owner es Left among (on_one all) = on_one all
+more_messages fewer messages owner es Left among (on_two r each) = on_two r (λ image there. elim (each image there) [
+  | inl short ↦ inl short
+  | inr long ↦ inr (record { may = all_more layers HasSpelling LawfulHistory fewer messages owner es (append r ∷ []) among long.may; stands = long.stands })
+])
+
+pub others_step : (w : World Recorded) (owner : Name) (act : Act Recorded) (Left : Files → Type 0) → act.owner ≢ owner → Rests w.messages owner (history w owner) Left
+    → Rests (happens w act).messages owner (history (happens w act) owner) Left
+others_step w owner act Left apart rests =
     let same : history (happens w act) owner ≡ history w owner = elim (history_in-histories_after w.histories act.owner act.deed owner) [ inl is ↦ is | inr own ↦ absurd (apart (sym own.0)) ] in
-    subst (λ (rs : List Recorded). StandReached (happens w act).messages owner rs letters files) (sym same)
-    (record {
-      deeds = stood.deeds;
-      may = all_more layers HasSpelling LawfulHistory w.messages (happens w act).messages owner (history w owner) stood.deeds (messages_kept w.messages act.deed) stood.may;
-      put = stood.put;
-      stands = stood.stands;
-    })
+    subst (λ (rs : List Recorded). Rests (happens w act).messages owner rs Left) (sym same)
+    (more_messages w.messages (happens w act).messages owner (history w owner) Left (messages_kept w.messages act.deed) rests)
 
-pub new_reached : (w : World Recorded) (owner : Name) (files : Files) → history w owner ≡ [] → StandsAs owner [] files → StandReached w.messages owner (history w owner) [] files
-new_reached w owner files none stands = record { deeds = []; may = tt; put = refl; stands = subst (λ (rs : List Recorded). StandsAs owner rs files) (sym none) stands }
+pub new_rests : (w : World Recorded) (owner : Name) (seen : Seen) → history w owner ≡ [] → IsSettled (StandsAs owner []) seen → Rests w.messages owner (history w owner) (IsImage seen)
+new_rests w owner seen none settled = on_one (λ image there. subst (λ (rs : List Recorded). StandsAs owner rs image) (sym none) (settled image there))

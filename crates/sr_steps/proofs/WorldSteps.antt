@@ -1,5 +1,5 @@
 -- Whole runs, from the moment at which nothing was opened yet: they make steps of a world alone.
-use Rattle.std.proofs.Common.{◌≡◌, ℕ, Bool, List, [], ◌∷◌, ◌++◌, map, Result, refl, sym, subst}
+use Rattle.std.proofs.Common.{◌≡◌, ℕ, Bool, List, [], ◌∷◌, ◌++◌, map, Result, inl, inr, refl, sym, subst}
 use Rattle.std.specs.Prelude.{IsTrue}
 use Rattle.sr_ast.specs.declared.stmt.Stmt.{Stmt}
 use Rattle.sr_book.specs.Entries.{Name}
@@ -18,12 +18,14 @@ use Rattle.sr_site.specs.Images.{IsImage, IsSettled, RestsThroughout}
 use Rattle.sr_site.specs.Seen.{Seen}
 use Rattle.sr_site.specs.Streams.{Output}
 use Rattle.sr_standing.specs.Items.{Item, Letter, commit, commits}
+use Rattle.sr_standing.specs.Standing.{StandsAs, StandsFor}
 use Rattle.sr_standing.specs.Trails.{Went}
 use Rattle.sr_standing.proofs.Standing.{one_history}
 use Rattle.sr_agent.proofs.Joints.{commits_of}
 use Rattle.sr_world.specs.Real.{IsGoodWorld, MayDo}
 use Rattle.sr_prefix.specs.Good.{AreSaid}
-use Rattle.sr_steps.specs.Worlds.{MakesSteps, RestsAtEach, StandReached, put_in}
+use Rattle.sr_steps.specs.Worlds.{IsFaithfulThroughout, MakesSteps, Rests, on_one, on_two, RestsAtEach, put_in}
+use Rattle.sr_steps.proofs.NextRuns.{faithful}
 use Rattle.sr_prefix.proofs.Along.{Along, Steps, steps_along}
 use Rattle.sr_steps.proofs.Deeds.{CanStep, HasDeeds, commits_deeds, local_step}
 use Rattle.sr_prefix.proofs.Goodness.{said_more}
@@ -38,11 +40,11 @@ module _ (w : World Recorded) (owner : Name) where
   abbrev first : List Recorded
   first = history w owner
 
-  abbrev Stand : List Letter → Files → Type 0
-  Stand = StandReached w.messages owner first
+  abbrev Rested : Seen → Type 0
+  Rested seen = Rests w.messages owner first (IsImage seen)
 
   pub untouched_steps : (before now : Seen) → RestsThroughout (IsImage before) before now → DiskStays before now → MakesSteps w owner before now
-  untouched_steps before now still stays good named settled known = silent_rests w.messages owner first before settled now still stays
+  untouched_steps before now still stays good named rested known = faithful w owner before good named now (silent_rests w.messages owner first before rested now still stays)
 
   -- ---- the history that was opened
 
@@ -54,13 +56,24 @@ module _ (w : World Recorded) (owner : Name) where
     none : put_in deeds ≡ []
     there : history_after_all first deeds ≡ es
 
+  reached_by : (publisher : Name) (es : List Recorded) (view : View) (deeds : List (Deed Recorded)) (files : Files) → MayDo w.messages owner first deeds → put_in deeds ≡ []
+      → StandsAs owner (history_after_all first deeds) files → StandsFor publisher es view.log.base files → WasReached publisher es
+  reached_by publisher es view deeds files may none stands held =
+      let one = one_history owner publisher (history_after_all first deeds) es stands.base view.log.base files stands.stands held in
+      record { same = sym one.0; deeds = deeds; may = may; none = none; there = one.1 }
+
+  reached_in : (publisher : Name) (es : List Recorded) (view : View) (seen : Seen) (files : Files) → Rested seen → IsImage seen files → StandsFor publisher es view.log.base files → WasReached publisher es
+  reached_in publisher es view seen files (on_one all) there held = reached_by publisher es view [] files tt refl (all files there) held
+  reached_in publisher es view seen files (on_two r each) there held = elim (each files there) [
+    | inl short ↦ reached_by publisher es view [] files tt refl short held
+    | inr long ↦ reached_by publisher es view (append r ∷ []) files long.may refl long.stands held
+  ]
+
   opened_reached : (publisher : Name) (es : List Recorded) (view : View) (before opened : Seen) → opened.first ≡ before.first → RestsThroughout (IsImage before) before opened
-      → IsDatabase view publisher es opened → IsSettled (Stand []) before → WasReached publisher es
-  opened_reached publisher es view before opened same still database settled =
+      → IsDatabase view publisher es opened → Rested before → WasReached publisher es
+  opened_reached publisher es view before opened same still database rested =
       let some = some_image opened.first opened.happened in
-      let stood : Stand [] some.0 = settled some.0 (was_image before opened some.0 same still some.1) in
-      let one = one_history owner publisher (history_after_all first stood.deeds) es stood.stands.base view.log.base some.0 stood.stands.stands (database.settled some.0 some.1).stands in
-      record { same = sym one.0; deeds = stood.deeds; may = stood.may; none = none_put (put_in stood.deeds) stood.put; there = one.1 }
+      reached_in publisher es view before some.0 rested (was_image before opened some.0 same still some.1) (database.settled some.0 some.1).stands
 
   -- a trail on it of deeds that are allowed, each entry of which says what is so
   pub record TrailOn (es : List Recorded) (opened now : Seen) : Type 0 where
@@ -70,16 +83,17 @@ module _ (w : World Recorded) (owner : Name) where
     pub said : AreSaid (fresh owner) es → Along (AreSaid (fresh owner)) es (commits trail)
 
   pub trail_steps : (publisher : Name) (es : List Recorded) (view : View) (before opened now : Seen) → opened.first ≡ before.first → RestsThroughout (IsImage before) before opened → DiskStays before opened
-      → IsDatabase view publisher es opened → IsGoodWorld w → IsNamed w owner → IsSettled (Stand []) before
-      → (IsDatabase view owner es opened → IsOrdered owner es → TrailOn es opened now) → RestsAtEach w.messages owner first before now
+      → IsDatabase view publisher es opened → IsGoodWorld w → IsNamed w owner → Rested before
+      → (IsDatabase view owner es opened → IsOrdered owner es → TrailOn es opened now) → IsFaithfulThroughout w owner before now
   trail_steps publisher es view before opened now same still quiet database good named settled goes =
       let was = opened_reached publisher es view before opened same still database settled in
       let own : IsDatabase view owner es opened = subst (λ (n : Name). IsDatabase view n es opened) was.same database in
       let ordered : IsOrdered owner es
       = subst (IsOrdered owner) was.there (reached_ordered w w.messages owner first was.deeds good named refl (λ m has. has) was.may) in
       let on = goes own ordered in
-      opened_rests w.messages owner first before settled opened now same still quiet
-      (went_rests w.messages owner first es was.deeds was.may was.none was.there on.trail on.has.deeds on.has.are (on.said (lawful_says_so owner es ordered.lawful)) opened now on.went)
+      faithful w owner before good named now
+      (opened_rests w.messages owner first before settled opened now same still quiet
+      (went_rests w.messages owner first es was.deeds was.may was.none was.there on.trail on.has.deeds on.has.are (on.said (lawful_says_so owner es ordered.lawful)) opened now on.went))
 
   -- ---- scripts
 

@@ -9,19 +9,19 @@ ghost use Rattle.sr_msgform.specs.Messages.{IsMessage, message_spelling};
 ghost use Rattle.sr_msgform.specs.declared.message.Message.{Message as Sent};
 ghost use Rattle.sr_site.specs.Files.{Files};
 ghost use Rattle.sr_site.specs.Happenings.{Happening};
-ghost use Rattle.sr_site.specs.Images.{MayLeave};
+ghost use Rattle.sr_site.specs.Images.{IsImage, IsSettled, MayLeave};
 ghost use Rattle.sr_site.specs.Seen.{Seen};
 ghost use Rattle.sr_standing.specs.Items.{Letter as File, puts_in};
 ghost use Rattle.sr_standing.specs.Standing.{StandsAs};
 ghost use Rattle.sr_world.specs.Real.{IsGoodWorld};
-ghost use Rattle.sr_steps.specs.Worlds.{IsKnown, RestsAtEach, RestsBehind, StandReached, put_in};
+ghost use Rattle.sr_steps.specs.Worlds.{IsKnown, RestsAtEach, Rests, RestsBehind, put_in};
 
 /// A run leaves what the next one asks for. The files of a new database stand for the history that it has in a world in which it did nothing yet. Behind a
 /// run there is a good world, which has the messages that the run put; whatever a crash may leave then is a history to which that of this world leads. So
 /// it stays when another database takes a step. And the bytes of a message of the world that has a spelling are known to whoever fetches them: so are
 /// those of each message that the run put, which are the bytes of its files.
 pub fn a_run_leaves_what_the_next_one_asks_for()
-    ensures new { (w : World Recorded) (owner : Name) (files : Files) → history w owner ≡ [] → StandsAs owner [] files → StandReached w.messages owner (history w owner) [] files }
+    ensures new { (w : World Recorded) (owner : Name) (seen : Seen) → history w owner ≡ [] → IsSettled (StandsAs owner []) seen → Rests w.messages owner (history w owner) (IsImage seen) }
     ensures good { (w : World Recorded) (owner : Name) (letters : List File) (first : Files) (moment : List Happening) (rest : RestsBehind w.messages owner (history w owner) letters (MayLeave first moment))
         → IsGoodWorld w → IsNamed w owner → IsGoodWorld (after_all w (acts_by owner rest.deeds)) }
     ensures named { (w : World Recorded) (owner : Name) (letters : List File) (first : Files) (moment : List Happening) (rest : RestsBehind w.messages owner (history w owner) letters (MayLeave first moment))
@@ -29,12 +29,12 @@ pub fn a_run_leaves_what_the_next_one_asks_for()
     ensures messages { (w : World Recorded) (owner : Name) (letters : List File) (first : Files) (moment : List Happening) (rest : RestsBehind w.messages owner (history w owner) letters (MayLeave first moment))
         → (after_all w (acts_by owner rest.deeds)).messages ≡ w.messages ++ put_in rest.deeds }
     ensures rests { (w : World Recorded) (owner : Name) (letters : List File) (first : Files) (moment : List Happening) (rest : RestsBehind w.messages owner (history w owner) letters (MayLeave first moment))
-        → IsNamed w owner → (image : Files) → MayLeave first moment image
-        → StandReached (after_all w (acts_by owner rest.deeds)).messages owner (history (after_all w (acts_by owner rest.deeds)) owner) [] image }
+        → IsNamed w owner
+        → Rests (after_all w (acts_by owner rest.deeds)).messages owner (history (after_all w (acts_by owner rest.deeds)) owner) (MayLeave first moment) }
     ensures last { (messages : List Sent) (owner : Name) (es : List Recorded) (before now : Seen) (run : RestsAtEach messages owner es before now)
         → RestsBehind messages owner es (puts_in run.more) (MayLeave before.first now.happened) }
-    ensures others { (w : World Recorded) (owner : Name) (act : Act Recorded) (letters : List File) (files : Files) → act.owner ≢ owner
-        → StandReached w.messages owner (history w owner) letters files → StandReached (happens w act).messages owner (history (happens w act) owner) letters files }
+    ensures others { (w : World Recorded) (owner : Name) (act : Act Recorded) (seen : Seen) → act.owner ≢ owner
+        → Rests w.messages owner (history w owner) (IsImage seen) → Rests (happens w act).messages owner (history (happens w act) owner) (IsImage seen) }
     ensures known { (messages : List Sent) (receiver : Name) (m : Sent) → Contains messages m → IsMessage m → IsKnown messages receiver (message_spelling m) }
     ensures put { (w : World Recorded) (owner : Name) (letters : List File) (first : Files) (moment : List Happening) (rest : RestsBehind w.messages owner (history w owner) letters (MayLeave first moment))
         → (receiver : Name) (m : Sent) → Contains (put_in rest.deeds) m → IsKnown (after_all w (acts_by owner rest.deeds)).messages receiver (message_spelling m) }

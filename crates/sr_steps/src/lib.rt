@@ -6,7 +6,9 @@
 #![tactic(auto)]
 
 mod following;
+mod lives;
 mod worlds;
 
 pub use following::a_run_leaves_what_the_next_one_asks_for;
+pub use lives::runs_make_one_world;
 pub use worlds::whole_runs_make_steps_of_a_world;

@@ -1,6 +1,6 @@
 //! The changes of an op that was judged, and whether they can be written.
 
-ghost use Rattle.std.specs.Prelude.{◌≡◌, ◌++◌, Some, IsTrue, IfOk, OnOk};
+ghost use Rattle.std.specs.Prelude.{◌≡◌, ◌↔◌, ◌++◌, Some, IsTrue, IfOk, OnOk};
 ghost use Rattle.std.specs.List.{AllByRecursion};
 ghost use Rattle.std.specs.Option.{option_copied};
 ghost use Rattle.sr_base.specs.Fields.{IsListOf};
@@ -17,7 +17,7 @@ use std::alloc::Global;
 /// Whether an outcome can be written: no list of it has 2^32 items, and no text 2^32 bytes. That of judging always can.
 #[tactic(auto, unfolding(sr_logform::specs::Outcomes::OutcomeHas))]
 pub(crate) fn is_short(outcome: &Outcome) -> bool
-    ensures { IsTrue result → IsShortOutcome outcome.now }
+    ensures { IsTrue result ↔ IsShortOutcome outcome.now }
 {
     match outcome {
         Outcome::Plain(changes) => are_short(changes.as_slice()),
@@ -31,13 +31,13 @@ pub(crate) fn is_short(outcome: &Outcome) -> bool
 }
 
 fn is_short_row(row: &Row) -> bool
-    ensures { IsTrue result → IsListOf IsShort row.now }
+    ensures { IsTrue result ↔ IsListOf IsShort row.now }
 {
     are_few(row.values()) && are_short_values(row.values())
 }
 
 fn are_short_values(values: &[Value]) -> bool
-    ensures { IsTrue result → AllByRecursion IsShort values.now }
+    ensures { IsTrue result ↔ AllByRecursion IsShort values.now }
 {
     let mut left = values;
     'values: while let Some((value, rest)) = left.split_first() {
@@ -50,7 +50,7 @@ fn are_short_values(values: &[Value]) -> bool
 }
 
 fn is_short_value(value: &Value) -> bool
-    ensures { IsTrue result → IsShort value.now }
+    ensures { IsTrue result ↔ IsShort value.now }
 {
     match value {
         Value::Str(text) => are_few(text.bytes()),

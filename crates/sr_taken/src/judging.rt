@@ -1,6 +1,6 @@
 //! The outcomes of a transaction's ops, each judged on the state that those before it leave.
 
-ghost use Rattle.std.specs.Prelude.{◌≡◌, ◌≤◌, ◌⊎◌, ◌∷◌, ◌++◌, [], List, true, false, length, is_ok, IfOk, IsSome, OnOk};
+ghost use Rattle.std.specs.Prelude.{◌≡◌, ◌↔◌, ◌≤◌, ◌⊎◌, ◌∷◌, ◌++◌, [], List, true, false, length, is_ok, IfOk, IsSome, OnOk};
 ghost use Rattle.std.specs.List.{AllByRecursion};
 ghost use Rattle.sr_book.specs.Entries.{Name as AName};
 ghost use Rattle.sr_database.specs.Databases.{IsOf, IsOfSome};
@@ -105,7 +105,7 @@ fn judge_all(
 
 /// Whether a statement stands beside other ops.
 fn is_mixed(ops: &[Op]) -> bool
-    ensures plain { result ≡ false → ((length ops.now ≤ 1) ⊎ AllByRecursion (λ op. is_exec op ≡ false) ops.now) }
+    ensures plain { (result ≡ false) ↔ ((length ops.now ≤ 1) ⊎ AllByRecursion (λ op. is_exec op ≡ false) ops.now) }
 {
     if ops.len() <= 1 {
         return false;
@@ -115,7 +115,7 @@ fn is_mixed(ops: &[Op]) -> bool
 
 /// Whether a statement stands among ops.
 fn has_exec(ops: &[Op]) -> bool
-    ensures none { result ≡ false → AllByRecursion (λ op. is_exec op ≡ false) ops.now }
+    ensures none { (result ≡ false) ↔ AllByRecursion (λ op. is_exec op ≡ false) ops.now }
 {
     let mut left = ops;
     'ops: while let Some((op, rest)) = left.split_first() {

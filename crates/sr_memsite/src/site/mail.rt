@@ -1,7 +1,7 @@
 ghost use Rattle.std.specs.Prelude.{◌≡◌, ◌≤◌, length, take, IsTrue, IfOk, IfSome, OnOk, OnErr, IsErrOf, is_err};
 ghost use Rattle.std.specs.Option.{option_map};
 ghost use Rattle.sr_site.specs.Listings.{IsListing, Lists};
-ghost use Rattle.sr_site.specs.declared.mail.MailFault.TheVariants.{Failed as failed_mail};
+ghost use Rattle.sr_site.specs.declared.mail.MailFault.TheVariants.{Failed as failed_mail, Memory as no_memory};
 ghost use Rattle.sr_memmail.specs.Folders.{place, file_at, after_put, after_remove, names_in};
 
 use super::MemorySite;
@@ -17,7 +17,7 @@ impl Mail for MemorySite {
     ghost use Rattle.sr_site.specs.Causes.{MailStays, Rose};
     ghost use Rattle.sr_site.specs.Happenings.{listed, fetched, sent, removed};
     ghost use Rattle.sr_site.specs.Listings.{IsListing, Lists};
-    ghost use Rattle.sr_site.specs.declared.mail.MailFault.TheVariants.{Failed as failed_mail};
+    ghost use Rattle.sr_site.specs.declared.mail.MailFault.TheVariants.{Failed as failed_mail, Memory as no_memory};
     ghost use Rattle.sr_memsite.specs.Meaning.{seen_of, folders_of, numbering_of, wanted_of};
     ghost use Rattle.sr_memsite.specs.Numbering.{fails, counted};
     ghost use Rattle.sr_memmail.specs.Folders.{place, file_at, after_put, after_remove, names_in};
@@ -29,6 +29,7 @@ impl Mail for MemorySite {
         ensures listed { (seen_of self.new).happened ≡ listed address.now (names_in (folders_of self.old).files address.now) result ∷ (seen_of self.old).happened }
         ensures stays { MailStays (seen_of self.old) (seen_of self.new) }
         ensures steady { OnOk result ((seen_of self.new).mail_faults ≡ (seen_of self.old).mail_faults) }
+        ensures short { IsErrOf result no_memory → (seen_of self.new).mail_faults ≡ (seen_of self.old).mail_faults }
         ensures cause { IsErrOf result failed_mail → Rose (seen_of self.old).mail_faults (seen_of self.new).mail_faults }
         ensures fails { IsTrue (fails (numbering_of self.old)) → IsErrOf result failed_mail }
         ensures only { IsErrOf result failed_mail → IsTrue (fails (numbering_of self.old)) }
@@ -55,6 +56,7 @@ impl Mail for MemorySite {
         ensures fetched { (seen_of self.new).happened ≡ fetched address.now name.now limit (result_map_both (option_map (λ bytes. bytes.items)) (λ fault. fault) result) ∷ (seen_of self.old).happened }
         ensures stays { MailStays (seen_of self.old) (seen_of self.new) }
         ensures steady { OnOk result ((seen_of self.new).mail_faults ≡ (seen_of self.old).mail_faults) }
+        ensures short { IsErrOf result no_memory → (seen_of self.new).mail_faults ≡ (seen_of self.old).mail_faults }
         ensures cause { IsErrOf result failed_mail → Rose (seen_of self.old).mail_faults (seen_of self.new).mail_faults }
         ensures fails { IsTrue (fails (numbering_of self.old)) → IsErrOf result failed_mail }
         ensures only { IsErrOf result failed_mail → IsTrue (fails (numbering_of self.old)) }
@@ -80,6 +82,7 @@ impl Mail for MemorySite {
         ensures put { (seen_of self.new).happened ≡ sent address.now name.now bytes.now (is_ok result) ∷ (seen_of self.old).happened }
         ensures stays { MailStays (seen_of self.old) (seen_of self.new) }
         ensures steady { OnOk result ((seen_of self.new).mail_faults ≡ (seen_of self.old).mail_faults) }
+        ensures short { IsErrOf result no_memory → (seen_of self.new).mail_faults ≡ (seen_of self.old).mail_faults }
         ensures cause { IsErrOf result failed_mail → Rose (seen_of self.old).mail_faults (seen_of self.new).mail_faults }
         ensures fails { IsTrue (fails (numbering_of self.old)) → IsErrOf result failed_mail }
         ensures only { IsErrOf result failed_mail → IsTrue (fails (numbering_of self.old)) }
@@ -100,6 +103,7 @@ impl Mail for MemorySite {
         ensures removed { (seen_of self.new).happened ≡ removed address.now name.now (is_ok result) ∷ (seen_of self.old).happened }
         ensures stays { MailStays (seen_of self.old) (seen_of self.new) }
         ensures steady { OnOk result ((seen_of self.new).mail_faults ≡ (seen_of self.old).mail_faults) }
+        ensures short { IsErrOf result no_memory → (seen_of self.new).mail_faults ≡ (seen_of self.old).mail_faults }
         ensures cause { IsErrOf result failed_mail → Rose (seen_of self.old).mail_faults (seen_of self.new).mail_faults }
         ensures exact { is_err result ≡ fails (numbering_of self.old) }
         ensures fails { IsTrue (fails (numbering_of self.old)) → IsErrOf result failed_mail }

@@ -1,6 +1,9 @@
 use Rattle.std.proofs.Common.{[]}
+use Rattle.sr_files.specs.declared.fault.DatabaseFault.TheVariants.{Memory}
 use Rattle.sr_site.specs.Growing.{disk_stays_on}
 use Rattle.sr_command.proofs.Opened.{tried_on, tried_refused, tried_still, guarded_refused, guarded_still, guarded_on, made}
+use Rattle.sr_command.specs.Making.{StoreCause}
+use Rattle.sr_command.proofs.Unmade.{caused, unmade_on, unmade_refused, unmade_still}
 use Rattle.sr_command.proofs.making.make_files.Goals as goal
 
 pub returns-in_err-attach_alone-clause-guarded : goal.returns-in_err-attach_alone-clause-guarded
@@ -44,3 +47,25 @@ returns-in_err-create-clause-stays g c = disk_stays_on (g.S.Held.seen c.args.sit
 
 pub returns-clause-stays : goal.returns-clause-stays
 returns-clause-stays g c = disk_stays_on (g.S.Held.seen c.args.site.now) (g.S.Held.seen c.attach_alone.new.site) (g.S.Held.seen c.create.new.site) c.in_ok-attach_alone.ensures.attaches.stays c.create.ensures.stays
+
+pub returns-in_err-attach_alone-clause-cause : goal.returns-in_err-attach_alone-clause-cause
+returns-in_err-attach_alone-clause-cause g c =
+    let before = g.S.Held.seen c.args.site.now in
+    let now = g.S.Held.seen c.attach_alone.new.site in
+    caused (StoreCause c.args.name.now before now) c.in_err-attach_alone.field-0.0 c.from_residual.result c.from_residual.ensures.1
+    (unmade_refused c.args.name.now before now c.in_err-attach_alone.field-0.0 c.in_err-attach_alone.ensures.attaches c.in_err-attach_alone.ensures.cause)
+
+pub returns-in_err-line-clause-cause : goal.returns-in_err-line-clause-cause
+returns-in_err-line-clause-cause g c =
+    let before = g.S.Held.seen c.args.site.now in
+    let now = g.S.Held.seen c.attach_alone.new.site in
+    caused (StoreCause c.args.name.now before now) Memory c.from_residual-in_err-line.result c.from_residual-in_err-line.ensures.1
+    (unmade_still c.args.name.now before now c.in_ok-attach_alone.ensures.attaches c.in_ok-attach_alone.ensures.steady)
+
+pub returns-in_err-create-clause-cause : goal.returns-in_err-create-clause-cause
+returns-in_err-create-clause-cause g c =
+    let before = g.S.Held.seen c.args.site.now in
+    let middle = g.S.Held.seen c.attach_alone.new.site in
+    let now = g.S.Held.seen c.create.new.site in
+    caused (StoreCause c.args.name.now before now) c.in_err-create.field-0.0 c.from_residual-in_err-create.result c.from_residual-in_err-create.ensures.1
+    (unmade_on c.args.name.now before middle now c.in_err-create.field-0.0 c.in_ok-attach_alone.ensures.attaches c.in_ok-attach_alone.ensures.steady c.in_err-create.ensures.cause)

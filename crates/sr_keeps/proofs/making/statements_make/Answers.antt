@@ -1,6 +1,6 @@
 use Rattle.std.proofs.Common.{refl}
 use Rattle.sr_change.specs.Changes.{next}
-use Rattle.sr_keeps.proofs.Things.{table_written}
+use Rattle.sr_keeps.proofs.Written.{table_written}
 use Rattle.sr_keeps.proofs.making.statements_make.Goals as goal
 
 pub returns : goal.returns

@@ -1,12 +1,13 @@
-use Rattle.sr_keeps.proofs.Spelled.{new_spelled, next_spelled, script_normal, script_written, script_again}
-use Rattle.sr_keeps.proofs.Whole.{stored_spelled}
+use Rattle.sr_history.proofs.Kept.{stored_holds}
+use Rattle.sr_keeps.proofs.Written.{script_written}
 use Rattle.sr_keeps.proofs.reading.scripts_are_read_back.Goals as goal
+use Rattle.sr_replay.proofs.Spelled.{new_spelled, script_again, script_normal, still_spelled}
 
 pub returns : goal.returns
 returns c = record {
   new = new_spelled;
-  next = next_spelled;
-  stored = stored_spelled;
+  next = still_spelled;
+  stored = λ publisher rs stored. (stored_holds publisher rs stored).catalog;
   normal = script_normal;
   written = script_written;
   again = script_again;

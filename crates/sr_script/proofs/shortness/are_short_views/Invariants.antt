@@ -1,11 +1,11 @@
-use Rattle.std.proofs.Common.{length}
+use Rattle.std.proofs.Common.{◌↔◌, length}
 use Rattle.std.specs.List.{AllByRecursion}
 use Rattle.sr_script.specs.Synced.{IsShortView}
 use Rattle.sr_script.proofs.shortness.are_short_views.Given as goal
 
--- where those that are left are short, all are
+-- all are short where those that are left are
 abbrev pub invariant-views : goal.invariant-views
-invariant-views l = AllByRecursion IsShortView l.left → AllByRecursion IsShortView l.views
+invariant-views l = AllByRecursion IsShortView l.left ↔ AllByRecursion IsShortView l.views
 
 abbrev pub decreases-views : goal.decreases-views
 decreases-views l = length l.left

@@ -42,8 +42,8 @@ pub enter-requires-clause-entry : goal.enter-requires-clause-entry
 enter-requires-clause-entry g c =
     let region = c.args.region.now in
     can_pass_some c.args.db.now region c.args.stmt.now c.in_ok-copy.field-0 c.in_ok-text_of.field-0 c.args.changes c.requires.pending c.requires.users c.requires.carried c.requires.fit c.requires.accepted c.requires.may
-    c.in_ok-copy.ensures.equal (subst (λ (names : List Name). length names < 2 ^ 32) c.as_slice.ensures.items (c.are_few.ensures.few c.if-not-are_few.false)) c.in_ok-text_of.ensures.text c.in_ok-text_of.ensures.short
-    (subst (λ (l : List Change). IsListOf IsShortChange l) c.as_slice-else-not-are_few.ensures.items (c.are_short.ensures.short c.if-not-are_short.false))
+    c.in_ok-copy.ensures.equal (subst (λ (names : List Name). length names < 2 ^ 32) c.as_slice.ensures.items (c.are_few.ensures.few.0 c.if-not-are_few.false)) c.in_ok-text_of.ensures.text c.in_ok-text_of.ensures.short
+    (subst (λ (l : List Change). IsListOf IsShortChange l) c.as_slice-else-not-are_few.ensures.items (c.are_short.ensures.short.0 c.if-not-are_short.false))
 
 pub returns : goal.returns
 returns g c =
@@ -52,6 +52,6 @@ returns g c =
       took =
           c.enter.ensures.took (pass region.users region.only c.args.stmt.now c.args.changes) (Some region)
           (can_pass c.args.db.now region c.args.stmt.now c.in_ok-copy.field-0 c.in_ok-text_of.field-0 c.args.changes c.requires.pending c.requires.users c.requires.carried c.requires.fit c.requires.accepted c.requires.may
-          c.in_ok-copy.ensures.equal (subst (λ (names : List Name). length names < 2 ^ 32) c.as_slice.ensures.items (c.are_few.ensures.few c.if-not-are_few.false)) c.in_ok-text_of.ensures.text c.in_ok-text_of.ensures.short
-          (subst (λ (l : List Change). IsListOf IsShortChange l) c.as_slice-else-not-are_few.ensures.items (c.are_short.ensures.short c.if-not-are_short.false)));
+          c.in_ok-copy.ensures.equal (subst (λ (names : List Name). length names < 2 ^ 32) c.as_slice.ensures.items (c.are_few.ensures.few.0 c.if-not-are_few.false)) c.in_ok-text_of.ensures.text c.in_ok-text_of.ensures.short
+          (subst (λ (l : List Change). IsListOf IsShortChange l) c.as_slice-else-not-are_few.ensures.items (c.are_short.ensures.short.0 c.if-not-are_short.false)));
     }

@@ -1,18 +1,13 @@
 -- Catalogs that accepted statements in normal form have made: the statements of their scripts are in normal form.
-use Rattle.std.proofs.Common.{◌≡◌, ℕ, true, false, cond, List, [], ◌∷◌, ◌++◌, filter, map, Option, Some, None, refl, ap, subst, ◌∙◌}
+use Rattle.std.proofs.Common.{◌≡◌, ℕ, true, false, cond, List, [], ◌∷◌, ◌++◌, filter, map, Option, Some, None, refl, sym, subst}
 use Rattle.std.specs.List.{AllByRecursion}
-use Rattle.sr_ast.specs.Layout.{printed}
 use Rattle.sr_ast.specs.declared.stmt.Stmt.{Stmt}
 use Rattle.sr_ast.specs.declared.stmt.Stmt.TheVariants as stmt
 use Rattle.sr_change.specs.Changes.{refusal, next}
-use Rattle.sr_grammar.proofs.Stated.{printed-is_written}
-use Rattle.sr_grammar.specs.Meanings.{IsWritten}
 use Rattle.sr_ast.specs.NormalForms.{IsNormal, IsNormalGrant, IsNormalPublication, IsNormalSubscription, IsNormalTable}
-use Rattle.sr_replay.specs.Scripts.{create_publication_of, create_subscription_of, create_table_of, grant_of, grant_rule, replayed, start_of, statements, subscription_rule, trigger_stmt, unless_refused, IsMade}
-use Rattle.sr_replay.proofs.Made.{again}
+use Rattle.sr_replay.specs.Scripts.{create_publication_of, create_subscription_of, create_table_of, grant_of, grant_rule, replayed, start_of, statements, subscription_rule, trigger_stmt, unless_refused, IsSpelled}
+use Rattle.sr_replay.proofs.Made.{again, makes_next}
 use Rattle.sr_replay.proofs.ReplayLists.{AllByRecursion-append, AllByRecursion-filter, AllByRecursion-map, AllByRecursion-step}
-use Rattle.sr_replay.proofs.ReplayNexts.{publisher_next}
-use Rattle.sr_replay.proofs.Replays.{replayed-append, replayed-cons}
 use Rattle.sr_replay.proofs.Standing.{publication_rule, table_rule}
 use Rattle.sr_schema.specs.Catalogs.{Lists, nothing_but}
 use Rattle.sr_schema.specs.declared.fault.DdlFault.{DdlFault}
@@ -20,8 +15,7 @@ use Rattle.sr_schema.specs.declared.publication.Publication.{Publication}
 use Rattle.sr_schema.specs.declared.subscription.Subscription.{Subscription}
 use Rattle.sr_schema.specs.declared.table.Table.{Table}
 use Rattle.sr_schema.specs.declared.user.User.{User}
-use Rattle.sr_keeps.specs.Normals.{IsSpelled}
-use Rattle.sr_keeps.proofs.Things.{EachNormal, next_normal}
+use Rattle.sr_replay.proofs.Normals.{EachNormal, next_normal}
 
 -- ---- what statements make
 
@@ -38,7 +32,7 @@ normal_after c d (s ∷ ss) each all h =
     normal_unless (refusal c s) (next c s) d ss (λ accepted rest. normal_after (next c s) d ss (next_normal c s each all.0 accepted) all.1 rest) h
 
 each_of : (c : Lists) → IsSpelled c → EachNormal c
-each_of c spelled = normal_after (nothing_but c.publisher) c spelled.history (new_normal c.publisher) spelled.normal spelled.makes
+each_of c spelled = normal_after (nothing_but c.publisher) c spelled.made.history (new_normal c.publisher) spelled.normal spelled.made.makes
 
 -- ---- the statements of a catalog
 
@@ -82,25 +76,23 @@ script_normal c spelled =
     (AllByRecursion-map IsNormal create_subscription_of c.subscriptions (AllByRecursion-step _ _ subscription_normal c.subscriptions each.subscriptions))
     (AllByRecursion-map IsNormal start_of (filter (λ s. s.started) c.subscriptions) (AllByRecursion-step _ _ start_normal (filter (λ s. s.started) c.subscriptions) started))))))
 
-pub script_written : (c : Lists) → IsSpelled c → AllByRecursion (λ s. IsWritten (printed s) (s ∷ [])) (statements c)
-script_written c spelled = AllByRecursion-step _ _ printed-is_written (statements c) (script_normal c spelled)
+-- they make it again
+pub script_again : (c : Lists) → IsSpelled c → replayed (nothing_but c.publisher) (statements c) ≡ Some c
+script_again c spelled = again c spelled.made
 
 -- ---- such catalogs
 
-as_made : (c : Lists) → IsSpelled c → IsMade c
-as_made c spelled = record { history = spelled.history; makes = spelled.makes }
-
-pub script_again : (c : Lists) → IsSpelled c → replayed (nothing_but c.publisher) (statements c) ≡ Some c
-script_again c spelled = again c (as_made c spelled)
-
+-- a new one is one
 pub new_spelled : (publisher : List ℕ) → IsSpelled (nothing_but publisher)
-new_spelled publisher = record { history = []; normal = tt; makes = refl }
+new_spelled publisher = record { made = record { history = []; makes = refl }; normal = tt }
 
-pub next_spelled : (c : Lists) (s : Stmt) → IsSpelled c → IsNormal s → refusal c s ≡ None → IsSpelled (next c s)
-next_spelled c s spelled normal accepted = record {
-  history = spelled.history ++ s ∷ [];
-  normal = AllByRecursion-append IsNormal spelled.history s spelled.normal normal;
-  makes =
-      ap (λ p. replayed (nothing_but p) (spelled.history ++ s ∷ [])) (publisher_next c s)
-      ∙ (replayed-append (nothing_but c.publisher) c spelled.history (s ∷ []) spelled.makes ∙ replayed-cons c (next c s) s [] accepted refl);
+-- an accepted statement in normal form makes such a catalog of it
+pub still_spelled : (c : Lists) (s : Stmt) → IsSpelled c → IsNormal s → refusal c s ≡ None → IsSpelled (next c s)
+still_spelled c s spelled normal accepted = record {
+  made = record { history = spelled.made.history ++ s ∷ []; makes = makes_next c spelled.made.history s spelled.made.makes accepted };
+  normal = AllByRecursion-append IsNormal spelled.made.history s spelled.normal normal;
 }
+
+-- what is the catalog after an accepted statement in normal form is one
+pub spelled_after : (c after : Lists) (s : Stmt) → refusal c s ≡ None → IsNormal s → after ≡ next c s → IsSpelled c → IsSpelled after
+spelled_after c after s accepted normal is spelled = subst (λ (x : Lists). IsSpelled x) (sym is) (still_spelled c s spelled normal accepted)

@@ -23,7 +23,7 @@ use Rattle.sr_ddl.specs.Users.{is_bad_address, address_of, grant_causes, user_of
 use Rattle.sr_ast.specs.Normal.{IsPlain, IsNoneOr, IsSomeOf}
 use Rattle.sr_ast.specs.NormalForms.{IsNormalRule, IsNormalTable, IsNormalArticle, IsNormalPublication, IsNormalGrant, IsNormalSubscription, IsNormal}
 use Rattle.sr_replay.specs.Scripts.{column_rule, article_rule, grant_rule, subscription_rule}
-use Rattle.sr_replay.proofs.ReplayCauses.{NoCause, no_cause_of, where_true-None}
+use Rattle.sr_replay.proofs.ReplayCauses.{NoCause, no_cause_of, all_there, where_true-None}
 use Rattle.sr_replay.proofs.ReplayLists.{AllByRecursion-append, AllByRecursion-filter, AllByRecursion-map, AllByRecursion-unmap}
 use Rattle.sr_replay.proofs.ReplayStarts.{marked_rules}
 use Rattle.sr_replay.proofs.Standing.{table_rule, publication_rule}
@@ -38,8 +38,6 @@ use Rattle.sr_schema.specs.declared.table.Table.{Table}
 use Rattle.sr_schema.specs.declared.trigger.Trigger.{Trigger}
 use Rattle.sr_schema.specs.declared.user.User.{User}
 use Rattle.sr_trigger.specs.Triggers.{trigger_of}
-use Rattle.sr_keeps.specs.Making.{IsTableOf}
-use Rattle.sr_keeps.proofs.Sound.{all_there}
 
 -- the statement of each thing is in normal form
 pub record EachNormal (c : Lists) : Type 0 where
@@ -105,22 +103,17 @@ key_kept columns (n ∷ key) all =
     ap (λ (o : Option ℕ). filter_map (name_at columns) (cons_option o places)) one.1
     ∙ (ap (λ (o : Option (List ℕ)). cons_option o (filter_map (name_at columns) places)) one.2 ∙ ap (λ (ns : List (List ℕ)). n ∷ ns) (key_kept columns key all.1))
 
--- an accepted CREATE TABLE makes what it writes
-pub table_written : (c : Lists) (t : CreateTable) → refusal c (stmt.CreateTable t) ≡ None → IsTableOf t (table_of t)
+-- what an accepted CREATE TABLE makes has that statement again
+pub table_again : (c : Lists) (t : CreateTable) → refusal c (stmt.CreateTable t) ≡ None → table_rule (table_of t) ≡ t
 unfolding table_of create_table_causes
-table_written c t h =
+table_again c t h =
     let none : NoCause (create_table_causes c t) = no_cause_of c (stmt.CreateTable t) h in
-    record {
-      name = refl;
-      columns = columns_kept t.columns;
-      key = key_kept t.columns t.key (all_there (λ n. taken rule_name n t.columns) t.key none.missing);
-    }
+    let key = key_kept t.columns t.key (all_there (λ n. taken rule_name n t.columns) t.key none.missing) in
+    let columns = columns_kept t.columns in
+    λ i. record { name = t.name; columns = columns i; key = key i }
 
 table_normal : (c : Lists) (t : CreateTable) → IsNormalTable t → refusal c (stmt.CreateTable t) ≡ None → IsNormalTable (table_rule (table_of t))
-table_normal c t normal h =
-    let is = table_written c t h in
-    let rule : table_rule (table_of t) ≡ t = λ i. record { name = is.name i; columns = is.columns i; key = is.key i } in
-    subst (λ (r : CreateTable). IsNormalTable r) (sym rule) normal
+table_normal c t normal h = subst (λ (r : CreateTable). IsNormalTable r) (sym (table_again c t h)) normal
 
 -- ---- publications
 

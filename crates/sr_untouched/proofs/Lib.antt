@@ -1,0 +1,16 @@
+pub mod Inserted
+pub mod Keyed
+pub mod Updated
+pub mod Left
+pub mod Shown
+pub mod Told
+pub mod Moved
+pub mod Above
+pub mod Back
+pub mod Synced
+pub mod Along
+pub mod Below
+pub mod Joined
+pub mod All
+pub mod Sampled
+pub mod Local

@@ -1,0 +1,4 @@
+pub mod Agreeing
+pub mod Leaving
+pub mod Sample
+pub mod Untouched
