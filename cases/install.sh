@@ -5,8 +5,13 @@
 # Usage: cases/install.sh, behind a build
 top=$(cd "$(dirname "$0")/.." && pwd -P) || exit 125
 folder=$(mktemp -d) || exit 125
-trap 'rm -rf "$folder"' EXIT
+tools=$(mktemp -d) || exit 125
+trap 'rm -rf "$folder" "$tools"' EXIT
 wrong=0
+# Where there is no program of this tree, none is proved and built here.
+printf '#!/bin/sh\nexit 1\n' >"$tools/rt"
+chmod 755 "$tools/rt"
+PATH=$tools:$PATH
 
 say() {
     echo "install: $*"

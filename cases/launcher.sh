@@ -113,14 +113,18 @@ expect 'no word' 2 alone 'words refused'
 told '^usage: dbremote init'
 expect 'a database that is not there' 3 alone 'database missing' sql zz
 ! grep -q usage "$folder/errors" || say 'the usage is printed for words that are right'
-awk '{
+LC_ALL=C awk '{
+    while (match($0, /%[0-9a-f][0-9a-f]/)) {
+        byte = 16 * index(digits, substr($0, RSTART + 1, 1)) + index(digits, substr($0, RSTART + 2, 1)) - 17
+        $0 = substr($0, 1, RSTART - 1) sprintf(byte < 128 ? "\\%c" : "%c", byte) substr($0, RSTART + 3)
+    }
     while (match($0, /{[0-9]+\*.[^}]*}/)) {
         part = substr($0, RSTART + 1, RLENGTH - 2); star = index(part, "*"); many = ""
         for (i = 0; i < substr(part, 1, star - 1) + 0; i++) many = many substr(part, star + 1)
         $0 = substr($0, 1, RSTART - 1) many substr($0, RSTART + RLENGTH)
     }
     print
-}' "$top/cases/words.txt" >"$folder/words"
+}' digits=0123456789abcdef "$top/cases/words.txt" >"$folder/words"
 . "$tree/release/words.sh"
 lines=0
 right=0

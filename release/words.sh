@@ -131,7 +131,7 @@ take_name() {
 is_place() {
     case $1 in
         '') return 1 ;;
-        *[!\ -~]*) [ "$(printf %s "$1" | wc -c)" -le 255 ] && printf %s "$1" | iconv -f UTF-8 -t UTF-8 >/dev/null 2>&1 ;;
+        *[!\ -~]*) [ "$(printf %s "$1" | wc -c)" -le 255 ] && printf %s "$1" | iconv -f UTF-8 -t UTF-16LE >/dev/null 2>&1 ;;
         *) [ ${#1} -le 255 ] ;;
     esac
 }

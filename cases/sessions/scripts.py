@@ -19,7 +19,7 @@ REFUSED_AT_ONCE = b"DROP TABLE zzz; "
 # the pieces of a script, and what is put between them to spoil it
 PIECES = re.compile(r"('(?:[^']|'')*'|[A-Za-z_0-9]+|<=|>=|<>|\s+)")
 SPOILING = """NULL ( ) , ; . - + * = <> PRIMARY KEY NOT IS AND OR WHERE SET FROM AS JOIN ON END IF THEN ELSE id 5 'x' DATE TABLE FOR ORDER BY COUNT VALUES
-9223372036854775808 9223372036854775809 32768 old type INTEGER ' $ --""".split()
+9223372036854775808 9223372036854775809 32768 old type INTEGER ' $ -- OPTION alter ADD default GLOBAL autoincrement SEND every AT""".split()
 
 
 class Scripts(Drawing):

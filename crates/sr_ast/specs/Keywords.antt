@@ -75,6 +75,15 @@ spelling key.Only = codes "ONLY"
 spelling key.Or = codes "OR"
 spelling key.And = codes "AND"
 spelling key.Is = codes "IS"
+spelling key.Option = codes "OPTION"
+spelling key.Alter = codes "ALTER"
+spelling key.Add = codes "ADD"
+spelling key.Default = codes "DEFAULT"
+spelling key.Global = codes "GLOBAL"
+spelling key.Autoincrement = codes "AUTOINCREMENT"
+spelling key.Send = codes "SEND"
+spelling key.Every = codes "EVERY"
+spelling key.At = codes "AT"
 
 -- a word with its letters in lower case
 abbrev pub lower : List ℕ → List ℕ
@@ -96,4 +105,13 @@ named key.Remote = Some (codes "remote")
 named key.Type = Some (codes "type")
 named key.File = Some (codes "file")
 named key.Address = Some (codes "address")
+named key.Option = Some (codes "option")
+named key.Alter = Some (codes "alter")
+named key.Add = Some (codes "add")
+named key.Default = Some (codes "default")
+named key.Global = Some (codes "global")
+named key.Autoincrement = Some (codes "autoincrement")
+named key.Send = Some (codes "send")
+named key.Every = Some (codes "every")
+named key.At = Some (codes "at")
 named k = None

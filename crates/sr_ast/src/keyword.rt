@@ -70,4 +70,13 @@ pub enum Keyword {
     Or,
     And,
     Is,
+    Option,
+    Alter,
+    Add,
+    Default,
+    Global,
+    Autoincrement,
+    Send,
+    Every,
+    At,
 }

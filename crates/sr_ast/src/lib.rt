@@ -9,6 +9,7 @@ mod classes;
 mod copying;
 mod create;
 mod expr;
+mod form;
 mod keyword;
 mod operator;
 mod page;
@@ -31,6 +32,7 @@ pub use create::{
     SubscriptionRule,
 };
 pub use expr::{Expr, Operand};
+pub use form::Form;
 pub use keyword::Keyword;
 pub use operator::{Binary, Unary};
 pub use print_stmt::print;

@@ -1,7 +1,8 @@
 ghost use Rattle.std.specs.Prelude.{◌≡◌};
-ghost use Rattle.sr_ast.specs.Statements.{is_ddl, is_carried};
+ghost use Rattle.sr_ast.specs.Statements.{form, is_ddl, is_carried};
 
 use crate::create::{CreatePublication, CreateTable, CreateTrigger, Grant, SubscriptionRule};
+use crate::form::Form;
 use crate::query::{Dml, Select};
 use sr_base::{Copied, Name, NoMemory, Seq};
 use std::alloc::Global;
@@ -28,6 +29,37 @@ pub enum Stmt {
     Rollback,
     Passthrough(Passthrough),
     PassthroughStop,
+}
+
+impl Stmt {
+    /// Which statement it is.
+    pub fn form(&self) -> Form
+        ensures { result ≡ form self.now }
+    {
+        match self {
+            Stmt::CreateTable(_) => Form::CreateTable,
+            Stmt::DropTable(_) => Form::DropTable,
+            Stmt::CreatePublication(_) => Form::CreatePublication,
+            Stmt::DropPublication(_) => Form::DropPublication,
+            Stmt::GrantRemote(_) => Form::GrantRemote,
+            Stmt::GrantConsolidate(_) => Form::GrantConsolidate,
+            Stmt::CreateSubscription(_) => Form::CreateSubscription,
+            Stmt::StartSubscription(_) => Form::StartSubscription,
+            Stmt::StopSubscription(_) => Form::StopSubscription,
+            Stmt::Synchronize(_) => Form::Synchronize,
+            Stmt::DropSubscription(_) => Form::DropSubscription,
+            Stmt::CreateTrigger(_) => Form::CreateTrigger,
+            Stmt::DropTrigger(_) => Form::DropTrigger,
+            Stmt::Dml(Dml::Insert(_)) => Form::Insert,
+            Stmt::Dml(Dml::Update(_)) => Form::Update,
+            Stmt::Dml(Dml::Delete(_)) => Form::Delete,
+            Stmt::Select(_) => Form::Select,
+            Stmt::Commit => Form::Commit,
+            Stmt::Rollback => Form::Rollback,
+            Stmt::Passthrough(_) => Form::Passthrough,
+            Stmt::PassthroughStop => Form::PassthroughStop,
+        }
+    }
 }
 
 /// `PASSTHROUGH ONLY FOR users`

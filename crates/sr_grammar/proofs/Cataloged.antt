@@ -1,18 +1,17 @@
 -- Statements on the catalog in print spell themselves.
-use Rattle.std.proofs.Common.{◌≡◌, ℕ, ◌^◌, ◌<◌, Bool, true, false, List, [], ◌∷◌, ◌++◌, Option, Some, None, refl, sym, ◌∙◌, inl, inr, ◌⊎◌, codes, decimal, pos, IsUtf8, arith, Contains, IsTrue}
+use Rattle.std.proofs.Common.{◌≡◌, ℕ, ◌^◌, ◌<◌, Bool, true, false, List, [], ◌∷◌, ◌++◌, Option, Some, None, refl, sym, ◌∙◌, inl, inr, ◌⊎◌, codes, decimal, pos, arith, Contains, IsTrue}
 use Rattle.std.specs.List.{AllByRecursion}
 use Rattle.sr_base.specs.declared.value.Value.{Value}
 use Rattle.sr_base.specs.declared.value.Kind.{Kind}
 use Rattle.sr_base.specs.declared.value.Kind.TheVariants as kind
 use Rattle.sr_ast.specs.Pages.{word, listed, led, in_parentheses}
-use Rattle.sr_ast.specs.Printing.{name_pieces, names_pieces, kind_pieces, value_pieces, quoted, expr_pieces}
-use Rattle.sr_ast.specs.Layout.{words_if, column_rule_pieces, key_pieces, create_table_pieces, article_pieces, create_publication_pieces, text_pieces, grant_pieces, given_value_pieces, subscription_pieces}
+use Rattle.sr_ast.specs.Printing.{name_pieces, names_pieces, kind_pieces, value_pieces, expr_pieces}
+use Rattle.sr_ast.specs.Layout.{words_if, column_rule_pieces, key_pieces, create_table_pieces, article_pieces, create_publication_pieces, given_value_pieces, subscription_pieces}
 use Rattle.sr_ast.specs.declared.expr.Expr.{Expr}
 use Rattle.sr_ast.specs.declared.create.CreateTable.{CreateTable}
 use Rattle.sr_ast.specs.declared.create.ColumnRule.{ColumnRule}
 use Rattle.sr_ast.specs.declared.create.CreatePublication.{CreatePublication}
 use Rattle.sr_ast.specs.declared.create.ArticleRule.{ArticleRule}
-use Rattle.sr_ast.specs.declared.create.Grant.{Grant}
 use Rattle.sr_ast.specs.declared.create.SubscriptionRule.{SubscriptionRule}
 use Rattle.sr_ast.specs.declared.keyword.Keyword.{Keyword}
 use Rattle.sr_ast.specs.declared.keyword.Keyword.TheVariants as key
@@ -23,18 +22,18 @@ use Rattle.sr_grammar.specs.Symbols.{Symbols, IsName, word as key_symbol, sign}
 use Rattle.sr_grammar.specs.Listing.{Listed, IsNames}
 use Rattle.sr_grammar.specs.Listing.Listed.{one as list_one, more as list_more}
 use Rattle.sr_grammar.specs.Writing.{IsCondition}
-use Rattle.sr_grammar.specs.Catalog.{IsKind, IsSubscribed, IsArticle, IsPublication, IsAddress, IsGrant, IsSigned, IsGiven, IsSubscription}
+use Rattle.sr_grammar.specs.Catalog.{IsKind, IsSubscribed, IsArticle, IsPublication, IsSigned, IsGiven, IsSubscription}
 use Rattle.sr_grammar.specs.Tables.{IsRules, IsColumnRule, IsColumns, IsKeyList, IsKeyed, IsTable, AreNormal}
 use Rattle.sr_grammar.specs.Tables.IsRules.{none as no_rule, not_null}
 use Rattle.sr_grammar.specs.Tables.IsColumns.{one, more}
 use Rattle.sr_grammar.specs.Scripts.{IsBehind, IsBehindTwo}
 use Rattle.sr_ast.specs.Normal.{IsNoneOr, IsPlain, IsNormalValue, IsNormalKind, IsNormalExpr}
-use Rattle.sr_ast.specs.NormalForms.{IsNormalRule, IsNormalTable, IsNormalArticle, IsNormalPublication, IsNormalGrant, IsNormalSubscription}
+use Rattle.sr_ast.specs.NormalForms.{IsNormalRule, IsNormalTable, IsNormalArticle, IsNormalPublication, IsNormalSubscription}
 use Rattle.sr_grammar.proofs.Saying.{Spelt, word_says, phrase_says, phrase, call_parenthesis_says, close_parenthesis_says, comma_says}
 use Rattle.sr_grammar.proofs.Listed.{listed_spelt, enclosed, all_of}
 use Rattle.sr_grammar.proofs.Naming.{name_spelt, names_spelt}
 use Rattle.sr_grammar.proofs.Valued.{number_lexeme}
-use Rattle.sr_grammar.proofs.Signed.{signed_spelt, text_lexeme}
+use Rattle.sr_grammar.proofs.Signed.{signed_spelt}
 use Rattle.sr_grammar.proofs.Termed.{expr_spelt}
 use Rattle.sr_grammar.proofs.Rowed.{ahead, condition_spelt}
 
@@ -165,25 +164,7 @@ publication_spelt c p ps after h =
       (n.0, refl, record { open_ = sign mark.Open ∷ e.inside; inside = e.inside; close = e.close; name = n.2; opened = refl; articles = e.is; closed = e.closed }),
     )
 
--- ---- users and subscriptions
-
-address_spelt : (a : Option (List ℕ)) → IsNoneOr IsUtf8 a → Spelt IsAddress a (led (codes "TYPE FILE ADDRESS") text_pieces a)
-address_spelt None p ps after h = (after, h, refl)
-address_spelt (Some text) p ps after h = (
-  key_symbol key.Type ∷ key_symbol key.File ∷ key_symbol key.Address ∷ symbol.Text text ∷ after,
-  phrase_says (codes "TYPE FILE ADDRESS") key.Type (key.File ∷ key.Address ∷ []) refl (word_says (quoted text) (symbol.Text text) (text_lexeme text p) h),
-  refl,
-)
-
-pub grant_spelt : (words : List ℕ) (k : Keyword) → words ≡ phrase key.Grant (k ∷ key.To ∷ []) → (g : Grant) → IsNormalGrant g → Spelt (IsBehindTwo key.Grant k IsGrant) g (word words ∷ grant_pieces g)
-unfolding grant_pieces
-grant_spelt words k is g p ps after h =
-    let a = address_spelt g.address p.1 ps after h in
-    let u = name_spelt g.user p.0 (led (codes "TYPE FILE ADDRESS") text_pieces g.address ++ ps) a.0 a.1 in (
-      key_symbol key.Grant ∷ key_symbol k ∷ key_symbol key.To ∷ u.0,
-      phrase_says words key.Grant (k ∷ key.To ∷ []) is u.1,
-      (key_symbol key.To ∷ u.0, refl, record { named = u.0; addressed = a.0; to = refl; user = u.2; address = a.2 }),
-    )
+-- ---- subscriptions
 
 given_spelt : (v : Option Value) → IsNoneOr IsNormalValue v → Spelt IsGiven v (given_value_pieces v)
 given_spelt None p ps after h = (after, h, refl)

@@ -6,7 +6,6 @@ use Rattle.sr_base.specs.declared.value.Kind.TheVariants as kind
 use Rattle.sr_ast.specs.declared.expr.Expr.{Expr}
 use Rattle.sr_ast.specs.declared.create.CreatePublication.{CreatePublication}
 use Rattle.sr_ast.specs.declared.create.ArticleRule.{ArticleRule}
-use Rattle.sr_ast.specs.declared.create.Grant.{Grant}
 use Rattle.sr_ast.specs.declared.create.SubscriptionRule.{SubscriptionRule}
 use Rattle.sr_ast.specs.declared.keyword.Keyword.TheVariants as key
 use Rattle.sr_grammar.specs.declared.symbol.Sign.TheVariants as mark
@@ -15,12 +14,13 @@ use Rattle.sr_grammar.specs.declared.symbol.Symbol.TheVariants as symbol
 use Rattle.sr_grammar.specs.Symbols.{Symbols, IsSign}
 use Rattle.sr_grammar.specs.Literals.{IsLiteral, literal_meant}
 use Rattle.sr_grammar.specs.Expressions.{IsExpr}
-use Rattle.sr_grammar.specs.Catalog.{IsLength, IsVarchar, IsKind, IsSubscribed, IsArticle, IsPublication, IsAddress, IsGrant, IsSigned, IsGiven, IsSubscription}
-use Rattle.sr_grammar.specs.Going.{Stop, expression_goes, is_open, Ends, is_where, Closes}
+use Rattle.sr_grammar.specs.Catalog.{IsLength, IsVarchar, IsKind, IsSubscribed, IsArticle, IsPublication, IsSigned, IsGiven, IsSubscription}
+use Rattle.sr_grammar.specs.Going.{Stop, expression_goes, is_open, is_where, Closes}
 use Rattle.sr_grammar.proofs.Steps.{Stop-at, Stop-begins, IsName-once, Once, two_parts, three_parts, four_parts}
 use Rattle.sr_grammar.proofs.Expressing.{IsExpr-once, literal_once, negative_once}
-use Rattle.sr_grammar.proofs.Lists.{Listed-once, Ends-stop, Closes-stop, closing, IsNames-once}
+use Rattle.sr_grammar.proofs.Lists.{Listed-once, Closes-stop, closing, IsNames-once}
 use Rattle.sr_grammar.proofs.Selecting.{led_stops, condition_once}
+pub use Rattle.sr_grammar.proofs.Granted.{grant_once}
 
 abbrev pub is_subscribe : Symbol → Bool
 is_subscribe (symbol.Keyword key.Subscribe) = true
@@ -103,26 +103,6 @@ publication_once {s = s} {t = t} e h k =
     let inside : h.inside ≡ k.inside = cc in
     let articles = Listed-once IsArticle Closes article_once (λ b n c. inl (n, c)) inside h.articles k.articles (closing IsArticle hc) (closing IsArticle kc) in
     let close = articles.1 in (publication_same s t name.0 articles.0, cc)
-
-abbrev is_type : Symbol → Bool
-is_type (symbol.Keyword key.Type) = true
-is_type s = false
-
-address_once : (before here : Symbols) (x : Option (List ℕ)) (after : Symbols) (y : Option (List ℕ)) (rest : Symbols) → before ≡ here → IsAddress before x after → IsAddress here y rest → Ends after → Ends rest → (x ≡ y) × (after ≡ rest)
-address_once before here None after None rest e h k p q = (refl, cc)
-address_once before here None after (Some y) rest e h k p q = absurd (Stop-begins is_type (sym h ∙ (e ∙ k)) refl (Ends-stop is_type after refl p))
-address_once before here (Some x) after None rest e h k p q = absurd (Stop-begins is_type (sym k ∙ (sym e ∙ h)) refl (Ends-stop is_type rest refl q))
-address_once before here (Some x) after (Some y) rest e h k p q = (cc, cc)
-
-grant_same : (s t : Grant) → s.user ≡ t.user → s.address ≡ t.address → s ≡ t
-grant_same s t a b = two_parts (λ (n : List ℕ) (o : Option (List ℕ)). let x : Grant = record { user = n; address = o } in x) a b
-
-pub grant_once : {before here after rest : Symbols} {s t : Grant} → before ≡ here → IsGrant before s after → IsGrant here t rest → Ends after → Ends rest → (s ≡ t) × (after ≡ rest)
-grant_once {after = after} {rest = rest} {s = s} {t = t} e h k p q =
-    let ht = h.to in let kt = k.to in let named : h.named ≡ k.named = cc in
-    let user = IsName-once named h.user k.user in
-    let address = address_once h.addressed k.addressed s.address after t.address rest user.1 h.address k.address p q in
-    (grant_same s t user.0 address.0, address.1)
 
 pub literal_no_minus : (before here after next : Symbols) (v : Value) → before ≡ here → IsLiteral before v after → IsSign here mark.Minus next → ⊥
 literal_no_minus before here after next v e (inl l) o =

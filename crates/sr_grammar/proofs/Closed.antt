@@ -1,5 +1,5 @@
 -- What a text spells is in normal form: triggers, and all of a script.
-use Rattle.std.proofs.Common.{ℕ, ◌+◌, ◌-◌, ◌<◌, ◌≤◌, max, List, [], ◌∷◌, ◌++◌, map, Result, sym, subst, inl, inr, arith}
+use Rattle.std.proofs.Common.{◌≡◌, ℕ, ◌+◌, ◌-◌, ◌<◌, ◌≤◌, max, List, [], ◌∷◌, ◌++◌, map, Result, sym, subst, inl, inr, arith}
 use Rattle.std.specs.List.{AllByRecursion}
 use Rattle.sr_ast.specs.Exprs.{term_of}
 use Rattle.sr_ast.specs.Chains.{Chain}
@@ -9,7 +9,7 @@ use Rattle.sr_ast.specs.declared.expr.Expr.{Expr}
 use Rattle.sr_ast.specs.declared.action.Action.{Action}
 use Rattle.sr_ast.specs.declared.action.Action.TheVariants as action
 use Rattle.sr_ast.specs.declared.stmt.Stmt.{Stmt}
-use Rattle.sr_ast.specs.declared.stmt.Stmt.TheVariants as stmt
+use Rattle.sr_ast.specs.declared.form.Form.TheVariants as forms
 use Rattle.sr_grammar.specs.Symbols.{Symbols, IsName}
 use Rattle.sr_grammar.specs.Triggers.{Amount, Acts, IsActions, IsOf, IsAlias, IsVariable, IsTrigger}
 use Rattle.sr_grammar.specs.Triggers.Acts.{none as no_act, then as and_then, set as set_act, insert as insert_act, when as when_act, choose as choose_act}
@@ -22,8 +22,9 @@ use Rattle.sr_ast.specs.Normal.{IsPlain, IsSomeOf, IsNormalDeep, IsNormalExpr}
 use Rattle.sr_ast.specs.NormalForms.{IsNormalAlias, IsNormalVariable, IsNormalChain, ifs, IsNormalTrigger, IsNormal}
 use Rattle.sr_grammar.proofs.Listed.{all_of}
 use Rattle.sr_grammar.proofs.Sound.{AreSound, Gives, past, moved, name_gives, listed_gives, row_gives, names_gives, tokens_sound, all_push}
-use Rattle.sr_grammar.proofs.Settled.{past_two, column_gives, expr_gives, row_of_gives, dml_gives, select_gives}
-use Rattle.sr_grammar.proofs.Ended.{kind_gives, table_gives, publication_gives, grant_gives, subscription_gives, passthrough_gives, past_work}
+use Rattle.sr_grammar.proofs.Settled.{past_two, column_gives, expr_gives, row_of_gives, insert_gives, update_gives, delete_gives, select_gives}
+use Rattle.sr_grammar.proofs.Ended.{kind_gives, table_gives, publication_gives, subscription_gives, passthrough_gives, past_work}
+use Rattle.sr_grammar.proofs.Granted.{grant_proper}
 use Rattle.sr_grammar.proofs.Stated.{printed-is_written}
 
 -- ---- actions
@@ -125,26 +126,32 @@ trigger_gives before after c x h =
 
 -- ---- statements and scripts
 
+-- a statement that is equal is in normal form too
+as_normal : {s t : Stmt} {Q : Type 0} → s ≡ t → IsNormal t × Q → IsNormal s × Q
+as_normal e p = (subst IsNormal (sym e) p.0, p.1)
+
 statement_gives : Gives IsStatement IsNormal
-statement_gives before after (stmt.CreateTable c) (next, w, x) h = table_gives next after c x (past_two w h)
-statement_gives before after (stmt.DropTable n) (next, w, x) h = name_gives next after n x (past_two w h)
-statement_gives before after (stmt.CreatePublication c) (next, w, x) h = publication_gives next after c x (past_two w h)
-statement_gives before after (stmt.DropPublication n) (next, w, x) h = name_gives next after n x (past_two w h)
-statement_gives before after (stmt.GrantRemote g) (next, w, x) h = grant_gives next after g x (past_two w h)
-statement_gives before after (stmt.GrantConsolidate g) (next, w, x) h = grant_gives next after g x (past_two w h)
-statement_gives before after (stmt.CreateSubscription s) (next, w, x) h = subscription_gives next after s x (past w h).1
-statement_gives before after (stmt.StartSubscription s) (next, w, x) h = subscription_gives next after s x (past w h).1
-statement_gives before after (stmt.StopSubscription s) (next, w, x) h = subscription_gives next after s x (past w h).1
-statement_gives before after (stmt.Synchronize s) (next, w, x) h = subscription_gives next after s x (past w h).1
-statement_gives before after (stmt.DropSubscription s) (next, w, x) h = subscription_gives next after s x (past w h).1
-statement_gives before after (stmt.CreateTrigger c) (next, w, x) h = trigger_gives next after c x (past_two w h)
-statement_gives before after (stmt.DropTrigger n) (next, w, x) h = name_gives next after n x (past_two w h)
-statement_gives before after (stmt.Dml d) x h = dml_gives before after d x h
-statement_gives before after (stmt.Select s) (next, w, x) h = select_gives next after s x (past w h).1
-statement_gives before after stmt.Commit (next, w, x) h = (tt, past_work x (past w h).1)
-statement_gives before after stmt.Rollback (next, w, x) h = (tt, past_work x (past w h).1)
-statement_gives before after (stmt.Passthrough p) (next, w, x) h = passthrough_gives next after p x (past w h).1
-statement_gives before after stmt.PassthroughStop w h = (tt, past_two w h)
+statement_gives before after s (forms.CreateTable, (next, w, (c, e, x))) h = as_normal e (table_gives next after c x (past_two w h))
+statement_gives before after s (forms.DropTable, (next, w, (c, e, x))) h = as_normal e (name_gives next after c x (past_two w h))
+statement_gives before after s (forms.CreatePublication, (next, w, (c, e, x))) h = as_normal e (publication_gives next after c x (past_two w h))
+statement_gives before after s (forms.DropPublication, (next, w, (c, e, x))) h = as_normal e (name_gives next after c x (past_two w h))
+statement_gives before after s (forms.GrantRemote, (next, w, (c, e, x))) h = as_normal e (grant_proper.gives next after c x (past_two w h))
+statement_gives before after s (forms.GrantConsolidate, (next, w, (c, e, (m, v, x)))) h = as_normal e (grant_proper.gives m after c x (past v (past w h).1).1)
+statement_gives before after s (forms.CreateSubscription, (next, w, (c, e, x))) h = as_normal e (subscription_gives next after c x (past w h).1)
+statement_gives before after s (forms.StartSubscription, (next, w, (c, e, x))) h = as_normal e (subscription_gives next after c x (past w h).1)
+statement_gives before after s (forms.StopSubscription, (next, w, (c, e, x))) h = as_normal e (subscription_gives next after c x (past w h).1)
+statement_gives before after s (forms.Synchronize, (next, w, (c, e, x))) h = as_normal e (subscription_gives next after c x (past w h).1)
+statement_gives before after s (forms.DropSubscription, (next, w, (c, e, x))) h = as_normal e (subscription_gives next after c x (past w h).1)
+statement_gives before after s (forms.CreateTrigger, (next, w, (c, e, x))) h = as_normal e (trigger_gives next after c x (past_two w h))
+statement_gives before after s (forms.DropTrigger, (next, w, (c, e, x))) h = as_normal e (name_gives next after c x (past_two w h))
+statement_gives before after s (forms.Insert, (next, w, (c, e, x))) h = as_normal e (insert_gives next after c x (past w h).1)
+statement_gives before after s (forms.Update, (next, w, (c, e, x))) h = as_normal e (update_gives next after c x (past w h).1)
+statement_gives before after s (forms.Delete, (next, w, (c, e, x))) h = as_normal e (delete_gives next after c x (past w h).1)
+statement_gives before after s (forms.Select, (next, w, (c, e, x))) h = as_normal e (select_gives next after c x (past w h).1)
+statement_gives before after s (forms.Commit, (next, w, (c, e, x))) h = as_normal e (tt, past_work x (past w h).1)
+statement_gives before after s (forms.Rollback, (next, w, (c, e, x))) h = as_normal e (tt, past_work x (past w h).1)
+statement_gives before after s (forms.Passthrough, (next, w, (c, e, x))) h = as_normal e (passthrough_gives next after c x (past w h).1)
+statement_gives before after s (forms.PassthroughStop, (next, w, (c, e, x))) h = as_normal e (tt, moved x (past_two w h))
 
 pieces_give : {stage : Stage} {before after : Symbols} {xs : List Stmt} → Pieces stage before xs after → AreSound before → AllByRecursion IsNormal xs × AreSound after
 pieces_give start h = (tt, h)

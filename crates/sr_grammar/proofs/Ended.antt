@@ -1,16 +1,16 @@
 -- What a text spells is in normal form: statements on the catalog, triggers, and all of a script.
-use Rattle.std.proofs.Common.{if◌then◌else◌, ◌≡◌, ℕ, Bool, true, false, List, [], ◌∷◌, Some, None, sym, subst, inl, inr, ◌⊎◌, IsUtf8, Contains}
+use Rattle.std.proofs.Common.{if◌then◌else◌, ◌≡◌, ℕ, Bool, true, false, List, [], ◌∷◌, Some, None, sym, subst, inl, inr, ◌⊎◌, Contains}
 use Rattle.std.specs.List.{AllByRecursion}
 use Rattle.sr_base.specs.declared.value.Kind.TheVariants as kind
 use Rattle.sr_ast.specs.declared.create.ColumnRule.{ColumnRule}
 use Rattle.sr_grammar.specs.Symbols.{Symbols, IsName}
-use Rattle.sr_grammar.specs.Catalog.{IsKind, IsSubscribed, IsArticle, IsPublication, IsAddress, IsGrant, IsGiven, IsSubscription}
+use Rattle.sr_grammar.specs.Catalog.{IsKind, IsSubscribed, IsArticle, IsPublication, IsGiven, IsSubscription}
 use Rattle.sr_grammar.specs.Tables.{IsRules, IsColumnRule, IsColumns, IsKeyWords, IsKeyList, IsKeyed, IsTable, AreNormal, IsNormal as TableNormal}
 use Rattle.sr_grammar.specs.Tables.IsRules.{none as no_rule, not_null, null, primary}
 use Rattle.sr_grammar.specs.Tables.IsColumns.{one, more}
 use Rattle.sr_grammar.specs.Scripts.{IsWork, IsOnly, IsPassthrough}
 use Rattle.sr_ast.specs.Normal.{IsPlain, IsNoneOr, IsSomeOf, IsNormalValue, IsNormalKind, IsNormalExpr}
-use Rattle.sr_ast.specs.NormalForms.{IsNormalRule, IsNormalTable, IsNormalArticle, IsNormalPublication, IsNormalGrant, IsNormalSubscription, IsNormalPassthrough}
+use Rattle.sr_ast.specs.NormalForms.{IsNormalRule, IsNormalTable, IsNormalArticle, IsNormalPublication, IsNormalSubscription, IsNormalPassthrough}
 use Rattle.sr_grammar.proofs.Listed.{all_of}
 use Rattle.sr_grammar.proofs.Sound.{AreSound, Gives, past, moved, name_gives, signed_gives, listed_gives, names_gives, some_push}
 use Rattle.sr_grammar.proofs.Settled.{past_two, expr_gives, condition_gives}
@@ -43,16 +43,6 @@ publication_gives before after p x h =
     let n = name_gives before x.open_ p.name x.name h in
     let l = listed_gives IsArticle IsNormalArticle article_gives x.inside x.close p.articles x.articles (past x.opened n.1).1 in
     ((n.0, l.0), (past x.closed l.1).1)
-
-address_gives : Gives IsAddress (IsNoneOr IsUtf8)
-address_gives before after None e h = (tt, moved e h)
-address_gives before after (Some text) e h = let p = (subst AreSound e h).1.1.1 in (p.0, p.1)
-
-pub grant_gives : Gives IsGrant IsNormalGrant
-grant_gives before after g x h =
-    let u = name_gives x.named x.addressed g.user x.user (past x.to h).1 in
-    let a = address_gives x.addressed after g.address x.address u.1 in
-    ((u.0, a.0), a.1)
 
 given_gives : Gives IsGiven (IsNoneOr IsNormalValue)
 given_gives before after None e h = (tt, moved e h)

@@ -5,12 +5,15 @@ pub mod Columns
 pub mod Ended
 pub mod Expressing
 pub mod Following
+pub mod Forms
+pub mod Granted
 pub mod Keywords
 pub mod Lexemes
 pub mod Listed
 pub mod Lists
 pub mod Meaning
 pub mod Naming
+pub mod Parts
 pub mod Rowed
 pub mod Saying
 pub mod Selecting

@@ -1,19 +1,16 @@
 -- Names in print spell names of the grammar.
-use Rattle.std.proofs.Common.{suc, ◌≡◌, ℕ, Bool, true, false, List, [], ◌∷◌, Option, Some, None, refl, sym, ap, ◌∙◌, inl, inr, ◌&&◌, length, nat_le, arith}
+use Rattle.std.proofs.Common.{suc, ◌≡◌, ℕ, true, List, [], ◌∷◌, Option, Some, None, refl, sym, ap, ◌∙◌, inl, inr, ◌&&◌, length, nat_le, arith}
 use Rattle.std.specs.Char.{to_ascii_lowercase}
 use Rattle.std.proofs.lemmas.Bool.{and_parts, and_from, or_left}
 use Rattle.std.proofs.lemmas.Bool.Decides.{nat_tests}
 use Rattle.sr_base.specs.Names.{is_first, is_later, is_lower_name, is_name}
 use Rattle.sr_base.proofs.NameCase.{is_lower_name-lowered}
 use Rattle.sr_lex.specs.Tokens.{is_start, is_part, is_digit, is_word}
-use Rattle.std.specs.Str.{bytes_eq}
-use Rattle.std.proofs.lemmas.Slice.Eq.{bytes_eq-Decides}
 use Rattle.std.specs.List.{AllByRecursion, list_all}
 use Rattle.sr_ast.specs.Pages.{word, dot, listed}
 use Rattle.sr_ast.specs.Printing.{name_pieces, column_pieces, names_pieces}
 use Rattle.sr_lex.specs.declared.token.TokenKind.TheVariants as kind
 use Rattle.sr_ast.specs.declared.keyword.Keyword.{Keyword}
-use Rattle.sr_ast.specs.declared.keyword.Keyword.TheVariants as key
 use Rattle.sr_grammar.specs.declared.symbol.Sign.TheVariants as mark
 use Rattle.sr_grammar.specs.declared.symbol.Symbol.{Symbol}
 use Rattle.sr_grammar.specs.declared.symbol.Symbol.TheVariants as symbol
@@ -21,7 +18,9 @@ use Rattle.sr_grammar.specs.Symbols.{IsName, name_meant, sign}
 use Rattle.sr_grammar.specs.Listing.{Listed, IsNames}
 use Rattle.sr_grammar.specs.Expressions.{IsColumn}
 use Rattle.sr_ast.specs.Normal.{IsPlain, IsPlainColumn}
-use Rattle.sr_ast.specs.Keywords.{named, IsKeyword, lower, spelling}
+use Rattle.sr_ast.specs.Keywords.{IsKeyword, IsNoKeyword, lower}
+use Rattle.sr_grammar.proofs.Words.{keywords}
+use Rattle.sr_grammar.proofs.Spellings.{found, lowered, found_is, never_found}
 use Rattle.sr_grammar.proofs.Saying.{Spelt, IsLexeme, word_says, no_part, dot_says}
 use Rattle.sr_grammar.proofs.Listed.{listed_spelt, enclosed}
 
@@ -81,126 +80,30 @@ record HasSymbol (name : List ℕ) : Type 0 where
   lexeme : IsLexeme name written
   means : name_meant written ≡ Some name
 
--- none of the key words that are also names
-record IsOther (name : List ℕ) : Type 0 where
-  old : bytes_eq name (lower (spelling key.Old)) ≡ false
-  new : bytes_eq name (lower (spelling key.New)) ≡ false
-  remote : bytes_eq name (lower (spelling key.Remote)) ≡ false
-  type : bytes_eq name (lower (spelling key.Type)) ≡ false
-  file : bytes_eq name (lower (spelling key.File)) ≡ false
-  address : bytes_eq name (lower (spelling key.Address)) ≡ false
-
-same_name : (x y : List ℕ) → Some x ≡ Some y → x ≡ y
-same_name x y e = cc
-
-clash : (name given : List ℕ) → Some given ≡ Some name → bytes_eq name given ≡ false → ⊥
-clash name given e f =
-    let yes = (bytes_eq-Decides name given).1 (sym (same_name given name e)) in
-    absurd cc
-
--- such a name is no key word
-no_key : (k : Keyword) (name : List ℕ) → named k ≡ Some name → IsOther name → ⊥
-no_key key.Create name e other = absurd cc
-no_key key.Table name e other = absurd cc
-no_key key.Primary name e other = absurd cc
-no_key key.Key name e other = absurd cc
-no_key key.Not name e other = absurd cc
-no_key key.Null name e other = absurd cc
-no_key key.Integer name e other = absurd cc
-no_key key.Int name e other = absurd cc
-no_key key.Bigint name e other = absurd cc
-no_key key.Varchar name e other = absurd cc
-no_key key.Date name e other = absurd cc
-no_key key.Drop name e other = absurd cc
-no_key key.Publication name e other = absurd cc
-no_key key.Where name e other = absurd cc
-no_key key.Subscribe name e other = absurd cc
-no_key key.By name e other = absurd cc
-no_key key.Grant name e other = absurd cc
-no_key key.Remote name e other = clash name (lower (spelling key.Remote)) e other.remote
-no_key key.To name e other = absurd cc
-no_key key.Type name e other = clash name (lower (spelling key.Type)) e other.type
-no_key key.File name e other = clash name (lower (spelling key.File)) e other.file
-no_key key.Address name e other = clash name (lower (spelling key.Address)) e other.address
-no_key key.Consolidate name e other = absurd cc
-no_key key.Start name e other = absurd cc
-no_key key.Stop name e other = absurd cc
-no_key key.Synchronize name e other = absurd cc
-no_key key.Subscription name e other = absurd cc
-no_key key.For name e other = absurd cc
-no_key key.Trigger name e other = absurd cc
-no_key key.Resolve name e other = absurd cc
-no_key key.Update name e other = absurd cc
-no_key key.Of name e other = absurd cc
-no_key key.On name e other = absurd cc
-no_key key.Referencing name e other = absurd cc
-no_key key.Old name e other = clash name (lower (spelling key.Old)) e other.old
-no_key key.New name e other = clash name (lower (spelling key.New)) e other.new
-no_key key.As name e other = absurd cc
-no_key key.Each name e other = absurd cc
-no_key key.Row name e other = absurd cc
-no_key key.Begin name e other = absurd cc
-no_key key.Declare name e other = absurd cc
-no_key key.End name e other = absurd cc
-no_key key.Set name e other = absurd cc
-no_key key.Insert name e other = absurd cc
-no_key key.Into name e other = absurd cc
-no_key key.Values name e other = absurd cc
-no_key key.If name e other = absurd cc
-no_key key.Then name e other = absurd cc
-no_key key.Else name e other = absurd cc
-no_key key.Delete name e other = absurd cc
-no_key key.From name e other = absurd cc
-no_key key.Select name e other = absurd cc
-no_key key.Count name e other = absurd cc
-no_key key.Sum name e other = absurd cc
-no_key key.Min name e other = absurd cc
-no_key key.Max name e other = absurd cc
-no_key key.Inner name e other = absurd cc
-no_key key.Join name e other = absurd cc
-no_key key.Order name e other = absurd cc
-no_key key.Asc name e other = absurd cc
-no_key key.Desc name e other = absurd cc
-no_key key.Commit name e other = absurd cc
-no_key key.Work name e other = absurd cc
-no_key key.Rollback name e other = absurd cc
-no_key key.Passthrough name e other = absurd cc
-no_key key.Only name e other = absurd cc
-no_key key.Or name e other = absurd cc
-no_key key.And name e other = absurd cc
-no_key key.Is name e other = absurd cc
-
-keyword_symbol : (name : List ℕ) (k : Keyword) → IsPlain name → name ≡ lower (spelling k) → named k ≡ Some (lower (spelling k)) → HasSymbol name
-keyword_symbol name k p e n = record {
-  written = symbol.Keyword k;
-  lexeme = record { kind = kind.Word; stands = λ rest apart. (name-is_word name p.written, no_part rest apart); means = name-lower name p.written ∙ e };
-  means = n ∙ ap (λ t. Some t) (sym e);
-}
-
-try_key : (name : List ℕ) (k : Keyword) → IsPlain name → named k ≡ Some (lower (spelling k)) → (b : Bool) → bytes_eq name (lower (spelling k)) ≡ b
-    → (bytes_eq name (lower (spelling k)) ≡ false → HasSymbol name) → HasSymbol name
-try_key name k p n true e next = keyword_symbol name k p ((bytes_eq-Decides name (lower (spelling k))).0 e) n
-try_key name k p n false e next = next e
-
--- a name that is no key word
-other_symbol : (name : List ℕ) → IsPlain name → IsOther name → HasSymbol name
-other_symbol name p other =
-    let free : (k : Keyword) → IsKeyword name k → ⊥ = λ k is. no_key k name (p.free k is) other in
+-- a name that a key word is
+keyword_symbol : (name : List ℕ) (k : Keyword) → IsPlain name → lowered k ≡ name → HasSymbol name
+keyword_symbol name k p is =
+    let same : IsKeyword name k = name-lower name p.written ∙ sym is in
     record {
-      written = symbol.Name name;
-      lexeme = record { kind = kind.Word; stands = λ rest apart. (name-is_word name p.written, no_part rest apart); means = (free, name-is_name name p.written, sym (name-lower name p.written)) };
-      means = refl;
+      written = symbol.Keyword k;
+      lexeme = record { kind = kind.Word; stands = λ rest apart. (name-is_word name p.written, no_part rest apart); means = same };
+      means = p.free k same;
     }
 
+-- a name that is no key word
+other_symbol : (name : List ℕ) → IsPlain name → IsNoKeyword name → HasSymbol name
+other_symbol name p free = record {
+  written = symbol.Name name;
+  lexeme = record { kind = kind.Word; stands = λ rest apart. (name-is_word name p.written, no_part rest apart); means = (free, name-is_name name p.written, sym (name-lower name p.written)) };
+  means = refl;
+}
+
+found_symbol : (name : List ℕ) → IsPlain name → (o : Option Keyword) → found lowered name keywords ≡ o → HasSymbol name
+found_symbol name p (Some k) e = keyword_symbol name k p (found_is lowered name keywords k e)
+found_symbol name p None e = other_symbol name p (λ k is. never_found k (ap (λ (w : List ℕ). found lowered w keywords) (sym is ∙ name-lower name p.written) ∙ e))
+
 name_symbol : (name : List ℕ) → IsPlain name → HasSymbol name
-name_symbol name p =
-    try_key name key.Old p refl (bytes_eq name (lower (spelling key.Old))) refl (λ old.
-    try_key name key.New p refl (bytes_eq name (lower (spelling key.New))) refl (λ new.
-    try_key name key.Remote p refl (bytes_eq name (lower (spelling key.Remote))) refl (λ remote.
-    try_key name key.Type p refl (bytes_eq name (lower (spelling key.Type))) refl (λ type.
-    try_key name key.File p refl (bytes_eq name (lower (spelling key.File))) refl (λ file.
-    try_key name key.Address p refl (bytes_eq name (lower (spelling key.Address))) refl (λ address.
-    other_symbol name p (record { old = old; new = new; remote = remote; type = type; file = file; address = address })))))))
+name_symbol name p = found_symbol name p (found lowered name keywords) refl
 
 pub name_spelt : (name : List ℕ) → IsPlain name → Spelt IsName name (name_pieces name)
 name_spelt name p ps after h =

@@ -3,11 +3,9 @@ use Rattle.std.proofs.Common.{◌≡◌, ℕ, Bool, true, false, List, [], ◌�
 use Rattle.std.specs.List.{AllByRecursion}
 use Rattle.sr_ast.specs.Pages.{Piece, word, close_parenthesis, listed, in_row, led}
 use Rattle.sr_ast.specs.Printing.{name_pieces, column_pieces, names_pieces, expr_pieces}
-use Rattle.sr_ast.specs.Layout.{words_if, row_of_exprs_pieces, insert_pieces, set_pieces, update_pieces, delete_pieces, dml_pieces, aggregate_pieces, item_pieces, items_pieces, source_pieces, join_pieces, order_pieces, ordered_pieces, select_pieces}
+use Rattle.sr_ast.specs.Layout.{words_if, row_of_exprs_pieces, insert_pieces, set_pieces, update_pieces, delete_pieces, aggregate_pieces, item_pieces, items_pieces, source_pieces, join_pieces, order_pieces, ordered_pieces, select_pieces}
 use Rattle.sr_ast.specs.declared.expr.Expr.{Expr}
 use Rattle.sr_ast.specs.declared.operator.Binary.TheVariants.{Equal, Multiply}
-use Rattle.sr_ast.specs.declared.query.Dml.{Dml}
-use Rattle.sr_ast.specs.declared.query.Dml.TheVariants as dml
 use Rattle.sr_ast.specs.declared.query.Insert.{Insert}
 use Rattle.sr_ast.specs.declared.query.Update.{Update}
 use Rattle.sr_ast.specs.declared.query.Delete.{Delete}
@@ -26,9 +24,9 @@ use Rattle.sr_grammar.specs.Symbols.{Symbols, IsName, word as key_symbol, sign}
 use Rattle.sr_grammar.specs.Listing.{Listed, Row, IsNames}
 use Rattle.sr_grammar.specs.Expressions.{IsExpr, IsColumn}
 use Rattle.sr_grammar.specs.Writing.{IsLed, IsCondition, IsRow, IsInsert, IsSet, IsUpdate, IsDelete, IsAggregate, IsItem, IsItems, IsSource, IsJoin, IsDirection, IsOrder, IsOrdering, IsSelect}
-use Rattle.sr_grammar.specs.Scripts.{IsBehind, IsDml}
+use Rattle.sr_grammar.specs.Scripts.{IsBehind}
 use Rattle.sr_ast.specs.Normal.{IsNoneOr, IsSomeOf, IsPlain, IsNormalExpr}
-use Rattle.sr_ast.specs.NormalForms.{IsNormalInsert, IsNormalSet, IsNormalUpdate, IsNormalDelete, IsNormalDml, IsNormalItem, AreNormalItems, IsNormalSource, IsNormalJoin, IsNormalOrder, IsNormalSelect}
+use Rattle.sr_ast.specs.NormalForms.{IsNormalInsert, IsNormalSet, IsNormalUpdate, IsNormalDelete, IsNormalItem, AreNormalItems, IsNormalSource, IsNormalJoin, IsNormalOrder, IsNormalSelect}
 use Rattle.sr_ast.specs.Keywords.{spelling}
 use Rattle.sr_grammar.proofs.Saying.{Says, Spelt, word_says, phrase_says, regrouped, call_parenthesis_says, close_parenthesis_says}
 use Rattle.sr_grammar.proofs.Listed.{listed_spelt, row_spelt as in_row_spelt, enclosed}
@@ -54,7 +52,7 @@ row_spelt row p ps after h =
     let e = enclosed (Listed IsExpr) row (listed expr_pieces row) (listed_spelt IsExpr IsNormalExpr expr_pieces expr_spelt row p) ps after h in
     (sign mark.Open ∷ e.inside, e.says, record { inside = e.inside; close = e.close; opened = refl; values = e.is; closed = e.closed })
 
-insert_spelt : (i : Insert) → IsNormalInsert i → Spelt (IsBehind key.Insert IsInsert) i (insert_pieces i)
+pub insert_spelt : (i : Insert) → IsNormalInsert i → Spelt (IsBehind key.Insert IsInsert) i (insert_pieces i)
 unfolding insert_pieces
 insert_spelt i p ps after h =
     let rows = listed row_of_exprs_pieces i.rows in
@@ -89,7 +87,7 @@ set_spelt s p ps after h =
     let n = name_spelt s.0 p.0 (word (codes "=") ∷ (expr_pieces s.1 ++ ps)) (sign mark.Equal ∷ e.0) q in
     (n.0, n.1, record { named = sign mark.Equal ∷ e.0; valued = e.0; name = n.2; equal = refl; value = e.2 })
 
-update_spelt : (u : Update) → IsNormalUpdate u → Spelt (IsBehind key.Update IsUpdate) u (update_pieces u)
+pub update_spelt : (u : Update) → IsNormalUpdate u → Spelt (IsBehind key.Update IsUpdate) u (update_pieces u)
 unfolding update_pieces
 update_spelt u p ps after h =
     let where_ = led (codes "WHERE") expr_pieces u.condition in
@@ -102,7 +100,7 @@ update_spelt u p ps after h =
       (t.0, refl, record { named = key_symbol key.Set ∷ s.0; sets = s.0; where_ = c.0; table = t.2; set = refl; values = s.2; condition = c.2 }),
     )
 
-delete_spelt : (d : Delete) → IsNormalDelete d → Spelt (IsBehind key.Delete IsDelete) d (delete_pieces d)
+pub delete_spelt : (d : Delete) → IsNormalDelete d → Spelt (IsBehind key.Delete IsDelete) d (delete_pieces d)
 unfolding delete_pieces
 delete_spelt d p ps after h =
     let c = condition_spelt d.condition p.1 ps after h in
@@ -111,12 +109,6 @@ delete_spelt d p ps after h =
       phrase_says (codes "DELETE FROM") key.Delete (key.From ∷ []) refl t.1,
       (key_symbol key.From ∷ t.0, refl, record { named = t.0; where_ = c.0; from = refl; table = t.2; condition = c.2 }),
     )
-
-pub dml_spelt : (d : Dml) → IsNormalDml d → Spelt IsDml d (dml_pieces d)
-unfolding dml_pieces
-dml_spelt (dml.Insert i) p ps after h = insert_spelt i p ps after h
-dml_spelt (dml.Update u) p ps after h = update_spelt u p ps after h
-dml_spelt (dml.Delete d) p ps after h = delete_spelt d p ps after h
 
 -- ---- SELECT
 

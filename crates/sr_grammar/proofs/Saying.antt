@@ -130,6 +130,10 @@ phrase_says {ps = ps} {after = after} text k ls e h = record {
   apart = refl;
 }
 
+-- two words are read as they are where one piece has both
+pub joined_says : {ps : List Piece} {after : Symbols} (a b : List ℕ) → Says (word a ∷ word b ∷ ps) after → Says (word (a ++ 32 ∷ b) ∷ ps) after
+joined_says {ps = ps} {after = after} a b h = record { lexes = subst (λ (t : List ℕ). Lexes t after) (sym (append_assoc a (32 ∷ b) (rendered false ps))) h.lexes; apart = refl }
+
 -- one behind the other
 pub regrouped : (xs ys ps : List Piece) {symbols : Symbols} → Says (xs ++ (ys ++ ps)) symbols → Says ((xs ++ ys) ++ ps) symbols
 regrouped xs ys ps {symbols = symbols} h = subst (λ (p : List Piece). Says p symbols) (sym (append_assoc xs ys ps)) h

@@ -5,7 +5,6 @@ use Rattle.sr_ast.specs.Terms.{Term}
 use Rattle.sr_ast.specs.declared.operator.Unary.{Unary}
 use Rattle.sr_ast.specs.declared.operator.Unary.TheVariants as op
 use Rattle.sr_ast.specs.declared.operator.Binary.{Binary}
-use Rattle.sr_ast.specs.declared.query.Dml.TheVariants as dml
 use Rattle.sr_ast.specs.declared.query.Items.TheVariants.{All, Each}
 use Rattle.sr_ast.specs.declared.query.Item.TheVariants as item
 use Rattle.sr_ast.specs.declared.keyword.Keyword.{Keyword}
@@ -15,9 +14,8 @@ use Rattle.sr_grammar.specs.Symbols.{Symbols, IsName}
 use Rattle.sr_grammar.specs.Expressions.{Tightness, Operator, IsNullTest, IsColumn, Reads, IsExpr}
 use Rattle.sr_grammar.specs.Expressions.Reads.{loose, joined, not, compared, null_test, negative, minus, single, named, inside}
 use Rattle.sr_grammar.specs.Writing.{IsLed, IsCondition, IsRow, IsInsert, IsSet, IsUpdate, IsDelete, IsAggregate, IsItem, IsItems, IsSource, IsJoinWord, IsJoin, IsDirection, IsOrder, IsOrdering, IsSelect}
-use Rattle.sr_grammar.specs.Scripts.{IsDml}
 use Rattle.sr_ast.specs.Normal.{IsPlain, IsNoneOr, IsSomeOf, IsPlainColumn, IsNormalTerm, IsNormalExpr}
-use Rattle.sr_ast.specs.NormalForms.{IsNormalInsert, IsNormalSet, IsNormalUpdate, IsNormalDelete, IsNormalDml, IsNormalItem, AreNormalItems, IsNormalSource, IsNormalJoin, IsNormalOrder, IsNormalSelect}
+use Rattle.sr_ast.specs.NormalForms.{IsNormalInsert, IsNormalSet, IsNormalUpdate, IsNormalDelete, IsNormalItem, AreNormalItems, IsNormalSource, IsNormalJoin, IsNormalOrder, IsNormalSelect}
 use Rattle.sr_grammar.proofs.Listed.{all_of}
 use Rattle.sr_grammar.proofs.Sound.{AreSound, Gives, past, moved, name_gives, literal_gives, negative_gives, listed_gives, row_gives, names_gives}
 
@@ -79,7 +77,7 @@ row_of_gives before after row x h =
 
 -- ---- rows
 
-insert_gives : Gives IsInsert IsNormalInsert
+pub insert_gives : Gives IsInsert IsNormalInsert
 insert_gives before after i x h =
     let t = name_gives x.named x.columned i.table x.table (past x.into h).1 in
     let c = names_gives x.columned x.valued i.columns x.columns t.1 in
@@ -92,23 +90,18 @@ set_gives before after s x h =
     let e = expr_gives x.valued after s.1 x.value (past x.equal n.1).1 in
     ((n.0, e.0), e.1)
 
-update_gives : Gives IsUpdate IsNormalUpdate
+pub update_gives : Gives IsUpdate IsNormalUpdate
 update_gives before after u x h =
     let t = name_gives before x.named u.table x.table h in
     let s = listed_gives IsSet IsNormalSet set_gives x.sets x.where_ u.sets x.values (past x.set t.1).1 in
     let c = condition_gives x.where_ after u.condition x.condition s.1 in
     (record { table = t.0; sets = s.0; condition = c.0 }, c.1)
 
-delete_gives : Gives IsDelete IsNormalDelete
+pub delete_gives : Gives IsDelete IsNormalDelete
 delete_gives before after d x h =
     let t = name_gives x.named x.where_ d.table x.table (past x.from h).1 in
     let c = condition_gives x.where_ after d.condition x.condition t.1 in
     ((t.0, c.0), c.1)
-
-pub dml_gives : Gives IsDml IsNormalDml
-dml_gives before after (dml.Insert i) (next, w, x) h = insert_gives next after i x (past w h).1
-dml_gives before after (dml.Update u) (next, w, x) h = update_gives next after u x (past w h).1
-dml_gives before after (dml.Delete d) (next, w, x) h = delete_gives next after d x (past w h).1
 
 aggregate_gives : (k : Keyword) → Gives (IsAggregate k) IsNormalExpr
 aggregate_gives k before after e (next, w, x) h =

@@ -98,82 +98,23 @@ tokens_sound text at bytes (k ∷ tokens) (s ∷ symbols) (after, taken, left) h
 some_same : {A : Type 0} (x y : A) → Some x ≡ Some y → x ≡ y
 some_same x y e = cc
 
-key_plain : (k : Keyword) → named k ≡ Some (lower (spelling k)) → is_lower_name (lower (spelling k)) ≡ true → IsPlain (lower (spelling k))
-key_plain k n w = record {
-  written = w;
-  free = λ j is. subst (λ (i : Keyword). named i ≡ Some (lower (spelling k))) (keyword_once (lower (spelling k)) k j (name-lower (lower (spelling k)) w) is) n;
-}
+named_spelling : (k : Keyword) (name : List ℕ) → named k ≡ Some name → lower (spelling k) ≡ name
+named_spelling key.Create name e = absurd cc
+named_spelling _ name e = cc
 
+spelling_lower : (k : Keyword) → is_lower_name (lower (spelling k)) ≡ true
+spelling_lower key.Create = refl
+spelling_lower _ = refl
+
+-- a key word that is a name too is so as it is spelled, and no other key word
 keyword_plain : (k : Keyword) (name : List ℕ) → named k ≡ Some name → IsPlain name
-keyword_plain key.Create name e = absurd cc
-keyword_plain key.Table name e = absurd cc
-keyword_plain key.Primary name e = absurd cc
-keyword_plain key.Key name e = absurd cc
-keyword_plain key.Not name e = absurd cc
-keyword_plain key.Null name e = absurd cc
-keyword_plain key.Integer name e = absurd cc
-keyword_plain key.Int name e = absurd cc
-keyword_plain key.Bigint name e = absurd cc
-keyword_plain key.Varchar name e = absurd cc
-keyword_plain key.Date name e = absurd cc
-keyword_plain key.Drop name e = absurd cc
-keyword_plain key.Publication name e = absurd cc
-keyword_plain key.Where name e = absurd cc
-keyword_plain key.Subscribe name e = absurd cc
-keyword_plain key.By name e = absurd cc
-keyword_plain key.Grant name e = absurd cc
-keyword_plain key.Remote name e = subst IsPlain (some_same (lower (spelling key.Remote)) name e) (key_plain key.Remote refl refl)
-keyword_plain key.To name e = absurd cc
-keyword_plain key.Type name e = subst IsPlain (some_same (lower (spelling key.Type)) name e) (key_plain key.Type refl refl)
-keyword_plain key.File name e = subst IsPlain (some_same (lower (spelling key.File)) name e) (key_plain key.File refl refl)
-keyword_plain key.Address name e = subst IsPlain (some_same (lower (spelling key.Address)) name e) (key_plain key.Address refl refl)
-keyword_plain key.Consolidate name e = absurd cc
-keyword_plain key.Start name e = absurd cc
-keyword_plain key.Stop name e = absurd cc
-keyword_plain key.Synchronize name e = absurd cc
-keyword_plain key.Subscription name e = absurd cc
-keyword_plain key.For name e = absurd cc
-keyword_plain key.Trigger name e = absurd cc
-keyword_plain key.Resolve name e = absurd cc
-keyword_plain key.Update name e = absurd cc
-keyword_plain key.Of name e = absurd cc
-keyword_plain key.On name e = absurd cc
-keyword_plain key.Referencing name e = absurd cc
-keyword_plain key.Old name e = subst IsPlain (some_same (lower (spelling key.Old)) name e) (key_plain key.Old refl refl)
-keyword_plain key.New name e = subst IsPlain (some_same (lower (spelling key.New)) name e) (key_plain key.New refl refl)
-keyword_plain key.As name e = absurd cc
-keyword_plain key.Each name e = absurd cc
-keyword_plain key.Row name e = absurd cc
-keyword_plain key.Begin name e = absurd cc
-keyword_plain key.Declare name e = absurd cc
-keyword_plain key.End name e = absurd cc
-keyword_plain key.Set name e = absurd cc
-keyword_plain key.Insert name e = absurd cc
-keyword_plain key.Into name e = absurd cc
-keyword_plain key.Values name e = absurd cc
-keyword_plain key.If name e = absurd cc
-keyword_plain key.Then name e = absurd cc
-keyword_plain key.Else name e = absurd cc
-keyword_plain key.Delete name e = absurd cc
-keyword_plain key.From name e = absurd cc
-keyword_plain key.Select name e = absurd cc
-keyword_plain key.Count name e = absurd cc
-keyword_plain key.Sum name e = absurd cc
-keyword_plain key.Min name e = absurd cc
-keyword_plain key.Max name e = absurd cc
-keyword_plain key.Inner name e = absurd cc
-keyword_plain key.Join name e = absurd cc
-keyword_plain key.Order name e = absurd cc
-keyword_plain key.Asc name e = absurd cc
-keyword_plain key.Desc name e = absurd cc
-keyword_plain key.Commit name e = absurd cc
-keyword_plain key.Work name e = absurd cc
-keyword_plain key.Rollback name e = absurd cc
-keyword_plain key.Passthrough name e = absurd cc
-keyword_plain key.Only name e = absurd cc
-keyword_plain key.Or name e = absurd cc
-keyword_plain key.And name e = absurd cc
-keyword_plain key.Is name e = absurd cc
+keyword_plain k name e =
+    let spelled = named_spelling k name e in
+    let low : is_lower_name name ≡ true = ap is_lower_name (sym spelled) ∙ spelling_lower k in
+    record {
+      written = low;
+      free = λ j is. subst (λ (i : Keyword). named i ≡ Some name) (keyword_once name k j (name-lower name low ∙ sym spelled) is) e;
+    }
 
 name_plain : (s : Symbol) (name : List ℕ) → name_meant s ≡ Some name → IsSound s → IsPlain name
 name_plain (symbol.Name n) name e h = subst IsPlain (some_same n name e) h
@@ -200,75 +141,8 @@ same_value : (v w : Value) → Some v ≡ Some w → IsNormalValue v → IsNorma
 same_value v w e h = subst IsNormalValue (some_same v w e) h
 
 keyword_literal : (k : Keyword) (v : Value) → literal_meant (symbol.Keyword k) ≡ Some v → IsNormalValue v
-keyword_literal key.Create v e = absurd cc
-keyword_literal key.Table v e = absurd cc
-keyword_literal key.Primary v e = absurd cc
-keyword_literal key.Key v e = absurd cc
-keyword_literal key.Not v e = absurd cc
 keyword_literal key.Null v e = same_value value.Null v e tt
-keyword_literal key.Integer v e = absurd cc
-keyword_literal key.Int v e = absurd cc
-keyword_literal key.Bigint v e = absurd cc
-keyword_literal key.Varchar v e = absurd cc
-keyword_literal key.Date v e = absurd cc
-keyword_literal key.Drop v e = absurd cc
-keyword_literal key.Publication v e = absurd cc
-keyword_literal key.Where v e = absurd cc
-keyword_literal key.Subscribe v e = absurd cc
-keyword_literal key.By v e = absurd cc
-keyword_literal key.Grant v e = absurd cc
-keyword_literal key.Remote v e = absurd cc
-keyword_literal key.To v e = absurd cc
-keyword_literal key.Type v e = absurd cc
-keyword_literal key.File v e = absurd cc
-keyword_literal key.Address v e = absurd cc
-keyword_literal key.Consolidate v e = absurd cc
-keyword_literal key.Start v e = absurd cc
-keyword_literal key.Stop v e = absurd cc
-keyword_literal key.Synchronize v e = absurd cc
-keyword_literal key.Subscription v e = absurd cc
-keyword_literal key.For v e = absurd cc
-keyword_literal key.Trigger v e = absurd cc
-keyword_literal key.Resolve v e = absurd cc
-keyword_literal key.Update v e = absurd cc
-keyword_literal key.Of v e = absurd cc
-keyword_literal key.On v e = absurd cc
-keyword_literal key.Referencing v e = absurd cc
-keyword_literal key.Old v e = absurd cc
-keyword_literal key.New v e = absurd cc
-keyword_literal key.As v e = absurd cc
-keyword_literal key.Each v e = absurd cc
-keyword_literal key.Row v e = absurd cc
-keyword_literal key.Begin v e = absurd cc
-keyword_literal key.Declare v e = absurd cc
-keyword_literal key.End v e = absurd cc
-keyword_literal key.Set v e = absurd cc
-keyword_literal key.Insert v e = absurd cc
-keyword_literal key.Into v e = absurd cc
-keyword_literal key.Values v e = absurd cc
-keyword_literal key.If v e = absurd cc
-keyword_literal key.Then v e = absurd cc
-keyword_literal key.Else v e = absurd cc
-keyword_literal key.Delete v e = absurd cc
-keyword_literal key.From v e = absurd cc
-keyword_literal key.Select v e = absurd cc
-keyword_literal key.Count v e = absurd cc
-keyword_literal key.Sum v e = absurd cc
-keyword_literal key.Min v e = absurd cc
-keyword_literal key.Max v e = absurd cc
-keyword_literal key.Inner v e = absurd cc
-keyword_literal key.Join v e = absurd cc
-keyword_literal key.Order v e = absurd cc
-keyword_literal key.Asc v e = absurd cc
-keyword_literal key.Desc v e = absurd cc
-keyword_literal key.Commit v e = absurd cc
-keyword_literal key.Work v e = absurd cc
-keyword_literal key.Rollback v e = absurd cc
-keyword_literal key.Passthrough v e = absurd cc
-keyword_literal key.Only v e = absurd cc
-keyword_literal key.Or v e = absurd cc
-keyword_literal key.And v e = absurd cc
-keyword_literal key.Is v e = absurd cc
+keyword_literal _ v e = absurd cc
 
 literal_normal : (s : Symbol) (v : Value) → literal_meant s ≡ Some v → IsSound s → IsNormalValue v
 literal_normal (symbol.Number n) v e (m, is, small) =

@@ -1,5 +1,7 @@
 -- A word means one key word at most, and a sign one sign.
-use Rattle.std.proofs.Common.{◌≡◌, ℕ, Bool, true, false, List, [], ◌∷◌, Option, Some, None, nat_eq, refl, sym, ap, ◌∙◌}
+use Rattle.std.proofs.Common.{◌≡◌, ℕ, Bool, true, false, List, [], ◌∷◌, Option, Some, None, refl, sym, ap, ◌∙◌}
+use Rattle.std.specs.Str.{bytes_eq}
+use Rattle.std.proofs.lemmas.Slice.Eq.{bytes_eq-Decides}
 use Rattle.sr_ast.specs.declared.keyword.Keyword.{Keyword}
 use Rattle.sr_ast.specs.declared.keyword.Keyword.TheVariants as key
 use Rattle.sr_ast.specs.Keywords.{lower, spelling, IsKeyword}
@@ -8,23 +10,33 @@ use Rattle.sr_grammar.specs.declared.symbol.Sign.TheVariants as mark
 use Rattle.sr_grammar.specs.Meanings.{sign_text}
 use Rattle.sr_grammar.proofs.Words.{keywords, signs}
 
-abbrev same : List ℕ → List ℕ → Bool
-same [] [] = true
-same [] (y ∷ ys) = false
-same (x ∷ xs) [] = false
-same (x ∷ xs) (y ∷ ys) = elim (nat_eq x y) as (λ _. Bool) [ true ↦ same xs ys | false ↦ false ]
-
 -- the first of the candidates with this spelling
-abbrev found : {A : Type 0} → (A → List ℕ) → List ℕ → List A → Option A
+abbrev pub found : {A : Type 0} → (A → List ℕ) → List ℕ → List A → Option A
 found spelled word [] = None
-found {A = A} spelled word (x ∷ xs) = elim (same (spelled x) word) as (λ _. Option A) [ true ↦ Some x | false ↦ found spelled word xs ]
+found {A = A} spelled word (x ∷ xs) = elim (bytes_eq (spelled x) word) as (λ _. Option A) [ true ↦ Some x | false ↦ found spelled word xs ]
 
-abbrev lowered : Keyword → List ℕ
+abbrev pub lowered : Keyword → List ℕ
 lowered k = lower (spelling k)
 
 keyword_found : (k : Keyword) → found lowered (lowered k) keywords ≡ Some k
 keyword_found key.Create = refl
 keyword_found _ = refl
+
+some_same : {A : Type 0} (x y : A) → Some x ≡ Some y → x ≡ y
+some_same x y e = cc
+
+found_first : {A : Type 0} (spelled : A → List ℕ) (word : List ℕ) (y : A) (xs : List A) (x : A) (b : Bool) → bytes_eq (spelled y) word ≡ b
+    → (found spelled word xs ≡ Some x → spelled x ≡ word) → elim b as (λ _. Option A) [ true ↦ Some y | false ↦ found spelled word xs ] ≡ Some x → spelled x ≡ word
+found_first spelled word y xs x true is later e = ap spelled (sym (some_same y x e)) ∙ (bytes_eq-Decides (spelled y) word).0 is
+found_first spelled word y xs x false is later e = later e
+
+-- what is found has this spelling
+pub found_is : {A : Type 0} (spelled : A → List ℕ) (word : List ℕ) (xs : List A) (x : A) → found spelled word xs ≡ Some x → spelled x ≡ word
+found_is spelled word [] x e = absurd cc
+found_is spelled word (y ∷ xs) x e = found_first spelled word y xs x (bytes_eq (spelled y) word) refl (found_is spelled word xs x) e
+
+pub never_found : (k : Keyword) → found lowered (lowered k) keywords ≡ None → ⊥
+never_found k e = let some = keyword_found k in absurd cc
 
 sign_found : (s : Sign) → found sign_text (sign_text s) signs ≡ Some s
 sign_found mark.Open = refl

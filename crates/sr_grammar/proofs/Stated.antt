@@ -3,23 +3,27 @@ use Rattle.std.proofs.Common.{◌≡◌, ℕ, Bool, true, false, List, [], ◌�
 use Rattle.std.proofs.lemmas.List.{append-nil}
 use Rattle.sr_ast.specs.Pages.{Piece, blank, word, listed}
 use Rattle.sr_ast.specs.Printing.{name_pieces}
-use Rattle.sr_ast.specs.Layout.{words_if, passthrough_pieces, stmt_pieces, printed}
+use Rattle.sr_ast.specs.Layout.{words_if, passthrough_pieces, dml_pieces, stmt_pieces, printed}
 use Rattle.sr_ast.specs.declared.stmt.Passthrough.{Passthrough}
 use Rattle.sr_ast.specs.declared.stmt.Stmt.{Stmt}
 use Rattle.sr_ast.specs.declared.stmt.Stmt.TheVariants as stmt
+use Rattle.sr_ast.specs.declared.query.Dml.{Dml}
+use Rattle.sr_ast.specs.declared.query.Dml.TheVariants as dml
+use Rattle.sr_ast.specs.declared.form.Form.TheVariants as forms
 use Rattle.sr_ast.specs.declared.keyword.Keyword.TheVariants as key
 use Rattle.sr_grammar.specs.Symbols.{IsName, word as key_symbol}
 use Rattle.sr_grammar.specs.Meanings.{IsWritten}
 use Rattle.sr_grammar.specs.Scripts.{IsBehind, IsOnly, IsPassthrough, IsStatement}
 use Rattle.sr_grammar.specs.Scripts.Pieces.{start, stated}
 use Rattle.sr_ast.specs.Normal.{IsPlain}
-use Rattle.sr_ast.specs.NormalForms.{IsNormalPassthrough, IsNormal}
+use Rattle.sr_ast.specs.NormalForms.{IsNormalPassthrough, IsNormalDml, IsNormal}
 use Rattle.sr_grammar.proofs.Lexemes.{Lexes, tokens_of}
 use Rattle.sr_grammar.proofs.Saying.{Says-end, Spelt, rendered, put_all-text, phrase_says}
 use Rattle.sr_grammar.proofs.Listed.{listed_spelt}
 use Rattle.sr_grammar.proofs.Naming.{name_spelt}
-use Rattle.sr_grammar.proofs.Rowed.{ahead, dml_spelt, select_spelt}
-use Rattle.sr_grammar.proofs.Cataloged.{table_spelt, publication_spelt, grant_spelt, subscription_spelt}
+use Rattle.sr_grammar.proofs.Rowed.{ahead, insert_spelt, update_spelt, delete_spelt, select_spelt}
+use Rattle.sr_grammar.proofs.Cataloged.{table_spelt, publication_spelt, subscription_spelt}
+use Rattle.sr_grammar.proofs.Granted.{grant_spelt}
 use Rattle.sr_grammar.proofs.Triggered.{trigger_spelt}
 
 only_spelt : (o : Bool) → Spelt IsOnly o (words_if o (codes "ONLY"))
@@ -37,34 +41,40 @@ passthrough_spelt p n ps after h =
       (o.0, refl, record { for_ = key_symbol key.For ∷ u.0; users_ = u.0; only = o.2; for = refl; users = u.2 }),
     )
 
+dml_spelt : (d : Dml) → IsNormalDml d → Spelt (λ before d after. IsStatement before (stmt.Dml d) after) d (dml_pieces d)
+unfolding dml_pieces
+dml_spelt (dml.Insert i) p ps after h = let t = insert_spelt i p ps after h in (t.0, t.1, (forms.Insert, (t.2.0, t.2.1, (i, refl, t.2.2))))
+dml_spelt (dml.Update u) p ps after h = let t = update_spelt u p ps after h in (t.0, t.1, (forms.Update, (t.2.0, t.2.1, (u, refl, t.2.2))))
+dml_spelt (dml.Delete d) p ps after h = let t = delete_spelt d p ps after h in (t.0, t.1, (forms.Delete, (t.2.0, t.2.1, (d, refl, t.2.2))))
+
 pub statement_spelt : (s : Stmt) → IsNormal s → Spelt IsStatement s (stmt_pieces s)
 unfolding stmt_pieces
-statement_spelt (stmt.CreateTable c) p ps after h = table_spelt c p ps after h
+statement_spelt (stmt.CreateTable c) p ps after h = let t = table_spelt c p ps after h in (t.0, t.1, (forms.CreateTable, (t.2.0, t.2.1, (c, refl, t.2.2))))
 statement_spelt (stmt.DropTable n) p ps after h =
     let x = name_spelt n p ps after h in
-    (key_symbol key.Drop ∷ key_symbol key.Table ∷ x.0, phrase_says (codes "DROP TABLE") key.Drop (key.Table ∷ []) refl x.1, (x.0, refl, x.2))
-statement_spelt (stmt.CreatePublication c) p ps after h = publication_spelt c p ps after h
+    (key_symbol key.Drop ∷ key_symbol key.Table ∷ x.0, phrase_says (codes "DROP TABLE") key.Drop (key.Table ∷ []) refl x.1, (forms.DropTable, (x.0, refl, (n, refl, x.2))))
+statement_spelt (stmt.CreatePublication c) p ps after h = let t = publication_spelt c p ps after h in (t.0, t.1, (forms.CreatePublication, (t.2.0, t.2.1, (c, refl, t.2.2))))
 statement_spelt (stmt.DropPublication n) p ps after h =
     let x = name_spelt n p ps after h in
-    (key_symbol key.Drop ∷ key_symbol key.Publication ∷ x.0, phrase_says (codes "DROP PUBLICATION") key.Drop (key.Publication ∷ []) refl x.1, (x.0, refl, x.2))
-statement_spelt (stmt.GrantRemote g) p ps after h = grant_spelt (codes "GRANT REMOTE TO") key.Remote refl g p ps after h
-statement_spelt (stmt.GrantConsolidate g) p ps after h = grant_spelt (codes "GRANT CONSOLIDATE TO") key.Consolidate refl g p ps after h
-statement_spelt (stmt.CreateSubscription r) p ps after h = subscription_spelt (codes "CREATE SUBSCRIPTION TO") key.Create refl r p ps after h
-statement_spelt (stmt.StartSubscription r) p ps after h = subscription_spelt (codes "START SUBSCRIPTION TO") key.Start refl r p ps after h
-statement_spelt (stmt.StopSubscription r) p ps after h = subscription_spelt (codes "STOP SUBSCRIPTION TO") key.Stop refl r p ps after h
-statement_spelt (stmt.Synchronize r) p ps after h = subscription_spelt (codes "SYNCHRONIZE SUBSCRIPTION TO") key.Synchronize refl r p ps after h
-statement_spelt (stmt.DropSubscription r) p ps after h = subscription_spelt (codes "DROP SUBSCRIPTION TO") key.Drop refl r p ps after h
-statement_spelt (stmt.CreateTrigger c) p ps after h = trigger_spelt c p ps after h
+    (key_symbol key.Drop ∷ key_symbol key.Publication ∷ x.0, phrase_says (codes "DROP PUBLICATION") key.Drop (key.Publication ∷ []) refl x.1, (forms.DropPublication, (x.0, refl, (n, refl, x.2))))
+statement_spelt (stmt.GrantRemote g) p ps after h = let t = grant_spelt (codes "GRANT REMOTE TO") key.Remote refl g p ps after h in (t.0, t.1, (forms.GrantRemote, (t.2.0, t.2.1, (g, refl, t.2.2))))
+statement_spelt (stmt.GrantConsolidate g) p ps after h = let t = grant_spelt (codes "GRANT CONSOLIDATE TO") key.Consolidate refl g p ps after h in (t.0, t.1, (forms.GrantConsolidate, (key_symbol key.Consolidate ∷ t.2.0, t.2.1, (g, refl, (t.2.0, refl, t.2.2)))))
+statement_spelt (stmt.CreateSubscription r) p ps after h = let t = subscription_spelt (codes "CREATE SUBSCRIPTION TO") key.Create refl r p ps after h in (t.0, t.1, (forms.CreateSubscription, (t.2.0, t.2.1, (r, refl, t.2.2))))
+statement_spelt (stmt.StartSubscription r) p ps after h = let t = subscription_spelt (codes "START SUBSCRIPTION TO") key.Start refl r p ps after h in (t.0, t.1, (forms.StartSubscription, (t.2.0, t.2.1, (r, refl, t.2.2))))
+statement_spelt (stmt.StopSubscription r) p ps after h = let t = subscription_spelt (codes "STOP SUBSCRIPTION TO") key.Stop refl r p ps after h in (t.0, t.1, (forms.StopSubscription, (t.2.0, t.2.1, (r, refl, t.2.2))))
+statement_spelt (stmt.Synchronize r) p ps after h = let t = subscription_spelt (codes "SYNCHRONIZE SUBSCRIPTION TO") key.Synchronize refl r p ps after h in (t.0, t.1, (forms.Synchronize, (t.2.0, t.2.1, (r, refl, t.2.2))))
+statement_spelt (stmt.DropSubscription r) p ps after h = let t = subscription_spelt (codes "DROP SUBSCRIPTION TO") key.Drop refl r p ps after h in (t.0, t.1, (forms.DropSubscription, (t.2.0, t.2.1, (r, refl, t.2.2))))
+statement_spelt (stmt.CreateTrigger c) p ps after h = let t = trigger_spelt c p ps after h in (t.0, t.1, (forms.CreateTrigger, (t.2.0, t.2.1, (c, refl, t.2.2))))
 statement_spelt (stmt.DropTrigger n) p ps after h =
     let x = name_spelt n p ps after h in
-    (key_symbol key.Drop ∷ key_symbol key.Trigger ∷ x.0, phrase_says (codes "DROP TRIGGER") key.Drop (key.Trigger ∷ []) refl x.1, (x.0, refl, x.2))
+    (key_symbol key.Drop ∷ key_symbol key.Trigger ∷ x.0, phrase_says (codes "DROP TRIGGER") key.Drop (key.Trigger ∷ []) refl x.1, (forms.DropTrigger, (x.0, refl, (n, refl, x.2))))
 statement_spelt (stmt.Dml d) p ps after h = dml_spelt d p ps after h
-statement_spelt (stmt.Select s) p ps after h = select_spelt s p ps after h
-statement_spelt stmt.Commit p ps after h = (key_symbol key.Commit ∷ after, phrase_says (codes "COMMIT") key.Commit [] refl h, (after, refl, inl refl))
-statement_spelt stmt.Rollback p ps after h = (key_symbol key.Rollback ∷ after, phrase_says (codes "ROLLBACK") key.Rollback [] refl h, (after, refl, inl refl))
-statement_spelt (stmt.Passthrough q) p ps after h = passthrough_spelt q p ps after h
+statement_spelt (stmt.Select s) p ps after h = let t = select_spelt s p ps after h in (t.0, t.1, (forms.Select, (t.2.0, t.2.1, (s, refl, t.2.2))))
+statement_spelt stmt.Commit p ps after h = (key_symbol key.Commit ∷ after, phrase_says (codes "COMMIT") key.Commit [] refl h, (forms.Commit, (after, refl, (tt, refl, inl refl))))
+statement_spelt stmt.Rollback p ps after h = (key_symbol key.Rollback ∷ after, phrase_says (codes "ROLLBACK") key.Rollback [] refl h, (forms.Rollback, (after, refl, (tt, refl, inl refl))))
+statement_spelt (stmt.Passthrough q) p ps after h = let t = passthrough_spelt q p ps after h in (t.0, t.1, (forms.Passthrough, (t.2.0, t.2.1, (q, refl, t.2.2))))
 statement_spelt stmt.PassthroughStop p ps after h =
-    (key_symbol key.Passthrough ∷ key_symbol key.Stop ∷ after, phrase_says (codes "PASSTHROUGH STOP") key.Passthrough (key.Stop ∷ []) refl h, refl)
+    (key_symbol key.Passthrough ∷ key_symbol key.Stop ∷ after, phrase_says (codes "PASSTHROUGH STOP") key.Passthrough (key.Stop ∷ []) refl h, (forms.PassthroughStop, (after, refl, (tt, refl, refl))))
 
 -- the printed text of a statement spells it
 pub printed-is_written : (s : Stmt) → IsNormal s → IsWritten (printed s) (s ∷ [])

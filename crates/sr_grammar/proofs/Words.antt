@@ -22,7 +22,8 @@ keywords =
     key.Trigger ∷ key.Resolve ∷ key.Update ∷ key.Of ∷ key.On ∷ key.Referencing ∷ key.Old ∷ key.New ∷ key.As ∷ key.Each ∷
     key.Row ∷ key.Begin ∷ key.Declare ∷ key.End ∷ key.Set ∷ key.Insert ∷ key.Into ∷ key.Values ∷ key.If ∷ key.Then ∷ key.Else ∷
     key.Delete ∷ key.From ∷ key.Select ∷ key.Count ∷ key.Sum ∷ key.Min ∷ key.Max ∷ key.Inner ∷ key.Join ∷ key.Order ∷ key.Asc ∷
-    key.Desc ∷ key.Commit ∷ key.Work ∷ key.Rollback ∷ key.Passthrough ∷ key.Only ∷ key.Or ∷ key.And ∷ key.Is ∷ []
+    key.Desc ∷ key.Commit ∷ key.Work ∷ key.Rollback ∷ key.Passthrough ∷ key.Only ∷ key.Or ∷ key.And ∷ key.Is ∷
+    key.Option ∷ key.Alter ∷ key.Add ∷ key.Default ∷ key.Global ∷ key.Autoincrement ∷ key.Send ∷ key.Every ∷ key.At ∷ []
 
 abbrev pub signs : List Sign
 signs = mark.Open ∷ mark.Close ∷ mark.Comma ∷ mark.Semicolon ∷ mark.Dot ∷ mark.Plus ∷ mark.Minus ∷ mark.Times ∷ mark.Equal ∷ mark.Unequal ∷ mark.Less ∷ mark.AtMost ∷ mark.Greater ∷ mark.AtLeast ∷ []

@@ -11,11 +11,12 @@ use Rattle.sr_ast.specs.declared.create.SubscriptionRule.{SubscriptionRule}
 use Rattle.sr_ast.specs.declared.keyword.Keyword.TheVariants as key
 use Rattle.sr_grammar.specs.declared.symbol.Sign.TheVariants as mark
 use Rattle.sr_grammar.specs.declared.symbol.Symbol.TheVariants as symbol
-use Rattle.sr_grammar.specs.Symbols.{Symbols, word, sign, IsName, IsWord, IsSign}
+use Rattle.sr_grammar.specs.Symbols.{Symbols, Production, word, sign, IsName, IsWord, IsSign, IsTextAt}
 use Rattle.sr_grammar.specs.Listing.{Listed, IsNames}
 use Rattle.sr_grammar.specs.Literals.{IsLiteral, IsNegative}
 use Rattle.sr_grammar.specs.Expressions.{IsExpr}
-use Rattle.sr_grammar.specs.Writing.{IsCondition}
+use Rattle.sr_grammar.specs.Writing.{IsCondition, IsLed}
+use Rattle.sr_grammar.specs.Parts.{IsBehind, Of, Seq}
 
 -- the number of a VARCHAR: from 1 to 32767
 pub record IsLength (before : Symbols) (n : ℕ) (after : Symbols) : Type 0 where
@@ -66,17 +67,12 @@ pub record IsPublication (before : Symbols) (p : CreatePublication) (after : Sym
   pub closed : IsSign close mark.Close after
 
 -- [TYPE FILE ADDRESS text]
-abbrev pub IsAddress : Symbols → Option (List ℕ) → Symbols → Type 0
-IsAddress before None after = before ≡ after
-IsAddress before (Some text) after = before ≡ word key.Type ∷ word key.File ∷ word key.Address ∷ symbol.Text text ∷ after
+abbrev pub IsAddress : Production (Option (List ℕ))
+IsAddress = IsLed key.Type (IsBehind key.File (IsBehind key.Address IsTextAt))
 
 -- TO n [TYPE FILE ADDRESS text]
-pub record IsGrant (before : Symbols) (g : Grant) (after : Symbols) : Type 0 where
-  pub named : Symbols
-  pub addressed : Symbols
-  pub to : IsWord before key.To named
-  pub user : IsName named g.user addressed
-  pub address : IsAddress addressed g.address after
+abbrev pub IsGrant : Production Grant
+IsGrant = Of (λ g. (g.user, g.address)) (IsBehind key.To (Seq IsName IsAddress))
 
 -- a literal, or a negative number
 abbrev pub IsSigned : Symbols → Value → Symbols → Type 0

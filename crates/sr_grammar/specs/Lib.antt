@@ -1,6 +1,7 @@
 pub mod Catalog
 pub mod Expressions
 pub mod Faults
+pub mod Forms
 pub mod Going
 pub mod Keywords
 pub mod Levels
@@ -8,6 +9,7 @@ pub mod Listing
 pub mod Literals
 pub mod Meanings
 pub mod Meant
+pub mod Parts
 pub mod Places
 pub mod Scripts
 pub mod Symbols

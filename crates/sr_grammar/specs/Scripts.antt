@@ -3,21 +3,20 @@ use Rattle.std.specs.Prelude.{◌≡◌, Bool, true, false, List, [], ◌∷◌,
 use Rattle.sr_ast.specs.declared.stmt.Stmt.{Stmt}
 use Rattle.sr_ast.specs.declared.stmt.Stmt.TheVariants as stmt
 use Rattle.sr_ast.specs.declared.stmt.Passthrough.{Passthrough}
-use Rattle.sr_ast.specs.declared.query.Dml.{Dml}
 use Rattle.sr_ast.specs.declared.query.Dml.TheVariants as dml
+use Rattle.sr_ast.specs.declared.form.Form.{Form}
+use Rattle.sr_ast.specs.declared.form.Form.TheVariants as form
 use Rattle.sr_ast.specs.declared.keyword.Keyword.{Keyword}
 use Rattle.sr_ast.specs.declared.keyword.Keyword.TheVariants as key
 use Rattle.sr_grammar.specs.declared.symbol.Sign.TheVariants as mark
 use Rattle.sr_grammar.specs.Symbols.{Symbols, word, IsName, IsWord, IsSign}
+pub use Rattle.sr_grammar.specs.Parts.{IsBehind}
+use Rattle.sr_grammar.specs.Forms.{words, led}
 use Rattle.sr_grammar.specs.Listing.{Listed}
 use Rattle.sr_grammar.specs.Writing.{IsInsert, IsUpdate, IsDelete, IsSelect}
 use Rattle.sr_grammar.specs.Catalog.{IsPublication, IsGrant, IsSubscription}
 use Rattle.sr_grammar.specs.Tables.{IsTable}
 use Rattle.sr_grammar.specs.Triggers.{IsTrigger}
-
--- a word, and then a production
-abbrev pub IsBehind : {A : Type 0} → Keyword → (Symbols → A → Symbols → Type 0) → Symbols → A → Symbols → Type 0
-IsBehind k X before x after = (next : Symbols) × IsWord before k next × X next x after
 
 -- two words, and then a production
 abbrev pub IsBehindTwo : {A : Type 0} → Keyword → Keyword → (Symbols → A → Symbols → Type 0) → Symbols → A → Symbols → Type 0
@@ -40,43 +39,41 @@ pub record IsPassthrough (before : Symbols) (p : Passthrough) (after : Symbols) 
   pub for : IsWord for_ key.For users_
   pub users : Listed IsName users_ p.users after
 
--- INSERT, UPDATE, DELETE
-abbrev pub IsDml : Symbols → Dml → Symbols → Type 0
-IsDml before (dml.Insert i) after = IsBehind key.Insert IsInsert before i after
-IsDml before (dml.Update u) after = IsBehind key.Update IsUpdate before u after
-IsDml before (dml.Delete d) after = IsBehind key.Delete IsDelete before d after
+-- a statement that is made of what a production reads
+abbrev pub Made : {A : Type 0} → (A → Stmt) → (Symbols → A → Symbols → Type 0) → Symbols → Stmt → Symbols → Type 0
+Made {A = A} make X before s after = (x : A) × (s ≡ make x) × X before x after
+
+-- what stands behind the words of a statement
+abbrev pub IsRest : Form → Symbols → Stmt → Symbols → Type 0
+IsRest form.CreateTable = Made stmt.CreateTable IsTable
+IsRest form.DropTable = Made stmt.DropTable IsName
+IsRest form.CreatePublication = Made stmt.CreatePublication IsPublication
+IsRest form.DropPublication = Made stmt.DropPublication IsName
+IsRest form.GrantRemote = Made stmt.GrantRemote IsGrant
+IsRest form.GrantConsolidate = Made stmt.GrantConsolidate (IsBehind key.Consolidate IsGrant)
+IsRest form.CreateSubscription = Made stmt.CreateSubscription IsSubscription
+IsRest form.StartSubscription = Made stmt.StartSubscription IsSubscription
+IsRest form.StopSubscription = Made stmt.StopSubscription IsSubscription
+IsRest form.Synchronize = Made stmt.Synchronize IsSubscription
+IsRest form.DropSubscription = Made stmt.DropSubscription IsSubscription
+IsRest form.CreateTrigger = Made stmt.CreateTrigger IsTrigger
+IsRest form.DropTrigger = Made stmt.DropTrigger IsName
+IsRest form.Insert = Made (λ i. stmt.Dml (dml.Insert i)) IsInsert
+IsRest form.Update = Made (λ u. stmt.Dml (dml.Update u)) IsUpdate
+IsRest form.Delete = Made (λ d. stmt.Dml (dml.Delete d)) IsDelete
+IsRest form.Select = Made stmt.Select IsSelect
+IsRest form.Commit = Made (λ (u : Unit {0}). stmt.Commit) (λ before u after. IsWork before after)
+IsRest form.Rollback = Made (λ (u : Unit {0}). stmt.Rollback) (λ before u after. IsWork before after)
+IsRest form.Passthrough = Made stmt.Passthrough IsPassthrough
+IsRest form.PassthroughStop = Made (λ (u : Unit {0}). stmt.PassthroughStop) (λ before u after. before ≡ after)
+
+-- a statement of a form: its words, and what stands behind them
+abbrev pub IsFormed : Form → Symbols → Stmt → Symbols → Type 0
+IsFormed f before s after = (next : Symbols) × (before ≡ word (words f).0 ∷ led (words f).1 next) × IsRest f next s after
 
 -- a statement
 abbrev pub IsStatement : Symbols → Stmt → Symbols → Type 0
-IsStatement before (stmt.CreateTable c) after = IsBehindTwo key.Create key.Table IsTable before c after
-IsStatement before (stmt.DropTable n) after = IsBehindTwo key.Drop key.Table IsName before n after
-IsStatement before (stmt.CreatePublication c) after = IsBehindTwo key.Create key.Publication IsPublication before c after
-IsStatement before (stmt.DropPublication n) after = IsBehindTwo key.Drop key.Publication IsName before n after
-IsStatement before (stmt.GrantRemote g) after = IsBehindTwo key.Grant key.Remote IsGrant before g after
-IsStatement before (stmt.GrantConsolidate g) after = IsBehindTwo key.Grant key.Consolidate IsGrant before g after
-IsStatement before (stmt.CreateSubscription s) after = IsBehind key.Create IsSubscription before s after
-IsStatement before (stmt.StartSubscription s) after = IsBehind key.Start IsSubscription before s after
-IsStatement before (stmt.StopSubscription s) after = IsBehind key.Stop IsSubscription before s after
-IsStatement before (stmt.Synchronize s) after = IsBehind key.Synchronize IsSubscription before s after
-IsStatement before (stmt.DropSubscription s) after = IsBehind key.Drop IsSubscription before s after
-IsStatement before (stmt.CreateTrigger c) after = IsBehindTwo key.Create key.Trigger IsTrigger before c after
-IsStatement before (stmt.DropTrigger n) after = IsBehindTwo key.Drop key.Trigger IsName before n after
-IsStatement before (stmt.Dml d) after = IsDml before d after
-IsStatement before (stmt.Select s) after = IsBehind key.Select IsSelect before s after
-IsStatement before stmt.Commit after = (next : Symbols) × IsWord before key.Commit next × IsWork next after
-IsStatement before stmt.Rollback after = (next : Symbols) × IsWord before key.Rollback next × IsWork next after
-IsStatement before (stmt.Passthrough p) after = IsBehind key.Passthrough IsPassthrough before p after
-IsStatement before stmt.PassthroughStop after = before ≡ word key.Passthrough ∷ word key.Stop ∷ after
-
--- a statement on tables, publications, users, subscriptions or triggers
-abbrev pub IsDefinition : Stmt → Type 0
-IsDefinition (stmt.Dml d) = ⊥
-IsDefinition (stmt.Select s) = ⊥
-IsDefinition stmt.Commit = ⊥
-IsDefinition stmt.Rollback = ⊥
-IsDefinition (stmt.Passthrough p) = ⊥
-IsDefinition stmt.PassthroughStop = ⊥
-IsDefinition s = Unit {0}
+IsStatement before s after = (f : Form) × IsFormed f before s after
 
 -- what a script has read: at the begin or behind a `;` a statement may follow, elsewhere a `;`
 pub data Stage : Type 0 where

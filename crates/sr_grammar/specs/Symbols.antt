@@ -1,5 +1,5 @@
 -- What stands next in a list of symbols.
-use Rattle.std.specs.Prelude.{◌≡◌, ℕ, List, [], ◌∷◌, Option, Some, None, codes}
+use Rattle.std.specs.Prelude.{◌≡◌, ℕ, List, [], ◌∷◌, Option, Some, None}
 use Rattle.sr_ast.specs.declared.keyword.Keyword.{Keyword}
 use Rattle.sr_ast.specs.Keywords.{named}
 use Rattle.sr_grammar.specs.declared.symbol.Sign.{Sign}

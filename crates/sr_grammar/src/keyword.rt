@@ -8,10 +8,14 @@ use sr_ast::Keyword;
 /// The key words by their first letters, each with its spelling.
 const KEYWORDS: [&[(Keyword, &[u8])]; 26] = [
     &[
+        (Keyword::Add, b"ADD"),
         (Keyword::Address, b"ADDRESS"),
+        (Keyword::Alter, b"ALTER"),
         (Keyword::And, b"AND"),
         (Keyword::As, b"AS"),
         (Keyword::Asc, b"ASC"),
+        (Keyword::At, b"AT"),
+        (Keyword::Autoincrement, b"AUTOINCREMENT"),
     ],
     &[
         (Keyword::Begin, b"BEGIN"),
@@ -27,6 +31,7 @@ const KEYWORDS: [&[(Keyword, &[u8])]; 26] = [
     &[
         (Keyword::Date, b"DATE"),
         (Keyword::Declare, b"DECLARE"),
+        (Keyword::Default, b"DEFAULT"),
         (Keyword::Delete, b"DELETE"),
         (Keyword::Desc, b"DESC"),
         (Keyword::Drop, b"DROP"),
@@ -35,13 +40,14 @@ const KEYWORDS: [&[(Keyword, &[u8])]; 26] = [
         (Keyword::Each, b"EACH"),
         (Keyword::Else, b"ELSE"),
         (Keyword::End, b"END"),
+        (Keyword::Every, b"EVERY"),
     ],
     &[
         (Keyword::File, b"FILE"),
         (Keyword::For, b"FOR"),
         (Keyword::From, b"FROM"),
     ],
-    &[(Keyword::Grant, b"GRANT")],
+    &[(Keyword::Global, b"GLOBAL"), (Keyword::Grant, b"GRANT")],
     &[],
     &[
         (Keyword::If, b"IF"),
@@ -66,6 +72,7 @@ const KEYWORDS: [&[(Keyword, &[u8])]; 26] = [
         (Keyword::Old, b"OLD"),
         (Keyword::On, b"ON"),
         (Keyword::Only, b"ONLY"),
+        (Keyword::Option, b"OPTION"),
         (Keyword::Or, b"OR"),
         (Keyword::Order, b"ORDER"),
     ],
@@ -84,6 +91,7 @@ const KEYWORDS: [&[(Keyword, &[u8])]; 26] = [
     ],
     &[
         (Keyword::Select, b"SELECT"),
+        (Keyword::Send, b"SEND"),
         (Keyword::Set, b"SET"),
         (Keyword::Start, b"START"),
         (Keyword::Stop, b"STOP"),
@@ -107,7 +115,7 @@ const KEYWORDS: [&[(Keyword, &[u8])]; 26] = [
     &[],
 ];
 
-/// The key word that a word is, without regard to the case of its letters. Its first letter leaves eight key words or fewer.
+/// The key word that a word is, without regard to the case of its letters. Its first letter leaves nine key words or fewer.
 pub fn keyword_of(word: &[u8]) -> Option<Keyword>
     ensures found { IfSome result (λ keyword. IsKeyword word.now keyword) }
     ensures none { result ≡ None → IsNoKeyword word.now }

@@ -18,4 +18,5 @@ pub use assembling::assemble;
 pub use inbox::Inbox;
 pub use laws::{an_offset_is_far_step_by_step, true_fragments_make_the_body};
 pub use piece::Piece;
+pub use sr_cut::{Cutter, Head, TooLong, body, cut, read_body};
 pub use window::Window;

@@ -1,16 +1,16 @@
 -- Readers of literals with a sign, of subscriptions and of what is granted.
-use Rattle.std.proofs.Common.{pos, neg_ℤ, ◌≡◌, ℕ, Bool, true, false, List, [], ◌∷◌, Option, Some, None, Result, Ok, Err, refl, sym, subst, ap, ◌∙◌, inl, inr}
+use Rattle.std.proofs.Common.{pos, neg_ℤ, ◌≡◌, ℕ, List, [], ◌∷◌, Option, Some, None, Result, Ok, Err, refl, sym, subst, ap, ◌∙◌, inl, inr}
 use Rattle.sr_base.specs.declared.value.Value.{Value}
 use Rattle.sr_base.specs.declared.value.Value.TheVariants.{Int}
-use Rattle.sr_ast.specs.declared.create.Grant.{Grant}
 use Rattle.sr_ast.specs.declared.create.SubscriptionRule.{SubscriptionRule}
 use Rattle.sr_ast.specs.declared.keyword.Keyword.TheVariants as key
+use Rattle.sr_ast.specs.declared.create.Grant.{Grant}
 use Rattle.sr_grammar.specs.declared.symbol.Sign.TheVariants as mark
-use Rattle.sr_grammar.specs.declared.symbol.Symbol.{Symbol}
 use Rattle.sr_grammar.specs.declared.symbol.Symbol.TheVariants as symbol
 use Rattle.sr_reader.specs.declared.reader.Broken.{Broken}
 use Rattle.sr_reader.specs.declared.reader.Broken.TheVariants.{Refused}
 use Rattle.sr_grammar.specs.Symbols.{Symbols, first, behind, word, IsName, IsWord, IsSign, IsTextAt}
+use Rattle.sr_grammar.specs.Parts.{IsBehind}
 use Rattle.sr_grammar.specs.Literals.{IsLiteral, IsNegative}
 use Rattle.sr_grammar.specs.Catalog.{IsSigned, IsGiven, IsSubscription, IsAddress, IsGrant}
 use Rattle.sr_grammar.specs.Going.{Stop, Ends, is_open}
@@ -21,7 +21,9 @@ use Rattle.sr_grammar.proofs.Lists.{Ends-stop}
 use Rattle.sr_grammar.proofs.Expressing.{negative_once}
 use Rattle.sr_parse.proofs.Granting.{signed_left}
 use Rattle.sr_grammar.proofs.Cataloguing.{literal_no_minus}
-use Rattle.sr_reader.proofs.Parts.{Seq, Sample, cast, cast_goes, goes_first}
+use Rattle.sr_grammar.proofs.Granted.{is_type, grant_of, grant_proper}
+use Rattle.sr_reader.proofs.Parts.{Seq, Sample, cast, goes_first, recast, whole_read}
+use Rattle.sr_reader.proofs.Optionals.{led_read}
 use Rattle.sr_reader.proofs.Starts.{meant_one, standing, one_read, none_read, lacks, word_sample, name_sample}
 use Rattle.sr_reader.proofs.Conditions.{passed_by}
 
@@ -118,48 +120,16 @@ published_sample = goes_first IsName _ [] name_sample valued_sample
 
 -- ---- grants
 
-pub address_sample : Sample IsAddress
-address_sample = record { more = []; meant = tt; value = None; spells = λ after. refl }
+-- behind TYPE
+pub address_read : {before next here : Symbols} {r : Result (List ℕ) Broken} → IsWord before key.Type next → Reading (IsBehind key.File (IsBehind key.Address IsTextAt)) Anywhere next here r → Reading IsAddress Ends before here (mapped Some r)
+address_read w r = led_read key.Type (IsBehind key.File (IsBehind key.Address IsTextAt)) Ends is_type refl (λ a q. tt) (λ a q. Ends-stop is_type a refl q) w r
 
-abbrev pub AddressParts : Symbols → Unit {0} × (Unit {0} × (Unit {0} × List ℕ)) → Symbols → Type 0
-AddressParts = Seq (Word key.Type) (Seq (Word key.File) (Seq (Word key.Address) IsTextAt))
-
-abbrev pub address_of : Unit {0} × (Unit {0} × (Unit {0} × List ℕ)) → Option (List ℕ)
-address_of p = Some p.1.1.1
-
-address_absent : {before : Symbols} → ((rest : Symbols) → IsWord before key.Type rest → ⊥) → (there : Symbols) → Alike before there → (y : Option (List ℕ)) (rest : Symbols) → IsAddress there y rest → (None ≡ y) × (there ≡ rest)
-address_absent absent there alike None rest h = (refl, h)
-address_absent absent there alike (Some t) rest h = absurd (lacks alike absent h)
-
-pub address_none : {before here : Symbols} → here ≡ before → ((rest : Symbols) → IsWord before key.Type rest → ⊥) → Reading IsAddress Ends before here (Ok None)
-address_none e absent = passed_by IsAddress Ends None e (λ after. refl) (λ there alike y rest h p. address_absent absent there alike y rest h)
-
-abbrev is_type : Symbol → Bool
-is_type (symbol.Keyword key.Type) = true
-is_type s = false
-
-address_back : {before next : Symbols} → IsWord before key.Type next → (b : Symbols) (y : Option (List ℕ)) (a : Symbols) → Alike before b → IsAddress b y a → Ends a
-    → (x : Unit {0} × (Unit {0} × (Unit {0} × List ℕ))) × AddressParts b x a × Anywhere a × (address_of x ≡ y)
-address_back w b None a alike h q = absurd (Stop-begins is_type (sym h ∙ standing b (sym alike ∙ ap first w)) refl (Ends-stop is_type a refl q))
-address_back w b (Some t) a alike h q = ((tt, (tt, (tt, t))), (_, h, (_, refl, (_, refl, refl))), tt, refl)
-
-pub address_read : {before next here : Symbols} {r : Result (Unit {0} × (Unit {0} × (Unit {0} × List ℕ))) Broken} → IsWord before key.Type next → Reading AddressParts Anywhere before here r → Reading IsAddress Ends before here (mapped address_of r)
-address_read w h = cast (record {
-  to = λ b x a s. let f = s.2 in let d = f.2 in let one = s.1 in let two = f.1 in let three = d.1 in let four = d.2 in cc;
-  back = address_back w;
-}) h
-
-abbrev pub GrantParts : Symbols → Unit {0} × (List ℕ × Option (List ℕ)) → Symbols → Type 0
-GrantParts = Seq (Word key.To) (Seq IsName IsAddress)
-
-abbrev pub grant_of : Unit {0} × (List ℕ × Option (List ℕ)) → Grant
-grant_of p = record { user = p.1.0; address = p.1.1 }
-
-pub grant_to : (b : Symbols) (x : Unit {0} × (List ℕ × Option (List ℕ))) (a : Symbols) → GrantParts b x a → IsGrant b (grant_of x) a
-grant_to b x a h = record { named = h.0; addressed = h.2.0; to = h.1; user = h.2.1; address = h.2.2 }
-
-pub grant_back : (b : Symbols) (y : Grant) (a : Symbols) → IsGrant b y a → (x : Unit {0} × (List ℕ × Option (List ℕ))) × GrantParts b x a × (grant_of x ≡ y)
-grant_back b y a h = ((tt, (y.user, y.address)), (h.named, h.to, (h.addressed, h.user, h.address)), refl)
+pub grant_read : {before here : Symbols} {r : Result (List ℕ × Option (List ℕ)) Broken} → Reading (IsBehind key.To (Seq IsName IsAddress)) Ends before here r → Reading IsGrant Ends before here (mapped grant_of r)
+grant_read r = whole_read (λ g. (g.user, g.address)) grant_of (λ g. refl) (λ p. refl) r
 
 pub grant_sample : Sample IsGrant
-grant_sample = cast_goes GrantParts IsGrant grant_of grant_to [] (goes_first (Word key.To) _ [] (word_sample key.To) (goes_first IsName IsAddress [] name_sample address_sample))
+grant_sample = grant_proper.sample
+
+-- behind CONSOLIDATE
+pub consolidated_read : {before here : Symbols} {r : Result (Unit {0} × Grant) Broken} → Reading (Seq (Word key.Consolidate) IsGrant) Ends before here r → Reading (IsBehind key.Consolidate IsGrant) Ends before here (mapped (λ p. p.1) r)
+consolidated_read h = recast (IsBehind key.Consolidate IsGrant) (λ (p : Unit {0} × Grant). p.1) (λ b x a h. h) (λ b y a h. ((tt, y), h, refl)) h

@@ -2,10 +2,8 @@ pub mod Acted
 pub mod Aliased
 pub mod Aliases
 pub mod Articles
-pub mod Defining
 pub mod Doing
 pub mod FirstWords
-pub mod Forms
 pub mod Granting
 pub mod Grants
 pub mod Keying

@@ -11,11 +11,41 @@ use Rattle.sr_grammar.specs.Scripts.Pieces.{again}
 use Rattle.sr_grammar.specs.Going.{Ends}
 use Rattle.sr_reader.specs.Reading.{Alike, Reading, AtEnd, mapped}
 use Rattle.sr_reader.specs.Reading.Reading.{read, refused, memory}
-use Rattle.sr_grammar.proofs.Statements.{Left, no_statement}
-use Rattle.sr_parse.proofs.Forms.{piece_left, piece_missed, left_parted, left_over, script_begun}
+use Rattle.sr_grammar.proofs.Statements.{Left, left_ends, from_left, no_statement}
+use Rattle.sr_grammar.proofs.Statements.Left.{over, parted, passed_over, said}
 use Rattle.sr_parse.proofs.Tabling.{Pieces-start, Pieces-piece}
 use Rattle.sr_reader.proofs.Parts.{from, alike_from, two_places, cast}
 use Rattle.sr_reader.proofs.Starts.{nothing_read, standing, lacks}
+
+-- ---- the rest of a script
+
+-- a piece was read, and the script goes on here
+pub piece_left : (here there : Symbols) (old more others : List Stmt) → Left opened here others → (Ends here → (more ≡ old) × (there ≡ here))
+    → ((s : Stmt) (rest : Symbols) → IsStatement here s rest → Ends rest → (more ≡ old ++ s ∷ []) × (there ≡ rest)) → (left : List Stmt) × (old ++ others ≡ more ++ left) × Left closed there left
+piece_left here there old more others (passed_over l) none one =
+    let e = none (left_ends l) in (others, ap (λ (xs : List Stmt). xs ++ others) (sym e.0), subst (λ (b : Symbols). Left closed b others) (sym e.1) l)
+piece_left here there old more others (said {after = after} {s = s} {xs = xs} h l) none one =
+    let e = one s after h (left_ends l) in
+    (xs, sym (append_assoc old (s ∷ []) xs) ∙ ap (λ (ys : List Stmt). ys ++ xs) (sym e.0), subst (λ (b : Symbols). Left closed b xs) (sym e.1) l)
+
+-- a piece was not read
+pub piece_missed : (here : Symbols) (others : List Stmt) (e : Broken) → Left opened here others → (Ends here → e ≡ Memory)
+    → ((s : Stmt) (rest : Symbols) → IsStatement here s rest → Ends rest → e ≡ Memory) → e ≡ Memory
+piece_missed here others e (passed_over l) none one = none (left_ends l)
+piece_missed here others e (said {after = after} {s = s} h l) none one = one s after h (left_ends l)
+
+-- behind a piece: a `;`, or the end
+pub left_parted : (here next : Symbols) (others : List Stmt) → Left closed here others → IsSign here mark.Semicolon next → Left opened next others
+left_parted here next others over s = absurd (cc)
+left_parted here next others (parted {after = after} t l) s = let same : after ≡ next = cc in subst (λ (b : Symbols). Left opened b others) same l
+
+pub left_over : (here : Symbols) (others : List Stmt) → Left closed here others → ((next : Symbols) → IsSign here mark.Semicolon next → ⊥) → (here ≡ []) × (others ≡ [])
+left_over here others over absent = (refl, refl)
+left_over here others (parted {after = after} s l) absent = absurd (absent after s)
+
+-- at the begin of a script
+pub script_begun : (here : Symbols) (old : List Stmt) → old ≡ [] → (xs : List Stmt) → IsScript here xs → (others : List Stmt) × (xs ≡ old ++ others) × Left opened here others
+script_begun here old e xs h = (xs, subst (λ (l : List Stmt). xs ≡ l ++ xs) (sym e) refl, subst (λ (l : List Stmt). Left opened here l) (append-nil xs) (from_left h over))
 
 -- ---- one piece
 

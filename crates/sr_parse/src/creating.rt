@@ -2,7 +2,7 @@ ghost use Rattle.std.specs.Prelude.{◌≡◌, ◌<◌, ◌≤◌, length, OnOk,
 ghost use Rattle.std.specs.Option.{option_copied};
 ghost use Rattle.sr_ast.specs.declared.create.Image.{Image};
 ghost use Rattle.sr_reader.specs.Reading.{Reading, Anywhere, BeforeWord, BeforeSign, mapped, Gives};
-ghost use Rattle.sr_reader.specs.Productions.{TwoWords, Keyed, Ruled, Rules, EachRow, StatementBehind};
+ghost use Rattle.sr_reader.specs.Productions.{TwoWords, Keyed, Ruled, Rules, EachRow};
 ghost use Rattle.sr_grammar.specs.Symbols.{Symbols, word, IsName};
 ghost use Rattle.sr_grammar.specs.Going.{Stop, Ends, Closes, is_open, condition_goes, is_image, is_declare, rule_starts};
 ghost use Rattle.sr_grammar.specs.Listing.{Listed, Row};
@@ -20,6 +20,7 @@ ghost use Rattle.sr_grammar.specs.Catalog.{
   IsSubscription,
 };
 ghost use Rattle.sr_grammar.specs.Tables.{IsTable, IsKeyWords};
+ghost use Rattle.sr_grammar.specs.Scripts.{IsBehind};
 ghost use Rattle.sr_grammar.specs.Triggers.{IsOf, AreAliases, IsVariable, IsTrigger, image_word};
 ghost use Rattle.sr_ast.specs.declared.keyword.Keyword.TheVariants as key;
 ghost use Rattle.sr_grammar.specs.declared.symbol.Sign.TheVariants as mark;
@@ -28,70 +29,25 @@ use crate::acting::{IFS, actions};
 use crate::normal::normal;
 use sr_ast::{
     ArticleRule, ColumnRule, CreatePublication, CreateTable, CreateTrigger, Expr, Grant, Image,
-    Keyword, Stmt, SubscriptionRule,
+    Keyword, SubscriptionRule,
 };
 use sr_base::{Kind, Name, Seq, Text, Value};
 use sr_grammar::{Sign, Symbol};
 use sr_reader::{Broken, Reader, condition, expr, literal, negative};
 use std::alloc::Global;
 
-/// Behind CREATE.
-pub fn create(reader: &mut Reader) -> Result<Stmt, Broken>
-    ensures reads { Reading (StatementBehind key.Create) Ends reader.old reader.new result }
+/// Behind GRANT, where REMOTE is not next.
+pub fn consolidated(reader: &mut Reader) -> Result<Grant, Broken>
+    ensures reads { Reading (IsBehind key.Consolidate IsGrant) Ends reader.old reader.new result }
     ensures shorter { length reader.new ≤ length reader.old }
 {
-    if reader.takes(Keyword::Table) {
-        let create = create_table(reader)?;
-        return Ok(Stmt::CreateTable(create));
-    }
-    if reader.takes(Keyword::Publication) {
-        let create = create_publication(reader)?;
-        return Ok(Stmt::CreatePublication(create));
-    }
-    if reader.takes(Keyword::Trigger) {
-        let create = create_trigger(reader)?;
-        return Ok(Stmt::CreateTrigger(create));
-    }
-    let rule = subscription(reader)?;
-    Ok(Stmt::CreateSubscription(rule))
-}
-
-/// Behind DROP.
-pub fn drop_statement(reader: &mut Reader) -> Result<Stmt, Broken>
-    ensures reads { Reading (StatementBehind key.Drop) Ends reader.old reader.new result }
-    ensures shorter { length reader.new ≤ length reader.old }
-{
-    if reader.takes(Keyword::Table) {
-        let name = reader.name()?;
-        return Ok(Stmt::DropTable(name));
-    }
-    if reader.takes(Keyword::Publication) {
-        let name = reader.name()?;
-        return Ok(Stmt::DropPublication(name));
-    }
-    if reader.takes(Keyword::Trigger) {
-        let name = reader.name()?;
-        return Ok(Stmt::DropTrigger(name));
-    }
-    let rule = subscription(reader)?;
-    Ok(Stmt::DropSubscription(rule))
-}
-
-/// Behind GRANT.
-pub fn grant(reader: &mut Reader) -> Result<Stmt, Broken>
-    ensures reads { Reading (StatementBehind key.Grant) Ends reader.old reader.new result }
-    ensures shorter { length reader.new ≤ length reader.old }
-{
-    if reader.takes(Keyword::Remote) {
-        let grant = granted(reader)?;
-        return Ok(Stmt::GrantRemote(grant));
-    }
     reader.keyword(Keyword::Consolidate)?;
     let grant = granted(reader)?;
-    Ok(Stmt::GrantConsolidate(grant))
+    Ok(grant)
 }
 
-fn granted(reader: &mut Reader) -> Result<Grant, Broken>
+/// Behind CONSOLIDATE, and behind REMOTE.
+pub fn granted(reader: &mut Reader) -> Result<Grant, Broken>
     ensures reads { Reading IsGrant Ends reader.old reader.new result }
     ensures shorter { length reader.new ≤ length reader.old }
 {
@@ -163,7 +119,7 @@ fn signed_literal(reader: &mut Reader) -> Result<Value, Broken>
 }
 
 /// Behind CREATE TABLE.
-fn create_table(reader: &mut Reader) -> Result<CreateTable, Broken>
+pub fn create_table(reader: &mut Reader) -> Result<CreateTable, Broken>
     ensures reads { Reading IsTable Anywhere reader.old reader.new result }
     ensures shorter { length reader.new ≤ length reader.old }
 {
@@ -333,7 +289,7 @@ fn length(reader: &mut Reader) -> Result<u16, Broken>
 }
 
 /// Behind CREATE PUBLICATION.
-fn create_publication(reader: &mut Reader) -> Result<CreatePublication, Broken>
+pub fn create_publication(reader: &mut Reader) -> Result<CreatePublication, Broken>
     ensures reads { Reading IsPublication Anywhere reader.old reader.new result }
     ensures shorter { length reader.new ≤ length reader.old }
 {
@@ -390,7 +346,7 @@ fn subscribed_by(reader: &mut Reader) -> Result<Option<Expr>, Broken>
 }
 
 /// Behind CREATE TRIGGER.
-fn create_trigger(reader: &mut Reader) -> Result<CreateTrigger, Broken>
+pub fn create_trigger(reader: &mut Reader) -> Result<CreateTrigger, Broken>
     ensures reads { Reading IsTrigger Anywhere reader.old reader.new result }
     ensures shorter { length reader.new ≤ length reader.old }
 {

@@ -1,21 +1,25 @@
-ghost use Rattle.std.specs.Prelude.{◌≡◌, ◌<◌, ◌≤◌, length, OnOk, IfOk, ℕ, List, Ok, Err};
+ghost use Rattle.std.specs.Prelude.{◌≡◌, ◌<◌, ◌≤◌, length, OnOk, IfOk, ℕ, List, Ok, Err, Some};
 ghost use Rattle.sr_ast.specs.declared.stmt.Stmt.{Stmt as Statement};
 ghost use Rattle.sr_reader.specs.Reading.{Reading, AtEnd, mapped};
-ghost use Rattle.sr_reader.specs.Productions.{Definition, Work};
+ghost use Rattle.sr_reader.specs.Productions.{Work};
 ghost use Rattle.sr_grammar.specs.Scripts.Stage.{closed};
 ghost use Rattle.sr_grammar.specs.Going.{Ends};
 ghost use Rattle.sr_grammar.specs.Faults.{IsRead};
 ghost use Rattle.sr_grammar.specs.Places.{IsRefusedAt};
 ghost use Rattle.sr_grammar.specs.Meanings.{IsWritten};
-ghost use Rattle.sr_grammar.specs.Scripts.{Pieces, IsStatement, IsPiece};
+ghost use Rattle.sr_grammar.specs.Scripts.{Pieces, IsRest, IsStatement, IsPiece};
+ghost use Rattle.sr_grammar.specs.Symbols.{behind};
+ghost use Rattle.sr_grammar.specs.Forms.{form_at, words, past};
 
-use crate::creating::{create, drop_statement, grant, subscription};
-use sr_ast::{Dml, Keyword, Script, Stmt};
+use crate::creating::{
+    consolidated, create_publication, create_table, create_trigger, granted, subscription,
+};
+use sr_ast::{Dml, Form, Keyword, Script, Stmt};
 use sr_base::{Seq, Text};
 use sr_grammar::{ParseFault, Sign};
 use sr_lex::LexFault;
 use sr_reader::{
-    Broken, Reader, delete, insert, passthrough, select, start_behind, symbols, update,
+    Broken, Reader, delete, form_at, insert, passthrough, select, start_behind, symbols, update,
 };
 use std::alloc::{AllocError, AllocFailed, Global};
 
@@ -79,41 +83,75 @@ fn piece(reader: &mut Reader, script: &mut Vec<Stmt>) -> Result<(), Broken>
     Ok(())
 }
 
+/// A statement: its words, and what stands behind them.
 fn statement(reader: &mut Reader) -> Result<Stmt, Broken>
     ensures reads { Reading IsStatement Ends reader.old reader.new result }
     ensures shorter { length reader.new ≤ length reader.old }
     ensures progress { OnOk result (length reader.new < length reader.old) }
 {
-    if reader.takes(Keyword::Insert) {
-        let insert = insert(reader)?;
-        return Ok(Stmt::Dml(Dml::Insert(insert)));
-    }
-    if reader.takes(Keyword::Update) {
-        let update = update(reader)?;
-        return Ok(Stmt::Dml(Dml::Update(update)));
-    }
-    if reader.takes(Keyword::Delete) {
-        let delete = delete(reader)?;
-        return Ok(Stmt::Dml(Dml::Delete(delete)));
-    }
-    if reader.takes(Keyword::Select) {
-        let select = select(reader)?;
-        return Ok(Stmt::Select(select));
-    }
-    if reader.takes(Keyword::Commit) {
-        work(reader);
-        return Ok(Stmt::Commit);
-    }
-    if reader.takes(Keyword::Rollback) {
-        work(reader);
-        return Ok(Stmt::Rollback);
-    }
-    if reader.takes(Keyword::Passthrough) {
-        let stmt = passthrough(reader)?;
-        return Ok(stmt);
-    }
-    let stmt = definition(reader)?;
+    let Some(form) = form_at(reader) else {
+        return Err(Broken::Refused);
+    };
+    take_words(reader, form);
+    let stmt = rest(reader, form)?;
     Ok(stmt)
+}
+
+/// Takes the words of a statement that begins here.
+fn take_words(reader: &mut Reader, form: Form)
+    requires { form_at reader.old ≡ Some form }
+    ensures rest { reader.new ≡ past (words form).1 (behind reader.old) }
+    ensures taken { length reader.new < length reader.old }
+{
+    reader.skip();
+    match form {
+        Form::CreateTable
+        | Form::DropTable
+        | Form::CreatePublication
+        | Form::DropPublication
+        | Form::GrantRemote
+        | Form::CreateTrigger
+        | Form::DropTrigger
+        | Form::PassthroughStop => reader.skip(),
+        _ => {}
+    }
+}
+
+/// Behind the words of a statement.
+#[tactic(auto, using(crate::proofs::FirstWords::made))]
+fn rest(reader: &mut Reader, form: Form) -> Result<Stmt, Broken>
+    ensures reads { Reading (IsRest form) Ends reader.old reader.new result }
+    ensures shorter { length reader.new ≤ length reader.old }
+{
+    match form {
+        Form::CreateTable => Ok(Stmt::CreateTable(create_table(reader)?)),
+        Form::DropTable => Ok(Stmt::DropTable(reader.name()?)),
+        Form::CreatePublication => Ok(Stmt::CreatePublication(create_publication(reader)?)),
+        Form::DropPublication => Ok(Stmt::DropPublication(reader.name()?)),
+        Form::GrantRemote => Ok(Stmt::GrantRemote(granted(reader)?)),
+        Form::GrantConsolidate => Ok(Stmt::GrantConsolidate(consolidated(reader)?)),
+        Form::CreateSubscription => Ok(Stmt::CreateSubscription(subscription(reader)?)),
+        Form::StartSubscription => Ok(Stmt::StartSubscription(subscription(reader)?)),
+        Form::StopSubscription => Ok(Stmt::StopSubscription(subscription(reader)?)),
+        Form::Synchronize => Ok(Stmt::Synchronize(subscription(reader)?)),
+        Form::DropSubscription => Ok(Stmt::DropSubscription(subscription(reader)?)),
+        Form::CreateTrigger => Ok(Stmt::CreateTrigger(create_trigger(reader)?)),
+        Form::DropTrigger => Ok(Stmt::DropTrigger(reader.name()?)),
+        Form::Insert => Ok(Stmt::Dml(Dml::Insert(insert(reader)?))),
+        Form::Update => Ok(Stmt::Dml(Dml::Update(update(reader)?))),
+        Form::Delete => Ok(Stmt::Dml(Dml::Delete(delete(reader)?))),
+        Form::Select => Ok(Stmt::Select(select(reader)?)),
+        Form::Commit => {
+            work(reader);
+            Ok(Stmt::Commit)
+        }
+        Form::Rollback => {
+            work(reader);
+            Ok(Stmt::Rollback)
+        }
+        Form::Passthrough => Ok(Stmt::Passthrough(passthrough(reader)?)),
+        Form::PassthroughStop => Ok(Stmt::PassthroughStop),
+    }
 }
 
 /// `[WORK]`
@@ -122,35 +160,4 @@ fn work(reader: &mut Reader)
     ensures shorter { length reader.new ≤ length reader.old }
 {
     let _ = reader.takes(Keyword::Work);
-}
-
-/// A statement on tables, publications, users, subscriptions or triggers.
-fn definition(reader: &mut Reader) -> Result<Stmt, Broken>
-    ensures reads { Reading Definition Ends reader.old reader.new result }
-    ensures shorter { length reader.new ≤ length reader.old }
-    ensures progress { OnOk result (length reader.new < length reader.old) }
-{
-    if reader.takes(Keyword::Create) {
-        let stmt = create(reader)?;
-        return Ok(stmt);
-    }
-    if reader.takes(Keyword::Drop) {
-        let stmt = drop_statement(reader)?;
-        return Ok(stmt);
-    }
-    if reader.takes(Keyword::Grant) {
-        let stmt = grant(reader)?;
-        return Ok(stmt);
-    }
-    if reader.takes(Keyword::Start) {
-        let rule = subscription(reader)?;
-        return Ok(Stmt::StartSubscription(rule));
-    }
-    if reader.takes(Keyword::Stop) {
-        let rule = subscription(reader)?;
-        return Ok(Stmt::StopSubscription(rule));
-    }
-    reader.keyword(Keyword::Synchronize)?;
-    let rule = subscription(reader)?;
-    Ok(Stmt::Synchronize(rule))
 }

@@ -1,21 +1,15 @@
 -- Readers of PASSTHROUGH.
-use Rattle.std.proofs.Common.{◌≡◌, ℕ, Bool, true, false, List, [], ◌∷◌, Result, Ok, IsTrue, IsFalse, refl, sym, ap, ◌∙◌}
-use Rattle.sr_ast.specs.declared.stmt.Stmt.{Stmt}
-use Rattle.sr_ast.specs.declared.stmt.Stmt.TheVariants as stmt
-use Rattle.sr_ast.specs.declared.query.Dml.TheVariants as dml
+use Rattle.std.proofs.Common.{◌≡◌, ℕ, Bool, true, false, List, [], ◌∷◌, Ok, IsTrue, IsFalse, refl, sym, ap, ◌∙◌}
 use Rattle.sr_ast.specs.declared.stmt.Passthrough.{Passthrough}
 use Rattle.sr_ast.specs.declared.keyword.Keyword.TheVariants as key
-use Rattle.sr_reader.specs.declared.reader.Broken.{Broken}
 use Rattle.sr_grammar.specs.Symbols.{Symbols, first, word, IsName, IsWord}
 use Rattle.sr_grammar.specs.Listing.{Listed}
-use Rattle.sr_grammar.specs.Scripts.{IsOnly, IsPassthrough, IsStatement}
-use Rattle.sr_grammar.specs.Going.{Ends}
-use Rattle.sr_reader.specs.Reading.{Alike, Reading, mapped, BeforeWord}
+use Rattle.sr_grammar.specs.Scripts.{IsOnly, IsPassthrough}
+use Rattle.sr_reader.specs.Reading.{Alike, Reading, BeforeWord}
 use Rattle.sr_reader.specs.Reading.Reading.{read}
-use Rattle.sr_reader.specs.Productions.{Word, StatementBehind}
-use Rattle.sr_reader.proofs.Missing.{Passthrough-carried}
-use Rattle.sr_reader.proofs.Parts.{Seq, cast}
-use Rattle.sr_reader.proofs.Starts.{standing, lacks, word_read}
+use Rattle.sr_reader.specs.Productions.{Word}
+use Rattle.sr_reader.proofs.Parts.{Seq}
+use Rattle.sr_reader.proofs.Starts.{lacks}
 use Rattle.sr_reader.proofs.Optionals.{Lacks}
 
 -- ---- [ONLY]
@@ -50,52 +44,3 @@ carried_to b x a h = record { for_ = h.0; users_ = h.2.0; only = h.1; for = h.2.
 
 pub carried_back : (b : Symbols) (y : Passthrough) (a : Symbols) → IsPassthrough b y a → (x : Bool × (Unit {0} × List (List ℕ))) × CarriedParts b x a × (carried_of x ≡ y)
 carried_back b y a h = ((y.only, (tt, y.users)), (h.for_, h.only, (h.users_, h.for, h.users)), refl)
-
--- ---- the statement
-
-only_stop : {before next at at_for users : Symbols} → IsWord before key.Stop next → (o : Bool) → IsOnly at o at_for → IsWord at_for key.For users → word key.Passthrough ∷ before ≡ word key.Passthrough ∷ at → ⊥
-only_stop w true h f v = absurd (cc)
-only_stop w false h f v = absurd (cc)
-
--- behind STOP no ONLY and no FOR begin
-stops_not : {before next at rest : Symbols} {y : Stmt} → IsWord before key.Stop next → (p : Passthrough) → IsPassthrough at p rest → word key.Passthrough ∷ before ≡ word key.Passthrough ∷ at → (y ≡ stmt.PassthroughStop) × (next ≡ rest)
-stops_not w p h v = absurd (only_stop w p.only h.only h.for v)
-
-stops_there : {before next : Symbols} → IsWord before key.Stop next → (x : Stmt) (rest : Symbols) → IsStatement (word key.Passthrough ∷ before) x rest → (x ≡ stmt.PassthroughStop) × (next ≡ rest)
-stops_there w (stmt.CreateTable c) rest (at, v, h) = absurd (cc)
-stops_there w (stmt.DropTable n) rest (at, v, h) = absurd (cc)
-stops_there w (stmt.CreatePublication c) rest (at, v, h) = absurd (cc)
-stops_there w (stmt.DropPublication n) rest (at, v, h) = absurd (cc)
-stops_there w (stmt.GrantRemote g) rest (at, v, h) = absurd (cc)
-stops_there w (stmt.GrantConsolidate g) rest (at, v, h) = absurd (cc)
-stops_there w (stmt.CreateSubscription s) rest (at, v, h) = absurd (cc)
-stops_there w (stmt.StartSubscription s) rest (at, v, h) = absurd (cc)
-stops_there w (stmt.StopSubscription s) rest (at, v, h) = absurd (cc)
-stops_there w (stmt.Synchronize s) rest (at, v, h) = absurd (cc)
-stops_there w (stmt.DropSubscription s) rest (at, v, h) = absurd (cc)
-stops_there w (stmt.CreateTrigger c) rest (at, v, h) = absurd (cc)
-stops_there w (stmt.DropTrigger n) rest (at, v, h) = absurd (cc)
-stops_there w (stmt.Dml (dml.Insert i)) rest (at, v, h) = absurd (cc)
-stops_there w (stmt.Dml (dml.Update i)) rest (at, v, h) = absurd (cc)
-stops_there w (stmt.Dml (dml.Delete i)) rest (at, v, h) = absurd (cc)
-stops_there w (stmt.Select s) rest (at, v, h) = absurd (cc)
-stops_there w stmt.Commit rest (at, v, h) = absurd (cc)
-stops_there w stmt.Rollback rest (at, v, h) = absurd (cc)
-stops_there w (stmt.Passthrough p) rest (at, v, h) = stops_not w p h v
-stops_there w stmt.PassthroughStop rest h = (refl, cc)
-
--- STOP
-stop_back : {before here : Symbols} → IsWord before key.Stop here → (b : Symbols) (y : Stmt) (a : Symbols) → Alike before b → StatementBehind key.Passthrough b y a → Ends a → (x : Unit {0}) × Word key.Stop b x a × Unit {0} × (stmt.PassthroughStop ≡ y)
-stop_back w b y a alike h q =
-    let at = standing b (sym alike ∙ ap first w) in let k = stops_there at y a h in
-    (tt, at ∙ ap (λ (l : Symbols). word key.Stop ∷ l) k.1, tt, sym k.0)
-
-pub stop_read : {before here : Symbols} → IsWord before key.Stop here → Reading (StatementBehind key.Passthrough) Ends before here (Ok stmt.PassthroughStop)
-stop_read w = cast {f = λ x. stmt.PassthroughStop} (record { to = λ b x a p. ap (λ (l : Symbols). word key.Passthrough ∷ l) p; back = stop_back w }) (word_read w)
-
--- [ONLY] FOR n {, n}, where STOP is not next
-carries_back : {before : Symbols} → Lacks key.Stop before → (b : Symbols) (y : Stmt) (a : Symbols) → Alike before b → StatementBehind key.Passthrough b y a → Ends a → (x : Passthrough) × IsPassthrough b x a × Ends a × (stmt.Passthrough x ≡ y)
-carries_back absent b y a alike h q = let p = Passthrough-carried {before = b} refl (λ next w. lacks alike absent w) y a h in (p.0, p.2, q, sym p.1)
-
-pub carries_read : {before here : Symbols} {r : Result Passthrough Broken} → Lacks key.Stop before → Reading IsPassthrough Ends before here r → Reading (StatementBehind key.Passthrough) Ends before here (mapped stmt.Passthrough r)
-carries_read absent h = cast (record { to = λ b x a p. (b, refl, p); back = carries_back absent }) h

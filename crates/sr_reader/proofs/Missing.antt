@@ -6,16 +6,11 @@ use Rattle.sr_ast.specs.declared.query.Items.TheVariants.{All, Each}
 use Rattle.sr_ast.specs.declared.query.Item.{Item}
 use Rattle.sr_ast.specs.declared.query.Item.TheVariants as item
 use Rattle.sr_ast.specs.declared.query.Join.{Join}
-use Rattle.sr_ast.specs.declared.query.Dml.TheVariants as dml
-use Rattle.sr_ast.specs.declared.stmt.Stmt.{Stmt}
-use Rattle.sr_ast.specs.declared.stmt.Stmt.TheVariants as stmt
-use Rattle.sr_ast.specs.declared.stmt.Passthrough.{Passthrough}
 use Rattle.sr_ast.specs.declared.keyword.Keyword.{Keyword}
 use Rattle.sr_ast.specs.declared.keyword.Keyword.TheVariants as key
 use Rattle.sr_grammar.specs.declared.symbol.Sign.TheVariants as mark
-use Rattle.sr_grammar.specs.Symbols.{Symbols, word, sign, IsWord, IsSign}
+use Rattle.sr_grammar.specs.Symbols.{Symbols, sign, IsWord, IsSign}
 use Rattle.sr_grammar.specs.Writing.{IsAggregated, IsAggregate, IsItem, IsItems, IsJoin}
-use Rattle.sr_grammar.specs.Scripts.{IsPassthrough, IsStatement}
 use Rattle.sr_grammar.specs.Going.{Stop, Begins, expression_goes, is_join}
 use Rattle.sr_grammar.proofs.Steps.{Begins-not}
 use Rattle.sr_grammar.proofs.Following.{expression_starts}
@@ -60,32 +55,6 @@ Item-max w (item.Max e) rest h = (e, refl, aggregate_here key.Max w e rest h)
 pub Items-all : {before next : Symbols} → IsSign before mark.Times next → (x : Items) (rest : Symbols) → IsItems before x rest → (x ≡ All) × (next ≡ rest)
 Items-all w All rest h = (refl, cc)
 Items-all {before = before} {next = next} w (Each xs) rest h = absurd (items_no_times before next xs rest h w)
-
--- behind PASSTHROUGH
-pub Passthrough-carried : {before here : Symbols} → here ≡ before → ((next : Symbols) → IsWord before key.Stop next → ⊥) → (x : Stmt) (rest : Symbols) → IsStatement (word key.Passthrough ∷ before) x rest
-    → (p : Passthrough) × (x ≡ stmt.Passthrough p) × IsPassthrough here p rest
-Passthrough-carried k absent (stmt.CreateTable c) rest (at, w, h) = absurd (cc)
-Passthrough-carried k absent (stmt.DropTable n) rest (at, w, h) = absurd (cc)
-Passthrough-carried k absent (stmt.CreatePublication c) rest (at, w, h) = absurd (cc)
-Passthrough-carried k absent (stmt.DropPublication n) rest (at, w, h) = absurd (cc)
-Passthrough-carried k absent (stmt.GrantRemote g) rest (at, w, h) = absurd (cc)
-Passthrough-carried k absent (stmt.GrantConsolidate g) rest (at, w, h) = absurd (cc)
-Passthrough-carried k absent (stmt.CreateSubscription s) rest (at, w, h) = absurd (cc)
-Passthrough-carried k absent (stmt.StartSubscription s) rest (at, w, h) = absurd (cc)
-Passthrough-carried k absent (stmt.StopSubscription s) rest (at, w, h) = absurd (cc)
-Passthrough-carried k absent (stmt.Synchronize s) rest (at, w, h) = absurd (cc)
-Passthrough-carried k absent (stmt.DropSubscription s) rest (at, w, h) = absurd (cc)
-Passthrough-carried k absent (stmt.CreateTrigger c) rest (at, w, h) = absurd (cc)
-Passthrough-carried k absent (stmt.DropTrigger n) rest (at, w, h) = absurd (cc)
-Passthrough-carried k absent (stmt.Dml (dml.Insert i)) rest (at, w, h) = absurd (cc)
-Passthrough-carried k absent (stmt.Dml (dml.Update i)) rest (at, w, h) = absurd (cc)
-Passthrough-carried k absent (stmt.Dml (dml.Delete i)) rest (at, w, h) = absurd (cc)
-Passthrough-carried k absent (stmt.Select s) rest (at, w, h) = absurd (cc)
-Passthrough-carried k absent stmt.Commit rest (at, w, h) = absurd (cc)
-Passthrough-carried k absent stmt.Rollback rest (at, w, h) = absurd (cc)
-Passthrough-carried {before = before} {here = here} k absent (stmt.Passthrough p) rest (at, w, h) =
-    let same : at ≡ here = cc in (p, refl, subst (λ (b : Symbols). IsPassthrough b p rest) same h)
-Passthrough-carried k absent stmt.PassthroughStop rest h = absurd (absent rest (cc))
 
 -- where joins end
 abbrev pub Joined : Symbols → Type 0

@@ -1,16 +1,18 @@
 -- Readers of a part that stands behind a key word, and may be left out with it.
-use Rattle.std.proofs.Common.{◌≡◌, Bool, true, Some, None, Result, Ok, refl, sym, subst, ap, ◌∙◌}
+use Rattle.std.proofs.Common.{◌≡◌, Bool, true, List, Some, None, Result, Ok, Err, refl, sym, subst, ap, ◌∙◌}
 use Rattle.sr_ast.specs.declared.keyword.Keyword.{Keyword}
+use Rattle.sr_ast.specs.Pages.{Piece}
 use Rattle.sr_grammar.specs.declared.symbol.Symbol.{Symbol}
 use Rattle.sr_reader.specs.declared.reader.Broken.{Broken}
 use Rattle.sr_grammar.specs.Symbols.{Symbols, first, word, IsWord}
 use Rattle.sr_grammar.specs.Writing.{IsLed}
 use Rattle.sr_grammar.specs.Scripts.{IsBehind}
 use Rattle.sr_grammar.specs.Going.{Stop}
-use Rattle.sr_reader.specs.Reading.{Alike, Reading, mapped}
+use Rattle.sr_reader.specs.Reading.{Alike, Reading, Anywhere, mapped}
+use Rattle.sr_reader.specs.Productions.{Word}
 use Rattle.sr_reader.specs.Reading.Reading.{read, refused, memory}
 use Rattle.sr_grammar.proofs.Steps.{Stop-begins}
-use Rattle.sr_reader.proofs.Parts.{then, recast, perhaps_none, perhaps_some}
+use Rattle.sr_reader.proofs.Parts.{Proper, then, ends_at, recast, perhaps_none, perhaps_some}
 use Rattle.sr_reader.proofs.Starts.{standing, lacks, word_read}
 
 -- a reading from a place that is the same
@@ -29,6 +31,10 @@ pub behind_word : {A : Type 0} {k : Keyword} {X : Symbols → A → Symbols → 
 behind_word w memory = memory
 behind_word {A = A} {k = k} {X = X} w (read r) = recast (IsBehind k X) (λ (p : Unit {0} × A). p.1) (λ b x a h. h) (λ b y a h. ((tt, y), h, refl)) (then (λ b y a h q. tt) (word_read w) (read r))
 behind_word {A = A} {k = k} {X = X} w (refused r) = recast (IsBehind k X) (λ (p : Unit {0} × A). p.1) (λ b x a h. h) (λ b y a h. ((tt, y), h, refl)) (then (λ b y a h q. tt) (word_read w) (refused r))
+
+-- it was refused
+pub behind_ends : {A : Type 0} {k : Keyword} {X : Symbols → A → Symbols → Type 0} {P : Symbols → Type 0} {N : A → Type 0} {f : A → List Piece} → Proper X P N f → {before here : Symbols} {e : Broken} → Reading (Word k) Anywhere before here (Err e) → Reading (IsBehind k X) P before here (Err e)
+behind_ends {A = A} {k = k} {X = X} p r = recast (IsBehind k X) (λ (q : Unit {0} × A). q.1) (λ b x a h. h) (λ b y a h. ((tt, y), h, refl)) (ends_at p r)
 
 no_end : (k : Keyword) (test : Symbol → Bool) → test (word k) ≡ true → {before middle : Symbols} → IsWord before k middle → (a : Symbols) → Alike before a → Stop test a → ⊥
 no_end k test t w a alike s = Stop-begins test (standing a (sym alike ∙ ap first w)) t s

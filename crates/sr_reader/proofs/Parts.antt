@@ -1,12 +1,14 @@
 -- Readers of parts make a reader of the whole.
-use Rattle.std.proofs.Common.{◌≡◌, [], ◌∷◌, ◌++◌, Option, Some, None, Result, Ok, Err, refl, sym, subst, ap, ◌∙◌, append_assoc}
+use Rattle.std.proofs.Common.{◌≡◌, List, [], ◌∷◌, ◌++◌, Option, Some, None, Result, Ok, Err, refl, sym, subst, ap, ◌∙◌, append_assoc}
 use Rattle.std.specs.Prelude.{IsErr, IsErrAnd}
 use Rattle.sr_reader.specs.declared.reader.Broken.{Broken}
 use Rattle.sr_reader.specs.declared.reader.Broken.TheVariants.{Memory}
 use Rattle.sr_grammar.specs.Symbols.{Symbols, first}
-use Rattle.sr_grammar.specs.Meant.{AreMeant}
-use Rattle.sr_reader.specs.Reading.{Spells, GoesOn, Alike, WasRead, Reading, mapped}
+use Rattle.sr_ast.specs.Pages.{Piece}
+use Rattle.sr_reader.specs.Reading.{Spells, GoesOn, Alike, WasRead, Reading, Anywhere, mapped}
 use Rattle.sr_reader.specs.Reading.Reading.{read, refused, memory}
+pub use Rattle.sr_grammar.specs.Parts.{Of, Seq}
+pub use Rattle.sr_grammar.proofs.Parts.{Proper, Leads, Sample, from, four, meant_both, goes_first}
 
 -- ---- symbols
 
@@ -19,40 +21,10 @@ alike_on (s ∷ taken) here there a = refl
 pub alike_from : (before taken here there : Symbols) → before ≡ taken ++ here → Alike here there → Alike before (taken ++ there)
 alike_from before taken here there e a = subst (λ (b : Symbols). Alike b (taken ++ there)) (sym e) (alike_on taken here there a)
 
-pub four : (a b c d : Symbols) → (a ++ b) ++ (c ++ d) ≡ (a ++ (b ++ c)) ++ d
-four a b c d = sym (append_assoc (a ++ b) c d) ∙ ap (λ (l : Symbols). l ++ d) (append_assoc a b c)
-
 pub two_places : (a b here : Symbols) {before middle : Symbols} → before ≡ a ++ middle → middle ≡ b ++ here → before ≡ (a ++ b) ++ here
 two_places a b here e f = e ∙ ap (λ (l : Symbols). a ++ l) f ∙ sym (append_assoc a b here)
 
--- a production from another place that is the same
-pub from : {A : Type 0} (X : Symbols → A → Symbols → Type 0) {before here rest : Symbols} {x : A} → before ≡ here → X before x rest → X here x rest
-from X {rest = rest} {x = x} e h = subst (λ (b : Symbols). X b x rest) e h
-
-pub meant_both : (xs ys : Symbols) → AreMeant xs → AreMeant ys → AreMeant (xs ++ ys)
-meant_both [] ys h k = k
-meant_both (x ∷ xs) ys h k = (h.0, meant_both xs ys h.1 k)
-
 -- ---- one part behind the other
-
-abbrev pub Seq : {A B : Type 0} → (Symbols → A → Symbols → Type 0) → (Symbols → B → Symbols → Type 0) → Symbols → A × B → Symbols → Type 0
-Seq X Y before p after = (middle : Symbols) × X before p.0 middle × Y middle p.1 after
-
--- where the second part begins, the first may end
-abbrev pub Leads : {B : Type 0} → (Symbols → Type 0) → (Symbols → B → Symbols → Type 0) → (Symbols → Type 0) → Type 0
-Leads {B = B} P Y Q = (before : Symbols) (y : B) (after : Symbols) → Y before y after → Q after → P before
-
--- some symbols spell it
-abbrev pub Sample : {A : Type 0} → (Symbols → A → Symbols → Type 0) → Type 0
-Sample X = GoesOn X []
-
-pub goes_first : {A B : Type 0} (X : Symbols → A → Symbols → Type 0) (Y : Symbols → B → Symbols → Type 0) (taken : Symbols) → GoesOn X taken → Sample Y → GoesOn (Seq X Y) taken
-goes_first X Y taken g s = record {
-  more = g.more ++ s.more;
-  meant = meant_both g.more s.more g.meant s.meant;
-  value = (g.value, s.value);
-  spells = λ after. (s.more ++ after, from X (four taken g.more s.more after) (g.spells (s.more ++ after)), s.spells after);
-}
 
 goes_second : {A B : Type 0} (X : Symbols → A → Symbols → Type 0) (Y : Symbols → B → Symbols → Type 0) (one two : Symbols) {x : A} → Spells X one x → GoesOn Y two → GoesOn (Seq X Y) (one ++ two)
 goes_second X Y one two {x = x} spells g = record {
@@ -107,6 +79,15 @@ then {X = X} {P = P} {Y = Y} {Q = Q} leads {here = here} (read f) (read g) = rea
       let r = g.only there alike x.1 rest m.1 q in (both x m.0 r.0, r.1);
 })
 
+-- a part that may end anywhere is read, or is refused
+pub then_on : {A B : Type 0} {X : Symbols → A → Symbols → Type 0} {Y : Symbols → B → Symbols → Type 0} {Q : Symbols → Type 0} {before middle here : Symbols} {x : A} {r : Result B Broken}
+    → Reading X Anywhere before middle (Ok x) → Reading Y Q middle here r → Reading (Seq X Y) Q before here (paired x r)
+then_on f r = then (λ b y a h q. tt) f r
+
+pub ends_at : {A B : Type 0} {X : Symbols → A → Symbols → Type 0} {Y : Symbols → B → Symbols → Type 0} {Q : Symbols → Type 0} {M : B → Type 0} {g : B → List Piece} → Proper Y Q M g → {before here : Symbols} {e : Broken}
+    → Reading X Anywhere before here (Err e) → Reading (Seq X Y) Q before here (Err e)
+ends_at {Y = Y} {Q = Q} p r = first_fails Y Q (λ b y a h q. tt) p.sample r
+
 -- ---- another production of the same symbols
 
 -- what a production is of another: its values are made by `f`, and each that begins with the symbol that is next is made so
@@ -147,6 +128,11 @@ narrow Q fewer (read r) = read (record { taken = r.taken; parts = r.parts; spell
 pub recast : {A B : Type 0} {X : Symbols → A → Symbols → Type 0} {P : Symbols → Type 0} (Y : Symbols → B → Symbols → Type 0) (f : A → B) {before here : Symbols} {r : Result A Broken} → ((b : Symbols) (x : A) (a : Symbols) → X b x a → Y b (f x) a)
     → ((b : Symbols) (y : B) (a : Symbols) → Y b y a → (x : A) × X b x a × (f x ≡ y)) → Reading X P before here r → Reading Y P before here (mapped f r)
 recast Y f to back r = cast (record { to = to; back = λ b y a alike h q. let x = back b y a h in (x.0, x.1, q, x.2) }) r
+
+-- a whole of parts
+pub whole_read : {A B : Type 0} {X : Symbols → A → Symbols → Type 0} {P : Symbols → Type 0} (parts : B → A) (whole : A → B) → ((y : B) → whole (parts y) ≡ y) → ((x : A) → parts (whole x) ≡ x) → {before here : Symbols} {r : Result A Broken}
+    → Reading X P before here r → Reading (Of parts X) P before here (mapped whole r)
+whole_read {X = X} parts whole back forth r = recast (Of parts X) whole (λ b x a h. subst (λ v. X b v a) (sym (forth x)) h) (λ b y a h. (parts y, h, back y)) r
 
 -- a refusal that is handed on by `?`, and one for want of memory
 pub handed : {A : Type 0} {X : Symbols → A → Symbols → Type 0} {P : Symbols → Type 0} {before here : Symbols} {e : Broken} (r : Result A Broken) → Reading X P before here (Err e) → IsErr r × IsErrAnd r (λ f. f ≡ e) → Reading X P before here r

@@ -1,6 +1,5 @@
 -- Symbols that spell a value of a production.
 use Rattle.std.proofs.Common.{arith, false, [], ◌∷◌, ◌++◌, None, refl, inl}
-use Rattle.sr_ast.specs.declared.keyword.Keyword.{Keyword}
 use Rattle.sr_ast.specs.declared.keyword.Keyword.TheVariants as key
 use Rattle.sr_grammar.specs.declared.symbol.Sign.TheVariants as mark
 use Rattle.sr_grammar.specs.Symbols.{Symbols, IsName}
@@ -8,9 +7,10 @@ use Rattle.sr_grammar.specs.Listing.{Listed, IsNames}
 use Rattle.sr_grammar.specs.Listing.Listed.{one}
 use Rattle.sr_grammar.specs.Listing.Row.{none}
 use Rattle.sr_grammar.specs.Expressions.{IsExpr}
-use Rattle.sr_grammar.specs.Writing.{IsLed, IsSource, IsSet, IsDirection, IsOrder, IsCondition, IsOrdering}
+use Rattle.sr_grammar.specs.Writing.{IsSource, IsSet, IsDirection, IsOrder, IsCondition, IsOrdering}
 use Rattle.sr_reader.specs.Productions.{Mark, FewJoins}
 use Rattle.sr_reader.proofs.Parts.{Seq, Sample, goes_first}
+pub use Rattle.sr_grammar.proofs.Parts.{led_sample}
 use Rattle.sr_reader.proofs.Starts.{sign_sample, name_sample, expr_sample}
 use Rattle.sr_reader.proofs.Sets.{SetParts, set_of, set_to}
 
@@ -25,10 +25,6 @@ sample_both X Y s t = goes_first X Y [] s t
 -- a list of one item
 pub sample_listed : {A : Type 0} (X : Symbols → A → Symbols → Type 0) → Sample X → Sample (Listed X)
 sample_listed X s = sample_as X (Listed X) (λ x. x ∷ []) (λ b x a h. one h) s
-
--- a part is left out
-pub led_sample : {A : Type 0} (k : Keyword) (X : Symbols → A → Symbols → Type 0) → Sample (IsLed k X)
-led_sample k X = record { more = []; meant = tt; value = None; spells = λ after. refl }
 
 pub optional_names_sample : Sample IsNames
 optional_names_sample = record { more = []; meant = tt; value = []; spells = λ after. inl (refl, refl) }

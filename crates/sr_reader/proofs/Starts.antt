@@ -1,17 +1,14 @@
 -- Readers of one symbol.
-use Rattle.std.proofs.Common.{arith, pos, inl, ◌≡◌, ℕ, List, [], ◌∷◌, Some, Ok, Err, refl, sym, ap, ◌∙◌, codes, true}
+use Rattle.std.proofs.Common.{arith, pos, inl, ◌≡◌, ℕ, List, [], ◌∷◌, Some, Ok, Err, refl, sym, ap, ◌∙◌, true}
 use Rattle.sr_base.specs.declared.value.Value.TheVariants.{Int}
 use Rattle.sr_ast.specs.declared.expr.Expr.TheVariants.{Literal}
 use Rattle.sr_grammar.specs.Expressions.{IsExpr}
 use Rattle.sr_grammar.specs.Expressions.Reads.{loose, single}
-use Rattle.sr_ast.specs.declared.keyword.Keyword.TheVariants as key
 use Rattle.sr_grammar.specs.declared.symbol.Symbol.TheVariants as symbol
-use Rattle.std.specs.Prelude.{IsUtf8}
 use Rattle.sr_lex.specs.declared.token.TokenKind.TheVariants as token
-use Rattle.sr_lex.specs.Tokens.{is_sign, quoted}
+use Rattle.sr_lex.specs.Tokens.{is_sign}
 use Rattle.sr_grammar.specs.declared.symbol.Sign.TheVariants as mark
 use Rattle.sr_ast.specs.declared.keyword.Keyword.{Keyword}
-use Rattle.sr_ast.specs.Keywords.{spelling}
 use Rattle.sr_grammar.specs.declared.symbol.Sign.{Sign}
 use Rattle.sr_grammar.specs.declared.symbol.Symbol.{Symbol}
 use Rattle.sr_reader.specs.declared.reader.Broken.TheVariants.{Refused}
@@ -22,11 +19,8 @@ use Rattle.sr_reader.specs.Reading.{Alike, Reading, Anywhere}
 use Rattle.sr_reader.specs.Productions.{Word, Mark}
 use Rattle.sr_reader.specs.Reading.Reading.{read, refused}
 use Rattle.sr_grammar.proofs.Steps.{IsName-once}
-use Rattle.sr_grammar.proofs.Saying.{spelling-is_word}
+pub use Rattle.sr_grammar.proofs.Parts.{meant_word, meant_text, name_sample, text_sample}
 use Rattle.sr_reader.proofs.Parts.{Sample}
-
-pub meant_word : (k : Keyword) → IsMeant (word k)
-meant_word k = (spelling k, token.Word, (spelling-is_word k, refl), refl)
 
 is_mark : (s : Sign) → is_sign (sign_text s) [] ≡ true
 is_mark mark.Open = refl
@@ -50,9 +44,6 @@ meant_sign s = (sign_text s, token.Sign, is_mark s, refl)
 -- the number 1
 pub meant_one : IsMeant (symbol.Number (pos 1))
 meant_one = (49 ∷ [], token.Number (pos 1), (refl, refl, omega arith, refl), refl)
-
-pub meant_text : (t : List ℕ) → IsUtf8 t → IsMeant (symbol.Text t)
-meant_text t u = (quoted t, token.Str t, (refl, u, refl), refl)
 
 -- the symbol that is next stands there
 pub standing : (here : Symbols) {s : Symbol} → first here ≡ Some s → here ≡ s ∷ behind here
@@ -113,10 +104,6 @@ sign_missed {k = k} e absent = none_read (Mark k) Anywhere e (sign_sample k) (λ
 
 -- ---- names and texts
 
--- `old` is a name too
-pub name_sample : Sample IsName
-name_sample = record { more = word key.Old ∷ []; meant = (meant_word key.Old, tt); value = codes "old"; spells = λ after. record { word = word key.Old; stands = refl; means = refl } }
-
 pub name_read : {before here : Symbols} {x : List ℕ} → IsName before x here → Reading IsName Anywhere before here (Ok x)
 name_read {x = x} h = one_read IsName Anywhere h.word h.stands (λ after. record { word = h.word; stands = refl; means = h.means })
     (λ there y rest k. IsName-once refl (record { word = h.word; stands = refl; means = h.means }) k)
@@ -124,9 +111,6 @@ name_read {x = x} h = one_read IsName Anywhere h.word h.stands (λ after. record
 pub name_missed : {before here : Symbols} → here ≡ before → ((x : List ℕ) (rest : Symbols) → IsName before x rest → ⊥) → Reading IsName Anywhere before here (Err Refused)
 name_missed {before = before} e absent = none_read IsName Anywhere e name_sample
     (λ there alike y rest h p. absent y (behind before) (record { word = h.word; stands = standing before (alike ∙ ap first h.stands); means = h.means }))
-
-pub text_sample : Sample IsTextAt
-text_sample = record { more = symbol.Text [] ∷ []; meant = (meant_text [] ([], (refl, refl)), tt); value = []; spells = λ after. refl }
 
 pub text_read : {before here : Symbols} {x : List ℕ} → IsTextAt before x here → Reading IsTextAt Anywhere before here (Ok x)
 text_read {x = x} h = one_read IsTextAt Anywhere (symbol.Text x) h (λ after. refl) (λ there y rest k. (cc, cc))

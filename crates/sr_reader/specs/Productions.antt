@@ -7,7 +7,6 @@ use Rattle.sr_ast.specs.declared.action.Action.{Action}
 use Rattle.sr_ast.specs.declared.expr.Expr.{Expr}
 use Rattle.sr_ast.specs.declared.create.ColumnRule.{ColumnRule}
 use Rattle.sr_ast.specs.declared.query.Join.{Join}
-use Rattle.sr_ast.specs.declared.stmt.Stmt.{Stmt}
 use Rattle.sr_ast.specs.declared.keyword.Keyword.{Keyword}
 use Rattle.sr_grammar.specs.declared.symbol.Sign.{Sign}
 use Rattle.sr_ast.specs.declared.keyword.Keyword.TheVariants as key
@@ -22,7 +21,7 @@ use Rattle.sr_grammar.specs.Writing.{IsJoin, IsJoinWord}
 use Rattle.sr_grammar.specs.Triggers.{Acts, IsAssigned, IsInserted}
 use Rattle.sr_grammar.specs.Triggers.Amount.{one}
 use Rattle.sr_grammar.specs.Tables.{IsKeyed, IsColumnRule, IsRules}
-use Rattle.sr_grammar.specs.Scripts.{IsStatement, IsDefinition, IsWork}
+use Rattle.sr_grammar.specs.Scripts.{IsWork}
 use Rattle.sr_grammar.specs.Going.{Stop, goes_on}
 use Rattle.sr_reader.specs.Reading.{Reading, mapped}
 
@@ -87,14 +86,6 @@ Rules may_be_key before rules after = IsRules before rules.0 rules.1 rules.2 aft
 -- FOR EACH ROW BEGIN
 abbrev pub EachRow : Symbols → Unit {0} → Symbols → Type 0
 EachRow before x after = before ≡ word key.For ∷ word key.Each ∷ word key.Row ∷ word key.Begin ∷ after
-
--- a statement of which the first word was read
-abbrev pub StatementBehind : Keyword → Symbols → Stmt → Symbols → Type 0
-StatementBehind k before x after = IsStatement (word k ∷ before) x after
-
--- a statement on tables, publications, users, subscriptions or triggers
-abbrev pub Definition : Symbols → Stmt → Symbols → Type 0
-Definition before x after = IsStatement before x after × IsDefinition x
 
 -- [WORK]
 abbrev pub Work : Symbols → Unit {0} → Symbols → Type 0

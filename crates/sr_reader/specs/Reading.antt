@@ -5,18 +5,7 @@ use Rattle.sr_grammar.specs.declared.symbol.Sign.{Sign}
 use Rattle.sr_reader.specs.declared.reader.Broken.{Broken}
 use Rattle.sr_reader.specs.declared.reader.Broken.TheVariants.{Memory, Refused}
 use Rattle.sr_grammar.specs.Symbols.{Symbols, Production, first, IsWord, IsSign}
-use Rattle.sr_grammar.specs.Meant.{AreMeant}
-
--- symbols that spell a value, whatever follows them
-abbrev pub Spells : {A : Type 0} → Production A → Symbols → A → Type 0
-Spells X taken x = (after : Symbols) → X (taken ++ after) x after
-
--- with symbols behind them, each what a token may mean, they spell a value
-pub record GoesOn {A : Type 0} (X : Production A) (taken : Symbols) : Type 0 where
-  pub more : Symbols
-  pub meant : AreMeant more
-  pub value : A
-  pub spells : Spells X (taken ++ more) value
+pub use Rattle.sr_grammar.specs.Meant.{Spells, GoesOn}
 
 -- the same symbol is next, or none is
 abbrev pub Alike : Symbols → Symbols → Type 0

@@ -7,11 +7,13 @@
 #![tactic(auto)]
 
 mod exprs;
+mod forms;
 mod querying;
 mod reader;
 mod tokens;
 
 pub use exprs::{expr, literal, negative};
+pub use forms::form_at;
 pub use querying::{condition, delete, insert, passthrough, row, select, update};
 pub use reader::{Broken, Reader};
 pub use tokens::{start_behind, symbols};

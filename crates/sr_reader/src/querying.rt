@@ -1,6 +1,6 @@
 ghost use Rattle.std.specs.Prelude.{◌<◌, ◌≤◌, length, OnOk, Ok, IsTrue, IsFalse};
 ghost use Rattle.sr_reader.specs.Reading.{Reading, Anywhere, Both, BeforeWord};
-ghost use Rattle.sr_reader.specs.Productions.{Counted, Joining, FewJoins, StatementBehind};
+ghost use Rattle.sr_reader.specs.Productions.{Counted, Joining, FewJoins};
 ghost use Rattle.sr_grammar.specs.Symbols.{IsName};
 ghost use Rattle.sr_grammar.specs.Going.{Begins, Stop, Ends, condition_goes, expression_goes, is_comma, is_as, is_join, is_direction};
 ghost use Rattle.sr_grammar.specs.Listing.{Listed};
@@ -29,8 +29,7 @@ ghost use Rattle.sr_ast.specs.declared.keyword.Keyword.TheVariants as key;
 use crate::exprs::expr;
 use crate::reader::{Broken, Reader, sealed};
 use sr_ast::{
-    Delete, Expr, Insert, Item, Items, Join, Keyword, OrderBy, Passthrough, Select, Source, Stmt,
-    Update,
+    Delete, Expr, Insert, Item, Items, Join, Keyword, OrderBy, Passthrough, Select, Source, Update,
 };
 use sr_base::{Name, Seq};
 use sr_grammar::Sign;
@@ -372,21 +371,9 @@ fn is_descending(reader: &mut Reader) -> bool
     reader.takes(Keyword::Desc)
 }
 
-/// Behind PASSTHROUGH.
-pub fn passthrough(reader: &mut Reader) -> Result<Stmt, Broken>
-    ensures reads { Reading (StatementBehind key.Passthrough) Ends reader.old reader.new result }
-    ensures shorter { length reader.new ≤ length reader.old }
-{
-    if reader.takes(Keyword::Stop) {
-        return Ok(Stmt::PassthroughStop);
-    }
-    let passthrough = carried(reader)?;
-    Ok(Stmt::Passthrough(passthrough))
-}
-
-/// `[ONLY] FOR n {, n}`
-fn carried(reader: &mut Reader) -> Result<Passthrough, Broken>
-    ensures reads { Reading IsPassthrough (Stop is_comma) reader.old reader.new result }
+/// Behind PASSTHROUGH: `[ONLY] FOR n {, n}`
+pub fn passthrough(reader: &mut Reader) -> Result<Passthrough, Broken>
+    ensures reads { Reading IsPassthrough Ends reader.old reader.new result }
     ensures shorter { length reader.new ≤ length reader.old }
 {
     let only = only(reader);

@@ -320,6 +320,15 @@ fn named(keyword: Keyword) -> Option<&'static [u8]>
         Keyword::Type => Some(b"type"),
         Keyword::File => Some(b"file"),
         Keyword::Address => Some(b"address"),
+        Keyword::Option => Some(b"option"),
+        Keyword::Alter => Some(b"alter"),
+        Keyword::Add => Some(b"add"),
+        Keyword::Default => Some(b"default"),
+        Keyword::Global => Some(b"global"),
+        Keyword::Autoincrement => Some(b"autoincrement"),
+        Keyword::Send => Some(b"send"),
+        Keyword::Every => Some(b"every"),
+        Keyword::At => Some(b"at"),
         _ => None,
     }
 }

@@ -14,3 +14,4 @@ mod trying;
 
 pub use laws::windows_are_taken_as_far_as_they_reach;
 pub use receiving::{Received, receive};
+pub use sr_gather::{Bag, ReceiveFault, Report, gather, purge};

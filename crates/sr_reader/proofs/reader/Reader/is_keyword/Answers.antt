@@ -6,5 +6,5 @@ use Rattle.sr_reader.proofs.reader.Reader.is_keyword.Goals as goal
 pub returns-in-Some-Keyword-clause-found : goal.returns-in-Some-Keyword-clause-found
 returns-in-Some-Keyword-clause-found c =
     λ t. let is : c.eq.result ≡ true = search rules in
-    let same = same_true the_type (search rules) _ _ (sym c.eq.ensures ∙ is) in
+    let same = same_true the_type tt c.in-Some-Keyword.keyword c.args.wanted (sym c.eq.ensures ∙ is) in
     search rules

@@ -1,0 +1,25 @@
+/// Which statement it is, without what it says.
+#[derive(Clone, Copy, PartialEq, Eq)]
+pub enum Form {
+    CreateTable,
+    DropTable,
+    CreatePublication,
+    DropPublication,
+    GrantRemote,
+    GrantConsolidate,
+    CreateSubscription,
+    StartSubscription,
+    StopSubscription,
+    Synchronize,
+    DropSubscription,
+    CreateTrigger,
+    DropTrigger,
+    Insert,
+    Update,
+    Delete,
+    Select,
+    Commit,
+    Rollback,
+    Passthrough,
+    PassthroughStop,
+}
