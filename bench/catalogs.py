@@ -1,6 +1,6 @@
 """Statements whose time could grow with the square of a script: the seconds of each, beside what it is to take at most.
 
-    python3 bench/catalogs.py crates/scriptbench/out/scriptbench [--folder F] [--times N] [--small]
+    python3 bench/catalogs.py crates/test_scripts/out/test_scripts [--folder F] [--times N] [--small]
 
 65,536 subscriptions are made and started, of 256 users to 256 publications. A trigger of 4 MiB has 10,000 variables and 100,000 references, spread evenly
 over them; another one refers as often to a column behind an alias. A table of 100,000 columns, each in its key, is refused. And 1,000 times 1,000 rows are put

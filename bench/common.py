@@ -14,9 +14,11 @@ SETUP = b"CREATE TABLE t (id INTEGER PRIMARY KEY, n INTEGER);\n"
 INSERT = b"INSERT INTO t VALUES (%d, %d);\n"
 
 
-def arguments(about):
-    """The words of a measurement: the program, and where its files are to lie."""
+def arguments(about, *switches):
+    """The words of a measurement: the program, and where its files are to lie; and switches of its own, each with what it is for."""
     parser = argparse.ArgumentParser(description=about)
+    for switch, meaning in switches:
+        parser.add_argument(switch, action="store_true", help=meaning)
     parser.add_argument("program", help="the proved program, as crates/dbremote/out/dbremote")
     parser.add_argument("--folder", default=".", help="the disk that is measured: a folder on it (default: the present one)")
     parser.add_argument("--times", type=int, default=3, help="how often each run is made (default 3)")

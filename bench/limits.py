@@ -1,6 +1,6 @@
 """A log at its limits: long logs are opened, and the last record that has room is told from the first that has none.
 
-    python3 bench/limits.py crates/dbremote/out/dbremote [--folder F] [--times N] [--small]
+    python3 bench/limits.py crates/dbremote/out/dbremote [--folder F] [--times N] [--small] [--ends]
 
 Logs of 240, 480 and nearly 960 MiB are written straight into the file, each record a transaction that inserts or deletes one row with a text of
 30,000 letters, so that the table stays small; a run with an empty script opens each. `plain` is a read of the file in pieces of 64 KiB. `growth` is the
@@ -8,7 +8,7 @@ time beside that of half the log.
 
 A transaction may end the log file at 1,006,632,960 bytes and a note of a partner's book at 1,073,741,824. A log is written up to the place
 from which the next record ends the file there, or a byte behind it: the first is committed and stands after it is opened again, the second is
-refused with `full END NEED` and status 9, and the file stays as it was.
+refused with `full END NEED` and status 9, and the file stays as it was. With --ends these are tried alone, as the merge gate does by cases/full.sh.
 """
 
 import os
@@ -150,10 +150,11 @@ def at_limit(words, folder, limit, past, begin, words_of, text, done):
 
 
 def main():
-    words = common.arguments("A log at its limits.")
+    words = common.arguments("A log at its limits.", ("--ends", "only the last record that has room and the first that has none"))
     right = True
     with common.room(words.folder) as folder:
-        opened(words, folder)
+        if not words.ends:
+            opened(words, folder)
         for past in (0, 1):
             right &= at_limit(
                 words, folder, TRANSACTIONS, past, lambda path, gate, offset: fill(path, gate), ["sql", "c1"],

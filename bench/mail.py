@@ -1,6 +1,6 @@
 """Inboxes of many messages, a long transaction, and many small ones: seconds, and the peak memory.
 
-    python3 bench/mail.py crates/repltests/out/repltests [--times N] [--small]
+    python3 bench/mail.py crates/test_replication/out/test_replication [--times N] [--small]
 
 `growth` is the time beside that of half the size: about 2 is wanted. `windows` adds windows, one behind the other, takes them all, and takes and drops
 them once more; `nested` drops windows each of which lies in the one before it; `fragments` adds the fragments of one window, the last first. `long`

@@ -1,6 +1,6 @@
 """Scripts of 16, 32 and 64 MiB, lexed and parsed: seconds, and the peak memory as a multiple of the script.
 
-    python3 bench/parsing.py crates/scriptbench/out/scriptbench [--folder F] [--times N] [--small]
+    python3 bench/parsing.py crates/test_scripts/out/test_scripts [--folder F] [--times N] [--small]
 
 `growth` is the time beside that of half the script: about 2 is wanted. The memory is that of the statements that are answered, and of the
 symbols of a script while they are read. `rows` and `ends` have the shortest statements and tokens that there are. The last table has scripts

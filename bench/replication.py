@@ -1,6 +1,6 @@
 """What a log gives a partner, what updates from partners come to, and synchronizing a table.
 
-    python3 bench/replication.py crates/repltests/out/repltests crates/dbremote/out/dbremote [--folder F] [--times N] [--small]
+    python3 bench/replication.py crates/test_replication/out/test_replication crates/dbremote/out/dbremote [--folder F] [--times N] [--small]
 
 `scan` reads a log of 1,000,000 transactions that insert one row each, with the statements before it that make a table whose rows go to partners by a
 column's value, and feeds the entries to a scanner for one partner: microseconds an entry beyond reading it, for 100 to 60,000 started
@@ -106,7 +106,7 @@ def synchronizations(words, folder, rows):
 
 def main():
     parser = argparse.ArgumentParser(description="Measures what a log gives, judging and SYNCHRONIZE.")
-    parser.add_argument("program", help="the proved crates/repltests/out/repltests")
+    parser.add_argument("program", help="the proved crates/test_replication/out/test_replication")
     parser.add_argument("database", help="the proved crates/dbremote/out/dbremote")
     parser.add_argument("--folder", default=".", help="the disk that is measured: a folder on it (default: the present one)")
     parser.add_argument("--times", type=int, default=3, help="how often each run is made; the least time counts (default 3)")

@@ -1,6 +1,6 @@
 """SELECTs on tables of up to 1,000,000 rows in memory, beside SQLite.
 
-    python3 bench/selects.py crates/scriptbench/out/scriptbench [--folder F] [--times N] [--small]
+    python3 bench/selects.py crates/test_scripts/out/test_scripts [--folder F] [--times N] [--small]
 
 A line for each kind of SELECT, with `sqlite3` on the path: how many times as long SQLite takes in memory, on the same script in the same run, so that
 more is better. The time of each is that of a script with the SELECTs five times, beyond that of the same script without them, by five: so reading the

@@ -1,6 +1,6 @@
 """Statements on a table of 10,000, 100,000 and 1,000,000 rows, in memory: the time of each beyond that of loading the table.
 
-    python3 bench/statements.py crates/scriptbench/out/scriptbench [--folder F] [--times N] [--small]
+    python3 bench/statements.py crates/test_scripts/out/test_scripts [--folder F] [--times N] [--small]
 
 The lines of the table are first statements at one key each, at most 200,000 of them, spread over the table: the time of one is to grow with the logarithm of
 the rows. The others are one statement over all rows: their time is to grow with the rows and their logarithm. Reading the script is part of

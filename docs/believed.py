@@ -3,31 +3,32 @@
 these cite, file by file from the outside in, each with how many of its definitions are reached.
 
 Usage: docs/believed.py [--headline | --check], from any folder. With --headline it prints the table of what the law on many runs rests on, as docs/PROVED.md has
-it. With --check it prints what is amiss alone, and ends with status 1 where something is: docs/PROVED.md has that table, and no more names than before stand
-twice among what is believed."""
+it. With --check it prints what is amiss alone, and ends with status 1 where something is: in `specs/` stands what is reached, in `specs/Inner/` all else, each
+file of `specs/` begins with a sentence on what it is for, and docs/PROVED.md has that table."""
 
 import collections
+import glob
 import os
 import re
 import sys
 
 # Where reading begins: a crate, a file of its source, and the text with which the contract begins; a whole file where there is none.
-HEADLINE = ("sr_steps", "lives", "fn runs_make_one_world")
+HEADLINE = ("sr_world_runs", "lives", "fn runs_make_one_world")
 ROOTS = [
-    ("sr_run", "whole", "fn run<"),
+    ("dbremote_run", "whole", "fn run<"),
     HEADLINE,
     *(("sr_site", file, "") for file in ("held", "disk", "mail", "stream")),
 ]
 # The crates whose definitions say what a life, a world, a step and an image are; what they cite of others says what entries, statements and messages are.
-OF_WORLDS = ("sr_steps", "sr_world", "sr_model", "sr_untouched", "sr_standing", "sr_site", "sr_book")
+OF_WORLDS = ("sr_world_runs", "sr_world", "sr_world_model", "sr_world_untouched", "sr_database_meaning", "sr_site", "sr_book")
 PAGE = "docs/PROVED.md"
 # A name may be twice among what is believed so often: the number falls with each name that gets one meaning, and does not rise.
-MOST_TWICE = 100
+MOST_TWICE = 94
 WORD = r"[A-Za-z_][\w'\-]*"
 HEAD = re.compile(rf"(?:unfoldable )?(?:abbrev )?(?:pub )?(?:abbrev |record |data )?({WORD}) ?[:({{]")
 INNER_HEAD = re.compile(rf"  (?:unfoldable )?(?:pub )?(?:abbrev |record |data )+(?:pub )?({WORD}) ?[:({{]")
 
-Text = collections.namedtuple("Text", "names modules found owner header")
+Text = collections.namedtuple("Text", "names modules found owner header blocks")
 
 
 def imports(text, word):
@@ -57,21 +58,24 @@ def load(file):
         return loaded[file]
     with open(file, encoding="utf-8") as source:
         text = re.sub(r"--[^\n]*", "", source.read())
-    found, owner, name, header = {}, {}, None, ""
+    found, owner, name, header, blocks, block = {}, {}, None, "", {}, None
     for line in text.split("\n"):
         head = HEAD.match(line) or INNER_HEAD.match(line)
         if line.startswith(("use ", "pub use ", "pub mod ", "mod ")):
             name = None
         elif line.startswith("module "):
-            header, name = header + line, None
+            header, name, block = header + line, None, line
         elif head:
             name = head[1]
+            block = block if line.startswith(" ") else None
+            if block:
+                blocks[name] = block
             found.setdefault(name, []).append(line)
         elif name and line.strip():
             found[name].append(line)
             for field in re.findall(rf"^ +(?:pub )?({WORD}) :", line):
                 owner[field] = name
-    loaded[file] = Text(*imports(text, "(?:pub )?use"), found, owner, header)
+    loaded[file] = Text(*imports(text, "(?:pub )?use"), found, owner, header, blocks)
     return loaded[file]
 
 
@@ -96,7 +100,7 @@ def cited_by(places):
         if start and start not in text:
             sys.exit(f"believed: crates/{crate}/src/{file}.rt has no {start}")
         part = start + text.partition(start)[2].partition("\n{")[0] if start else text
-        yield from cited("\n".join(re.findall(r"(?:ensures|requires|ghost \w+:).*", part)), *imports(text, "ghost use"), None)
+        yield from cited(re.sub(r"//[^\n]*", "", part), *imports(text, "ghost use"), None)
 
 
 def reached(places=ROOTS):
@@ -118,6 +122,32 @@ def reached(places=ROOTS):
     return seen
 
 
+def wrong(seen):
+    """What stands on the wrong side, and the files that do not begin with a sentence."""
+    files = dict.fromkeys(file for file, _ in seen)
+    for file in files:
+        if "/Inner/" in file:
+            yield f"{file}: a contract of the program cites {', '.join(name for of, name in seen if of == file)}"
+        for name in load(file).found:
+            # what stands in one module with parameters stays together
+            block = load(file).blocks.get(name)
+            beside = block and any(load(file).blocks.get(other) == block for of, other in seen if of == file)
+            if (file, name) not in seen and "/Inner/" not in file and not beside:
+                yield f"{file}: no contract of the program cites {name}"
+    for file in sorted(glob.glob("crates/*/specs/**/*.antt", recursive=True)):
+        if load(file).found and "/Inner/" not in file and file not in files:
+            yield f"{file}: no contract of the program cites it"
+        with open(file, encoding="utf-8") as source:
+            if load(file).found and not source.readline().startswith("-- "):
+                yield f"{file}: it does not begin with a sentence on what it is for"
+
+
+def purpose_of(file):
+    """The sentence with which a file of definitions begins, as far as its first line goes."""
+    with open(file, encoding="utf-8") as source:
+        return source.readline().removeprefix("-- ").strip()
+
+
 def headline():
     """The table of what the law on many runs rests on: the files of worlds in reading order, and the rest in a line."""
     seen = reached([HEADLINE])
@@ -129,11 +159,11 @@ def headline():
         else:
             others.add(file)
             rest = rest[0] + 1, rest[1] + len(lines)
-    yield "| File | Definitions | Lines |"
-    yield "|---|---|---|"
+    yield "| File | Definitions | Lines | What it says |"
+    yield "|---|---|---|---|"
     for file, (count, lines) in rows.items():
-        yield f"| `{file}` | {count} | {lines} |"
-    yield f"| {len(others)} files of other crates | {rest[0]} | {rest[1]} |"
+        yield f"| `{file}` | {count} | {lines} | {purpose_of(file)} |"
+    yield f"| {len(others)} files of other crates | {rest[0]} | {rest[1]} | What entries, statements, rows, views and messages are |"
 
 
 def main():
@@ -145,7 +175,7 @@ def main():
     files = collections.Counter(file for file, _ in seen)
     twice = sorted(name for name, count in collections.Counter(name for _, name in seen).items() if count > 1)
     if sys.argv[1:] == ["--check"]:
-        amiss = []
+        amiss = list(wrong(seen))
         with open(PAGE, encoding="utf-8") as page:
             if "\n".join(headline()) not in page.read():
                 amiss.append(f"{PAGE} has another table than docs/believed.py --headline prints")

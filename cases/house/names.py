@@ -1,8 +1,8 @@
 """That what the documents name is there: crates, files, definitions, contracts, and the files of each table of files.
 
-What counts as a name: `sr_x` anywhere; what stands in backticks and is one word, words parted by `::`, or a path; and a path from one of the folders of the
-top anywhere. A word is there where a source, its comments left out, or a file's name has it. In docs/THEOREMS.md and docs/PROVED.md a `specs/FILE` is a
-file of the crate that the brackets name, or of one of its section's, and the names in the same cell before it are words of that file."""
+What counts as a name: `sr_x`, `dbremote_x` and `test_x` anywhere; what stands in backticks and is one word, words parted by `::`, or a path; and a path from one of the folders of the
+top anywhere. A word is there where a source, its comments left out, or a file's name has it. In docs/THEOREMS.md and docs/PROVED.md a `specs/FILE` or
+`specs/Inner/FILE` is a file of the crate that the brackets name, or of one of its section's, and the names in the same cell before it are words of that file."""
 
 import os
 import re
@@ -16,7 +16,7 @@ OTHERS = set(
 # begins with a folder of the top.
 FOR_USERS = {"README.md", "docs/REPLICATION.md"}
 TICKED = re.compile(r"`([^`]+)`")
-CRATE = re.compile(r"\bsr_[a-z]+\b")
+CRATE = re.compile(r"\b(?:sr|dbremote|test)_[a-z]+(?:_[a-z]+)*\b")
 PLACE = re.compile(r"(?<![\w./-])(?:docs|cases|crates|bench|examples|release|wrong-bodies|\.ci)/[\w./-]*[\w/]")
 ENDINGS = (".rt", ".antt", ".md", ".sh", ".py", ".txt", ".edit", ".case")
 
@@ -90,11 +90,11 @@ def in_files(tree, page, number, cell, others):
     """What is not there of names with the files of definitions that they stand in: `Name`, `Other` (sr_x, `specs/File`). The last one stands in one of the
     files, those before it somewhere in the crates that may be meant."""
     before = 0
-    for bracket in re.finditer(r"\(([^()]*`specs/\w+`[^()]*)\)", cell):
+    for bracket in re.finditer(r"\(([^()]*`specs/(?:Inner/)?\w+`[^()]*)\)", cell):
         named = CRATE.findall(bracket[1])
         here = f"({bracket[1]})".replace("`", "")
         homes = []
-        for file in re.findall(r"`specs/(\w+)`", bracket[1]):
+        for file in re.findall(r"`specs/((?:Inner/)?\w+)`", bracket[1]):
             found = homes_of(tree, file, named, others)
             homes += found
             if not found:
@@ -143,7 +143,8 @@ def of_files(tree, page):
     for number, line in [*tree.lines(page), (0, "")]:
         if folder and not line.startswith("|"):
             inside = {os.path.splitext(path[len(folder) + 1:])[0] for path in tree.files if path.startswith(folder + "/")}
-            for name in sorted(inside - told - {"lib", "main", "Lib", os.path.basename(folder)}):
+            inside = {name for name in inside if not name.startswith("Inner/")}
+            for name in sorted(inside - told - {"lib", "main", "Lib", "Inner", os.path.basename(folder)}):
                 yield f"{page}: the table of {folder} has no {name}"
             folder, told = None, set()
         if folder and not line.startswith("|---"):

@@ -69,11 +69,11 @@ def trials():
     yield names, added("docs/REPLICATION.md", "`aWordThatNothingHas` says it."), "no aWordThatNothingHas"
     yield names, added(proved, "`sr_book::stays_good` says it."), "no stays_good of sr_book::stays_good"
     yield names, turned(theorems, r"`specs/Records`", "`specs/NoRecords`"), "there is no specs/NoRecords"
-    yield names, turned(theorems, r"`(IsLog)`(, `HasLog` )?\(`specs/Logs`\)", r"`\1` (`specs/Damage`)"), "IsLog does not stand in"
+    yield names, turned(theorems, r"`(IsLog)`(, `HasLog` )?\(`specs/(?:Inner/)?Logs`\)", r"`\1` (`specs/Damage`)"), "IsLog does not stand in"
     yield names, turned(theorems, r"`one_spelling_or_one_damage` \|", "`always_good` |"), "always_good is in none of sr_logfile"
-    yield names, turned(proved, r"^(\| sr_fits \|.*)`is_row`", r"\1`key_of`"), "key_of is in none of sr_fits"
+    yield names, turned(proved, r"^(\| sr_exec_fits \|.*)`is_row`", r"\1`key_of`"), "key_of is in none of sr_exec_fits"
     yield names, turned(page, r"^\| `fault`, `reporting` \|", "| `fault` |"), "has no reporting"
-    yield names, turned(page, r"^\| `fault`, `reporting` \|", "| `fault`, `reporting`, `no_such` |"), "no no_such in crates/sr_command/src"
+    yield names, turned(page, r"^\| `fault`, `reporting` \|", "| `fault`, `reporting`, `no_such` |"), "no no_such in crates/dbremote_command/src"
     yield names, lambda tree: tree.with_text("crates/sr_logfile/specs/Records.antt", None), "there is no specs/Records"
 
 

@@ -1,10 +1,10 @@
 //! `dbremote`: SQL databases, and the scripts that are run on them.
 //!
-//! `run` of sr_run does all that the program does. Here it is given the host's devices: files, standard input and standard output.
+//! `run` of dbremote_run does all that the program does. Here it is given the host's devices: files, standard input and standard output.
 #![tactic(auto)]
 
+use dbremote_run::{Fault, report, run};
 use sr_hostsite::{HostSink, HostSite, HostSource};
-use sr_run::{Fault, report, run};
 use std::process::ExitCode;
 
 fn main(rt: HostRuntime) -> ExitCode {

@@ -1,34 +1,36 @@
 -- What was gathered, said of the history.
-use Rattle.std.proofs.Common.{◌≡◌, ℕ, Bool, true, List, [], ◌∷◌, ◌++◌, Result, Ok, Err, IfErr, IfOk, OnOk, refl, sym, ap, subst, inl, inr, ◌∙◌, append_assoc}
+use Rattle.std.proofs.Common.{◌≡◌, ℕ, Bool, true, List, [], ◌∷◌, ◌++◌, Result, Ok, Err, IfErr, IfOk, refl, sym, ap, subst, inl, inr, ◌∙◌, append_assoc}
 use Rattle.std.specs.Prelude.{IsTrue}
 use Rattle.sr_book.specs.Entries.{Name}
 use Rattle.sr_database.specs.Databases.{IsDatabase}
 use Rattle.sr_database.specs.Views.{View}
-use Rattle.sr_history.specs.Folds.{state_of, end_of}
-use Rattle.sr_history.specs.Recorded.{Recorded}
+use Rattle.sr_database_history.specs.Folds.{state_of, end_of}
+use Rattle.sr_database_history.specs.Recorded.{Recorded}
 use Rattle.sr_receive.specs.Entering.{IsReady}
-use Rattle.sr_gather.specs.Gathers.{FetchedInPart, GatherCause, HappenedAll, HappenedInPart, HasGathered, IsLastFetch, IsListedInPart, IsMailFault, IsUnlisted, fetches}
-use Rattle.sr_gather.specs.Letters.{Came, fetch_of}
-use Rattle.sr_receive.specs.Passes.{IsDeviceFault}
-use Rattle.sr_gather.specs.declared.bag.Share.{Share}
-use Rattle.sr_gather.specs.declared.fault.ReceiveFault.{ReceiveFault}
-use Rattle.sr_gather.specs.declared.fault.ReceiveFault.TheVariants as receives
-use Rattle.sr_gather.specs.declared.report.Report.{Report}
-use Rattle.sr_schema.specs.Catalogs.{Lists}
+use Rattle.sr_receive_gather.specs.Gathers.{FetchedInPart, GatherCause, HappenedAll, HappenedInPart, IsLastFetch, IsListedInPart, IsMailFault, IsUnlisted, fetches}
+use Rattle.sr_receive_gather.specs.Inner.Gathers.{HasGathered}
+use Rattle.sr_receive_gather.specs.MessageFiles.{FetchedFile, fetch_of}
+use Rattle.sr_receive.specs.Inner.Passes.{IsDeviceFault}
+use Rattle.sr_receive_gather.specs.declared.bag.PartnerMail.{PartnerMail}
+use Rattle.sr_receive_gather.specs.declared.fault.ReceiveFault.{ReceiveFault}
+use Rattle.sr_receive_gather.specs.declared.fault.ReceiveFault.TheVariants as receives
+use Rattle.sr_receive_gather.specs.declared.report.Report.{Report}
+use Rattle.sr_catalog_schema.specs.Catalogs.{Lists}
 use Rattle.sr_site.specs.Causes.{MailStays}
 use Rattle.sr_site.specs.Happenings.{Happening, attached, wrote, cut_to, synced, listed, fetched, sent, removed, mail_in}
 use Rattle.sr_site.specs.Seen.{Seen}
 use Rattle.sr_site.specs.Streams.{Output}
-use Rattle.sr_standing.specs.Items.{AreQuiet}
-use Rattle.sr_standing.specs.Trails.{Went}
+use Rattle.sr_database_meaning.specs.Inner.Events.{AreQuiet}
+use Rattle.sr_database_meaning.specs.Traces.{Went}
 use Rattle.sr_agent.specs.Ends.{IsUsableEnd}
 use Rattle.sr_agent.specs.Faults.{fault_of_receive}
 use Rattle.sr_agent.specs.Lines.{Line, alarms, lines_text, report_lines}
-use Rattle.sr_agent.specs.Steps.{BrokeInGathering, told_in_part, gathered_in_part, GatheringBroken, GatheringDone, HasGatheredAll, TellCause, Told}
-use Rattle.sr_agent.specs.Stops.{GatheringStop, IsFaultOr}
-use Rattle.sr_agent.specs.Turns.{gathering_mail}
+use Rattle.sr_agent.specs.Inner.Steps.{BrokeInGathering, told_in_part, gathered_in_part, GatheringBroken, GatheringCause, GatheringDone, HasGatheredAll, TellEnd, Told, ToldGathering}
+use Rattle.sr_agent.specs.Stops.{GatheringStop}
+use Rattle.sr_agent.specs.PartnerPasses.{gathering_mail}
 use Rattle.sr_agent.specs.declared.fault.AgentFault.{AgentFault}
-use Rattle.sr_agent.proofs.Ending.{EndedBy, ended_either, untold_end, untold_is}
+use Rattle.sr_agent.specs.declared.fault.AgentFault.TheVariants.{Memory}
+use Rattle.sr_agent.proofs.Ending.{EndedBy, ended_by, untold_is}
 use Rattle.sr_agent.proofs.Joints.{of_mail, still_there, went_quiet}
 use Rattle.sr_agent.proofs.Values.{publisher_is}
 
@@ -64,62 +66,62 @@ behind_last last before middle now quiet first is = record {
   quiet = quiet_both last first.more quiet first.quiet;
 }
 
-fetches_quietly : (address : List ℕ) (comes : List Came) (before : List Happening) → IsQuietly before (fetches address comes before)
+fetches_quietly : (address : List ℕ) (fetched_files : List FetchedFile) (before : List Happening) → IsQuietly before (fetches address fetched_files before)
 fetches_quietly address [] before = record { more = []; is = refl; quiet = tt }
-fetches_quietly address (came ∷ comes) before = behind_step (fetch_of address came) before (fetches address (came ∷ comes) before) tt (fetches_quietly address comes (fetch_of address came ∷ before))
+fetches_quietly address (came ∷ fetched_files) before = behind_step (fetch_of address came) before (fetches address (came ∷ fetched_files) before) tt (fetches_quietly address fetched_files (fetch_of address came ∷ before))
 
 quiet_last : (address : List ℕ) (left : List (List ℕ)) (last : List Happening) → IsLastFetch address left last → AreQuiet last
 quiet_last address left [] one = tt
 quiet_last address left (step ∷ more) one =
     subst (λ (l : List Happening). AreQuiet (step ∷ l)) (sym one.0) (subst (λ (s : Happening). AreQuiet (s ∷ [])) (sym one.1.4) tt)
 
-in_part : (address : List ℕ) (before now : List Happening) (more : Bool) (comes : List Came) → HappenedInPart address before now more comes → IsQuietly before now
-in_part address before now more comes (inl none) = elim none.happened [
+in_part : (address : List ℕ) (before now : List Happening) (more : Bool) (fetched_files : List FetchedFile) → HappenedInPart address before now more fetched_files → IsQuietly before now
+in_part address before now more fetched_files (inl none) = elim none.happened [
   | inl same ↦ record { more = []; is = same; quiet = tt }
   | inr one ↦ record { more = listed address one.0 (Err one.1) ∷ []; is = one.2; quiet = tt }
 ]
-in_part address before now more comes (inr some) =
-    let first = behind_step (listed address some.folder (Ok some.listing)) before (fetches address comes (listed address some.folder (Ok some.listing) ∷ before)) tt (fetches_quietly address comes (listed address some.folder (Ok some.listing) ∷ before)) in
-    behind_last some.part.last before (fetches address comes (listed address some.folder (Ok some.listing) ∷ before)) now (quiet_last address some.part.left some.part.last some.part.one) first some.part.happened
+in_part address before now more fetched_files (inr some) =
+    let first = behind_step (listed address some.folder (Ok some.listing)) before (fetches address fetched_files (listed address some.folder (Ok some.listing) ∷ before)) tt (fetches_quietly address fetched_files (listed address some.folder (Ok some.listing) ∷ before)) in
+    behind_last some.part.last before (fetches address fetched_files (listed address some.folder (Ok some.listing) ∷ before)) now (quiet_last address some.part.left some.part.last some.part.one) first some.part.happened
 
-mail_fetches : (address : List ℕ) (comes : List Came) (before : List Happening) → mail_in (fetches address comes before) ≡ fetches address comes (mail_in before)
+mail_fetches : (address : List ℕ) (fetched_files : List FetchedFile) (before : List Happening) → mail_in (fetches address fetched_files before) ≡ fetches address fetched_files (mail_in before)
 mail_fetches address [] before = refl
-mail_fetches address (came ∷ comes) before = mail_fetches address comes (fetch_of address came ∷ before)
+mail_fetches address (came ∷ fetched_files) before = mail_fetches address fetched_files (fetch_of address came ∷ before)
 
 -- ---- all of it
 
 same_publisher : (view : View) (publisher : Name) (es : List Recorded) (seen : Seen) → IsDatabase view publisher es seen → (state_of publisher es).catalog.publisher ≡ publisher
 same_publisher view publisher es seen database = ap (λ (c : Lists). c.publisher) (sym database.is.catalog) ∙ publisher_is view publisher es database.is
 
-gathered_at : (view : View) (before now : Seen) (publisher : Name) (es : List Recorded) (reports : List Report) (bag : List Share) → IsDatabase view publisher es before
+gathered_at : (view : View) (before now : Seen) (publisher : Name) (es : List Recorded) (reports : List Report) (bag : List PartnerMail) → IsDatabase view publisher es before
     → HasGathered view.catalog view.log.end before now [] reports bag → HasGathered (state_of publisher es).catalog (end_of es) before now [] reports bag
 gathered_at view before now publisher es reports bag database gathered =
     subst (λ (c : Lists). HasGathered c (end_of es) before now [] reports bag) database.is.catalog
     (subst (λ (n : ℕ). HasGathered view.catalog n before now [] reports bag) database.is.end gathered)
 
-with_history : (view : View) (before now : Seen) (publisher : Name) (es : List Recorded) (reports : List Report) (bag : List Share) → IsTrue before.told → IsDatabase view publisher es before
+with_history : (view : View) (before now : Seen) (publisher : Name) (es : List Recorded) (reports : List Report) (bag : List PartnerMail) → IsTrue before.observable → IsDatabase view publisher es before
     → HasGathered (state_of publisher es).catalog (end_of es) before now [] reports bag → HasGatheredAll view before now publisher es bag (report_lines reports)
 with_history view before now publisher es reports bag told database gathered =
     let all = gathered.happened told in
     let address = (state_of publisher es).catalog.publisher in
     let first = listed address all.folder (Ok gathered.listing) in
-    let quietly = behind_step first before.happened (fetches address gathered.comes (first ∷ before.happened)) tt (fetches_quietly address gathered.comes (first ∷ before.happened)) in
+    let quietly = behind_step first before.happened (fetches address gathered.fetched_files (first ∷ before.happened)) tt (fetches_quietly address gathered.fetched_files (first ∷ before.happened)) in
     let happened = all.happened ∙ quietly.is in
     record {
-      gathering = record { folder = all.folder; listing = gathered.listing; comes = gathered.comes };
+      gathering = record { folder = all.folder; listing = gathered.listing; fetched_files = gathered.fetched_files };
       is = record { lists = all.lists; names = gathered.names; are = gathered.are };
       database = still_there view publisher es before now quietly.more gathered.stays happened quietly.quiet database;
       steady = record { disk = gathered.stays.disk_faults; mail = gathered.steady };
       went = went_quiet view publisher es before now quietly.more gathered.stays happened quietly.quiet database;
       mail =
           ap (λ (l : List Happening). mail_in l) all.happened
-          ∙ mail_fetches address gathered.comes (first ∷ before.happened)
-          ∙ ap (λ (a : Name). fetches a gathered.comes (listed a all.folder (Ok gathered.listing) ∷ mail_in before.happened)) (same_publisher view publisher es before database);
+          ∙ mail_fetches address gathered.fetched_files (first ∷ before.happened)
+          ∙ ap (λ (a : Name). fetches a gathered.fetched_files (listed a all.folder (Ok gathered.listing) ∷ mail_in before.happened)) (same_publisher view publisher es before database);
       bag_is = gathered.bag_is;
       lines_are = ap (λ (rs : List Report). report_lines rs) gathered.reports_are;
     }
 
-all_gathered : (view : View) (before now : Seen) (publisher : Name) (es : List Recorded) (reports : List Report) (bag : List Share) → IsTrue before.told → IsDatabase view publisher es before
+all_gathered : (view : View) (before now : Seen) (publisher : Name) (es : List Recorded) (reports : List Report) (bag : List PartnerMail) → IsTrue before.observable → IsDatabase view publisher es before
     → HasGathered view.catalog view.log.end before now [] reports bag → HasGatheredAll view before now publisher es bag (report_lines reports)
 all_gathered view before now publisher es reports bag told database gathered =
     with_history view before now publisher es reports bag told database (gathered_at view before now publisher es reports bag database gathered)
@@ -132,10 +134,10 @@ part_at view before now publisher es reports why database cause =
     subst (λ (c : Lists). GatherCause c (end_of es) before now [] reports why) database.is.catalog
     (subst (λ (n : ℕ). GatherCause view.catalog n before now [] reports why) database.is.end cause)
 
-part_went : (view : View) (before now : Seen) (publisher : Name) (es : List Recorded) (reports : List Report) (why : ReceiveFault) → IsTrue before.told → IsDatabase view publisher es before
+part_went : (view : View) (before now : Seen) (publisher : Name) (es : List Recorded) (reports : List Report) (why : ReceiveFault) → IsTrue before.observable → IsDatabase view publisher es before
     → GatherCause view.catalog view.log.end before now [] reports why → Went before now publisher es []
 part_went view before now publisher es reports why told database cause =
-    let quietly = in_part view.catalog.publisher before.happened now.happened cause.more cause.comes (cause.happened told) in
+    let quietly = in_part view.catalog.publisher before.happened now.happened cause.more cause.fetched_files (cause.happened told) in
     went_quiet view publisher es before now quietly.more cause.stays quietly.is quietly.quiet database
 
 device_of : (before now : Seen) (why : ReceiveFault) → IsMailFault before now why → MailStays before now → IsDeviceFault before now why
@@ -150,59 +152,42 @@ usable_of view before now receives.Disk usable fault = absurd fault
 usable_of view before now receives.Mail usable fault = usable
 usable_of view before now (receives.Full end need) usable fault = absurd fault
 usable_of view before now (receives.Long size limit) usable fault = absurd fault
-usable_of view before now receives.Memory usable fault = tt
+usable_of view before now receives.Memory usable fault = usable
 
 -- ---- what is answered
 
-pub gathered_done : (view : View) (before now : Seen) (written written' : Output) (none shown reports : List Report) (bag : List Share) (told : Result ℕ AgentFault) (result : Result (List Share × ℕ) AgentFault)
-    → none ≡ [] → shown ≡ reports → HasGathered view.catalog view.log.end before now none reports bag → OnOk told (Told (lines_text (report_lines shown)) written written')
-    → IfOk told (λ count. count ≡ alarms (report_lines shown)) → IfOk result (λ gathered. (gathered.0 ≡ bag) × (told ≡ Ok gathered.1))
-    → IfOk result (λ gathered. GatheringDone view before now gathered.0 gathered.1 written written')
-gathered_done view before now written written' none shown reports bag told (Err fault) is_none is gathered tells counts whole = tt
-gathered_done view before now written written' none shown reports bag told (Ok answer) is_none is gathered tells counts whole =
-    let all : HasGathered view.catalog view.log.end before now [] reports answer.0 =
-    subst (λ (b : List Share). HasGathered view.catalog view.log.end before now [] reports b) (sym whole.0)
-    (subst (λ (rs : List Report). HasGathered view.catalog view.log.end before now rs reports bag) is_none gathered) in
-    let said : OnOk {E = AgentFault} (Ok answer.1) (Told (lines_text (report_lines reports)) written written') =
-    subst (λ (r : Result ℕ AgentFault). OnOk r (Told (lines_text (report_lines reports)) written written')) whole.1
-    (subst (λ (rs : List Report). OnOk told (Told (lines_text (report_lines rs)) written written')) is tells) in
-    let counted : IfOk {E = AgentFault} (Ok answer.1) (λ count. count ≡ alarms (report_lines reports)) =
-    subst (λ (r : Result ℕ AgentFault). IfOk r (λ count. count ≡ alarms (report_lines reports))) whole.1
-    (subst (λ (rs : List Report). IfOk told (λ count. count ≡ alarms (report_lines rs))) is counts) in
+pub gathered_done : (view : View) (before now : Seen) (written written' : Output) (none shown reports : List Report) (outcome : Result (List PartnerMail) ReceiveFault) (result : Result (List PartnerMail × ℕ) AgentFault)
+    → none ≡ [] → shown ≡ reports → IfOk outcome (HasGathered view.catalog view.log.end before now none reports)
+    → IfOk result (λ gathered. ToldGathering outcome gathered.0 gathered.1 shown written written') → IfOk result (λ gathered. GatheringDone view before now gathered.0 gathered.1 written written')
+gathered_done view before now written written' none shown reports outcome (Err fault) is_none is gathered told = tt
+gathered_done view before now written written' none shown reports outcome (Ok answer) is_none is gathered told =
+    let all : IfOk {E = ReceiveFault} (Ok answer.0) (HasGathered view.catalog view.log.end before now [] reports) =
+    subst (λ (r : Result (List PartnerMail) ReceiveFault). IfOk r (HasGathered view.catalog view.log.end before now [] reports)) told.is
+    (subst (λ (rs : List Report). IfOk outcome (HasGathered view.catalog view.log.end before now rs reports)) is_none gathered) in
     record {
       lines = report_lines reports;
-      told = said;
-      count_is = counted;
+      told = subst (λ (rs : List Report). Told (lines_text (report_lines rs)) written written') is told.told;
+      count_is = subst (λ (rs : List Report). answer.1 ≡ alarms (report_lines rs)) is told.count_is;
       site = all.stays;
       steady = all.steady;
       did = λ tells publisher es database. all_gathered view before now publisher es reports answer.0 tells database all;
     }
 
-pub gathered_untold : (view : View) (before now : Seen) (written written' : Output) (none shown reports : List Report) (bag : List Share) (told : Result ℕ AgentFault) (result : Result (List Share × ℕ) AgentFault)
-    → IsReady view before → none ≡ [] → shown ≡ reports → HasGathered view.catalog view.log.end before now none reports bag
-    → IfErr told (TellCause (lines_text (report_lines shown)) written written') → IfErr result (λ fault. told ≡ Err fault) → IfErr result (GatheringBroken view before now written written')
-gathered_untold view before now written written' none shown reports bag told (Ok answer) ready is_none is gathered cause whole = tt
-gathered_untold view before now written written' none shown reports bag told (Err fault) ready is_none is gathered cause whole =
-    let all : HasGathered view.catalog view.log.end before now [] reports bag = subst (λ (rs : List Report). HasGathered view.catalog view.log.end before now rs reports bag) is_none gathered in
-    let why : IfErr {T = ℕ} (Err fault) (TellCause (lines_text (report_lines reports)) written written') =
-    subst (λ (r : Result ℕ AgentFault). IfErr r (TellCause (lines_text (report_lines reports)) written written')) whole
-    (subst (λ (rs : List Report). IfErr told (TellCause (lines_text (report_lines rs)) written written')) is cause) in
-    record {
-      lines = report_lines reports;
-      ended = untold_end view before now written written' (report_lines reports) fault ready.idle (of_mail before now all.stays) why;
-      did = λ tells publisher es database. told_in_part bag (all_gathered view before now publisher es reports bag tells database all) (untold_is (lines_text (report_lines reports)) written written' fault why);
-    }
+-- all was gathered
+gathered_untold : (view : View) (before now : Seen) (written written' : Output) (reports : List Report) (bag : List PartnerMail) (fault : AgentFault) → IsReady view before
+    → HasGathered view.catalog view.log.end before now [] reports bag → TellEnd Memory (lines_text (report_lines reports)) written written' fault → GatheringBroken view before now written written' fault
+gathered_untold view before now written written' reports bag fault ready all end = record {
+  lines = report_lines reports;
+  ended = (ended_by view before now written written' (report_lines reports) receives.Memory fault ready.idle (of_mail before now all.stays) all.stays.disk_faults ready.usable end).ended;
+  did = λ tells publisher es database. told_in_part bag (all_gathered view before now publisher es reports bag tells database all) (untold_is (lines_text (report_lines reports)) written written' fault end);
+}
 
-pub gathered_in : (view : View) (before now : Seen) (written written' : Output) (none shown reports : List Report) (why : ReceiveFault) (told : Result ℕ AgentFault) (first fault : AgentFault)
-    → IsReady view before → none ≡ [] → shown ≡ reports → GatherCause view.catalog view.log.end before now none reports why → OnOk told (Told (lines_text (report_lines shown)) written written')
-    → IfErr told (TellCause (lines_text (report_lines shown)) written written') → first ≡ fault_of_receive why → IfOk told (λ count. fault ≡ first) → IfErr told (λ refused. fault ≡ refused)
-    → GatheringBroken view before now written written' fault
-gathered_in view before now written written' none shown reports why told first fault ready is_none is cause tells untold first_is one other =
-    let part : GatherCause view.catalog view.log.end before now [] reports why = subst (λ (rs : List Report). GatherCause view.catalog view.log.end before now rs reports why) is_none cause in
+-- a part was
+gathered_in : (view : View) (before now : Seen) (written written' : Output) (reports : List Report) (why : ReceiveFault) (fault : AgentFault) → IsReady view before
+    → GatherCause view.catalog view.log.end before now [] reports why → TellEnd (fault_of_receive why) (lines_text (report_lines reports)) written written' fault → GatheringBroken view before now written written' fault
+gathered_in view before now written written' reports why fault ready part end =
     let by : EndedBy view before now written written' (report_lines reports) why fault =
-    ended_either view before now written written' (report_lines reports) why told first fault ready.idle (of_mail before now part.stays) (device_of before now why part.why part.stays) (usable_of view before now why ready.usable part.why)
-    (subst (λ (rs : List Report). OnOk told (Told (lines_text (report_lines rs)) written written')) is tells)
-    (subst (λ (rs : List Report). IfErr told (TellCause (lines_text (report_lines rs)) written written')) is untold) first_is one other in
+    ended_by view before now written written' (report_lines reports) why fault ready.idle (of_mail before now part.stays) (device_of before now why part.why part.stays) (usable_of view before now why ready.usable part.why) end in
     record {
       lines = report_lines reports;
       ended = by.ended;
@@ -210,3 +195,19 @@ gathered_in view before now written written' none shown reports why told first f
           (record { told = reports; why = why; part = part_at view before now publisher es reports why database part; fault_is = by.by; lines_are = refl })
           (part_went view before now publisher es reports why told_all database part);
     }
+
+broken_of : (view : View) (before now : Seen) (written written' : Output) (reports : List Report) (outcome : Result (List PartnerMail) ReceiveFault) (fault : AgentFault) → IsReady view before
+    → IfOk outcome (HasGathered view.catalog view.log.end before now [] reports) → IfErr outcome (GatherCause view.catalog view.log.end before now [] reports)
+    → GatheringCause outcome reports written written' fault → GatheringBroken view before now written written' fault
+broken_of view before now written written' reports (Ok bag) fault ready gathered part end = gathered_untold view before now written written' reports bag fault ready gathered end
+broken_of view before now written written' reports (Err why) fault ready gathered part end = gathered_in view before now written written' reports why fault ready part end
+
+pub gathered_broken : (view : View) (before now : Seen) (written written' : Output) (none shown reports : List Report) (outcome : Result (List PartnerMail) ReceiveFault) (result : Result (List PartnerMail × ℕ) AgentFault)
+    → IsReady view before → none ≡ [] → shown ≡ reports → IfOk outcome (HasGathered view.catalog view.log.end before now none reports)
+    → IfErr outcome (GatherCause view.catalog view.log.end before now none reports) → IfErr result (GatheringCause outcome shown written written') → IfErr result (GatheringBroken view before now written written')
+gathered_broken view before now written written' none shown reports outcome (Ok answer) ready is_none is gathered part end = tt
+gathered_broken view before now written written' none shown reports outcome (Err fault) ready is_none is gathered part end =
+    broken_of view before now written written' reports outcome fault ready
+    (subst (λ (rs : List Report). IfOk outcome (HasGathered view.catalog view.log.end before now rs reports)) is_none gathered)
+    (subst (λ (rs : List Report). IfErr outcome (GatherCause view.catalog view.log.end before now rs reports)) is_none part)
+    (subst (λ (rs : List Report). GatheringCause outcome rs written written' fault) is end)

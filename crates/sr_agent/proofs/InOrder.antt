@@ -1,112 +1,41 @@
 -- Deliveries in order, each behind those before it.
-use Rattle.std.proofs.Common.{◌≡◌, ◌+◌, ◌⊎◌, ℕ, Bool, List, [], ◌∷◌, ◌++◌, cond, Result, Err, IfErr, refl, sym, ap, subst, inl, inr, ◌∙◌, arith, append_assoc}
-use Rattle.std.specs.Prelude.{IsTrue, IsErrAnd}
+use Rattle.std.proofs.Common.{◌≡◌, ◌+◌, ◌⊎◌, ℕ, List, [], ◌∷◌, ◌++◌, Result, IfErr, refl, sym, ap, subst, inl, inr, ◌∙◌, arith, append_assoc}
+use Rattle.std.specs.Prelude.{IsErrAnd}
 use Rattle.std.specs.List.{AllByRecursion}
-use Rattle.std.proofs.lemmas.Grind.{flat_map-append}
 use Rattle.std.proofs.lemmas.List.{append-nil}
-use Rattle.std.proofs.lemmas.List.Sums.{sum_by-append}
 use Rattle.sr_book.specs.Entries.{Name}
-use Rattle.sr_cut.proofs.Lists.{AllByRecursion-map}
+use Rattle.sr_mail_cut.proofs.Lists.{AllByRecursion-map}
 use Rattle.sr_database.specs.Databases.{IsDatabase}
 use Rattle.sr_database.specs.Views.{View}
-use Rattle.sr_history.specs.Recorded.{Recorded}
+use Rattle.sr_database_history.specs.Recorded.{Recorded}
 use Rattle.sr_receive.specs.Entering.{IsReady}
-use Rattle.sr_session.specs.Said.{WroteFront}
-use Rattle.sr_site.specs.Causes.{Rose, Stays}
+use Rattle.sr_site.specs.Causes.{Stays}
 use Rattle.sr_site.specs.Seen.{Seen}
-use Rattle.sr_site.specs.Streams.{Output, OutputStays}
-use Rattle.sr_standing.proofs.Going.{nothing}
+use Rattle.sr_site.specs.Streams.{Output}
+use Rattle.sr_database_meaning.proofs.Going.{nothing}
 use Rattle.sr_agent.specs.Deliveries.{after_deliveries}
-use Rattle.sr_agent.specs.Ends.{CountEnd, Ended, Wrote}
-use Rattle.sr_agent.specs.Lines.{Line, alarms, is_alarm_line, line_text, lines_text}
-use Rattle.sr_agent.specs.Steps.{BrokeInDeliveries, BrokeInDelivery, DeliveriesBroken, DeliveriesDone, DeliveryBroken, DeliveryDone, KeepsPartners, MaySendTo, Told, TookDeliveries, UntoldDelivery}
+use Rattle.sr_agent.specs.Lines.{Line, alarms}
+use Rattle.sr_agent.specs.Inner.Steps.{BrokeInDeliveries, BrokeInDelivery, DeliveriesBroken, DeliveriesDone, DeliveryBroken, DeliveryDone, KeepsPartners, MaySendTo, TookDeliveries, UntoldDelivery}
 use Rattle.sr_agent.specs.declared.fault.AgentFault.{AgentFault}
-use Rattle.sr_agent.specs.declared.fault.AgentFault.TheVariants.{Disk, Mail, Sink, Full, Long, Memory}
 use Rattle.sr_agent.specs.declared.partner.Partner.{Partner}
 use Rattle.sr_agent.proofs.Chaining.{deliveries_more}
 use Rattle.sr_agent.proofs.Delivering.{if_fault}
 use Rattle.sr_agent.proofs.Joints.{settled_as, steady_on, told_then}
+use Rattle.sr_agent.proofs.Written.{alarms_on, ended_behind, told_on}
 
 -- ---- what is told, and then more
 
 pub stays_on : (a b c : Seen) → Stays a b → Stays b c → Stays a c
 stays_on a b c one two = record {
-  told = two.told ∙ one.told;
+  observable = two.observable ∙ one.observable;
   first = two.first ∙ one.first;
   grows = λ moment is. two.grows moment (one.grows moment is);
   disk = omega (arith, one.disk, two.disk);
   mail = omega (arith, one.mail, two.mail);
 }
 
-sink_on : (a b c : Output) → OutputStays a b → OutputStays b c → OutputStays a c
-sink_on a b c one two = record { told = two.told ∙ one.told; later = omega (arith, one.later, two.later) }
-
-tells_then : (a b : Output) → OutputStays a b → IsTrue a.told → IsTrue b.told
-tells_then a b stays told = subst (λ (x : Bool). IsTrue x) (sym stays.told) told
-
-text_on : (lines more : List Line) → lines_text (lines ++ more) ≡ lines_text lines ++ lines_text more
-text_on lines more = flat_map-append line_text lines more
-
--- a text, and then another
-said_on : (first second a b c : List ℕ) → b ≡ a ++ first → c ≡ b ++ second → c ≡ a ++ (first ++ second)
-said_on first second a b c one two = two ∙ ap (λ (l : List ℕ). l ++ second) one ∙ append_assoc a first second
-
-pub told_on : (lines more : List Line) (a b c : Output) → Told (lines_text lines) a b → Told (lines_text more) b c → Told (lines_text (lines ++ more)) a c
-told_on lines more a b c one two = record {
-  taken = λ told.
-      said_on (lines_text lines) (lines_text more) a.taken b.taken c.taken (one.taken told) (two.taken (tells_then a b one.stays told))
-      ∙ ap (λ (l : List ℕ). a.taken ++ l) (sym (text_on lines more));
-  steady = two.steady ∙ one.steady;
-  stays = sink_on a b c one.stays two.stays;
-}
-
-pub alarms_on : (lines more : List Line) → alarms (lines ++ more) ≡ alarms lines + alarms more
-alarms_on lines more = sum_by-append (λ (l : Line). cond (is_alarm_line l) 1 0) lines more
-
 none_of : (all first second : ℕ) → all ≡ first + second → first ≡ 0 → second ≡ 0 → all ≡ 0
 none_of all first second is none other = omega (arith, is, none, other)
-
--- ---- an end behind what was told
-
-front_on : (first second a b c : List ℕ) → b ≡ a ++ first → WroteFront second b c → WroteFront (first ++ second) a c
-front_on first second a b c one part = record {
-  written = first ++ part.written;
-  front = (part.front.0, ap (λ (l : List ℕ). first ++ l) part.front.1 ∙ sym (append_assoc first part.written part.front.0));
-  new_is = said_on first part.written a b c one part.new_is;
-}
-
-wrote_on : (first second a b c : List ℕ) (fault : AgentFault) → b ≡ a ++ first → Wrote second b c (Err fault) → Wrote (first ++ second) a c (Err fault)
-wrote_on first second a b c Disk one wrote = said_on first second a b c one wrote
-wrote_on first second a b c Mail one wrote = said_on first second a b c one wrote
-wrote_on first second a b c Sink one wrote = front_on first second a b c one wrote
-wrote_on first second a b c (Full end need) one wrote = said_on first second a b c one wrote
-wrote_on first second a b c (Long size limit) one wrote = said_on first second a b c one wrote
-wrote_on first second a b c Memory one wrote = front_on first second a b c one wrote
-
-rose_on : (old middle new : ℕ) → middle ≡ old → Rose middle new → Rose old new
-rose_on old middle new same rose = subst (λ (n : ℕ). Rose n new) same rose
-
-counts_on : (before seen now : Seen) (a b c : Output) (fault : AgentFault) → seen.disk_faults ≡ before.disk_faults → seen.mail_faults ≡ before.mail_faults → b.faults ≡ a.faults
-    → CountEnd seen now b c (Err fault) → CountEnd before now a c (Err fault)
-counts_on before seen now a b c Disk disk mail sink counts = (rose_on before.disk_faults seen.disk_faults now.disk_faults disk counts.0, counts.1 ∙ sink)
-counts_on before seen now a b c Mail disk mail sink counts = (rose_on before.mail_faults seen.mail_faults now.mail_faults mail counts.0, counts.1 ∙ sink)
-counts_on before seen now a b c Sink disk mail sink counts = rose_on a.faults b.faults c.faults sink counts
-counts_on before seen now a b c (Full end need) disk mail sink counts = counts ∙ sink
-counts_on before seen now a b c (Long size limit) disk mail sink counts = counts ∙ sink
-counts_on before seen now a b c Memory disk mail sink counts = counts ∙ sink
-
-pub ended_on : (new : View) (before seen now : Seen) (a b c : Output) (lines more : List Line) (fault : AgentFault) → Told (lines_text lines) a b → seen.disk_faults ≡ before.disk_faults → seen.mail_faults ≡ before.mail_faults
-    → Stays before seen → Ended new seen now b c more (Err fault) → Ended new before now a c (lines ++ more) (Err fault)
-ended_on new before seen now a b c lines more fault told disk mail stays ended = record {
-  wrote = λ tells.
-      subst (λ (said : List ℕ). Wrote said a.taken c.taken (Err fault)) (sym (text_on lines more))
-      (wrote_on (lines_text lines) (lines_text more) a.taken b.taken c.taken fault (told.taken tells) (ended.wrote (tells_then a b told.stays tells)));
-  counts = counts_on before seen now a b c fault disk mail told.steady ended.counts;
-  usable = ended.usable;
-  pending = ended.pending;
-  site = stays_on before seen now stays ended.site;
-  sink = sink_on a b c told.stays ended.sink;
-}
 
 -- ---- one delivery more
 
@@ -158,7 +87,7 @@ pub broken_on : (old middle new : View) (before seen now : Seen) (limit : ℕ) (
     → DeliveriesDone old middle before seen limit done a b → DeliveryBroken middle new seen now limit partner b c fault → DeliveriesBroken old new before now limit (done ++ partner ∷ others) a c fault
 broken_on old middle new before seen now limit done partner others a b c fault first broken = record {
   lines = first.lines ++ broken.lines;
-  ended = ended_on new before seen now a b c first.lines broken.lines fault first.told first.steady.disk first.steady.mail first.stays broken.ended;
+  ended = ended_behind new before seen now a b c first.lines broken.lines fault first.told first.steady first.stays broken.ended;
   did = λ tells publisher es database.
       let took = first.did tells publisher es database in
       broke_on middle new old before seen now publisher es limit done partner others first.lines broken.lines fault took
@@ -176,7 +105,7 @@ pub record IsWalking (old db : View) (before now : Seen) (limit : ℕ) (all left
   pub may : AllByRecursion (MaySendTo db) left
 
 same_seen : (seen : Seen) → Stays seen seen
-same_seen seen = record { told = refl; first = refl; grows = λ moment is. is; disk = omega arith; mail = omega arith }
+same_seen seen = record { observable = refl; first = refl; grows = λ moment is. is; disk = omega arith; mail = omega arith }
 
 pub walk_begins : (old : View) (before : Seen) (limit : ℕ) (all : List Partner) (written : Output) → IsReady old before → AllByRecursion (MaySendTo old) all → IsWalking old old before before limit all all written written
 walk_begins old before limit all written ready may = record {
@@ -184,7 +113,7 @@ walk_begins old before limit all written ready may = record {
   parts = refl;
   sent = record {
     lines = [];
-    told = record { taken = λ tells. sym (append-nil written.taken); steady = refl; stays = record { told = refl; later = omega arith } };
+    told = record { taken = λ tells. sym (append-nil written.taken); steady = refl; stays = record { observable = refl; later = omega arith } };
     no_alarm = refl;
     steady = record { disk = refl; mail = refl };
     stays = same_seen before;

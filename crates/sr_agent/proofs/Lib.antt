@@ -6,6 +6,7 @@ pub mod Turning
 pub mod Chaining
 pub mod Wholes
 pub mod Written
+pub mod Additions
 pub mod Reaching
 pub mod Made
 pub mod Ran
@@ -14,7 +15,7 @@ pub mod Delivering
 pub mod InOrder
 pub mod Ending
 pub mod Gathered
-pub mod Letters
+pub mod MessageFiles
 pub mod All
 pub mod Some
 pub mod Purged

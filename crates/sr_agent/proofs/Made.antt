@@ -7,26 +7,26 @@ use Rattle.sr_book.specs.Entries.{Name}
 use Rattle.sr_book.proofs.Folds.{same_name}
 use Rattle.sr_database.specs.Databases.{IsDatabase, IsOf}
 use Rattle.sr_database.specs.Views.{View}
-use Rattle.sr_history.specs.Folds.{state_of}
-use Rattle.sr_history.specs.Recorded.{Recorded}
-use Rattle.sr_history.proofs.Kept.{stored_holds}
+use Rattle.sr_database_history.specs.Folds.{state_of}
+use Rattle.sr_database_history.specs.Recorded.{Recorded}
+use Rattle.sr_database_history.proofs.Kept.{stored_holds}
 use Rattle.sr_receive.specs.Passes.{AreSteady as IsSteady}
-use Rattle.sr_schema.specs.Catalogs.{Lists}
-use Rattle.sr_schema.specs.Members.{user_name}
-use Rattle.sr_schema.specs.Names.{named}
-use Rattle.sr_schema.specs.declared.user.User.{User}
+use Rattle.sr_catalog_schema.specs.Catalogs.{Lists}
+use Rattle.sr_catalog_schema.specs.Members.{user_name}
+use Rattle.sr_catalog_schema.specs.Names.{named}
+use Rattle.sr_catalog_schema.specs.declared.user.User.{User}
 use Rattle.sr_site.specs.Causes.{Stays}
 use Rattle.sr_site.specs.Seen.{Seen}
 use Rattle.sr_site.specs.Streams.{Output}
 use Rattle.sr_agent.specs.Lines.{Line, alarms, lines_text}
 use Rattle.sr_agent.specs.Runs.{Receives, asked, nothing_done, quiet}
-use Rattle.sr_agent.specs.Steps.{AreOnce, IsQuietPass, IsUser, MadeWhere, MaySendTo, ReceivingDone, TookAll, Told}
-use Rattle.sr_agent.specs.Turns.{gathering_lines, partners, turns_lines}
+use Rattle.sr_agent.specs.Inner.Steps.{AreOnce, IsQuietPass, IsUser, MadeWhere, MaySendTo, ReceivingDone, TookAll, Told}
+use Rattle.sr_agent.specs.PartnerPasses.{gathering_lines, partners, partner_passes_lines}
 use Rattle.sr_agent.specs.declared.options.Options.{Options}
 use Rattle.sr_agent.specs.declared.partner.Partner.{Partner}
 use Rattle.sr_agent.specs.declared.progress.Progress.{Progress}
 use Rattle.sr_agent.proofs.Once.{users_once}
-use Rattle.sr_agent.proofs.Reaching.{gathered_run, reaches_none, reaches_turns}
+use Rattle.sr_agent.proofs.Reaching.{gathered_run, reaches_none, reaches_partner_passes}
 use Rattle.sr_agent.proofs.Wholes.{Received}
 use Rattle.sr_agent.proofs.Written.{still_site, still_steady, still_told}
 
@@ -36,15 +36,15 @@ some_if : (b : Bool) (v : User) (o : Option User) → IsSome o → IsSome (cond 
 some_if true v o some = refl
 some_if false v o some = some
 
-found : (front : List User) (u : User) (rest : List User) → IsSome (named user_name u.name (front ++ u ∷ rest))
+found : (prefix : List User) (u : User) (rest : List User) → IsSome (named user_name u.name (prefix ++ u ∷ rest))
 found [] u rest = subst (λ (b : Bool). IsSome (cond b (Some u) (named user_name u.name rest))) (sym (same_name u.name)) refl
-found (v ∷ front) u rest = some_if (bytes_eq u.name v.name) v (named user_name u.name (front ++ u ∷ rest)) (found front u rest)
+found (v ∷ prefix) u rest = some_if (bytes_eq u.name v.name) v (named user_name u.name (prefix ++ u ∷ rest)) (found prefix u rest)
 
-all_from : (view : View) (front rest : List User) → view.catalog.users ≡ front ++ rest → AllByRecursion (IsUser view) (map user_name rest)
-all_from view front [] is = tt
-all_from view front (u ∷ rest) is = (
-  subst (λ (users : List User). IsSome (named user_name u.name users)) (sym is) (found front u rest),
-  all_from view (front ++ u ∷ []) rest (is ∙ sym (append_assoc front (u ∷ []) rest)),
+all_from : (view : View) (prefix rest : List User) → view.catalog.users ≡ prefix ++ rest → AllByRecursion (IsUser view) (map user_name rest)
+all_from view prefix [] is = tt
+all_from view prefix (u ∷ rest) is = (
+  subst (λ (users : List User). IsSome (named user_name u.name users)) (sym is) (found prefix u rest),
+  all_from view (prefix ++ u ∷ []) rest (is ∙ sym (append_assoc prefix (u ∷ []) rest)),
 )
 
 pub are_users : (view : View) (names : List Name) → names ≡ map user_name view.catalog.users → AllByRecursion (IsUser view) names
@@ -70,7 +70,7 @@ pub record HasMade (old new : View) (before now : Seen) (options : Options) (use
   pub may : AllByRecursion (MaySendTo new) asks
   pub steady : IsSteady before now
   pub stays : Stays before now
-  pub did : IsTrue before.told → (publisher : Name) (es : List Recorded) → IsDatabase old publisher es before → users ≡ partners publisher es → AreOnce users
+  pub did : IsTrue before.observable → (publisher : Name) (es : List Recorded) → IsDatabase old publisher es before → users ≡ partners publisher es → AreOnce users
       → Received new before now publisher es options asks lines
 
 -- left out
@@ -110,8 +110,8 @@ received_on : (new : View) (before now : Seen) (publisher : Name) (es : List Rec
     → users ≡ partners publisher es → TookAll new before now publisher es options.purge users asks lines → Received new before now publisher es options asks lines
 received_on new before now publisher es options users asks lines on users_are all =
     let g = all.gathered.gathering in
-    let run = gathered_run g all.took.turns in
-    let reaches = reaches_turns all.view new before all.seen now publisher es options all.bag all.first users asks all.behind all.gathered all.took in
+    let run = gathered_run g all.took.partner_passes in
+    let reaches = reaches_partner_passes all.view new before all.seen now publisher es options all.bag all.first users asks all.behind all.gathered all.took in
     record {
       run = run;
       none = refl;

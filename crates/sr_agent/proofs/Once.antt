@@ -8,17 +8,17 @@ use Rattle.sr_ast.specs.declared.create.Grant.{Grant}
 use Rattle.sr_ast.specs.declared.stmt.Stmt.TheVariants as stmt
 use Rattle.sr_book.specs.Entries.{Name}
 use Rattle.sr_book.proofs.Folds.{name_test, same_name}
-use Rattle.sr_change.specs.Changes.{refusal}
-use Rattle.sr_ddl.specs.Users.{grant_causes}
-use Rattle.sr_replay.specs.Scripts.{IsMade, grant_of, grant_rule}
-use Rattle.sr_replay.proofs.ReplayCauses.{NoCause, no_cause_of, where_true-None}
-use Rattle.sr_replay.proofs.ReplayNexts.{made_stands}
-use Rattle.sr_replay.proofs.Standing.{InOrder, UserStands}
-use Rattle.sr_schema.specs.Catalogs.{Lists, nothing_but}
-use Rattle.sr_schema.specs.Members.{user_name}
-use Rattle.sr_schema.specs.Names.{taken}
-use Rattle.sr_schema.specs.declared.user.User.{User}
-use Rattle.sr_agent.specs.Steps.{AreOnce}
+use Rattle.sr_catalog_change.specs.Changes.{refusal}
+use Rattle.sr_catalog_ddl.specs.Users.{grant_causes}
+use Rattle.sr_catalog_script_laws.specs.Inner.Scripts.{IsMade, grant_of, grant_rule}
+use Rattle.sr_catalog_script_laws.proofs.ReplayCauses.{NoCause, no_cause_of, where_true-None}
+use Rattle.sr_catalog_script_laws.proofs.ReplayNexts.{made_stands}
+use Rattle.sr_catalog_script_laws.proofs.Standing.{InOrder, UserStands}
+use Rattle.sr_catalog_schema.specs.Catalogs.{Lists, nothing_but}
+use Rattle.sr_catalog_schema.specs.Members.{user_name}
+use Rattle.sr_catalog_schema.specs.Names.{taken}
+use Rattle.sr_catalog_schema.specs.declared.user.User.{User}
+use Rattle.sr_agent.specs.Inner.Steps.{AreOnce}
 
 -- names that differ do so both ways
 apart : (a b : Name) → bytes_eq a b ≡ false → bytes_eq b a ≡ false
@@ -51,14 +51,14 @@ not_among user (u ∷ before) name none = not_among user before name ((or_parts 
 both : (x y : Bool) → x ≡ false → y ≡ false → (x || y) ≡ false
 both x y one two = ap (λ b. b || y) one ∙ two
 
-front_of : (users more : List User) (name : Name) → taken user_name name (users ++ more) ≡ false → taken user_name name users ≡ false
-front_of [] more name none = refl
-front_of (u ∷ users) more name none =
+prefix_of : (users more : List User) (name : Name) → taken user_name name (users ++ more) ≡ false → taken user_name name users ≡ false
+prefix_of [] more name none = refl
+prefix_of (u ∷ users) more name none =
     let parts = or_parts (bytes_eq name u.name) (taken user_name name (users ++ more)) none in
-    both (bytes_eq name u.name) (taken user_name name users) parts.0 (front_of users more name parts.1)
+    both (bytes_eq name u.name) (taken user_name name users) parts.0 (prefix_of users more name parts.1)
 
 first_among : (before : List User) (user : User) (between : List User) (name : Name) → taken user_name name ((before ++ user ∷ []) ++ between) ≡ false → bytes_eq user.name name ≡ false
-first_among before user between name none = not_among user before name (front_of (before ++ user ∷ []) between name none)
+first_among before user between name none = not_among user before name (prefix_of (before ++ user ∷ []) between name none)
 
 longer : (publisher : Name) (before : List User) (user : User) (between users : List User) → InOrder (UserStands publisher) ((before ++ user ∷ []) ++ between) users
     → AllByRecursion (λ other. bytes_eq user.name other ≡ false) (map user_name users)

@@ -1,4 +1,4 @@
--- The turns of partners in order: the first, one more, the end, and a fault.
+-- The partners' passes of partners in order: the first, one more, the end, and a fault.
 use Rattle.std.proofs.Common.{◌≡◌, ◌+◌, ℕ, Bool, true, List, [], ◌∷◌, ◌++◌, map, Ok, Err, Result, refl, sym, ap, subst, ◌∙◌, arith, append_assoc, if◌then◌else◌}
 use Rattle.std.specs.Prelude.{IsTrue, count_by}
 use Rattle.std.specs.List.{AllByRecursion}
@@ -7,20 +7,20 @@ use Rattle.std.proofs.lemmas.List.Sums.{sum_by-append}
 use Rattle.sr_book.specs.Entries.{Name}
 use Rattle.sr_database.specs.Databases.{IsDatabase}
 use Rattle.sr_database.specs.Views.{View}
-use Rattle.sr_history.specs.Recorded.{Recorded}
+use Rattle.sr_database_history.specs.Recorded.{Recorded}
 use Rattle.sr_receive.specs.Entering.{IsReady}
-use Rattle.sr_gather.specs.Letters.{Came}
-use Rattle.sr_gather.specs.declared.bag.Share.{Share}
+use Rattle.sr_receive_gather.specs.MessageFiles.{FetchedFile}
+use Rattle.sr_receive_gather.specs.declared.bag.PartnerMail.{PartnerMail}
 use Rattle.sr_site.specs.Causes.{MailStays}
-use Rattle.sr_site.specs.Growing.{stays_on}
+use Rattle.sr_site.specs.Inner.Growing.{stays_on}
 use Rattle.sr_site.specs.Seen.{Seen}
 use Rattle.sr_site.specs.Streams.{Output}
 use Rattle.sr_agent.specs.Lines.{Line, alarms, is_alarm_line}
-use Rattle.sr_agent.specs.Shares.{HasSome, HoldsSome}
-use Rattle.sr_agent.specs.Steps.{AreOnce, HoldsAll, IsUser, KeepsPartners, TookTurns, TurnDone, TurnsDone}
+use Rattle.sr_agent.specs.Inner.PartnerMails.{HasSome, HoldsSome}
+use Rattle.sr_agent.specs.Inner.Steps.{AreOnce, HoldsAll, IsUser, KeepsPartners, TookPartnerPasses, PartnerPassDone, PartnerPassesDone}
 use Rattle.sr_agent.specs.declared.partner.Partner.{Partner}
 use Rattle.sr_agent.specs.declared.progress.Progress.{Progress}
-use Rattle.sr_agent.proofs.Chaining.{turns_more}
+use Rattle.sr_agent.proofs.Chaining.{partner_passes_more}
 use Rattle.sr_agent.proofs.Joints.{steady_on, went_quiet}
 use Rattle.sr_agent.proofs.Ordering.{IsTurning, TurnedSoFar, all_may, all_users, may_more, others_hold, still_holds, told_on}
 use Rattle.sr_agent.proofs.Purged.{stays_same}
@@ -29,20 +29,20 @@ use Rattle.sr_agent.proofs.Values.{keeps_same, keeps_twice}
 counts_append : (one two : List Line) → count_by is_alarm_line (one ++ two) ≡ count_by is_alarm_line one + count_by is_alarm_line two
 counts_append one two = sum_by-append (λ (l : Line). if is_alarm_line l then 1 else 0) one two
 
-none_took : (db : View) (seen : Seen) (publisher : Name) (es : List Recorded) (comes : List Came) (purge : Bool) → IsDatabase db publisher es seen → TookTurns db seen seen publisher es comes purge [] [] []
-none_took db seen publisher es comes purge database = record {
-  turns = [];
+none_took : (db : View) (seen : Seen) (publisher : Name) (es : List Recorded) (fetched_files : List FetchedFile) (purge : Bool) → IsDatabase db publisher es seen → TookPartnerPasses db seen seen publisher es fetched_files purge [] [] []
+none_took db seen publisher es fetched_files purge database = record {
+  partner_passes = [];
   whose = refl;
   are = tt;
   database = subst (λ (rs : List Recorded). IsDatabase db publisher rs seen) (sym (append-nil es)) database;
   steady = record { disk = refl; mail = refl };
-  went = went_quiet db publisher es seen seen [] (record { told = refl; first = refl; files = refl; grows = λ moment there. there; disk_faults = refl; later = omega arith }) refl tt database;
+  went = went_quiet db publisher es seen seen [] (record { observable = refl; first = refl; files = refl; grows = λ moment there. there; disk_faults = refl; later = omega arith }) refl tt database;
   mail = refl;
   asks_are = refl;
   lines_are = refl;
 }
 
-pub turning_start : (db : View) (seen : Seen) (users : List Name) (bag : List Share) (purge : Bool) (progress : Progress) (written : Output) → IsReady db seen → AllByRecursion (IsUser db) users → HoldsSome bag
+pub turning_start : (db : View) (seen : Seen) (users : List Name) (bag : List PartnerMail) (purge : Bool) (progress : Progress) (written : Output) → IsReady db seen → AllByRecursion (IsUser db) users → HoldsSome bag
     → IsTurning db db seen seen users users bag bag purge progress progress written written
 turning_start db seen users bag purge progress written ready are holds = record {
   done = [];
@@ -53,18 +53,18 @@ turning_start db seen users bag purge progress written ready are holds = record 
   holds = holds;
   lines = [];
   asks = [];
-  told = record { taken = λ told. sym (append-nil written.taken); steady = refl; stays = record { told = refl; later = omega arith } };
+  told = record { taken = λ told. sym (append-nil written.taken); steady = refl; stays = record { observable = refl; later = omega arith } };
   alarms_are = omega arith;
   partners_are = sym (append-nil progress.partners.items);
   may = tt;
   steady = record { disk = refl; mail = refl };
   stays = stays_same seen;
-  did = λ told publisher es comes database all once. record { took = none_took db seen publisher es comes purge database; holds = all; once = once };
+  did = λ told publisher es fetched_files database all once. record { took = none_took db seen publisher es fetched_files purge database; holds = all; once = once };
 }
 
-pub turning_more : (old db new : View) (before seen now : Seen) (users : List Name) (user : Name) (rest : List Name) (bag bag' bag'' : List Share) (purge : Bool) (progress progress' progress'' : Progress)
+pub turning_more : (old db new : View) (before seen now : Seen) (users : List Name) (user : Name) (rest : List Name) (bag bag' bag'' : List PartnerMail) (purge : Bool) (progress progress' progress'' : Progress)
     (written written' written'' : Output) → IsTurning old db before seen users (user ∷ rest) bag bag' purge progress progress' written written' → IsReady new now → KeepsPartners db new → HasSome bag'' user
-    → TurnDone db new seen now user bag' bag'' purge progress' progress'' written' written'' → IsTurning old new before now users rest bag bag'' purge progress progress'' written written''
+    → PartnerPassDone db new seen now user bag' bag'' purge progress' progress'' written' written'' → IsTurning old new before now users rest bag bag'' purge progress progress'' written written''
 turning_more old db new before seen now users user rest bag bag' bag'' purge progress progress' progress'' written written' written'' so ready keeps his one = record {
   done = so.done ++ user ∷ [];
   parts = so.parts ∙ sym (append_assoc so.done (user ∷ []) rest);
@@ -80,18 +80,18 @@ turning_more old db new before seen now users user rest bag bag' bag'' purge pro
   may = may_more new so.asks (record { user = user; ask = one.ask }) (all_may db new so.asks keeps so.may) one.may;
   steady = steady_on before seen now so.steady one.steady;
   stays = stays_on before seen now so.stays one.stays;
-  did = λ told publisher es comes database all once.
-      let first = so.did told publisher es comes database all once in
-      let next = one.did (subst (λ (t : Bool). IsTrue t) (sym so.stays.told) told) publisher _ comes first.took.database first.holds.0 in
+  did = λ told publisher es fetched_files database all once.
+      let first = so.did told publisher es fetched_files database all once in
+      let next = one.did (subst (λ (t : Bool). IsTrue t) (sym so.stays.observable) told) publisher _ fetched_files first.took.database first.holds.0 in
       record {
-        took = turns_more db new before seen now publisher es comes purge so.done user so.asks one.ask so.lines one.lines first.took next;
-        holds = others_hold bag' bag'' comes user rest one.others first.once.0 first.holds.1;
+        took = partner_passes_more db new before seen now publisher es fetched_files purge so.done user so.asks one.ask so.lines one.lines first.took next;
+        holds = others_hold bag' bag'' fetched_files user rest one.others first.once.0 first.holds.1;
         once = first.once.1;
       };
 }
 
-pub turning_done : (old db : View) (before seen : Seen) (users : List Name) (bag bag' : List Share) (purge : Bool) (progress progress' : Progress) (written written' : Output)
-    → IsTurning old db before seen users [] bag bag' purge progress progress' written written' → TurnsDone old db before seen users bag purge progress progress' written written'
+pub turning_done : (old db : View) (before seen : Seen) (users : List Name) (bag bag' : List PartnerMail) (purge : Bool) (progress progress' : Progress) (written written' : Output)
+    → IsTurning old db before seen users [] bag bag' purge progress progress' written written' → PartnerPassesDone old db before seen users bag purge progress progress' written written'
 turning_done old db before seen users bag bag' purge progress progress' written written' so = record {
   lines = so.lines;
   asks = so.asks;
@@ -101,6 +101,6 @@ turning_done old db before seen users bag bag' purge progress progress' written 
   may = so.may;
   steady = so.steady;
   stays = so.stays;
-  did = λ told publisher es comes database all once.
-      subst (λ (names : List Name). TookTurns db before seen publisher es comes purge names so.asks so.lines) (sym (append-nil so.done) ∙ sym so.parts) (so.did told publisher es comes database all once).took;
+  did = λ told publisher es fetched_files database all once.
+      subst (λ (names : List Name). TookPartnerPasses db before seen publisher es fetched_files purge names so.asks so.lines) (sym (append-nil so.done) ∙ sym so.parts) (so.did told publisher es fetched_files database all once).took;
 }

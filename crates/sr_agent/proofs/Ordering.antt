@@ -7,19 +7,20 @@ use Rattle.sr_book.specs.Entries.{Name}
 use Rattle.sr_book.proofs.Folds.{name_test}
 use Rattle.sr_database.specs.Databases.{IsDatabase}
 use Rattle.sr_database.specs.Views.{View}
-use Rattle.sr_history.specs.Recorded.{Recorded}
-use Rattle.sr_gather.specs.Bags.{Has, IsShareWhere, OthersStay, share_of}
+use Rattle.sr_database_history.specs.Recorded.{Recorded}
+use Rattle.sr_receive_gather.specs.Bags.{Has, IsPartnerMailWhere, partner_mail_of}
+use Rattle.sr_receive_gather.specs.Inner.Bags.{OthersStay}
 use Rattle.sr_receive.specs.Entering.{IsReady}
-use Rattle.sr_gather.specs.Letters.{Came, letters_from}
+use Rattle.sr_receive_gather.specs.MessageFiles.{FetchedFile, message_files_from}
 use Rattle.sr_receive.specs.Passes.{AreSteady as IsSteady}
-use Rattle.sr_gather.specs.declared.bag.Share.{Share}
+use Rattle.sr_receive_gather.specs.declared.bag.PartnerMail.{PartnerMail}
 use Rattle.sr_site.specs.Causes.{Stays}
-use Rattle.sr_site.specs.Growing.{stays_on}
+use Rattle.sr_site.specs.Inner.Growing.{stays_on}
 use Rattle.sr_site.specs.Seen.{Seen}
 use Rattle.sr_site.specs.Streams.{Output, OutputStays}
 use Rattle.sr_agent.specs.Lines.{Line, alarms, is_alarm_line, line_text, lines_text}
-use Rattle.sr_agent.specs.Shares.{HasSome, HoldsSome}
-use Rattle.sr_agent.specs.Steps.{AreOnce, HoldsAll, IsUser, KeepsPartners, MaySendTo, Told, TookTurns, TurnDone}
+use Rattle.sr_agent.specs.Inner.PartnerMails.{HasSome, HoldsSome}
+use Rattle.sr_agent.specs.Inner.Steps.{AreOnce, HoldsAll, IsUser, KeepsPartners, MaySendTo, Told, TookPartnerPasses, PartnerPassDone}
 use Rattle.sr_agent.specs.declared.partner.Partner.{Partner}
 use Rattle.sr_agent.specs.declared.progress.Progress.{Progress}
 use Rattle.sr_agent.proofs.Joints.{steady_on}
@@ -32,12 +33,12 @@ lines_append [] two = refl
 lines_append (l ∷ one) two = ap (λ (t : List ℕ). line_text l ++ t) (lines_append one two) ∙ sym (append_assoc (line_text l) (lines_text one) (lines_text two))
 
 pub sink_on : (a b c : Output) → OutputStays a b → OutputStays b c → OutputStays a c
-sink_on a b c first second = record { told = second.told ∙ first.told; later = omega (arith, first.later, second.later) }
+sink_on a b c first second = record { observable = second.observable ∙ first.observable; later = omega (arith, first.later, second.later) }
 
 pub told_on : (one two : List Line) (a b c : Output) → Told (lines_text one) a b → Told (lines_text two) b c → Told (lines_text (one ++ two)) a c
 told_on one two a b c first second = record {
   taken = λ told.
-      second.taken (subst (λ (t : Bool). IsTrue t) (sym first.stays.told) told)
+      second.taken (subst (λ (t : Bool). IsTrue t) (sym first.stays.observable) told)
       ∙ ap (λ (l : List ℕ). l ++ lines_text two) (first.taken told)
       ∙ append_assoc a.taken (lines_text one) (lines_text two)
       ∙ ap (λ (l : List ℕ). a.taken ++ l) (sym (lines_append one two));
@@ -59,33 +60,33 @@ pub may_more : (view : View) (asks : List Partner) (p : Partner) → AllByRecurs
 may_more view [] p are one = (one, tt)
 may_more view (q ∷ asks) p are one = (are.0, may_more view asks p are.1 one)
 
-pub still_holds : (bag bag' : List Share) (user : Name) → HoldsSome bag → OthersStay bag bag' user → HasSome bag' user → HoldsSome bag'
+pub still_holds : (bag bag' : List PartnerMail) (user : Name) → HoldsSome bag → OthersStay bag bag' user → HasSome bag' user → HoldsSome bag'
 still_holds bag bag' user all others his other = elim (name_test user other) [
   | inl same ↦ subst (λ (n : Name). HasSome bag' n) same.1 his
   | inr differ ↦ record {
-    letters = (all other).letters;
-    lost = (all other).lost;
-    has = subst (λ (s : Option Share). IsShareWhere (all other).letters (all other).lost s) (sym (others other differ)) (all other).has;
+    message_files = (all other).message_files;
+    dropped_windows = (all other).dropped_windows;
+    has = subst (λ (s : Option PartnerMail). IsPartnerMailWhere (all other).message_files (all other).dropped_windows s) (sym (others other differ)) (all other).has;
   }
 ]
 
-pub others_hold : (bag bag' : List Share) (comes : List Came) (user : Name) (users : List Name) → OthersStay bag bag' user → AllByRecursion (λ other. bytes_eq user other ≡ false) users → HoldsAll bag comes users
-    → HoldsAll bag' comes users
-others_hold bag bag' comes user [] stay apart holds = tt
-others_hold bag bag' comes user (other ∷ users) stay apart holds = (
-  subst (λ (s : Option Share). IsShareWhere (letters_from other comes) [] s) (sym (stay other apart.0)) holds.0,
-  others_hold bag bag' comes user users stay apart.1 holds.1,
+pub others_hold : (bag bag' : List PartnerMail) (fetched_files : List FetchedFile) (user : Name) (users : List Name) → OthersStay bag bag' user → AllByRecursion (λ other. bytes_eq user other ≡ false) users → HoldsAll bag fetched_files users
+    → HoldsAll bag' fetched_files users
+others_hold bag bag' fetched_files user [] stay apart holds = tt
+others_hold bag bag' fetched_files user (other ∷ users) stay apart holds = (
+  subst (λ (s : Option PartnerMail). IsPartnerMailWhere (message_files_from other fetched_files) [] s) (sym (stay other apart.0)) holds.0,
+  others_hold bag bag' fetched_files user users stay apart.1 holds.1,
 )
 
 -- ---- the loop
 
 -- what was done for those before these that are left
-pub record TurnedSoFar (db : View) (before seen : Seen) (publisher : Name) (es : List Recorded) (comes : List Came) (purge : Bool) (done left : List Name) (bag' : List Share) (asks : List Partner) (lines : List Line) : Type 0 where
-  pub took : TookTurns db before seen publisher es comes purge done asks lines
-  pub holds : HoldsAll bag' comes left
+pub record TurnedSoFar (db : View) (before seen : Seen) (publisher : Name) (es : List Recorded) (fetched_files : List FetchedFile) (purge : Bool) (done left : List Name) (bag' : List PartnerMail) (asks : List Partner) (lines : List Line) : Type 0 where
+  pub took : TookPartnerPasses db before seen publisher es fetched_files purge done asks lines
+  pub holds : HoldsAll bag' fetched_files left
   pub once : AreOnce left
 
-pub record IsTurning (old db : View) (before seen : Seen) (users left : List Name) (bag bag' : List Share) (purge : Bool) (progress progress' : Progress) (written written' : Output) : Type 0 where
+pub record IsTurning (old db : View) (before seen : Seen) (users left : List Name) (bag bag' : List PartnerMail) (purge : Bool) (progress progress' : Progress) (written written' : Output) : Type 0 where
   pub done : List Name
   pub parts : users ≡ done ++ left
   pub ready : IsReady db seen
@@ -100,5 +101,5 @@ pub record IsTurning (old db : View) (before seen : Seen) (users left : List Nam
   pub may : AllByRecursion (MaySendTo db) asks
   pub steady : IsSteady before seen
   pub stays : Stays before seen
-  pub did : IsTrue before.told → (publisher : Name) (es : List Recorded) (comes : List Came) → IsDatabase old publisher es before → HoldsAll bag comes users → AreOnce users
-      → TurnedSoFar db before seen publisher es comes purge done left bag' asks lines
+  pub did : IsTrue before.observable → (publisher : Name) (es : List Recorded) (fetched_files : List FetchedFile) → IsDatabase old publisher es before → HoldsAll bag fetched_files users → AreOnce users
+      → TurnedSoFar db before seen publisher es fetched_files purge done left bag' asks lines

@@ -1,4 +1,4 @@
--- A partner's turn with the removal of his dead files.
+-- A partner's pass with the removal of his dead files.
 use Rattle.std.proofs.Common.{◌≡◌, ◌+◌, ℕ, Bool, true, false, List, [], ◌∷◌, ◌++◌, map, Result, Ok, Err, IfErr, OnOk, refl, sym, ap, subst, inl, inr, ◌∙◌, arith}
 use Rattle.std.specs.Prelude.{IsErrAnd, IsTrue}
 use Rattle.sr_book.specs.Entries.{Name}
@@ -6,31 +6,33 @@ use Rattle.sr_book.specs.declared.book.Book.{Book}
 use Rattle.sr_database.specs.Books.{book_in}
 use Rattle.sr_database.specs.Databases.{IsDatabase}
 use Rattle.sr_database.specs.Views.{View}
-use Rattle.sr_history.specs.Folds.{books_of}
-use Rattle.sr_history.specs.Recorded.{Recorded}
-use Rattle.sr_gather.specs.Bags.{Has, share_of}
+use Rattle.sr_database_history.specs.Folds.{books_of}
+use Rattle.sr_database_history.specs.Recorded.{Recorded}
+use Rattle.sr_receive_gather.specs.Bags.{Has, partner_mail_of}
 use Rattle.sr_receive.specs.Entering.{IsReady}
-use Rattle.sr_gather.specs.Letters.{Came, letters_from}
-use Rattle.sr_receive.specs.Passes.{IsDeviceFault, AreSteady as IsSteady}
-use Rattle.sr_gather.specs.Purges.{HasPurged, PurgeCause, PurgedInPart, Removes, dead, files_in, removals}
-use Rattle.sr_gather.specs.declared.bag.Filed.{Filed}
-use Rattle.sr_gather.specs.declared.bag.Share.{Share}
-use Rattle.sr_gather.specs.declared.fault.ReceiveFault.{ReceiveFault}
-use Rattle.sr_gather.specs.declared.fault.ReceiveFault.TheVariants as receives
+use Rattle.sr_receive_gather.specs.MessageFiles.{FetchedFile, message_files_from}
+use Rattle.sr_receive.specs.Passes.{AreSteady as IsSteady}
+use Rattle.sr_receive.specs.Inner.Passes.{IsDeviceFault}
+use Rattle.sr_receive_gather.specs.Purges.{PurgeCause, PurgedInPart, Removes, dead, removals}
+use Rattle.sr_receive_gather.specs.Inner.Purges.{HasPurged, files_in}
+use Rattle.sr_receive_gather.specs.declared.bag.Filed.{Filed}
+use Rattle.sr_receive_gather.specs.declared.bag.PartnerMail.{PartnerMail}
+use Rattle.sr_receive_gather.specs.declared.fault.ReceiveFault.{ReceiveFault}
+use Rattle.sr_receive_gather.specs.declared.fault.ReceiveFault.TheVariants as receives
 use Rattle.sr_receive.specs.declared.receiving.Received.{Received}
 use Rattle.sr_site.specs.Causes.{Rose, Stays}
-use Rattle.sr_site.specs.Growing.{stays_on}
+use Rattle.sr_site.specs.Inner.Growing.{stays_on}
 use Rattle.sr_site.specs.Happenings.{Happening, removed}
 use Rattle.sr_site.specs.Seen.{Seen}
 use Rattle.sr_site.specs.Streams.{Output}
-use Rattle.sr_standing.specs.Items.{commit}
+use Rattle.sr_database_meaning.specs.Events.{commit}
 use Rattle.sr_agent.specs.Ends.{HasTold, IsUsableEnd}
 use Rattle.sr_agent.specs.Faults.{fault_of_receive}
 use Rattle.sr_agent.specs.Lines.{Line, alarms}
-use Rattle.sr_agent.specs.Shares.{HasSome, ToldLetters, Turned}
-use Rattle.sr_agent.specs.Steps.{BrokeInTurn, KeepsPartners, PurgeEnd, PurgedWhere, TookTurn, TurnBroken, TurnDone}
-use Rattle.sr_agent.specs.Stops.{begun, behind_letters}
-use Rattle.sr_agent.specs.Turns.{files_of, turn_entries}
+use Rattle.sr_agent.specs.Inner.PartnerMails.{HasSome, ToldMessageFiles, Turned}
+use Rattle.sr_agent.specs.Inner.Steps.{BrokeInPartnerPass, KeepsPartners, PurgeEnd, PurgedWhere, TookPartnerPass, PartnerPassBroken, PartnerPassDone}
+use Rattle.sr_agent.specs.Stops.{begun, behind_message_files}
+use Rattle.sr_agent.specs.PartnerPasses.{files_of, partner_pass_entries}
 use Rattle.sr_agent.specs.declared.fault.AgentFault.{AgentFault}
 use Rattle.sr_agent.specs.declared.fault.AgentFault.TheVariants.{Memory}
 use Rattle.sr_agent.specs.declared.partner.Partner.{Partner}
@@ -38,7 +40,7 @@ use Rattle.sr_agent.specs.declared.progress.Progress.{Progress}
 use Rattle.sr_agent.proofs.Ending.{ended_told}
 use Rattle.sr_agent.proofs.Gathered.{IsQuietly}
 use Rattle.sr_agent.proofs.Joints.{of_mail, steady_on, still_there, told_then, went_quiet, went_still}
-use Rattle.sr_agent.proofs.Letters.{turned_untold}
+use Rattle.sr_agent.proofs.MessageFiles.{turned_untold}
 use Rattle.sr_agent.proofs.Removing.{are_removed}
 use Rattle.sr_agent.proofs.Turning.{took_and_purged, took_quietly}
 use Rattle.sr_agent.proofs.Values.{publisher_is}
@@ -56,75 +58,75 @@ ready_removed new middle now address book files count ready purged = record {
   idle = ready.idle;
   some = ready.some;
   stands = λ told.
-      let then = subst (λ (b : Bool). IsTrue b) purged.stays.told told in
+      let then = subst (λ (b : Bool). IsTrue b) purged.stays.observable told in
       let had = ready.stands then in
       let removal = are_removed address (dead book files) middle.happened in
       record { publisher = had.publisher; es = had.es; is = still_there new had.publisher had.es middle now removal.more purged.stays (purged.removed_are then ∙ removal.is) removal.quiet had.is };
 }
 
-ready_where : (purge : Bool) (new : View) (user : Name) (bag' : List Share) (middle now : Seen) → IsReady new middle → PurgedWhere purge new user bag' middle now → IsReady new now
+ready_where : (purge : Bool) (new : View) (user : Name) (bag' : List PartnerMail) (middle now : Seen) → IsReady new middle → PurgedWhere purge new user bag' middle now → IsReady new now
 ready_where false new user bag' middle now ready still = subst (λ (s : Seen). IsReady new s) (sym still) ready
-ready_where true new user bag' middle now ready purged = ready_removed new middle now new.catalog.publisher (book_in new.books user) (files_in (share_of bag' user)) purged.0 ready purged.1
+ready_where true new user bag' middle now ready purged = ready_removed new middle now new.catalog.publisher (book_in new.books user) (files_in (partner_mail_of bag' user)) purged.0 ready purged.1
 
-pub ready_purged : {A : Type 0} (purge : Bool) (new : View) (user : Name) (bag' : List Share) (middle now : Seen) (result : Result A AgentFault) → IsReady new middle → OnOk result (PurgedWhere purge new user bag' middle now)
+pub ready_purged : {A : Type 0} (purge : Bool) (new : View) (user : Name) (bag' : List PartnerMail) (middle now : Seen) (result : Result A AgentFault) → IsReady new middle → OnOk result (PurgedWhere purge new user bag' middle now)
     → OnOk result (IsReady new now)
 ready_purged purge new user bag' middle now (Ok x) ready purged = ready_where purge new user bag' middle now ready purged
 ready_purged purge new user bag' middle now (Err e) ready purged = tt
 
-steady_where : (purge : Bool) (new : View) (user : Name) (bag' : List Share) (middle now : Seen) → PurgedWhere purge new user bag' middle now → IsSteady middle now
+steady_where : (purge : Bool) (new : View) (user : Name) (bag' : List PartnerMail) (middle now : Seen) → PurgedWhere purge new user bag' middle now → IsSteady middle now
 steady_where false new user bag' middle now still = record { disk = ap (λ (s : Seen). s.disk_faults) still; mail = ap (λ (s : Seen). s.mail_faults) still }
 steady_where true new user bag' middle now purged = record { disk = purged.1.stays.disk_faults; mail = purged.1.steady }
 
 pub stays_same : (seen : Seen) → Stays seen seen
-stays_same seen = record { told = refl; first = refl; grows = λ moment there. there; disk = omega arith; mail = omega arith }
+stays_same seen = record { observable = refl; first = refl; grows = λ moment there. there; disk = omega arith; mail = omega arith }
 
-stays_where : (purge : Bool) (new : View) (user : Name) (bag' : List Share) (middle now : Seen) → PurgedWhere purge new user bag' middle now → Stays middle now
+stays_where : (purge : Bool) (new : View) (user : Name) (bag' : List PartnerMail) (middle now : Seen) → PurgedWhere purge new user bag' middle now → Stays middle now
 stays_where false new user bag' middle now still = subst (λ (s : Seen). Stays middle s) (sym still) (stays_same middle)
 stays_where true new user bag' middle now purged = of_mail middle now purged.1.stays
 
-took_turn : (purge : Bool) (new : View) (before middle now : Seen) (publisher : Name) (es : List Recorded) (comes : List Came) (user : Name) (bag' : List Share) (ask : Bool) (lines : List Line) → IsTrue middle.told
-    → Turned new before middle publisher es comes user bag' ask lines → PurgedWhere purge new user bag' middle now → TookTurn new before now publisher es comes purge user ask lines
-took_turn false new before middle now publisher es comes user bag' ask lines told turned still =
-    subst (λ (s : Seen). TookTurn new before s publisher es comes false user ask lines) (sym still)
-    (took_quietly new before middle publisher es comes user turned.turn ask lines turned.user_is turned.behind turned.ask_is turned.lines_are)
-took_turn true new before middle now publisher es comes user bag' ask lines told turned purged =
-    took_and_purged new before middle now publisher es comes user turned.turn ask lines new.catalog.publisher (book_in new.books user) (files_in (share_of bag' user)) purged.0 turned.user_is told turned.behind turned.ask_is turned.lines_are
-    (publisher_is new publisher (es ++ turn_entries publisher es comes turned.turn) turned.behind.database.is)
-    (turned.behind.database.is.books user ∙ ap (λ (n : Name). books_of n (es ++ turn_entries publisher es comes turned.turn)) (sym turned.user_is)) turned.files_are purged.1
+took_partner_pass : (purge : Bool) (new : View) (before middle now : Seen) (publisher : Name) (es : List Recorded) (fetched_files : List FetchedFile) (user : Name) (bag' : List PartnerMail) (ask : Bool) (lines : List Line) → IsTrue middle.observable
+    → Turned new before middle publisher es fetched_files user bag' ask lines → PurgedWhere purge new user bag' middle now → TookPartnerPass new before now publisher es fetched_files purge user ask lines
+took_partner_pass false new before middle now publisher es fetched_files user bag' ask lines told turned still =
+    subst (λ (s : Seen). TookPartnerPass new before s publisher es fetched_files false user ask lines) (sym still)
+    (took_quietly new before middle publisher es fetched_files user turned.partner_pass ask lines turned.user_is turned.behind turned.ask_is turned.lines_are)
+took_partner_pass true new before middle now publisher es fetched_files user bag' ask lines told turned purged =
+    took_and_purged new before middle now publisher es fetched_files user turned.partner_pass ask lines new.catalog.publisher (book_in new.books user) (files_in (partner_mail_of bag' user)) purged.0 turned.user_is told turned.behind turned.ask_is turned.lines_are
+    (publisher_is new publisher (es ++ partner_pass_entries publisher es fetched_files turned.partner_pass) turned.behind.database.is)
+    (turned.behind.database.is.books user ∙ ap (λ (n : Name). books_of n (es ++ partner_pass_entries publisher es fetched_files turned.partner_pass)) (sym turned.user_is)) turned.files_are purged.1
 
-turn_where : (purge : Bool) (old new : View) (before middle now : Seen) (user : Name) (bag bag' : List Share) (answer : Received) (count : ℕ) (progress progress' : Progress) (written written' : Output)
-    → ToldLetters old new before middle user bag bag' answer count written written' → progress'.partners.items ≡ progress.partners.items ++ record { user = user; ask = answer.ask } ∷ []
-    → progress'.alarms ≡ progress.alarms + count → PurgedWhere purge new user bag' middle now → TurnDone old new before now user bag bag' purge progress progress' written written'
-turn_where purge old new before middle now user bag bag' answer count progress progress' written written' letters partners sum purged = record {
-  lines = letters.lines;
+partner_pass_where : (purge : Bool) (old new : View) (before middle now : Seen) (user : Name) (bag bag' : List PartnerMail) (answer : Received) (count : ℕ) (progress progress' : Progress) (written written' : Output)
+    → ToldMessageFiles old new before middle user bag bag' answer count written written' → progress'.partners.items ≡ progress.partners.items ++ record { user = user; ask = answer.ask } ∷ []
+    → progress'.alarms ≡ progress.alarms + count → PurgedWhere purge new user bag' middle now → PartnerPassDone old new before now user bag bag' purge progress progress' written written'
+partner_pass_where purge old new before middle now user bag bag' answer count progress progress' written written' message_files partners sum purged = record {
+  lines = message_files.lines;
   ask = answer.ask;
-  told = letters.told;
-  alarms_are = sum ∙ ap (λ (n : ℕ). progress.alarms + n) letters.count_is;
+  told = message_files.told;
+  alarms_are = sum ∙ ap (λ (n : ℕ). progress.alarms + n) message_files.count_is;
   partners_are = partners;
-  may = letters.took.may;
-  others = letters.took.others;
-  steady = steady_on before middle now letters.took.steady (steady_where purge new user bag' middle now purged);
-  stays = stays_on before middle now letters.took.stays (stays_where purge new user bag' middle now purged);
-  did = λ told publisher es comes database has.
-      took_turn purge new before middle now publisher es comes user bag' answer.ask letters.lines (told_then before middle letters.took.stays told) (letters.took.did told publisher es comes database has) purged;
+  may = message_files.took.may;
+  others = message_files.took.others;
+  steady = steady_on before middle now message_files.took.steady (steady_where purge new user bag' middle now purged);
+  stays = stays_on before middle now message_files.took.stays (stays_where purge new user bag' middle now purged);
+  did = λ told publisher es fetched_files database has.
+      took_partner_pass purge new before middle now publisher es fetched_files user bag' answer.ask message_files.lines (told_then before middle message_files.took.stays told) (message_files.took.did told publisher es fetched_files database has) purged;
 }
 
-pub turn_done : {A : Type 0} (purge : Bool) (old new : View) (before middle now : Seen) (user : Name) (bag bag' : List Share) (answer : Received) (count : ℕ) (progress progress' : Progress) (written written' : Output)
-    (result : Result A AgentFault) → ToldLetters old new before middle user bag bag' answer count written written' → progress'.partners.items ≡ progress.partners.items ++ record { user = user; ask = answer.ask } ∷ []
+pub partner_pass_done : {A : Type 0} (purge : Bool) (old new : View) (before middle now : Seen) (user : Name) (bag bag' : List PartnerMail) (answer : Received) (count : ℕ) (progress progress' : Progress) (written written' : Output)
+    (result : Result A AgentFault) → ToldMessageFiles old new before middle user bag bag' answer count written written' → progress'.partners.items ≡ progress.partners.items ++ record { user = user; ask = answer.ask } ∷ []
     → progress'.alarms ≡ progress.alarms + count → OnOk result (PurgedWhere purge new user bag' middle now)
-    → OnOk result (TurnDone old new before now user bag bag' purge progress progress' written written')
-turn_done purge old new before middle now user bag bag' answer count progress progress' written written' (Ok x) letters partners sum purged =
-    turn_where purge old new before middle now user bag bag' answer count progress progress' written written' letters partners sum purged
-turn_done purge old new before middle now user bag bag' answer count progress progress' written written' (Err e) letters partners sum purged = tt
+    → OnOk result (PartnerPassDone old new before now user bag bag' purge progress progress' written written')
+partner_pass_done purge old new before middle now user bag bag' answer count progress progress' written written' (Ok x) message_files partners sum purged =
+    partner_pass_where purge old new before middle now user bag bag' answer count progress progress' written written' message_files partners sum purged
+partner_pass_done purge old new before middle now user bag bag' answer count progress progress' written written' (Err e) message_files partners sum purged = tt
 
--- ---- there was no memory to note that he had his turn
+-- ---- there was no memory to note that he had his pass
 
-pub turn_unadded : (old new : View) (before middle : Seen) (user : Name) (bag bag' : List Share) (answer : Received) (count : ℕ) (written written' : Output) (fault : AgentFault)
-    → ToldLetters old new before middle user bag bag' answer count written written' → fault ≡ Memory → (purge : Bool) → TurnBroken old new before middle user bag purge written written' fault
-turn_unadded old new before middle user bag bag' answer count written written' fault letters is purge = record {
-  lines = letters.lines;
-  ended = (ended_told new before middle written written' letters.lines receives.Memory fault letters.took.ready.idle letters.took.stays letters.took.steady.disk tt is letters.told).ended;
-  did = turned_untold old new before middle user bag bag' answer.ask letters.lines fault letters.took (inr is) purge (HasTold letters.lines written written');
+pub partner_pass_unadded : (old new : View) (before middle : Seen) (user : Name) (bag bag' : List PartnerMail) (answer : Received) (count : ℕ) (written written' : Output) (fault : AgentFault)
+    → ToldMessageFiles old new before middle user bag bag' answer count written written' → fault ≡ Memory → (purge : Bool) → PartnerPassBroken old new before middle user bag purge written written' fault
+partner_pass_unadded old new before middle user bag bag' answer count written written' fault message_files is purge = record {
+  lines = message_files.lines;
+  ended = (ended_told new before middle written written' message_files.lines receives.Memory fault message_files.took.ready.idle message_files.took.stays message_files.took.steady.disk message_files.took.ready.usable is message_files.told).ended;
+  did = turned_untold old new before middle user bag bag' answer.ask message_files.lines fault message_files.took (inr is) purge (HasTold message_files.lines written written');
 }
 
 -- ---- dead files were removed in part
@@ -149,7 +151,7 @@ usable_of new address book files middle now receives.Disk usable cause = absurd 
 usable_of new address book files middle now receives.Mail usable cause = usable
 usable_of new address book files middle now (receives.Full end need) usable cause = absurd cause
 usable_of new address book files middle now (receives.Long size limit) usable cause = absurd cause
-usable_of new address book files middle now receives.Memory usable cause = tt
+usable_of new address book files middle now receives.Memory usable cause = usable
 
 removed_all : (address : Name) (done : List Filed) (before now : List Happening) → now ≡ removals address done before → IsQuietly before now
 removed_all address done before now is =
@@ -163,61 +165,61 @@ removed_some address done (f ∷ left) before now (inr is) =
     let removal = are_removed address done before in
     record { more = removed address f.name false ∷ removal.more; is = is ∙ ap (λ (l : List Happening). removed address f.name false ∷ l) removal.is; quiet = removal.quiet }
 
-cause_in : (new : View) (before middle now : Seen) (publisher : Name) (es : List Recorded) (comes : List Came) (user : Name) (bag' : List Share) (ask : Bool) (lines : List Line) (why : ReceiveFault)
-    (turned : Turned new before middle publisher es comes user bag' ask lines) → PurgeCause new.catalog.publisher (book_in new.books user) (files_in (share_of bag' user)) middle now why
-    → PurgeCause publisher (books_of turned.turn.user (es ++ turn_entries publisher es comes turned.turn)) (files_of comes turned.turn) middle now why
-cause_in new before middle now publisher es comes user bag' ask lines why turned cause =
-    let rs = es ++ turn_entries publisher es comes turned.turn in
-    subst (λ (fs : List Filed). PurgeCause publisher (books_of turned.turn.user rs) fs middle now why) turned.files_are
-    (subst (λ (b : Book). PurgeCause publisher b (files_in (share_of bag' user)) middle now why) (turned.behind.database.is.books user ∙ ap (λ (n : Name). books_of n rs) (sym turned.user_is))
-    (subst (λ (p : Name). PurgeCause p (book_in new.books user) (files_in (share_of bag' user)) middle now why) (publisher_is new publisher rs turned.behind.database.is) cause))
+cause_in : (new : View) (before middle now : Seen) (publisher : Name) (es : List Recorded) (fetched_files : List FetchedFile) (user : Name) (bag' : List PartnerMail) (ask : Bool) (lines : List Line) (why : ReceiveFault)
+    (turned : Turned new before middle publisher es fetched_files user bag' ask lines) → PurgeCause new.catalog.publisher (book_in new.books user) (files_in (partner_mail_of bag' user)) middle now why
+    → PurgeCause publisher (books_of turned.partner_pass.user (es ++ partner_pass_entries publisher es fetched_files turned.partner_pass)) (files_of fetched_files turned.partner_pass) middle now why
+cause_in new before middle now publisher es fetched_files user bag' ask lines why turned cause =
+    let rs = es ++ partner_pass_entries publisher es fetched_files turned.partner_pass in
+    subst (λ (fs : List Filed). PurgeCause publisher (books_of turned.partner_pass.user rs) fs middle now why) turned.files_are
+    (subst (λ (b : Book). PurgeCause publisher b (files_in (partner_mail_of bag' user)) middle now why) (turned.behind.database.is.books user ∙ ap (λ (n : Name). books_of n rs) (sym turned.user_is))
+    (subst (λ (p : Name). PurgeCause p (book_in new.books user) (files_in (partner_mail_of bag' user)) middle now why) (publisher_is new publisher rs turned.behind.database.is) cause))
 
-broken_turn : (new : View) (before middle now : Seen) (publisher : Name) (es : List Recorded) (comes : List Came) (user : Name) (bag' : List Share) (ask : Bool) (lines : List Line) (old : View) (why : ReceiveFault) (fault : AgentFault)
-    (purge : Bool) (whole : Type 0) → purge ≡ true → whole → IsTrue middle.told → Turned new before middle publisher es comes user bag' ask lines
-    → PurgeCause new.catalog.publisher (book_in new.books user) (files_in (share_of bag' user)) middle now why → fault ≡ fault_of_receive why
-    → BrokeInTurn old new before now publisher es comes purge user lines fault whole
-broken_turn new before middle now publisher es comes user bag' ask lines old why fault purge whole on all told turned cause is =
-    let entries = turn_entries publisher es comes turned.turn in
-    let part = part_of new.catalog.publisher (book_in new.books user) (files_in (share_of bag' user)) middle now why cause in
+broken_partner_pass : (new : View) (before middle now : Seen) (publisher : Name) (es : List Recorded) (fetched_files : List FetchedFile) (user : Name) (bag' : List PartnerMail) (ask : Bool) (lines : List Line) (old : View) (why : ReceiveFault) (fault : AgentFault)
+    (purge : Bool) (whole : Type 0) → purge ≡ true → whole → IsTrue middle.observable → Turned new before middle publisher es fetched_files user bag' ask lines
+    → PurgeCause new.catalog.publisher (book_in new.books user) (files_in (partner_mail_of bag' user)) middle now why → fault ≡ fault_of_receive why
+    → BrokeInPartnerPass old new before now publisher es fetched_files purge user lines fault whole
+broken_partner_pass new before middle now publisher es fetched_files user bag' ask lines old why fault purge whole on all told turned cause is =
+    let entries = partner_pass_entries publisher es fetched_files turned.partner_pass in
+    let part = part_of new.catalog.publisher (book_in new.books user) (files_in (partner_mail_of bag' user)) middle now why cause in
     let quietly = removed_some new.catalog.publisher part.done part.left middle.happened now.happened (part.happened told) in
     record {
-      items = map commit entries;
-      stop = behind_letters (record {
-        turn = turned.turn;
+      events = map commit entries;
+      stop = behind_message_files (record {
+        partner_pass = turned.partner_pass;
         user_is = turned.user_is;
         is = turned.behind.is;
         between = middle;
         database = turned.behind.database;
         mail = turned.behind.mail;
-        removed = begun on all why (cause_in new before middle now publisher es comes user bag' ask lines why turned cause) is;
-        items_are = refl;
+        removed = begun on all why (cause_in new before middle now publisher es fetched_files user bag' ask lines why turned cause) is;
+        events_are = refl;
         lines_are = turned.lines_are;
       });
       went = went_still before middle now publisher es entries turned.behind.went (went_quiet new publisher (es ++ entries) middle now quietly.more part.stays quietly.is quietly.quiet turned.behind.database);
     }
 
-broken_end : (old new : View) (before middle now : Seen) (user : Name) (bag bag' : List Share) (purge : Bool) (answer : Received) (count : ℕ) (written written' : Output) (fault : AgentFault)
-    → ToldLetters old new before middle user bag bag' answer count written written' → PurgeEnd purge new user bag' middle now fault → TurnBroken old new before now user bag purge written written' fault
-broken_end old new before middle now user bag bag' purge answer count written written' fault letters end =
-    let took = letters.took in
+broken_end : (old new : View) (before middle now : Seen) (user : Name) (bag bag' : List PartnerMail) (purge : Bool) (answer : Received) (count : ℕ) (written written' : Output) (fault : AgentFault)
+    → ToldMessageFiles old new before middle user bag bag' answer count written written' → PurgeEnd purge new user bag' middle now fault → PartnerPassBroken old new before now user bag purge written written' fault
+broken_end old new before middle now user bag bag' purge answer count written written' fault message_files end =
+    let took = message_files.took in
     let address = new.catalog.publisher in
     let book = book_in new.books user in
-    let files = files_in (share_of bag' user) in
+    let files = files_in (partner_mail_of bag' user) in
     let part = part_of address book files middle now end.why end.cause in
     record {
-      lines = letters.lines;
-      ended = (ended_told new before now written written' letters.lines end.why fault took.ready.idle (stays_on before middle now took.stays (of_mail middle now part.stays))
-          (device_of address book files before middle now end.why took.steady end.cause) (usable_of new address book files middle now end.why took.ready.usable end.cause) end.fault_is letters.told).ended;
-      did = λ told publisher es comes database has.
-          broken_turn new before middle now publisher es comes user bag' answer.ask letters.lines old end.why fault purge (HasTold letters.lines written written') end.asked_for (has_told letters.lines written written' letters.told)
-          (told_then before middle took.stays told) (took.did told publisher es comes database has) end.cause end.fault_is;
+      lines = message_files.lines;
+      ended = (ended_told new before now written written' message_files.lines end.why fault took.ready.idle (stays_on before middle now took.stays (of_mail middle now part.stays))
+          (device_of address book files before middle now end.why took.steady end.cause) (usable_of new address book files middle now end.why took.ready.usable end.cause) end.fault_is message_files.told).ended;
+      did = λ told publisher es fetched_files database has.
+          broken_partner_pass new before middle now publisher es fetched_files user bag' answer.ask message_files.lines old end.why fault purge (HasTold message_files.lines written written') end.asked_for (has_told message_files.lines written written' message_files.told)
+          (told_then before middle took.stays told) (took.did told publisher es fetched_files database has) end.cause end.fault_is;
     }
 
-pub turn_broken : {A : Type 0} (old new : View) (before middle now : Seen) (user : Name) (bag bag' : List Share) (purge : Bool) (answer : Received) (count : ℕ) (written written' : Output) (result : Result A AgentFault)
-    → ToldLetters old new before middle user bag bag' answer count written written' → IfErr result (PurgeEnd purge new user bag' middle now) → IfErr result (TurnBroken old new before now user bag purge written written')
-turn_broken old new before middle now user bag bag' purge answer count written written' (Ok x) letters end = tt
-turn_broken old new before middle now user bag bag' purge answer count written written' (Err fault) letters end =
-    broken_end old new before middle now user bag bag' purge answer count written written' fault letters end
+pub partner_pass_broken : {A : Type 0} (old new : View) (before middle now : Seen) (user : Name) (bag bag' : List PartnerMail) (purge : Bool) (answer : Received) (count : ℕ) (written written' : Output) (result : Result A AgentFault)
+    → ToldMessageFiles old new before middle user bag bag' answer count written written' → IfErr result (PurgeEnd purge new user bag' middle now) → IfErr result (PartnerPassBroken old new before now user bag purge written written')
+partner_pass_broken old new before middle now user bag bag' purge answer count written written' (Ok x) message_files end = tt
+partner_pass_broken old new before middle now user bag bag' purge answer count written written' (Err fault) message_files end =
+    broken_end old new before middle now user bag bag' purge answer count written written' fault message_files end
 
 pub if_err : {A : Type 0} (P : AgentFault → Type 0) (fault : AgentFault) (result : Result A AgentFault) → IsErrAnd result (λ f. f ≡ fault) → P fault → IfErr result P
 if_err P fault (Ok x) is p = tt

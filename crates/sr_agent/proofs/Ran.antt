@@ -5,49 +5,49 @@ use Rattle.std.proofs.lemmas.List.{append-nil}
 use Rattle.sr_book.specs.Entries.{Name}
 use Rattle.sr_database.specs.Databases.{IsDatabase}
 use Rattle.sr_database.specs.Views.{View}
-use Rattle.sr_history.specs.Recorded.{Recorded}
+use Rattle.sr_database_history.specs.Recorded.{Recorded}
 use Rattle.sr_receive.specs.Entering.{IsReady}
 use Rattle.sr_receive.specs.Passes.{AreSteady as IsSteady}
 use Rattle.sr_site.specs.Causes.{Stays}
-use Rattle.sr_gather.specs.declared.bag.Share.{Share}
-use Rattle.sr_schema.specs.Members.{user_name}
-use Rattle.sr_site.specs.Growing.{stays_on}
+use Rattle.sr_receive_gather.specs.declared.bag.PartnerMail.{PartnerMail}
+use Rattle.sr_catalog_schema.specs.Members.{user_name}
+use Rattle.sr_site.specs.Inner.Growing.{stays_on}
 use Rattle.sr_site.specs.Seen.{Seen}
 use Rattle.sr_site.specs.Streams.{Output}
-use Rattle.sr_standing.specs.Items.{Item, commit}
-use Rattle.sr_standing.specs.Trails.{Went}
-use Rattle.sr_standing.proofs.Joining.{joined}
+use Rattle.sr_database_meaning.specs.Events.{Event, commit}
+use Rattle.sr_database_meaning.specs.Traces.{Went}
+use Rattle.sr_database_meaning.proofs.Joining.{joined}
 use Rattle.sr_agent.specs.Agents.{AreTold, CameSoFar, RanAgent, RanInPart, RanWhole}
-use Rattle.sr_agent.specs.Deliveries.{Delivery, after_deliveries, deliveries_items, deliveries_lines}
+use Rattle.sr_agent.specs.Deliveries.{Delivery, after_deliveries, deliveries_events, deliveries_lines}
 use Rattle.sr_agent.specs.Ends.{Ended, HasTold}
 use Rattle.sr_agent.specs.Lines.{Line, alarms, lines_text}
-use Rattle.sr_agent.specs.Runs.{IsSending, Receives, Run, Sends, after_receiving, after_run, asked, comes_of, lines_of, nothing_done, received_lines, run_lines, taken_entries, trail_of}
-use Rattle.sr_agent.specs.Steps.{AreOnce, BrokeInDeliveries, BrokeInGathering, BrokeInReceiving, BrokeInTurns, BrokenWhere, DeliveriesBroken, DeliveriesDone, HasGatheredAll, IsForWant, IsInNextDelivery, IsNothingSent, IsUntoldThere, MadePass, PassBroken, ReceivingBroken, SendingBroken, SendingDone, SentPartWhere, SentWhere, TookDeliveries, Told, told_in_part, gathered_in_part, in_mail, in_turns}
-use Rattle.sr_agent.specs.Stops.{DeliveryStop, GatheringStop, IsSendingUpTo, IsUntold, StopsAt, TurnStop, at_first, gathering, behind_gathering, in_turn, sending, in_delivery}
-use Rattle.sr_agent.specs.Turns.{Turn, gathering_lines, partners, turns_entries, turns_lines}
+use Rattle.sr_agent.specs.Runs.{IsSending, Receives, Run, Sends, after_receiving, after_run, asked, fetched_files_of, lines_of, nothing_done, received_lines, run_lines, taken_entries, trace_of}
+use Rattle.sr_agent.specs.Inner.Steps.{AreOnce, BrokeInDeliveries, BrokeInGathering, BrokeInReceiving, BrokeInPartnerPasses, BrokenWhere, DeliveriesBroken, DeliveriesDone, HasGatheredAll, IsForWant, IsInNextDelivery, IsNothingSent, IsUntoldThere, MadePass, PassBroken, ReceivingBroken, SendingBroken, SendingDone, SentPartWhere, SentWhere, TookDeliveries, Told, told_in_part, gathered_in_part, in_mail, in_partner_passes}
+use Rattle.sr_agent.specs.Stops.{DeliveryStop, GatheringStop, IsSendingUpTo, IsUntold, StopsAt, PartnerPassStop, at_first, gathering, behind_gathering, in_partner_pass, sending, in_delivery}
+use Rattle.sr_agent.specs.PartnerPasses.{PartnerPass, gathering_lines, partners, partner_passes_entries, partner_passes_lines}
 use Rattle.sr_agent.specs.declared.fault.AgentFault.{AgentFault}
 use Rattle.sr_agent.specs.declared.fault.AgentFault.TheVariants.{Memory}
 use Rattle.sr_agent.specs.declared.options.Options.{Options}
 use Rattle.sr_agent.specs.declared.partner.Partner.{Partner}
 use Rattle.sr_agent.specs.declared.progress.Progress.{Progress}
-use Rattle.sr_agent.proofs.Ending.{turn_stopped}
+use Rattle.sr_agent.proofs.Ending.{partner_pass_stopped}
 use Rattle.sr_agent.proofs.Joints.{commits_of}
 use Rattle.sr_agent.proofs.Made.{HasMade, are_users, made_where, names_of_history, names_once}
-use Rattle.sr_agent.proofs.Reaching.{Reaches, came_alone, came_behind, gathered_run, reaches_mail, reaches_none, reaches_turns, took_none, went_behind_mail, with_deliveries}
+use Rattle.sr_agent.proofs.Reaching.{Reaches, came_alone, came_behind, gathered_run, reaches_mail, reaches_none, reaches_partner_passes, took_none, went_behind_mail, with_deliveries}
 use Rattle.sr_agent.proofs.Wholes.{Received, history_is}
 use Rattle.sr_agent.proofs.Written.{alarms_on, ended_at_once, ended_behind, still_site, still_steady, still_told, told_before, told_behind, told_on}
 
 -- ---- the receive pass ended by a fault
 
 -- nothing was done
-in_part_at_once : (view : View) (seen : Seen) (written : Output) (publisher : Name) (es : List Recorded) (options : Options) (fault : AgentFault) → IsDatabase view publisher es seen → IsUntold fault
+in_part_at_once : (view : View) (seen : Seen) (written : Output) (publisher : Name) (es : List Recorded) (options : Options) (fault : AgentFault) → IsDatabase view publisher es seen → fault ≡ Memory
     → RanInPart view seen seen written written publisher es options [] fault
-in_part_at_once view seen written publisher es options fault database untold =
+in_part_at_once view seen written publisher es options fault database want =
     let came = came_alone view seen seen publisher es options nothing_done (reaches_none view seen publisher es options database) in
-    record { run = nothing_done; db = view; seen = seen; came = came; items = []; told = []; stops = at_first refl refl refl refl refl untold; went = came.went; lines_are = refl; turns_told = tt }
+    record { run = nothing_done; db = view; seen = seen; came = came; events = []; told = []; stops = at_first refl refl refl refl refl want; went = came.went; lines_are = refl; partner_passes_told = tt }
 
 -- the mail was gathered, and not told
-in_part_untold : (view : View) (before now : Seen) (written written' : Output) (publisher : Name) (es : List Recorded) (options : Options) (bag : List Share) (lines : List Line) (fault : AgentFault) → options.receive ≡ true
+in_part_untold : (view : View) (before now : Seen) (written written' : Output) (publisher : Name) (es : List Recorded) (options : Options) (bag : List PartnerMail) (lines : List Line) (fault : AgentFault) → options.receive ≡ true
     → HasGatheredAll view before now publisher es bag lines → IsUntold fault → RanInPart view before now written written' publisher es options lines fault
 in_part_untold view before now written written' publisher es options bag lines fault on gathered untold =
     let run = gathered_run gathered.gathering [] in
@@ -57,14 +57,14 @@ in_part_untold view before now written written' publisher es options bag lines f
       db = view;
       seen = now;
       came = came;
-      items = [];
+      events = [];
       told = [];
       stops = behind_gathering (partners publisher es)
           (record { asked_for = on; done = []; parts = refl; receiving = record { gathering = gathered.gathering; gathered_is = refl; is = gathered.is; are = tt; whose = refl }; none = refl })
           refl refl refl refl refl untold;
       went = came.went;
       lines_are = gathered.lines_are ∙ sym (append-nil (gathering_lines gathered.gathering)) ∙ sym (append-nil (gathering_lines gathered.gathering ++ []));
-      turns_told = tt;
+      partner_passes_told = tt;
     }
 
 -- it was gathered in part
@@ -75,35 +75,35 @@ in_part_gathering view before now written written' publisher es options lines fa
   db = view;
   seen = before;
   came = came_alone view before before publisher es options nothing_done (reaches_none view before publisher es options database);
-  items = [];
+  events = [];
   told = lines;
   stops = gathering on refl refl refl stop;
   went = went;
   lines_are = refl;
-  turns_told = tt;
+  partner_passes_told = tt;
 }
 
--- and a turn was broken
-are_told : (turns : List Turn) (lines : List Line) (written written' : Output) → HasTold lines written written' → AreTold turns lines written written'
+-- and a partner's pass was broken
+are_told : (partner_passes : List PartnerPass) (lines : List Line) (written written' : Output) → HasTold lines written written' → AreTold partner_passes lines written written'
 are_told [] lines written written' told = tt
 are_told (t ∷ earlier) lines written written' told = told
 
-in_part_turn : (old new : View) (before seen now : Seen) (written between written' : Output) (publisher : Name) (es : List Recorded) (options : Options) (bag : List Share) (users : List Name) (first behind : List Line)
+in_part_partner_pass : (old new : View) (before seen now : Seen) (written between written' : Output) (publisher : Name) (es : List Recorded) (options : Options) (bag : List PartnerMail) (users : List Name) (first behind : List Line)
     (fault : AgentFault) → options.receive ≡ true → users ≡ partners publisher es → (gathered : HasGatheredAll old before seen publisher es bag first) → Told (lines_text first) written between
-    → BrokeInTurns old new seen now publisher es gathered.gathering.comes options.purge users between written' behind fault → RanInPart new before now written written' publisher es options (first ++ behind) fault
-in_part_turn old new before seen now written between written' publisher es options bag users first behind fault on users_are gathered told broke =
+    → BrokeInPartnerPasses old new seen now publisher es gathered.gathering.fetched_files options.purge users between written' behind fault → RanInPart new before now written written' publisher es options (first ++ behind) fault
+in_part_partner_pass old new before seen now written between written' publisher es options bag users first behind fault on users_are gathered told broke =
     let g = gathered.gathering in
-    let run = gathered_run g broke.took.turns in
-    let added = turns_entries publisher es g.comes broke.took.turns in
-    let reaches = reaches_turns old broke.db before seen broke.seen publisher es options bag first broke.done broke.asks broke.earlier gathered broke.took in
+    let run = gathered_run g broke.took.partner_passes in
+    let added = partner_passes_entries publisher es g.fetched_files broke.took.partner_passes in
+    let reaches = reaches_partner_passes old broke.db before seen broke.seen publisher es options bag first broke.done broke.asks broke.earlier gathered broke.took in
     record {
       run = run;
       db = broke.db;
       seen = broke.seen;
       came = came_alone broke.db before broke.seen publisher es options run reaches;
-      items = broke.items;
+      events = broke.events;
       told = broke.told;
-      stops = in_turn broke.user broke.left
+      stops = in_partner_pass broke.user broke.left
           (record {
             asked_for = on;
             done = broke.done;
@@ -111,17 +111,17 @@ in_part_turn old new before seen now written between written' publisher es optio
             receiving = record { gathering = g; gathered_is = refl; is = gathered.is; are = broke.took.are; whose = broke.took.whose };
             none = refl;
           })
-          (subst (λ (rs : List Recorded). TurnStop publisher rs g.comes broke.user broke.db new broke.seen now broke.items broke.told fault options.purge (HasTold (first ++ behind) written written'))
+          (subst (λ (rs : List Recorded). PartnerPassStop publisher rs g.fetched_files broke.user broke.db new broke.seen now broke.events broke.told fault options.purge (HasTold (first ++ behind) written written'))
           (sym (append-nil (es ++ added)) ∙ history_is es added [])
-          (turn_stopped publisher (es ++ added) g.comes broke.user broke.db new broke.seen now broke.items broke.told fault options.purge (HasTold behind between written') (HasTold (first ++ behind) written written')
+          (partner_pass_stopped publisher (es ++ added) g.fetched_files broke.user broke.db new broke.seen now broke.events broke.told fault options.purge (HasTold behind between written') (HasTold (first ++ behind) written written')
           (told_behind first behind written between written' told) broke.stop));
-      went = subst (λ (items : List Item). Went before now publisher es (items ++ broke.items)) (sym (append-nil (map commit added)))
-          (went_behind_mail before seen now publisher es (map commit added ++ broke.items) gathered.went broke.went);
+      went = subst (λ (events : List Event). Went before now publisher es (events ++ broke.events)) (sym (append-nil (map commit added)))
+          (went_behind_mail before seen now publisher es (map commit added ++ broke.events) gathered.went broke.went);
       lines_are =
           ap (λ (ls : List Line). ls ++ behind) gathered.lines_are
-          ∙ ap (λ (ls : List Line). gathering_lines g ++ ls) (broke.lines_are ∙ ap (λ (ls : List Line). ls ++ broke.told) (broke.took.lines_are ∙ sym (append-nil (turns_lines publisher es g.comes broke.took.turns))))
-          ∙ sym (append_assoc (gathering_lines g) (turns_lines publisher es g.comes broke.took.turns ++ []) broke.told);
-      turns_told = are_told broke.took.turns (received_lines publisher es run) written written'
+          ∙ ap (λ (ls : List Line). gathering_lines g ++ ls) (broke.lines_are ∙ ap (λ (ls : List Line). ls ++ broke.told) (broke.took.lines_are ∙ sym (append-nil (partner_passes_lines publisher es g.fetched_files broke.took.partner_passes))))
+          ∙ sym (append_assoc (gathering_lines g) (partner_passes_lines publisher es g.fetched_files broke.took.partner_passes ++ []) broke.told);
+      partner_passes_told = are_told broke.took.partner_passes (received_lines publisher es run) written written'
           (subst (λ (ls : List Line). HasTold ls written written') (ap (λ (ls : List Line). ls ++ broke.earlier) gathered.lines_are ∙ ap (λ (ls : List Line). gathering_lines g ++ ls) broke.took.lines_are)
           (told_behind first broke.earlier written between written' told broke.earlier_told));
     }
@@ -133,27 +133,27 @@ in_part_received old new before now written written' publisher es options users 
     subst (λ (v : View). RanInPart v before now written written' publisher es options lines fault) (sym same) (in_part_untold old before now written written' publisher es options bag lines fault on gathered untold)
 in_part_received old new before now written written' publisher es options users lines fault on users_are database (in_mail same (gathered_in_part stop went)) =
     subst (λ (v : View). RanInPart v before now written written' publisher es options lines fault) (sym same) (in_part_gathering old before now written written' publisher es options lines fault on database stop went)
-in_part_received old new before now written written' publisher es options users lines fault on users_are database (in_turns bag seen first behind between gathered told broke lines_are) =
+in_part_received old new before now written written' publisher es options users lines fault on users_are database (in_partner_passes bag seen first behind between gathered told broke lines_are) =
     subst (λ (ls : List Line). RanInPart new before now written written' publisher es options ls fault) (sym lines_are)
-    (in_part_turn old new before seen now written between written' publisher es options bag users first behind fault on users_are gathered told broke)
+    (in_part_partner_pass old new before seen now written between written' publisher es options bag users first behind fault on users_are gathered told broke)
 
 -- a run that ended at once for want of memory
-pub ran_none : (view : View) (seen : Seen) (written : Output) (options : Options) → view.pending ≡ [] → RanAgent view view seen seen written written options (Err Memory)
-ran_none view seen written options pending = record {
+pub ran_none : (view : View) (seen : Seen) (written : Output) (options : Options) → view.log.usable ≡ true → view.pending ≡ [] → RanAgent view view seen seen written written options (Err Memory)
+ran_none view seen written options usable pending = record {
   lines = [];
-  ended = ended_at_once view seen written pending;
+  ended = ended_at_once view seen written usable pending;
   count = tt;
-  did = λ told publisher es database. in_part_at_once view seen written publisher es options Memory database (inr refl);
+  did = λ told publisher es database. in_part_at_once view seen written publisher es options Memory database refl;
 }
 
-broken_where : (b : Bool) (old new : View) (before now : Seen) (options : Options) (users : List Name) (written written' : Output) (fault : AgentFault) → options.receive ≡ b → old.pending ≡ []
+broken_where : (b : Bool) (old new : View) (before now : Seen) (options : Options) (users : List Name) (written written' : Output) (fault : AgentFault) → options.receive ≡ b → old.log.usable ≡ true → old.pending ≡ []
     → users ≡ map user_name old.catalog.users → BrokenWhere b options.purge old new before now users written written' fault → RanAgent old new before now written written' options (Err fault)
-broken_where false old new before now options users written written' fault off pending users_are want =
+broken_where false old new before now options users written written' fault off usable pending users_are want =
     subst (λ (f : AgentFault). RanAgent old new before now written written' options (Err f)) (sym want.why)
     (subst (λ (v : View). RanAgent old v before now written written' options (Err Memory)) (sym want.same)
     (subst (λ (s : Seen). RanAgent old old before s written written' options (Err Memory)) (sym want.still)
-    (subst (λ (o : Output). RanAgent old old before before written o options (Err Memory)) (sym want.silent) (ran_none old before written options pending))))
-broken_where true old new before now options users written written' fault on pending users_are broken = record {
+    (subst (λ (o : Output). RanAgent old old before before written o options (Err Memory)) (sym want.silent) (ran_none old before written options usable pending))))
+broken_where true old new before now options users written written' fault on usable pending users_are broken = record {
   lines = broken.lines;
   ended = broken.ended;
   count = tt;
@@ -164,7 +164,7 @@ broken_where true old new before now options users written written' fault on pen
 
 pub ran_broken : (old new : View) (before now : Seen) (options : Options) (users : List Name) (written written' : Output) (fault : AgentFault) → IsReady old before → users ≡ map user_name old.catalog.users
     → PassBroken options old new before now users written written' fault → RanAgent old new before now written written' options (Err fault)
-ran_broken old new before now options users written written' fault ready users_are broken = broken_where options.receive old new before now options users written written' fault refl ready.idle users_are broken
+ran_broken old new before now options users written written' fault ready users_are broken = broken_where options.receive old new before now options users written written' fault refl ready.usable ready.idle users_are broken
 
 -- ---- the send pass behind it
 
@@ -181,10 +181,10 @@ reaches_of : (new : View) (before now : Seen) (publisher : Name) (es : List Reco
 reaches_of new before now publisher es options asks lines received = record { database = received.database; went = received.went; mail = received.mail; steady = received.steady }
 
 -- lines of both passes
-lines_on : (publisher : Name) (es : List Recorded) (run : Run) (deliveries : List Delivery) (earlier lines : List Line) → earlier ≡ lines_of run.gathered ++ turns_lines publisher es (comes_of run.gathered) run.turns
+lines_on : (publisher : Name) (es : List Recorded) (run : Run) (deliveries : List Delivery) (earlier lines : List Line) → earlier ≡ lines_of run.gathered ++ partner_passes_lines publisher es (fetched_files_of run.gathered) run.partner_passes
     → lines ≡ deliveries_lines publisher (after_receiving publisher es run) deliveries → earlier ++ lines ≡ run_lines publisher es (with_deliveries run deliveries)
 lines_on publisher es run deliveries earlier lines one two =
-    let turned = turns_lines publisher es (comes_of run.gathered) run.turns in
+    let turned = partner_passes_lines publisher es (fetched_files_of run.gathered) run.partner_passes in
     ap (λ (ls : List Line). ls ++ lines) one
     ∙ append_assoc (lines_of run.gathered) turned lines
     ∙ ap (λ (ls : List Line). lines_of run.gathered ++ (turned ++ ls)) two
@@ -215,40 +215,40 @@ in_part_sent middle new before seen now written written' publisher es options as
     let ds = broke.took.deliveries in
     let whole = with_deliveries run ds in
     let added = taken_entries publisher es run in
-    let put = deliveries_items publisher (es ++ added) ds in
+    let put = deliveries_events publisher (es ++ added) ds in
     let came = came_behind middle broke.db before seen broke.seen publisher es options run options.length broke.done broke.earlier (reaches_of middle before seen publisher es options asks earlier received) broke.took in
     let up_to = sending_to publisher es options run ds asks broke.done broke.left on received.receives received.asks_are broke.parts (record { are = broke.took.are; whom = broke.took.whom }) in
     let lines_are = ap (λ (ls : List Line). earlier ++ ls) broke.lines_are ∙ sym (append_assoc earlier broke.earlier broke.told)
     ∙ ap (λ (ls : List Line). ls ++ broke.told) (lines_on publisher es run ds earlier broke.earlier received.lines_are broke.took.lines_are) in
-    let turns_told = are_told run.turns (received_lines publisher es run) written written' (subst (λ (ls : List Line). HasTold ls written written') received.lines_are told) in
+    let partner_passes_told = are_told run.partner_passes (received_lines publisher es run) written written' (subst (λ (ls : List Line). HasTold ls written written') received.lines_are told) in
     elim broke.stop [
       | inl there ↦ record {
         run = whole;
         db = broke.db;
         seen = broke.seen;
         came = came;
-        items = [];
+        events = [];
         told = broke.told;
         stops = stops_there publisher es options run ds broke.left broke.db new broke.seen now broke.told fault (HasTold (earlier ++ lines) written written') up_to there;
-        went = subst (λ (s : Seen). Went before s publisher es (trail_of publisher es whole ++ [])) (sym there.still)
-            (subst (λ (items : List Item). Went before broke.seen publisher es items) (sym (append-nil (trail_of publisher es whole))) came.went);
+        went = subst (λ (s : Seen). Went before s publisher es (trace_of publisher es whole ++ [])) (sym there.still)
+            (subst (λ (events : List Event). Went before broke.seen publisher es events) (sym (append-nil (trace_of publisher es whole))) came.went);
         lines_are = lines_are;
-        turns_told = turns_told;
+        partner_passes_told = partner_passes_told;
       }
       | inr next ↦ record {
         run = whole;
         db = broke.db;
         seen = broke.seen;
         came = came;
-        items = next.broke.items;
+        events = next.broke.events;
         told = broke.told;
         stops = in_delivery next.partner next.others
             (subst (λ (ps : List Partner). IsSendingUpTo publisher es options whole ps) next.next up_to) next.broke.no_lines
-            (subst (λ (rs : List Recorded). DeliveryStop publisher rs options.length next.partner broke.db new broke.seen now next.broke.items fault) (history_is es added put) next.broke.stop);
-        went = joined before broke.seen now publisher es (trail_of publisher es whole) next.broke.items came.went
-            (subst (λ (rs : List Recorded). Went broke.seen now publisher rs next.broke.items) (history_is es added put) next.broke.went);
+            (subst (λ (rs : List Recorded). DeliveryStop publisher rs options.length next.partner broke.db new broke.seen now next.broke.events fault) (history_is es added put) next.broke.stop);
+        went = joined before broke.seen now publisher es (trace_of publisher es whole) next.broke.events came.went
+            (subst (λ (rs : List Recorded). Went broke.seen now publisher rs next.broke.events) (history_is es added put) next.broke.went);
         lines_are = lines_are;
-        turns_told = turns_told;
+        partner_passes_told = partner_passes_told;
       }
     ]
 
@@ -264,7 +264,7 @@ sent_part_where true old middle new before seen now options users asks count wri
       let received = made.did told publisher es database (names_of_history old publisher es users database.is users_are) (names_once old publisher es users database.is users_are) in
       in_part_sent middle new before seen now written written' publisher es options asks made.lines broken.lines fault on
       (told_before made.lines broken.lines written between written' fault made.told broken.ended.wrote) received
-      (broken.did (subst (λ (b : Bool). IsTrue b) (sym made.stays.told) told) publisher (after_receiving publisher es received.run) received.database);
+      (broken.did (subst (λ (b : Bool). IsTrue b) (sym made.stays.observable) told) publisher (after_receiving publisher es received.run) received.database);
 }
 
 pub ran_stopped : (old middle new : View) (before seen now : Seen) (options : Options) (users : List Name) (progress : Progress) (written between written' : Output) (fault : AgentFault)
@@ -332,7 +332,7 @@ sent_where true old middle new before seen now options users asks count written 
   did = λ told publisher es database.
       let received = made.did told publisher es database (names_of_history old publisher es users database.is users_are) (names_once old publisher es users database.is users_are) in
       whole_sent middle new before seen now publisher es options asks made.lines done.lines on received
-      (done.did (subst (λ (b : Bool). IsTrue b) (sym made.stays.told) told) publisher (after_receiving publisher es received.run) received.database);
+      (done.did (subst (λ (b : Bool). IsTrue b) (sym made.stays.observable) told) publisher (after_receiving publisher es received.run) received.database);
 }
 sent_where false old middle new before seen now options users asks count written between written' off users_are ready made none =
     subst (λ (v : View). RanAgent old v before now written written' options (Ok count)) (sym none.same)

@@ -5,22 +5,22 @@ use Rattle.std.proofs.lemmas.List.{append-nil}
 use Rattle.sr_book.specs.Entries.{Name}
 use Rattle.sr_database.specs.Databases.{IsDatabase}
 use Rattle.sr_database.specs.Views.{View}
-use Rattle.sr_history.specs.Recorded.{Recorded}
+use Rattle.sr_database_history.specs.Recorded.{Recorded}
 use Rattle.sr_receive.specs.Passes.{AreSteady as IsSteady}
-use Rattle.sr_gather.specs.Letters.{Came}
-use Rattle.sr_gather.specs.declared.bag.Share.{Share}
+use Rattle.sr_receive_gather.specs.MessageFiles.{FetchedFile}
+use Rattle.sr_receive_gather.specs.declared.bag.PartnerMail.{PartnerMail}
 use Rattle.sr_site.specs.Happenings.{Happening, mail_in}
 use Rattle.sr_site.specs.Seen.{Seen}
-use Rattle.sr_standing.specs.Items.{Item, commit, commits}
-use Rattle.sr_standing.specs.Trails.{Went}
-use Rattle.sr_standing.proofs.Going.{nothing}
-use Rattle.sr_standing.proofs.Joining.{joined}
+use Rattle.sr_database_meaning.specs.Events.{Event, commit, commits}
+use Rattle.sr_database_meaning.specs.Traces.{Went}
+use Rattle.sr_database_meaning.proofs.Going.{nothing}
+use Rattle.sr_database_meaning.proofs.Joining.{joined}
 use Rattle.sr_agent.specs.Agents.{CameSoFar}
-use Rattle.sr_agent.specs.Deliveries.{Delivery, deliveries_items, with_puts}
+use Rattle.sr_agent.specs.Deliveries.{Delivery, deliveries_events, with_puts}
 use Rattle.sr_agent.specs.Lines.{Line}
-use Rattle.sr_agent.specs.Runs.{Run, Receives, after_receiving, comes_of, lines_of, nothing_done, received_mail, taken_entries}
-use Rattle.sr_agent.specs.Steps.{HasGatheredAll, TookDeliveries, TookTurns}
-use Rattle.sr_agent.specs.Turns.{Gathering, Turn, gathering_lines, turns_entries, turns_lines, turns_mail}
+use Rattle.sr_agent.specs.Runs.{Run, Receives, after_receiving, fetched_files_of, lines_of, nothing_done, received_mail, taken_entries}
+use Rattle.sr_agent.specs.Inner.Steps.{HasGatheredAll, TookDeliveries, TookPartnerPasses}
+use Rattle.sr_agent.specs.PartnerPasses.{Gathering, PartnerPass, gathering_lines, partner_passes_entries, partner_passes_lines, partner_passes_mail}
 use Rattle.sr_agent.specs.declared.options.Options.{Options}
 use Rattle.sr_agent.specs.declared.partner.Partner.{Partner}
 use Rattle.sr_agent.proofs.Joints.{commits_of, settled_as, steady_on}
@@ -51,10 +51,10 @@ reaches_none view seen publisher es options database = record {
 }
 
 -- the mail was gathered
-abbrev pub gathered_run : Gathering → List Turn → Run
-gathered_run g turns = record { gathered = Some g; turns = turns; deliveries = [] }
+abbrev pub gathered_run : Gathering → List PartnerPass → Run
+gathered_run g partner_passes = record { gathered = Some g; partner_passes = partner_passes; deliveries = [] }
 
-pub reaches_mail : (view : View) (before now : Seen) (publisher : Name) (es : List Recorded) (options : Options) (bag : List Share) (lines : List Line)
+pub reaches_mail : (view : View) (before now : Seen) (publisher : Name) (es : List Recorded) (options : Options) (bag : List PartnerMail) (lines : List Line)
     (gathered : HasGatheredAll view before now publisher es bag lines) → Reaches view before now publisher es options (gathered_run gathered.gathering [])
 reaches_mail view before now publisher es options bag lines gathered = record {
   database = nothing_more view publisher es now gathered.database;
@@ -63,18 +63,18 @@ reaches_mail view before now publisher es options bag lines gathered = record {
   steady = gathered.steady;
 }
 
-pub went_behind_mail : (before seen now : Seen) (publisher : Name) (es : List Recorded) (items : List Item) → Went before seen publisher es [] → Went seen now publisher es items → Went before now publisher es items
-went_behind_mail before seen now publisher es items one two =
-    joined before seen now publisher es [] items one (subst (λ (rs : List Recorded). Went seen now publisher rs items) (sym (append-nil es)) two)
+pub went_behind_mail : (before seen now : Seen) (publisher : Name) (es : List Recorded) (events : List Event) → Went before seen publisher es [] → Went seen now publisher es events → Went before now publisher es events
+went_behind_mail before seen now publisher es events one two =
+    joined before seen now publisher es [] events one (subst (λ (rs : List Recorded). Went seen now publisher rs events) (sym (append-nil es)) two)
 
--- and partners had their turns
-pub reaches_turns : (old new : View) (before seen now : Seen) (publisher : Name) (es : List Recorded) (options : Options) (bag : List Share) (first : List Line) (users : List Name) (asks : List Partner) (lines : List Line)
-    (gathered : HasGatheredAll old before seen publisher es bag first) (took : TookTurns new seen now publisher es gathered.gathering.comes options.purge users asks lines)
-    → Reaches new before now publisher es options (gathered_run gathered.gathering took.turns)
-reaches_turns old new before seen now publisher es options bag first users asks lines gathered took = record {
+-- and partners had their partners' passes
+pub reaches_partner_passes : (old new : View) (before seen now : Seen) (publisher : Name) (es : List Recorded) (options : Options) (bag : List PartnerMail) (first : List Line) (users : List Name) (asks : List Partner) (lines : List Line)
+    (gathered : HasGatheredAll old before seen publisher es bag first) (took : TookPartnerPasses new seen now publisher es gathered.gathering.fetched_files options.purge users asks lines)
+    → Reaches new before now publisher es options (gathered_run gathered.gathering took.partner_passes)
+reaches_partner_passes old new before seen now publisher es options bag first users asks lines gathered took = record {
   database = took.database;
-  went = went_behind_mail before seen now publisher es (map commit (turns_entries publisher es gathered.gathering.comes took.turns)) gathered.went took.went;
-  mail = took.mail ∙ ap (λ (l : List Happening). turns_mail publisher es gathered.gathering.comes options.purge took.turns l) gathered.mail;
+  went = went_behind_mail before seen now publisher es (map commit (partner_passes_entries publisher es gathered.gathering.fetched_files took.partner_passes)) gathered.went took.went;
+  mail = took.mail ∙ ap (λ (l : List Happening). partner_passes_mail publisher es gathered.gathering.fetched_files options.purge took.partner_passes l) gathered.mail;
   steady = steady_on before seen now gathered.steady took.steady;
 }
 
@@ -97,12 +97,12 @@ pub came_behind : (middle new : View) (before seen now : Seen) (publisher : Name
     → CameSoFar new before now publisher es options (with_deliveries run took.deliveries)
 came_behind middle new before seen now publisher es options run limit to lines reaches took =
     let added = taken_entries publisher es run in
-    let items = deliveries_items publisher (es ++ added) took.deliveries in
+    let events = deliveries_events publisher (es ++ added) took.deliveries in
     record {
-      database = subst (λ (rs : List Recorded). IsDatabase new publisher rs now) (history_is es added items) took.database;
-      went = joined before seen now publisher es (map commit added) items reaches.went
-          (subst (λ (rs : List Recorded). Went seen now publisher (es ++ rs) items) (sym (commits_of added)) took.went);
-      mail = took.mail ∙ ap (λ (l : List Happening). with_puts items l) reaches.mail;
+      database = subst (λ (rs : List Recorded). IsDatabase new publisher rs now) (history_is es added events) took.database;
+      went = joined before seen now publisher es (map commit added) events reaches.went
+          (subst (λ (rs : List Recorded). Went seen now publisher (es ++ rs) events) (sym (commits_of added)) took.went);
+      mail = took.mail ∙ ap (λ (l : List Happening). with_puts events l) reaches.mail;
       steady = steady_on before seen now reaches.steady took.steady;
     }
 

@@ -2,21 +2,22 @@
 use Rattle.std.proofs.Common.{◌≡◌, ℕ, true, List, [], ◌∷◌, ◌++◌, map, refl, sym, ap, ◌∙◌, append_assoc}
 use Rattle.std.specs.Prelude.{Option, Some, None}
 use Rattle.sr_mail.specs.declared.window.Window.{Window}
-use Rattle.sr_gather.specs.Bags.{filed_of, Has, IsShareWhere, share_of}
-use Rattle.sr_gather.specs.Letters.{Letter}
-use Rattle.sr_gather.specs.Purges.{files_in, removals}
-use Rattle.sr_gather.specs.declared.bag.Filed.{Filed}
-use Rattle.sr_gather.specs.declared.bag.Share.{Share}
+use Rattle.sr_receive_gather.specs.Bags.{filed_of, Has, IsPartnerMailWhere, partner_mail_of}
+use Rattle.sr_receive_gather.specs.MessageFiles.{MessageFile}
+use Rattle.sr_receive_gather.specs.Purges.{removals}
+use Rattle.sr_receive_gather.specs.Inner.Purges.{files_in}
+use Rattle.sr_receive_gather.specs.declared.bag.Filed.{Filed}
+use Rattle.sr_receive_gather.specs.declared.bag.PartnerMail.{PartnerMail}
 use Rattle.sr_site.specs.Happenings.{Happening, attached, wrote, cut_to, synced, listed, fetched, sent, removed, mail_in}
-use Rattle.sr_standing.specs.Items.{AreQuiet}
+use Rattle.sr_database_meaning.specs.Inner.Events.{AreQuiet}
 
--- the files of a share are those of the letters
-where_are : (letters : List Letter) (lost : List Window) (share : Option Share) → IsShareWhere letters lost share → files_in share ≡ map filed_of letters
-where_are letters lost None none = ap (λ (ls : List Letter). map filed_of ls) (sym none.0)
-where_are letters lost (Some share) is = is.files
+-- the files of a partner mail are those of the message files
+where_are : (message_files : List MessageFile) (dropped_windows : List Window) (partner_mail : Option PartnerMail) → IsPartnerMailWhere message_files dropped_windows partner_mail → files_in partner_mail ≡ map filed_of message_files
+where_are message_files dropped_windows None none = ap (λ (ls : List MessageFile). map filed_of ls) (sym none.0)
+where_are message_files dropped_windows (Some partner_mail) is = is.files
 
-pub files_are : (bag : List Share) (user : List ℕ) (letters : List Letter) (lost : List Window) → Has bag user letters lost → files_in (share_of bag user) ≡ map filed_of letters
-files_are bag user letters lost has = where_are letters lost (share_of bag user) has
+pub files_are : (bag : List PartnerMail) (user : List ℕ) (message_files : List MessageFile) (dropped_windows : List Window) → Has bag user message_files dropped_windows → files_in (partner_mail_of bag user) ≡ map filed_of message_files
+files_are bag user message_files dropped_windows has = where_are message_files dropped_windows (partner_mail_of bag user) has
 
 -- in the mail alone
 pub mail_removed : (address : List ℕ) (files : List Filed) (before : List Happening) → mail_in (removals address files before) ≡ removals address files (mail_in before)

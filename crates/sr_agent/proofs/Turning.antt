@@ -1,4 +1,4 @@
--- A partner's turn, from what its passes say.
+-- A partner's pass, from what its passes say.
 use Rattle.std.proofs.Common.{◌≡◌, Bool, true, false, ℕ, List, [], ◌∷◌, ◌++◌, map, ap, subst, ◌∙◌}
 use Rattle.std.specs.Prelude.{IsTrue}
 use Rattle.std.proofs.lemmas.List.{append-nil}
@@ -7,78 +7,80 @@ use Rattle.sr_book.specs.declared.book.Book.{Book}
 use Rattle.sr_database.specs.Books.{book_in}
 use Rattle.sr_database.specs.Databases.{IsDatabase}
 use Rattle.sr_database.specs.Views.{View}
-use Rattle.sr_history.specs.Folds.{books_of}
-use Rattle.sr_history.specs.Recorded.{Recorded}
+use Rattle.sr_database_history.specs.Folds.{books_of}
+use Rattle.sr_database_history.specs.Recorded.{Recorded}
 use Rattle.sr_mail.specs.declared.window.Window.{Window}
-use Rattle.sr_receive.specs.Acts.{Act, Stand, stand_of, AreActs, IsAtRest, entries_of, mail_after, taken_in}
-use Rattle.sr_gather.specs.Bags.{filed_of}
-use Rattle.sr_gather.specs.Greatest.{has_gap, raises}
-use Rattle.sr_gather.specs.Letters.{Came, letters_from}
-use Rattle.sr_receive.specs.Passes.{Passed, act_reports, first_notes, first_of, gap_report, note_entries}
-use Rattle.sr_gather.specs.Purges.{HasPurged, dead, removals}
-use Rattle.sr_gather.specs.declared.bag.Filed.{Filed}
+use Rattle.sr_receive.specs.Acts.{ReceiveAct, PassState, stand_of, AreActs, IsAtRest, entries_of, mail_after, taken_in}
+use Rattle.sr_receive_gather.specs.Bags.{filed_of}
+use Rattle.sr_receive_gather.specs.Greatest.{has_gap, raises}
+use Rattle.sr_receive_gather.specs.MessageFiles.{FetchedFile, message_files_from}
+use Rattle.sr_receive.specs.Passes.{act_reports, first_notes, first_of, gap_report, note_entries}
+use Rattle.sr_receive.specs.Inner.Passes.{Passed}
+use Rattle.sr_receive_gather.specs.Purges.{dead, removals}
+use Rattle.sr_receive_gather.specs.Inner.Purges.{HasPurged}
+use Rattle.sr_receive_gather.specs.declared.bag.Filed.{Filed}
 use Rattle.sr_receive.specs.declared.receiving.Received.{Received}
-use Rattle.sr_gather.specs.declared.report.Report.{Report}
+use Rattle.sr_receive_gather.specs.declared.report.Report.{Report}
 use Rattle.sr_receive.specs.Passes.{AreSteady as IsSteady}
 use Rattle.sr_site.specs.Happenings.{Happening, mail_in}
 use Rattle.sr_site.specs.Seen.{Seen}
-use Rattle.sr_standing.specs.Items.{commit}
-use Rattle.sr_standing.specs.Trails.{Went}
+use Rattle.sr_database_meaning.specs.Events.{commit}
+use Rattle.sr_database_meaning.specs.Traces.{Went}
 use Rattle.sr_agent.specs.Lines.{Line, received, report_lines}
-use Rattle.sr_agent.specs.Shares.{Behind}
-use Rattle.sr_agent.specs.Steps.{TookTurn, turn_said}
-use Rattle.sr_agent.specs.Turns.{Turn, IsTurn, asks_in, beginning, ending, files_of, turn_entries, turn_lines}
+use Rattle.sr_agent.specs.Inner.PartnerMails.{Behind}
+use Rattle.sr_agent.specs.Inner.Steps.{TookPartnerPass, partner_pass_said}
+use Rattle.sr_agent.specs.PartnerPasses.{PartnerPass, IsPartnerPass, asks_in, beginning, ending, files_of, partner_pass_entries, partner_pass_lines}
 use Rattle.sr_agent.proofs.Joints.{steady_on, still_there, went_quiet, went_still}
 use Rattle.sr_agent.proofs.Removing.{are_removed, mail_removed}
 use Rattle.sr_agent.proofs.Values.{beginning_is, publisher_is}
 
 -- the entries of a pass
-abbrev pub done_entries : Name → Book → List Filed → List Act → ℕ → List Recorded
+abbrev pub done_entries : Name → Book → List Filed → List ReceiveAct → ℕ → List Recorded
 done_entries user book files acts end = first_notes user book files ++ (entries_of user acts ++ note_entries user (raises end files))
 
--- the turn that a pass was
-abbrev pub turn_of : Name → List Act → Turn
-turn_of user acts = record { user = user; acts = acts }
+-- the partner's pass that a pass was
+abbrev pub partner_pass_of : Name → List ReceiveAct → PartnerPass
+partner_pass_of user acts = record { user = user; acts = acts }
 
 -- a pass, said of the history
-module _ (old new : View) (before now : Seen) (publisher : Name) (es : List Recorded) (comes : List Came) (user : Name) (lost : List Window) (reports : List Report) (answer : Received)
-    (database : IsDatabase old publisher es before) (passed : Passed old new before now user (letters_from user comes) [] lost [] reports answer) where
+module _ (old new : View) (before now : Seen) (publisher : Name) (es : List Recorded) (fetched_files : List FetchedFile) (user : Name) (dropped_windows : List Window) (reports : List Report) (answer : Received)
+    (database : IsDatabase old publisher es before) (passed : Passed old new before now user (message_files_from user fetched_files) [] dropped_windows [] reports answer) where
   stand_is : first_of old (book_in old.books user) [] ≡ beginning publisher es user
   stand_is = beginning_is old publisher es user database.is
 
-  pub turn_are : IsTurn publisher es comes (turn_of user passed.acts)
-  turn_are = record {
-    are = subst (λ (s : Stand). AreActs publisher user (letters_from user comes) s passed.acts) stand_is
-        (subst (λ (p : Name). AreActs p user (letters_from user comes) (first_of old (book_in old.books user) []) passed.acts) (publisher_is old publisher es database.is) passed.are);
-    rest = subst (λ (s : Stand). IsAtRest (letters_from user comes) (stand_of s passed.acts)) stand_is passed.rest;
+  pub partner_pass_are : IsPartnerPass publisher es fetched_files (partner_pass_of user passed.acts)
+  partner_pass_are = record {
+    are = subst (λ (s : PassState). AreActs publisher user (message_files_from user fetched_files) s passed.acts) stand_is
+        (subst (λ (p : Name). AreActs p user (message_files_from user fetched_files) (first_of old (book_in old.books user) []) passed.acts) (publisher_is old publisher es database.is) passed.are);
+    rest = subst (λ (s : PassState). IsAtRest (message_files_from user fetched_files) (stand_of s passed.acts)) stand_is passed.rest;
   }
 
-  pub end_is : answer.end.0 ≡ (ending publisher es (turn_of user passed.acts)).received
-  end_is = passed.end ∙ ap (λ (s : Stand). (stand_of s passed.acts).received) stand_is
+  pub end_is : answer.end.0 ≡ (ending publisher es (partner_pass_of user passed.acts)).received
+  end_is = passed.end ∙ ap (λ (s : PassState). (stand_of s passed.acts).received) stand_is
 
-  pub entries_are : done_entries user (book_in old.books user) (map filed_of (letters_from user comes)) passed.acts answer.end.0 ≡ turn_entries publisher es comes (turn_of user passed.acts)
+  pub entries_are : done_entries user (book_in old.books user) (map filed_of (message_files_from user fetched_files)) passed.acts answer.end.0 ≡ partner_pass_entries publisher es fetched_files (partner_pass_of user passed.acts)
   entries_are =
-      ap (λ (b : Book). done_entries user b (map filed_of (letters_from user comes)) passed.acts answer.end.0) (database.is.books user)
-      ∙ ap (λ (n : ℕ). done_entries user (books_of user es) (map filed_of (letters_from user comes)) passed.acts n) end_is
+      ap (λ (b : Book). done_entries user b (map filed_of (message_files_from user fetched_files)) passed.acts answer.end.0) (database.is.books user)
+      ∙ ap (λ (n : ℕ). done_entries user (books_of user es) (map filed_of (message_files_from user fetched_files)) passed.acts n) end_is
 
-  pub ask_is : answer.ask ≡ asks_in publisher es comes (turn_of user passed.acts)
-  ask_is = passed.ask ∙ ap (λ (n : ℕ). has_gap n (map filed_of (letters_from user comes))) end_is
+  pub ask_is : answer.ask ≡ asks_in publisher es fetched_files (partner_pass_of user passed.acts)
+  ask_is = passed.ask ∙ ap (λ (n : ℕ). has_gap n (map filed_of (message_files_from user fetched_files))) end_is
 
-  pub said_is : turn_said user answer (act_reports user passed.acts) (gap_report user answer.end.0 (map filed_of (letters_from user comes))) ≡ turn_lines publisher es comes (turn_of user passed.acts)
+  pub said_is : partner_pass_said user answer (act_reports user passed.acts) (gap_report user answer.end.0 (map filed_of (message_files_from user fetched_files))) ≡ partner_pass_lines publisher es fetched_files (partner_pass_of user passed.acts)
   said_is =
-      ap (λ (took : ℕ). report_lines (act_reports user passed.acts) ++ received user took answer.end.0 ∷ report_lines (gap_report user answer.end.0 (map filed_of (letters_from user comes)))) passed.took
-      ∙ ap (λ (n : ℕ). report_lines (act_reports user passed.acts) ++ received user (taken_in passed.acts) n ∷ report_lines (gap_report user n (map filed_of (letters_from user comes)))) end_is
+      ap (λ (took : ℕ). report_lines (act_reports user passed.acts) ++ received user took answer.end.0 ∷ report_lines (gap_report user answer.end.0 (map filed_of (message_files_from user fetched_files)))) passed.took
+      ∙ ap (λ (n : ℕ). report_lines (act_reports user passed.acts) ++ received user (taken_in passed.acts) n ∷ report_lines (gap_report user n (map filed_of (message_files_from user fetched_files)))) end_is
 
 -- ---- and then dead files were removed, or not
 
-pub behind_turn : (old new : View) (before middle : Seen) (publisher : Name) (es : List Recorded) (comes : List Came) (user : Name) (lost : List Window) (reports : List Report) (answer : Received)
-    → IsTrue before.told → (database : IsDatabase old publisher es before) (passed : Passed old new before middle user (letters_from user comes) [] lost [] reports answer)
-    → Behind new before middle publisher es comes (turn_of user passed.acts)
-behind_turn old new before middle publisher es comes user lost reports answer told database passed =
-    let are = entries_are old new before middle publisher es comes user lost reports answer database passed in
-    let entries = done_entries user (book_in old.books user) (map filed_of (letters_from user comes)) passed.acts answer.end.0 in
+pub behind_partner_pass : (old new : View) (before middle : Seen) (publisher : Name) (es : List Recorded) (fetched_files : List FetchedFile) (user : Name) (dropped_windows : List Window) (reports : List Report) (answer : Received)
+    → IsTrue before.observable → (database : IsDatabase old publisher es before) (passed : Passed old new before middle user (message_files_from user fetched_files) [] dropped_windows [] reports answer)
+    → Behind new before middle publisher es fetched_files (partner_pass_of user passed.acts)
+behind_partner_pass old new before middle publisher es fetched_files user dropped_windows reports answer told database passed =
+    let are = entries_are old new before middle publisher es fetched_files user dropped_windows reports answer database passed in
+    let entries = done_entries user (book_in old.books user) (map filed_of (message_files_from user fetched_files)) passed.acts answer.end.0 in
     record {
-      is = turn_are old new before middle publisher es comes user lost reports answer database passed;
+      is = partner_pass_are old new before middle publisher es fetched_files user dropped_windows reports answer database passed;
       database = subst (λ (rs : List Recorded). IsDatabase new publisher (es ++ rs) middle) are (passed.reached.database told passed.reached.state.0 publisher es database);
       went = subst (λ (rs : List Recorded). Went before middle publisher es (map commit rs)) (append-nil entries ∙ are) (passed.reached.went told publisher es database);
       mail = passed.mail told ∙ ap (λ (p : Name). mail_after p passed.acts (mail_in before.happened)) (publisher_is old publisher es database.is);
@@ -86,10 +88,10 @@ behind_turn old new before middle publisher es comes user lost reports answer to
     }
 
 -- nothing was removed
-pub took_quietly : (new : View) (before now : Seen) (publisher : Name) (es : List Recorded) (comes : List Came) (user : Name) (t : Turn) (ask : Bool) (lines : List Line) → t.user ≡ user
-    → Behind new before now publisher es comes t → ask ≡ asks_in publisher es comes t → lines ≡ turn_lines publisher es comes t → TookTurn new before now publisher es comes false user ask lines
-took_quietly new before now publisher es comes user t ask lines whose behind ask_is lines_are = record {
-  turn = t;
+pub took_quietly : (new : View) (before now : Seen) (publisher : Name) (es : List Recorded) (fetched_files : List FetchedFile) (user : Name) (t : PartnerPass) (ask : Bool) (lines : List Line) → t.user ≡ user
+    → Behind new before now publisher es fetched_files t → ask ≡ asks_in publisher es fetched_files t → lines ≡ partner_pass_lines publisher es fetched_files t → TookPartnerPass new before now publisher es fetched_files false user ask lines
+took_quietly new before now publisher es fetched_files user t ask lines whose behind ask_is lines_are = record {
+  partner_pass = t;
   user_is = whose;
   is = behind.is;
   database = behind.database;
@@ -101,16 +103,16 @@ took_quietly new before now publisher es comes user t ask lines whose behind ask
 }
 
 -- the dead files of this book were removed, from the folder of this address
-pub took_and_purged : (new : View) (before middle now : Seen) (publisher : Name) (es : List Recorded) (comes : List Came) (user : Name) (t : Turn) (ask : Bool) (lines : List Line) (address : Name) (book : Book)
-    (files : List Filed) (count : ℕ) → t.user ≡ user → IsTrue middle.told → Behind new before middle publisher es comes t → ask ≡ asks_in publisher es comes t → lines ≡ turn_lines publisher es comes t
-    → address ≡ publisher → book ≡ books_of t.user (es ++ turn_entries publisher es comes t) → files ≡ files_of comes t → HasPurged address book files middle now count
-    → TookTurn new before now publisher es comes true user ask lines
-took_and_purged new before middle now publisher es comes user t ask lines address book files count whose told behind ask_is lines_are address_is book_is files_are purged =
-    let added = turn_entries publisher es comes t in
+pub took_and_purged : (new : View) (before middle now : Seen) (publisher : Name) (es : List Recorded) (fetched_files : List FetchedFile) (user : Name) (t : PartnerPass) (ask : Bool) (lines : List Line) (address : Name) (book : Book)
+    (files : List Filed) (count : ℕ) → t.user ≡ user → IsTrue middle.observable → Behind new before middle publisher es fetched_files t → ask ≡ asks_in publisher es fetched_files t → lines ≡ partner_pass_lines publisher es fetched_files t
+    → address ≡ publisher → book ≡ books_of t.user (es ++ partner_pass_entries publisher es fetched_files t) → files ≡ files_of fetched_files t → HasPurged address book files middle now count
+    → TookPartnerPass new before now publisher es fetched_files true user ask lines
+took_and_purged new before middle now publisher es fetched_files user t ask lines address book files count whose told behind ask_is lines_are address_is book_is files_are purged =
+    let added = partner_pass_entries publisher es fetched_files t in
     let removal = are_removed address (dead book files) middle.happened in
     let happened : now.happened ≡ removal.more ++ middle.happened = purged.removed_are told ∙ removal.is in
     record {
-      turn = t;
+      partner_pass = t;
       user_is = whose;
       is = behind.is;
       database = still_there new publisher (es ++ added) middle now removal.more purged.stays happened removal.quiet behind.database;

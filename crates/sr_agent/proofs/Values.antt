@@ -12,23 +12,23 @@ use Rattle.sr_book.proofs.Folds.{book_from-append}
 use Rattle.sr_database.specs.Books.{book_in}
 use Rattle.sr_database.specs.Databases.{IsOf}
 use Rattle.sr_database.specs.Views.{View, committed}
-use Rattle.sr_history.specs.Fitting.{Knows}
-use Rattle.sr_history.specs.Folds.{State, after_done, after_dones, after_pass, books_of, fresh, next, sees, state_from, state_of, with_changes, with_statement}
-use Rattle.sr_history.specs.Recorded.{Done, plain, ran, conflict, clash}
-use Rattle.sr_history.specs.Recorded.{Recorded, own, taken, ddl, sync, pass, note}
-use Rattle.sr_history.proofs.Granted.{stays_known}
-use Rattle.sr_history.proofs.Joined.{state_from-append}
+use Rattle.sr_database_history.specs.Fitting.{Knows}
+use Rattle.sr_database_history.specs.Folds.{State, after_done, after_dones, after_pass, books_of, fresh, next, sees, state_from, state_of, with_changes, with_statement}
+use Rattle.sr_database_history.specs.Recorded.{Done, plain, ran, conflict, clash}
+use Rattle.sr_database_history.specs.Recorded.{Recorded, own, taken, ddl, sync, pass, note}
+use Rattle.sr_database_history.proofs.Granted.{stays_known}
+use Rattle.sr_database_history.proofs.Joined.{state_from-append}
 use Rattle.sr_logform.specs.declared.change.Change.{Change}
 use Rattle.sr_logform.specs.declared.op.Op.{Op}
-use Rattle.sr_receive.specs.Acts.{Stand}
+use Rattle.sr_receive.specs.Acts.{PassState}
 use Rattle.sr_receive.specs.Passes.{first_of}
-use Rattle.sr_replay.proofs.ReplayNexts.{publisher_next}
+use Rattle.sr_catalog_script_laws.proofs.ReplayNexts.{publisher_next}
 use Rattle.sr_rows.specs.Marks.{RowMap}
-use Rattle.sr_schema.specs.Catalogs.{Lists}
-use Rattle.sr_schema.specs.Members.{user_name}
-use Rattle.sr_schema.specs.Names.{named}
-use Rattle.sr_agent.specs.Steps.{IsUser, KeepsPartners}
-use Rattle.sr_agent.specs.Turns.{beginning}
+use Rattle.sr_catalog_schema.specs.Catalogs.{Lists}
+use Rattle.sr_catalog_schema.specs.Members.{user_name}
+use Rattle.sr_catalog_schema.specs.Names.{named}
+use Rattle.sr_agent.specs.Inner.Steps.{IsUser, KeepsPartners}
+use Rattle.sr_agent.specs.PartnerPasses.{beginning}
 
 -- ---- the state and the book
 
@@ -38,11 +38,11 @@ state_is view publisher es is =
     let by_rows : RowMap → State = λ r. record { catalog = (state_of publisher es).catalog; rows = r } in
     ap by_catalog is.catalog ∙ ap by_rows is.marked
 
--- where a turn begins
+-- where a partner's pass begins
 pub beginning_is : (view : View) (publisher : Name) (es : List Recorded) (user : Name) → IsOf view publisher es → first_of view (book_in view.books user) [] ≡ beginning publisher es user
 beginning_is view publisher es user is =
-    let by_state : State → Stand = λ s. record { state = s; received = (book_in view.books user).log_received; lost = []; left = [] } in
-    let by_book : Book → Stand = λ b. record { state = state_of publisher es; received = b.log_received; lost = []; left = [] } in
+    let by_state : State → PassState = λ s. record { state = s; received = (book_in view.books user).log_received; dropped_windows = []; left = [] } in
+    let by_book : Book → PassState = λ b. record { state = state_of publisher es; received = b.log_received; dropped_windows = []; left = [] } in
     ap by_state (state_is view publisher es is) ∙ ap by_book (is.books user)
 
 -- ---- the publisher

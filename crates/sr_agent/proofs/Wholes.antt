@@ -3,19 +3,19 @@ use Rattle.std.proofs.Common.{◌≡◌, Bool, true, false, List, [], ◌++◌, 
 use Rattle.sr_book.specs.Entries.{Name}
 use Rattle.sr_database.specs.Databases.{IsDatabase}
 use Rattle.sr_database.specs.Views.{View}
-use Rattle.sr_history.specs.Recorded.{Recorded}
+use Rattle.sr_database_history.specs.Recorded.{Recorded}
 use Rattle.sr_receive.specs.Passes.{AreSteady as IsSteady}
 use Rattle.sr_site.specs.Happenings.{Happening, mail_in}
 use Rattle.sr_site.specs.Seen.{Seen}
-use Rattle.sr_standing.specs.Items.{Item, commit, commits}
-use Rattle.sr_standing.specs.Trails.{Went}
-use Rattle.sr_standing.proofs.Joining.{joined}
+use Rattle.sr_database_meaning.specs.Events.{Event, commit, commits}
+use Rattle.sr_database_meaning.specs.Traces.{Went}
+use Rattle.sr_database_meaning.proofs.Joining.{joined}
 use Rattle.sr_agent.specs.Agents.{RanWhole}
-use Rattle.sr_agent.specs.Deliveries.{Delivery, deliveries_items, with_puts}
+use Rattle.sr_agent.specs.Deliveries.{Delivery, deliveries_events, with_puts}
 use Rattle.sr_agent.specs.Lines.{Line}
-use Rattle.sr_agent.specs.Runs.{Run, Receives, Sends, after_receiving, asked, comes_of, lines_of, received_mail, taken_entries}
-use Rattle.sr_agent.specs.Steps.{TookDeliveries}
-use Rattle.sr_agent.specs.Turns.{turns_lines}
+use Rattle.sr_agent.specs.Runs.{Run, Receives, Sends, after_receiving, asked, fetched_files_of, lines_of, received_mail, taken_entries}
+use Rattle.sr_agent.specs.Inner.Steps.{TookDeliveries}
+use Rattle.sr_agent.specs.PartnerPasses.{partner_passes_lines}
 use Rattle.sr_agent.specs.declared.options.Options.{Options}
 use Rattle.sr_agent.specs.declared.partner.Partner.{Partner}
 use Rattle.sr_agent.proofs.Joints.{commits-append, commits_of, steady_on}
@@ -31,13 +31,13 @@ pub record Received (new : View) (before now : Seen) (publisher : Name) (es : Li
   pub mail : mail_in now.happened ≡ received_mail publisher es options.purge run (mail_in before.happened)
   pub steady : IsSteady before now
   pub asks_are : asks ≡ asked options.receive publisher es run
-  pub lines_are : lines ≡ lines_of run.gathered ++ turns_lines publisher es (comes_of run.gathered) run.turns
+  pub lines_are : lines ≡ lines_of run.gathered ++ partner_passes_lines publisher es (fetched_files_of run.gathered) run.partner_passes
 
 -- the history of commits and then of the items behind them
-pub history_is : (es added : List Recorded) (items : List Item) → (es ++ added) ++ commits items ≡ es ++ commits (map commit added ++ items)
-history_is es added items =
-    append_assoc es added (commits items)
-    ∙ ap (λ (rs : List Recorded). es ++ rs) (ap (λ (rs : List Recorded). rs ++ commits items) (sym (commits_of added)) ∙ sym (commits-append (map commit added) items))
+pub history_is : (es added : List Recorded) (events : List Event) → (es ++ added) ++ commits events ≡ es ++ commits (map commit added ++ events)
+history_is es added events =
+    append_assoc es added (commits events)
+    ∙ ap (λ (rs : List Recorded). es ++ rs) (ap (λ (rs : List Recorded). rs ++ commits events) (sym (commits_of added)) ∙ sym (commits-append (map commit added) events))
 
 -- ---- the whole
 
@@ -55,19 +55,19 @@ pub sent_behind : (middle new : View) (before seen now : Seen) (publisher : Name
 sent_behind middle new before seen now publisher es options asks earlier lines received took sends =
     let run = with_deliveries received.run took.deliveries in
     let added = taken_entries publisher es received.run in
-    let items = deliveries_items publisher (es ++ added) took.deliveries in
+    let events = deliveries_events publisher (es ++ added) took.deliveries in
     record {
       run = run;
       is = record { receives = receives_with options.receive publisher es received.run took.deliveries received.receives; sends = sends };
       came = record {
-        database = subst (λ (rs : List Recorded). IsDatabase new publisher rs now) (history_is es added items) took.database;
-        went = joined before seen now publisher es (map commit added) items received.went
-            (subst (λ (rs : List Recorded). Went seen now publisher (es ++ rs) items) (sym (commits_of added)) took.went);
-        mail = took.mail ∙ ap (λ (l : List Happening). with_puts items l) received.mail;
+        database = subst (λ (rs : List Recorded). IsDatabase new publisher rs now) (history_is es added events) took.database;
+        went = joined before seen now publisher es (map commit added) events received.went
+            (subst (λ (rs : List Recorded). Went seen now publisher (es ++ rs) events) (sym (commits_of added)) took.went);
+        mail = took.mail ∙ ap (λ (l : List Happening). with_puts events l) received.mail;
         steady = steady_on before seen now received.steady took.steady;
       };
       lines_are =
           ap (λ (ls : List Line). ls ++ lines) received.lines_are
-          ∙ append_assoc (lines_of received.run.gathered) (turns_lines publisher es (comes_of received.run.gathered) received.run.turns) lines
-          ∙ ap (λ (ls : List Line). lines_of received.run.gathered ++ (turns_lines publisher es (comes_of received.run.gathered) received.run.turns ++ ls)) took.lines_are;
+          ∙ append_assoc (lines_of received.run.gathered) (partner_passes_lines publisher es (fetched_files_of received.run.gathered) received.run.partner_passes) lines
+          ∙ ap (λ (ls : List Line). lines_of received.run.gathered ++ (partner_passes_lines publisher es (fetched_files_of received.run.gathered) received.run.partner_passes ++ ls)) took.lines_are;
     }

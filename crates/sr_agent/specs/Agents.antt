@@ -3,19 +3,19 @@ use Rattle.std.specs.Prelude.{◌≡◌, ⊤, ℕ, List, [], ◌∷◌, ◌++◌
 use Rattle.sr_book.specs.Entries.{Name}
 use Rattle.sr_database.specs.Databases.{IsDatabase}
 use Rattle.sr_database.specs.Views.{View}
-use Rattle.sr_history.specs.Recorded.{Recorded}
+use Rattle.sr_database_history.specs.Recorded.{Recorded}
 use Rattle.sr_receive.specs.Passes.{AreSteady as IsSteady}
 use Rattle.sr_site.specs.Happenings.{mail_in}
 use Rattle.sr_site.specs.Seen.{Seen}
 use Rattle.sr_site.specs.Streams.{Output}
-use Rattle.sr_standing.specs.Items.{Item}
-use Rattle.sr_standing.specs.Trails.{Went}
+use Rattle.sr_database_meaning.specs.Events.{Event}
+use Rattle.sr_database_meaning.specs.Traces.{Went}
 use Rattle.sr_agent.specs.Deliveries.{with_puts}
 use Rattle.sr_agent.specs.Ends.{Ended, HasTold}
 use Rattle.sr_agent.specs.Lines.{Line, alarms}
-use Rattle.sr_agent.specs.Runs.{Run, IsRun, after_run, received_lines, received_mail, run_lines, sent_items, trail_of}
+use Rattle.sr_agent.specs.Runs.{Run, IsRun, after_run, received_lines, received_mail, run_lines, sent_events, trace_of}
 use Rattle.sr_agent.specs.Stops.{StopsAt}
-use Rattle.sr_agent.specs.Turns.{Turn}
+use Rattle.sr_agent.specs.PartnerPasses.{PartnerPass}
 use Rattle.sr_agent.specs.declared.fault.AgentFault.{AgentFault}
 use Rattle.sr_agent.specs.declared.options.Options.{Options}
 
@@ -23,12 +23,12 @@ use Rattle.sr_agent.specs.declared.options.Options.{Options}
 -- removals; and then the puts
 abbrev pub MailDone : Name → List Recorded → Options → Run → Seen → Seen → Type 0
 MailDone publisher es options run before now =
-    mail_in now.happened ≡ with_puts (sent_items publisher es run) (received_mail publisher es options.purge run (mail_in before.happened))
+    mail_in now.happened ≡ with_puts (sent_events publisher es run) (received_mail publisher es options.purge run (mail_in before.happened))
 
--- the database of a history is that of the history with what the run added, and its site went through the run's trail
+-- the database of a history is that of the history with what the run added, and its site went through the run's trace
 pub record CameSoFar (new : View) (before now : Seen) (publisher : Name) (es : List Recorded) (options : Options) (run : Run) : Type 0 where
   pub database : IsDatabase new publisher (after_run publisher es run) now
-  pub went : Went before now publisher es (trail_of publisher es run)
+  pub went : Went before now publisher es (trace_of publisher es run)
   pub mail : MailDone publisher es options run before now
   -- no device failed on the way: the first fault ends a run
   pub steady : IsSteady before now
@@ -42,8 +42,8 @@ pub record RanWhole (new : View) (before now : Seen) (publisher : Name) (es : Li
   pub came : CameSoFar new before now publisher es options run
   pub lines_are : lines ≡ run_lines publisher es run
 
--- where partners had their turns, these lines were written whole
-abbrev pub AreTold : List Turn → List Line → Output → Output → Type 0
+-- where partners had their partners' passes, these lines were written whole
+abbrev pub AreTold : List PartnerPass → List Line → Output → Output → Type 0
 AreTold [] lines written written' = ⊤
 AreTold (t ∷ earlier) lines written written' = HasTold lines written written'
 
@@ -53,13 +53,13 @@ pub record RanInPart (new : View) (before now : Seen) (written written' : Output
   pub db : View
   pub seen : Seen
   pub came : CameSoFar db before seen publisher es options run
-  pub items : List Item
+  pub events : List Event
   pub told : List Line
-  pub stops : StopsAt publisher es options run db new seen now items told fault (HasTold lines written written')
-  pub went : Went before now publisher es (trail_of publisher es run ++ items)
+  pub stops : StopsAt publisher es options run db new seen now events told fault (HasTold lines written written')
+  pub went : Went before now publisher es (trace_of publisher es run ++ events)
   pub lines_are : lines ≡ run_lines publisher es run ++ told
-  -- the lines of each turn that was made were written whole, and all before them: only then are its dead files removed
-  pub turns_told : AreTold run.turns (received_lines publisher es run) written written'
+  -- the lines of each partner's pass that was made were written whole, and all before them: only then are its dead files removed
+  pub partner_passes_told : AreTold run.partner_passes (received_lines publisher es run) written written'
 
 abbrev pub Did : View → Seen → Seen → Output → Output → Name → List Recorded → Options → List Line → Result ℕ AgentFault → Type 0
 Did new before now written written' publisher es options lines (Ok count) = RanWhole new before now publisher es options lines
@@ -71,4 +71,4 @@ pub record RanAgent (old new : View) (before now : Seen) (written written' : Out
   pub lines : List Line
   pub ended : Ended new before now written written' lines result
   pub count : IfOk result (λ n. n ≡ alarms lines)
-  pub did : IsTrue before.told → (publisher : Name) (es : List Recorded) → IsDatabase old publisher es before → Did new before now written written' publisher es options lines result
+  pub did : IsTrue before.observable → (publisher : Name) (es : List Recorded) → IsDatabase old publisher es before → Did new before now written written' publisher es options lines result

@@ -2,23 +2,23 @@
 use Rattle.std.specs.Prelude.{◌≡◌, ⊤, ℕ, true, List, [], ◌∷◌, ◌++◌, length, None}
 use Rattle.std.specs.List.{AllByRecursion}
 use Rattle.sr_book.specs.Entries.{Name}
-use Rattle.sr_cut.specs.Bodies.{first_long}
-use Rattle.sr_history.specs.Folds.{state_of, books_of}
-use Rattle.sr_history.specs.Recorded.{Recorded}
+use Rattle.sr_mail_cut.specs.Bodies.{first_long}
+use Rattle.sr_database_history.specs.Folds.{state_of, books_of}
+use Rattle.sr_database_history.specs.Recorded.{Recorded}
 use Rattle.sr_msgform.specs.Messages.{IsMessage}
 use Rattle.sr_msgform.specs.declared.message.Message.{Message}
-use Rattle.sr_send.specs.Letters.{address_in, noted_letters}
+use Rattle.sr_send.specs.PutFiles.{address_in, noted_put_files}
 use Rattle.sr_send.specs.Passes.{AreAll, sent_end, waiting}
 use Rattle.sr_site.specs.Happenings.{Happening, sent as sent_file}
-use Rattle.sr_standing.specs.Items.{Item, commit, put, commits}
+use Rattle.sr_database_meaning.specs.Events.{Event, commit, put, commits}
 use Rattle.sr_agent.specs.Lines.{Line, sent}
 use Rattle.sr_agent.specs.declared.partner.Partner.{Partner}
 
--- what happens to the mail as the files of a trail are put, each of them done
-abbrev pub with_puts : List Item → List Happening → List Happening
+-- what happens to the mail as the files of a trace are put, each of them done
+abbrev pub with_puts : List Event → List Happening → List Happening
 with_puts [] before = before
-with_puts (commit r ∷ items) before = with_puts items before
-with_puts (put address name bytes ∷ items) before = with_puts items (sent_file address name bytes true ∷ before)
+with_puts (commit r ∷ events) before = with_puts events before
+with_puts (put address name bytes ∷ events) before = with_puts events (sent_file address name bytes true ∷ before)
 
 -- ---- one partner
 
@@ -37,27 +37,27 @@ pub record IsDelivery (publisher : Name) (es : List Recorded) (limit : ℕ) (d :
 abbrev pub folder_of : Name → List Recorded → Name → Name
 folder_of publisher es user = address_in (state_of publisher es).catalog user
 
--- what it adds to the trail: the files of the messages, and then their note; nothing where there is none
-abbrev pub delivery_items : Name → List Recorded → Delivery → List Item
-delivery_items publisher es d =
-    noted_letters (folder_of publisher es d.partner.user) d.partner.user (books_of d.partner.user es) (sent_end publisher es d.partner.user (books_of d.partner.user es)) d.messages
+-- what it adds to the trace: the files of the messages, and then their note; nothing where there is none
+abbrev pub delivery_events : Name → List Recorded → Delivery → List Event
+delivery_events publisher es d =
+    noted_put_files (folder_of publisher es d.partner.user) d.partner.user (books_of d.partner.user es) (sent_end publisher es d.partner.user (books_of d.partner.user es)) d.messages
 
 abbrev pub delivery_line : Name → List Recorded → Delivery → Line
 delivery_line publisher es d = sent d.partner.user (length d.messages) (sent_end publisher es d.partner.user (books_of d.partner.user es)).0
 
 -- ---- partners, each on the history with the notes of those before him
 
--- with what one more adds to the trail
-abbrev pub items_with : Name → List Recorded → Delivery → List Item → List Item
-items_with publisher es d added = added ++ delivery_items publisher (es ++ commits added) d
+-- with what one more adds to the trace
+abbrev pub events_with : Name → List Recorded → Delivery → List Event → List Event
+events_with publisher es d added = added ++ delivery_events publisher (es ++ commits added) d
 
-abbrev pub deliveries_items : Name → List Recorded → List Delivery → List Item
-deliveries_items publisher es [] = []
-deliveries_items publisher es (d ∷ earlier) = items_with publisher es d (deliveries_items publisher es earlier)
+abbrev pub deliveries_events : Name → List Recorded → List Delivery → List Event
+deliveries_events publisher es [] = []
+deliveries_events publisher es (d ∷ earlier) = events_with publisher es d (deliveries_events publisher es earlier)
 
 -- the history that deliveries leave
 abbrev pub after_deliveries : Name → List Recorded → List Delivery → List Recorded
-after_deliveries publisher es deliveries = es ++ commits (deliveries_items publisher es deliveries)
+after_deliveries publisher es deliveries = es ++ commits (deliveries_events publisher es deliveries)
 
 abbrev pub AreDeliveries : Name → List Recorded → ℕ → List Delivery → Type 0
 AreDeliveries publisher es limit [] = ⊤

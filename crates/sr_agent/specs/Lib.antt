@@ -1,10 +1,9 @@
 pub mod Lines
 pub mod Faults
-pub mod Turns
+pub mod PartnerPasses
 pub mod Deliveries
 pub mod Runs
 pub mod Ends
 pub mod Stops
-pub mod Steps
 pub mod Agents
-pub mod Shares
+pub mod Inner

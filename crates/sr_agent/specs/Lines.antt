@@ -5,9 +5,9 @@ use Rattle.std.specs.List.{flat_map}
 use Rattle.sr_book.specs.Entries.{Name}
 use Rattle.sr_logform.specs.declared.outcome.Clash.{Clash as Skipped}
 use Rattle.sr_logform.specs.declared.outcome.Clash.TheVariants.{Duplicate, NoRow, NoTable, NoColumn, BadValue, Null, Trigger, Statement}
-use Rattle.sr_gather.specs.declared.report.Report.{Report}
-use Rattle.sr_gather.specs.declared.report.Report.TheVariants.{More, Junk, Stranger, Conflict, Clash, Torn, Gap}
-use Rattle.sr_script.specs.Acts.{line}
+use Rattle.sr_receive_gather.specs.declared.report.Report.{Report}
+use Rattle.sr_receive_gather.specs.declared.report.Report.TheVariants.{More, Junk, Stranger, Conflict, Clash, Torn, Gap}
+use Rattle.sr_session_script.specs.Acts.{line}
 
 pub data Line : Type 0 where
   -- what a pass reports

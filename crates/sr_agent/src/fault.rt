@@ -1,18 +1,19 @@
 ghost use Rattle.std.specs.Prelude.{◌≡◌};
-ghost use Rattle.sr_agent.specs.declared.fault.AgentFault.TheVariants.{Memory as memory};
+ghost use Rattle.sr_agent.specs.declared.fault.AgentFault.TheVariants.{Memory as memory, Sink as sink_fault};
 
-use sr_gather::ReceiveFault;
+use sr_receive_gather::ReceiveFault;
 use sr_send::SendFault;
+use sr_site::Failed;
 use std::alloc::{AllocError, AllocFailed};
 use thiserror::Error;
 
 /// Why a run ended before its end. What was done before stands.
 #[derive(Clone, Copy, Debug, PartialEq, Eq, Error)]
 pub enum AgentFault {
-    /// The disk refused: its count of faults rose in this run.
+    /// The disk refused: its count of faults rose in this run, and no other did.
     #[error("disk fault")]
     Disk,
-    /// The mail refused: its count of faults rose in this run.
+    /// The mail refused: its count of faults rose in this run, and no other did.
     #[error("mail fault")]
     Mail,
     /// The sink refused: its count of faults rose in this run.
@@ -25,7 +26,7 @@ pub enum AgentFault {
     /// The record of a transaction that was taken, or the encoding of one that was to be sent, has `length` bytes, more than the `limit`.
     #[error("transaction too long: {length} bytes, limit {limit}")]
     Long { length: u64, limit: u64 },
-    /// There is no memory.
+    /// There is no memory. The lines of what was done are written all the same.
     #[error("out of memory")]
     Memory,
 }
@@ -43,6 +44,15 @@ impl<T: Drop> From<AllocFailed<T>> for AgentFault {
 
     fn from(_refused: AllocFailed<T>) -> AgentFault {
         AgentFault::Memory
+    }
+}
+
+impl From<Failed> for AgentFault {
+    ghost from_gives = { λ _ e. e ≡ sink_fault };
+
+    /// Of a call of the sink.
+    fn from(_refused: Failed) -> AgentFault {
+        AgentFault::Sink
     }
 }
 

@@ -2,9 +2,11 @@
 //!
 //! It stands on sr_receive and sr_send for what is done with one partner. Here is what joins them: which passes a run makes, the partners in
 //! order of grant, the lines, and the first fault, which ends it. The contract that matters most is that of `agent`: what was done is a whole run,
-//! or the first steps of one and a part of the next, and the lines tell just that.
+//! or the first steps of one and a part of the next, and the lines tell just that: all of it,
+//! whatever fault ends the run, but for that of the sink.
 #![tactic(auto)]
 
+mod adding;
 mod fault;
 mod options;
 mod partner;

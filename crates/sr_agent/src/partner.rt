@@ -1,5 +1,5 @@
 ghost use Rattle.std.specs.Prelude.{◌≡◌, map, IfOk};
-ghost use Rattle.sr_schema.specs.Members.{user_name};
+ghost use Rattle.sr_catalog_schema.specs.Members.{user_name};
 ghost use Rattle.sr_agent.specs.Runs.{quiet};
 
 use sr_base::{Copied, Name, NoMemory};

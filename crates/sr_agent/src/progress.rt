@@ -12,7 +12,7 @@ pub(crate) struct Progress {
 }
 
 impl Progress {
-    /// A partner had his turn, whose lines told so often of something amiss.
+    /// A partner had his pass, whose lines told so often of something amiss.
     pub(crate) fn add(
         &mut self,
         alloc: Global,

@@ -1,18 +1,19 @@
 //! The receive pass.
 
-ghost use Rattle.std.specs.Prelude.{◌≡◌, Bool, true, Ok, Err, IfErr, IfOk, OnOk};
+ghost use Rattle.std.specs.Prelude.{◌≡◌, Bool, true, IfErr, IfOk, OnOk};
 ghost use Rattle.std.specs.List.{AllByRecursion};
 ghost use Rattle.sr_receive.specs.Entering.{IsReady};
-ghost use Rattle.sr_agent.specs.Shares.{HasSome, HoldsSome, ToldLetters};
-ghost use Rattle.sr_agent.specs.Steps.{GatheringBroken, GatheringDone, IsUser, KeepsPartners, OutcomeCause, PurgeEnd, PurgedWhere, ReceivingBroken, ReceivingDone, ToldTurn, TurnBroken, TurnDone, TurnsBroken, TurnsDone};
+ghost use Rattle.sr_agent.specs.Inner.PartnerMails.{HasSome, HoldsSome, ToldMessageFiles};
+ghost use Rattle.sr_agent.specs.Inner.Steps.{GatheringBroken, GatheringCause, GatheringDone, IsUser, KeepsPartners, OutcomeCause, PurgeEnd, PurgedWhere, ReceivingBroken, ReceivingDone, ToldGathering, ToldPartnerPass, PartnerPassBroken, PartnerPassDone, PartnerPassesBroken, PartnerPassesDone};
 
 use crate::fault::AgentFault;
 use crate::progress::Progress;
-use crate::telling::{tell_reports, tell_turn};
+use crate::reporting::count_alarms;
+use crate::telling::{count_partner_pass, tell_partner_pass, tell_reports};
 use sr_base::Name;
 use sr_database::Database;
-use sr_gather::{Bag, ReceiveFault, Report, gather, purge};
 use sr_receive::{Received, receive};
+use sr_receive_gather::{Bag, ReceiveFault, Report, gather, purge};
 use sr_site::{Sink, Site};
 use std::alloc::Global;
 
@@ -70,36 +71,32 @@ fn gather_all<S: Site, O: Sink>(
 {
     let mut reports = Vec::new(alloc);
     let outcome = gather(alloc, db, site, &mut reports);
-    let told = tell_reports(alloc, sink, reports.as_slice());
+    let told = tell_gathering(alloc, sink, outcome, reports.as_slice());
     drop(reports);
+    told
+}
+
+/// Tells what is to be reported of the folder: of all of it, or of what was gathered before the fault that ended it. Where the sink fails the run ends
+/// by that, since the lines stop before that of another fault.
+fn tell_gathering<O: Sink>(
+    alloc: Global,
+    sink: &mut O,
+    outcome: Result<Bag, ReceiveFault>,
+    reports: &[Report],
+) -> Result<(Bag, u32), AgentFault>
+    ensures done { IfOk result (λ gathered. ToldGathering outcome gathered.0 gathered.1 reports.now (O.seen sink.old) (O.seen sink.new)) }
+    ensures cause { IfErr result (GatheringCause outcome reports.now (O.seen sink.old) (O.seen sink.new)) }
+{
     match outcome {
-        Ok(bag) => with_alarms(bag, told),
-        Err(fault) => Err(first_fault(AgentFault::from(fault), told)),
-    }
-}
-
-/// What was gathered, where it was told.
-fn with_alarms(bag: Bag, told: Result<u32, AgentFault>) -> Result<(Bag, u32), AgentFault>
-    ensures gathered { IfOk result (λ gathered. (gathered.0 ≡ bag) × (told ≡ Ok gathered.1)) }
-    ensures fault { IfErr result (λ fault. told ≡ Err fault) }
-{
-    match told {
-        Ok(alarms) => Ok((bag, alarms)),
-        Err(fault) => {
-            drop(bag);
-            Err(fault)
+        Ok(bag) => {
+            tell_reports(alloc, sink, reports)?;
+            let alarms = count_alarms(reports)?;
+            Ok((bag, alarms))
         }
-    }
-}
-
-/// The fault of a step, unless what was done of it could not be told: then the run ends by that, since the lines stop before the fault's.
-fn first_fault(fault: AgentFault, told: Result<u32, AgentFault>) -> AgentFault
-    ensures told { IfOk told (λ _. result ≡ fault) }
-    ensures untold { IfErr told (λ refused. result ≡ refused) }
-{
-    match told {
-        Ok(_) => fault,
-        Err(refused) => refused,
+        Err(fault) => {
+            tell_reports(alloc, sink, reports)?;
+            Err(AgentFault::from(fault))
+        }
     }
 }
 
@@ -119,8 +116,8 @@ fn receive_in_order<S: Site, O: Sink>(
     requires holds { HoldsSome bag.old }
     ensures ready { OnOk result (IsReady db.new (S.seen site.new)) }
     ensures keeps { OnOk result (KeepsPartners db.old db.new) }
-    ensures done { OnOk result (TurnsDone db.old db.new (S.seen site.old) (S.seen site.new) names.now bag.old purges progress.old progress.new (O.seen sink.old) (O.seen sink.new)) }
-    ensures broken { IfErr result (TurnsBroken db.old db.new (S.seen site.old) (S.seen site.new) names.now bag.old purges (O.seen sink.old) (O.seen sink.new)) }
+    ensures done { OnOk result (PartnerPassesDone db.old db.new (S.seen site.old) (S.seen site.new) names.now bag.old purges progress.old progress.new (O.seen sink.old) (O.seen sink.new)) }
+    ensures broken { IfErr result (PartnerPassesBroken db.old db.new (S.seen site.old) (S.seen site.new) names.now bag.old purges (O.seen sink.old) (O.seen sink.new)) }
 {
     let mut left = names;
     'partners: while let Some((user, rest)) = left.split_first() {
@@ -147,16 +144,16 @@ fn receive_from<S: Site, O: Sink>(
     ensures ready { OnOk result (IsReady db.new (S.seen site.new)) }
     ensures keeps { OnOk result (KeepsPartners db.old db.new) }
     ensures holds { OnOk result (HasSome bag.new user.now) }
-    ensures done { OnOk result (TurnDone db.old db.new (S.seen site.old) (S.seen site.new) user.now bag.old bag.new purges progress.old progress.new (O.seen sink.old) (O.seen sink.new)) }
-    ensures broken { IfErr result (TurnBroken db.old db.new (S.seen site.old) (S.seen site.new) user.now bag.old purges (O.seen sink.old) (O.seen sink.new)) }
+    ensures done { OnOk result (PartnerPassDone db.old db.new (S.seen site.old) (S.seen site.new) user.now bag.old bag.new purges progress.old progress.new (O.seen sink.old) (O.seen sink.new)) }
+    ensures broken { IfErr result (PartnerPassBroken db.old db.new (S.seen site.old) (S.seen site.new) user.now bag.old purges (O.seen sink.old) (O.seen sink.new)) }
 {
-    let (received, alarms) = take_letters(alloc, db, site, user, bag, sink)?;
+    let (received, alarms) = take_message_files(alloc, db, site, user, bag, sink)?;
     progress.add(alloc, user, received.ask, alarms)?;
     purge_where(alloc, db, site, purges, user, bag)
 }
 
-/// Takes a partner's letters, and tells what came of it.
-fn take_letters<S: Site, O: Sink>(
+/// Takes a partner's message files, and tells what came of it.
+fn take_message_files<S: Site, O: Sink>(
     alloc: Global,
     db: &mut Database,
     site: &mut S,
@@ -167,8 +164,8 @@ fn take_letters<S: Site, O: Sink>(
     requires ready { IsReady db.old (S.seen site.old) }
     requires user { IsUser db.old user.now }
     requires holds { HasSome bag.old user.now }
-    ensures told { IfOk result (λ told. ToldLetters db.old db.new (S.seen site.old) (S.seen site.new) user.now bag.old bag.new told.0 told.1 (O.seen sink.old) (O.seen sink.new)) }
-    ensures broken { (purge : Bool) → IfErr result (TurnBroken db.old db.new (S.seen site.old) (S.seen site.new) user.now bag.old purge (O.seen sink.old) (O.seen sink.new)) }
+    ensures told { IfOk result (λ told. ToldMessageFiles db.old db.new (S.seen site.old) (S.seen site.new) user.now bag.old bag.new told.0 told.1 (O.seen sink.old) (O.seen sink.new)) }
+    ensures broken { (purge : Bool) → IfErr result (PartnerPassBroken db.old db.new (S.seen site.old) (S.seen site.new) user.now bag.old purge (O.seen sink.old) (O.seen sink.new)) }
 {
     let mut reports = Vec::new(alloc);
     let outcome = receive(alloc, db, site, user, bag, &mut reports);
@@ -177,7 +174,8 @@ fn take_letters<S: Site, O: Sink>(
     told
 }
 
-/// Tells what came of a pass over a partner's letters: all of it, or what was done before the fault that ended it.
+/// Tells what came of a pass over a partner's message files: all of it, or what was done before the fault that ended it. Where the sink fails the run
+/// ends by that.
 fn tell_outcome<O: Sink>(
     alloc: Global,
     sink: &mut O,
@@ -185,17 +183,18 @@ fn tell_outcome<O: Sink>(
     outcome: Result<Received, ReceiveFault>,
     reports: &[Report],
 ) -> Result<(Received, u32), AgentFault>
-    ensures done { IfOk result (λ told. ToldTurn user.now outcome told.0 told.1 reports.now (O.seen sink.old) (O.seen sink.new)) }
+    ensures done { IfOk result (λ told. ToldPartnerPass user.now outcome told.0 told.1 reports.now (O.seen sink.old) (O.seen sink.new)) }
     ensures cause { IfErr result (OutcomeCause user.now outcome reports.now (O.seen sink.old) (O.seen sink.new)) }
 {
     match outcome {
         Ok(received) => {
-            let alarms = tell_turn(alloc, sink, user, received, reports)?;
+            tell_partner_pass(alloc, sink, user, received, reports)?;
+            let alarms = count_partner_pass(user, received, reports)?;
             Ok((received, alarms))
         }
         Err(fault) => {
-            let told = tell_reports(alloc, sink, reports);
-            Err(first_fault(AgentFault::from(fault), told))
+            tell_reports(alloc, sink, reports)?;
+            Err(AgentFault::from(fault))
         }
     }
 }

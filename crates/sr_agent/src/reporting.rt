@@ -1,65 +1,85 @@
 //! The texts of reports.
 
-ghost use Rattle.std.specs.Prelude.{◌≡◌, ◌++◌, ◌∷◌, codes, IfOk, OnOk};
+ghost use Rattle.std.specs.Prelude.{◌≡◌, ◌++◌, ◌∷◌, [], IfOk, OnErr, OnOk};
 ghost use Rattle.std.specs.Fmt.{decimal};
+ghost use Rattle.sr_agent.specs.Inner.Steps.{Added, ToldInPart};
 ghost use Rattle.sr_agent.specs.Lines.{alarms, clash_name, is_alarm, line_text, lines_text, numbers_behind, report as report_line, report_lines, report_text, shown, shown_byte};
 
-use itoa::Buffer;
+use crate::adding::{add, add_both, add_name, add_numbered};
 use sr_base::{Name, NoMemory, Text};
-use sr_gather::Report;
 use sr_logform::Clash;
+use sr_receive_gather::Report;
+use sr_site::{Failed, Sink};
 use std::alloc::AllocError;
 
-/// Appends a number.
-pub(crate) fn push_number(out: &mut Vec<u8>, number: u64) -> Result<(), NoMemory>
-    ensures ok { OnOk result (out.new.items ≡ out.old.items ++ decimal number) }
+/// Adds a partner's name and a number, behind a blank.
+#[tactic(auto, using(crate::proofs::Additions::adding))]
+fn add_number_behind<O: Sink>(
+    held: &mut Vec<u8>,
+    sink: &mut O,
+    user: &Name,
+    number: u64,
+) -> Result<(), Failed>
+    ensures added { OnOk result (Added (user.now ++ 32 ∷ decimal number) held.old.items held.new.items (O.seen sink.old) (O.seen sink.new)) }
+    ensures failed { OnErr result (ToldInPart (held.old.items ++ (user.now ++ 32 ∷ decimal number)) (O.seen sink.old) (O.seen sink.new)) }
 {
-    let mut buffer = Buffer::new();
-    out.extend_from_slice(buffer.format(number).as_bytes())
+    add_name(held, sink, user)?;
+    add_numbered(held, sink, b" ", number)?;
+    Ok(())
 }
 
-/// Appends words, and what stands behind them.
-pub(crate) fn push_both(out: &mut Vec<u8>, words: &[u8], behind: &[u8]) -> Result<(), NoMemory>
-    ensures ok { OnOk result (out.new.items ≡ out.old.items ++ words.now ++ behind.now) }
-{
-    out.extend_from_slice(words)?;
-    out.extend_from_slice(behind)
-}
-
-/// Appends words, and a number behind them.
-pub(crate) fn push_numbered(out: &mut Vec<u8>, words: &[u8], number: u64) -> Result<(), NoMemory>
-    ensures ok { OnOk result (out.new.items ≡ out.old.items ++ words.now ++ decimal number) }
-{
-    out.extend_from_slice(words)?;
-    push_number(out, number)
-}
-
-/// Appends a partner's name and two numbers, each behind a blank.
-fn push_numbers_behind(
-    out: &mut Vec<u8>,
+/// Adds a partner's name and two numbers, each behind a blank.
+#[tactic(auto, using(crate::proofs::Additions::adding))]
+fn add_numbers_behind<O: Sink>(
+    held: &mut Vec<u8>,
+    sink: &mut O,
     user: &Name,
     first: u64,
     second: u64,
-) -> Result<(), NoMemory>
-    ensures ok { OnOk result (out.new.items ≡ out.old.items ++ numbers_behind user.now first second) }
+) -> Result<(), Failed>
+    ensures added { OnOk result (Added (numbers_behind user.now first second) held.old.items held.new.items (O.seen sink.old) (O.seen sink.new)) }
+    ensures failed { OnErr result (ToldInPart (held.old.items ++ numbers_behind user.now first second) (O.seen sink.old) (O.seen sink.new)) }
 {
-    out.extend_from_slice(user.bytes())?;
-    push_numbered(out, b" ", first)?;
-    push_numbered(out, b" ", second)
+    add_number_behind(held, sink, user, first)?;
+    add_numbered(held, sink, b" ", second)?;
+    Ok(())
 }
 
-/// Appends words, and a partner's name and two numbers behind them.
-fn push_place(
-    out: &mut Vec<u8>,
+/// Adds words, and a partner's name and two numbers behind them.
+#[tactic(auto, using(crate::proofs::Additions::adding))]
+fn add_place<O: Sink>(
+    held: &mut Vec<u8>,
+    sink: &mut O,
     words: &[u8],
     user: &Name,
     first: u64,
     second: u64,
-) -> Result<(), NoMemory>
-    ensures ok { OnOk result (out.new.items ≡ out.old.items ++ words.now ++ numbers_behind user.now first second) }
+) -> Result<(), Failed>
+    ensures added { OnOk result (Added (words.now ++ numbers_behind user.now first second) held.old.items held.new.items (O.seen sink.old) (O.seen sink.new)) }
+    ensures failed { OnErr result (ToldInPart (held.old.items ++ (words.now ++ numbers_behind user.now first second)) (O.seen sink.old) (O.seen sink.new)) }
 {
-    out.extend_from_slice(words)?;
-    push_numbers_behind(out, user, first, second)
+    add(held, sink, words)?;
+    add_numbers_behind(held, sink, user, first, second)?;
+    Ok(())
+}
+
+/// Adds the same, and behind a blank what stands there.
+#[tactic(auto, using(crate::proofs::Additions::adding))]
+fn add_place_and<O: Sink>(
+    held: &mut Vec<u8>,
+    sink: &mut O,
+    words: &[u8],
+    user: &Name,
+    first: u64,
+    second: u64,
+    behind: &[u8],
+) -> Result<(), Failed>
+    ensures added { OnOk result (Added (words.now ++ numbers_behind user.now first second ++ 32 ∷ behind.now) held.old.items held.new.items (O.seen sink.old) (O.seen sink.new)) }
+    ensures failed { OnErr result (ToldInPart (held.old.items ++ (words.now ++ numbers_behind user.now first second ++ 32 ∷ behind.now)) (O.seen sink.old) (O.seen sink.new)) }
+{
+    add_place(held, sink, words, user, first, second)?;
+    add_both(held, sink, b" ", behind)?;
+    Ok(())
 }
 
 /// A byte of a file's name as a line shows it.
@@ -69,24 +89,44 @@ fn shown_byte(byte: u8) -> u8
     if byte < 32 || byte == 127 { b'?' } else { byte }
 }
 
-/// Appends a file's name as a line shows it: it may come from anybody, and forges no line.
-fn push_shown(out: &mut Vec<u8>, name: &Text) -> Result<(), NoMemory>
-    ensures ok { OnOk result (out.new.items ≡ out.old.items ++ shown name.now) }
+/// Adds a byte of a file's name as a line shows it.
+fn add_byte<O: Sink>(held: &mut Vec<u8>, sink: &mut O, byte: u8) -> Result<(), Failed>
+    ensures added { OnOk result (Added (shown_byte byte ∷ []) held.old.items held.new.items (O.seen sink.old) (O.seen sink.new)) }
+    ensures failed { OnErr result (ToldInPart (held.old.items ++ (shown_byte byte ∷ [])) (O.seen sink.old) (O.seen sink.new)) }
+{
+    let shown = [shown_byte(byte)];
+    add(held, sink, &shown)?;
+    Ok(())
+}
+
+/// Adds a file's name as a line shows it: it may come from anybody, and forges no line.
+#[tactic(auto, using(crate::proofs::Additions::adding_some))]
+fn add_shown<O: Sink>(held: &mut Vec<u8>, sink: &mut O, name: &Text) -> Result<(), Failed>
+    ensures added { OnOk result (Added (shown name.now) held.old.items held.new.items (O.seen sink.old) (O.seen sink.new)) }
+    ensures failed { OnErr result (ToldInPart (held.old.items ++ shown name.now) (O.seen sink.old) (O.seen sink.new)) }
 {
     let mut left = name.bytes();
     'bytes: while let Some((byte, rest)) = left.split_first() {
-        out.push(shown_byte(*byte))?;
+        add_byte(held, sink, *byte)?;
         left = rest;
     }
     Ok(())
 }
 
-/// Appends words, and a file's name behind them.
-fn push_file(out: &mut Vec<u8>, words: &[u8], name: &Text) -> Result<(), NoMemory>
-    ensures ok { OnOk result (out.new.items ≡ out.old.items ++ words.now ++ shown name.now) }
+/// Adds words, and a file's name behind them.
+#[tactic(auto, using(crate::proofs::Additions::adding))]
+fn add_file<O: Sink>(
+    held: &mut Vec<u8>,
+    sink: &mut O,
+    words: &[u8],
+    name: &Text,
+) -> Result<(), Failed>
+    ensures added { OnOk result (Added (words.now ++ shown name.now) held.old.items held.new.items (O.seen sink.old) (O.seen sink.new)) }
+    ensures failed { OnErr result (ToldInPart (held.old.items ++ (words.now ++ shown name.now)) (O.seen sink.old) (O.seen sink.new)) }
 {
-    out.extend_from_slice(words)?;
-    push_shown(out, name)
+    add(held, sink, words)?;
+    add_shown(held, sink, name)?;
+    Ok(())
 }
 
 /// Why an op was skipped.
@@ -105,61 +145,67 @@ fn clash_name(clash: Clash) -> &'static [u8]
     }
 }
 
-/// Appends that an op was skipped, and why.
-fn push_clash(
-    out: &mut Vec<u8>,
-    user: &Name,
-    at: u64,
-    op: u64,
-    clash: Clash,
-) -> Result<(), NoMemory>
-    ensures ok { OnOk result (out.new.items ≡ out.old.items ++ codes "clash " ++ numbers_behind user.now at op ++ 32 ∷ clash_name clash) }
-{
-    push_place(out, b"clash ", user, at, op)?;
-    push_both(out, b" ", clash_name(clash))
-}
-
-/// Appends what a report says.
-fn push_report_text(out: &mut Vec<u8>, report: &Report) -> Result<(), NoMemory>
-    ensures ok { OnOk result (out.new.items ≡ out.old.items ++ report_text report.now) }
+/// Adds what a report says.
+fn add_report_text<O: Sink>(held: &mut Vec<u8>, sink: &mut O, report: &Report) -> Result<(), Failed>
+    ensures added { OnOk result (Added (report_text report.now) held.old.items held.new.items (O.seen sink.old) (O.seen sink.new)) }
+    ensures failed { OnErr result (ToldInPart (held.old.items ++ report_text report.now) (O.seen sink.old) (O.seen sink.new)) }
 {
     match report {
-        Report::More => out.extend_from_slice(b"more"),
-        Report::Junk { name } => push_file(out, b"junk ", name),
-        Report::Stranger { name } => push_file(out, b"stranger ", name),
+        Report::More => add(held, sink, b"more"),
+        Report::Junk { name } => add_file(held, sink, b"junk ", name),
+        Report::Stranger { name } => add_file(held, sink, b"stranger ", name),
         Report::Conflict { user, at, op } => {
-            push_place(out, b"conflict ", user, at.0, u64::from(*op))
+            add_place(held, sink, b"conflict ", user, at.0, u64::from(*op))
         }
         Report::Clash {
             user,
             at,
             op,
             clash,
-        } => push_clash(out, user, at.0, u64::from(*op), *clash),
-        Report::Torn { user, prev, upto } => push_place(out, b"torn ", user, prev.0, upto.0),
+        } => add_place_and(
+            held,
+            sink,
+            b"clash ",
+            user,
+            at.0,
+            u64::from(*op),
+            clash_name(*clash),
+        ),
+        Report::Torn { user, prev, upto } => {
+            add_place(held, sink, b"torn ", user, prev.0, upto.0)
+        }
         Report::Gap {
             user,
             received,
             upto,
-        } => push_place(out, b"gap ", user, received.0, upto.0),
+        } => add_place(held, sink, b"gap ", user, received.0, upto.0),
     }
 }
 
-/// Appends the line of a report.
-fn push_report(out: &mut Vec<u8>, report: &Report) -> Result<(), NoMemory>
-    ensures ok { OnOk result (out.new.items ≡ out.old.items ++ line_text (report_line report.now)) }
+/// Adds the line of a report.
+#[tactic(auto, using(crate::proofs::Additions::adding))]
+fn add_report<O: Sink>(held: &mut Vec<u8>, sink: &mut O, report: &Report) -> Result<(), Failed>
+    ensures added { OnOk result (Added (line_text (report_line report.now)) held.old.items held.new.items (O.seen sink.old) (O.seen sink.new)) }
+    ensures failed { OnErr result (ToldInPart (held.old.items ++ line_text (report_line report.now)) (O.seen sink.old) (O.seen sink.new)) }
 {
-    push_report_text(out, report)?;
-    out.extend_from_slice(b"\n")
+    add_report_text(held, sink, report)?;
+    add(held, sink, b"\n")?;
+    Ok(())
 }
 
-/// Appends the lines of reports.
-pub(crate) fn push_reports(out: &mut Vec<u8>, reports: &[Report]) -> Result<(), NoMemory>
-    ensures ok { OnOk result (out.new.items ≡ out.old.items ++ lines_text (report_lines reports.now)) }
+/// Adds the lines of reports.
+#[tactic(auto, using(crate::proofs::Additions::adding_some))]
+pub(crate) fn add_reports<O: Sink>(
+    held: &mut Vec<u8>,
+    sink: &mut O,
+    reports: &[Report],
+) -> Result<(), Failed>
+    ensures added { OnOk result (Added (lines_text (report_lines reports.now)) held.old.items held.new.items (O.seen sink.old) (O.seen sink.new)) }
+    ensures failed { OnErr result (ToldInPart (held.old.items ++ lines_text (report_lines reports.now)) (O.seen sink.old) (O.seen sink.new)) }
 {
     let mut left = reports;
     'reports: while let Some((report, rest)) = left.split_first() {
-        push_report(out, report)?;
+        add_report(held, sink, report)?;
         left = rest;
     }
     Ok(())

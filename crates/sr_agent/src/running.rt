@@ -4,9 +4,9 @@ ghost use Rattle.std.specs.Prelude.{◌≡◌, ◌≤◌, ◌||◌, [], true, fa
 ghost use Rattle.std.specs.List.{AllByRecursion};
 ghost use Rattle.sr_database.specs.Databases.{HasDatabase};
 ghost use Rattle.sr_receive.specs.Entering.{IsReady};
-ghost use Rattle.sr_schema.specs.Members.{user_name};
+ghost use Rattle.sr_catalog_schema.specs.Members.{user_name};
 ghost use Rattle.sr_agent.specs.Agents.{RanAgent};
-ghost use Rattle.sr_agent.specs.Steps.{IsUser, MadePass, MaySendTo, PassBroken, SendingBroken, SendingDone};
+ghost use Rattle.sr_agent.specs.Inner.Steps.{IsUser, MadePass, MaySendTo, PassBroken, SendingBroken, SendingDone};
 
 use crate::fault::AgentFault;
 use crate::options::Options;
@@ -22,7 +22,7 @@ use std::alloc::Global;
 /// Runs the agent once on an opened database, and answers how many lines told of something amiss.
 ///
 /// With the receive pass the folder of the publisher's name is listed once and each listed file is fetched once. Then each partner, in order of
-/// grant, has his turn: what his letters confirm and ask for is noted, their windows are taken as far as they reach, and where one ends past
+/// grant, has his pass: what his message files confirm and ask for is noted, their windows are taken as far as they reach, and where one ends past
 /// that, this is raised. Dead files are removed where `purge` says so. With the send pass each partner, in the same order, is sent what the log
 /// gives him past what he was sent; with an ask where something was raised in this run. Without the receive pass nothing is asked.
 ///
@@ -30,9 +30,10 @@ use std::alloc::Global;
 /// `clash USER OFFSET N WHY` as ops were taken, `torn USER PREV UPTO`, `from USER took N up to OFFSET` and `gap USER OFFSET UPTO`; these are written
 /// before his dead files are removed. Last comes `to USER put K up to OFFSET` for each. All but `conflict`, `from` and `to` tell of something amiss.
 ///
-/// The first fault ends the run: what was done before stands, and its lines are written. `Disk`, `Mail` and `Sink` come only where that device's
-/// count of faults rose; `Full` and `Long` where an entry has no room or is too long, or the encoding of a transaction. Where the lines of what was
-/// done cannot be written, the run ends by that. No clock is asked for yet.
+/// The first fault ends the run: what was done before stands, and its lines are written, for which no memory has to be there. `Disk` and `Mail` come only
+/// where that device's count of faults rose and no other did; `Full` and `Long` where an entry has no room or is too long, or the encoding of a
+/// transaction, and no count rose. Where the sink fails as lines are written the run ends by that, whatever else would have ended it. No clock is asked
+/// for yet.
 pub fn agent<S: Site, O: Sink>(
     alloc: Global,
     db: &mut Database,
@@ -47,7 +48,7 @@ pub fn agent<S: Site, O: Sink>(
     requires no_restart { options.now.restart ≡ false }
     requires least { 10000 ≤ options.now.length }
     requires most { options.now.length ≤ 1048576 }
-    requires stands { IsTrue (S.seen site.old).told → HasDatabase db.old (S.seen site.old) }
+    requires stands { IsTrue (S.seen site.old).observable → HasDatabase db.old (S.seen site.old) }
     ensures ran { RanAgent db.old db.new (S.seen site.old) (S.seen site.new) (O.seen sink.old) (O.seen sink.new) options.now result }
 {
     let _now = now;

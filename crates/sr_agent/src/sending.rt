@@ -3,7 +3,7 @@
 ghost use Rattle.std.specs.Prelude.{◌≤◌, IfErr, OnOk};
 ghost use Rattle.std.specs.List.{AllByRecursion};
 ghost use Rattle.sr_receive.specs.Entering.{IsReady};
-ghost use Rattle.sr_agent.specs.Steps.{DeliveriesBroken, DeliveriesDone, DeliveryBroken, DeliveryDone, KeepsPartners, MaySendTo};
+ghost use Rattle.sr_agent.specs.Inner.Steps.{DeliveriesBroken, DeliveriesDone, DeliveryBroken, DeliveryDone, KeepsPartners, MaySendTo};
 
 use crate::fault::AgentFault;
 use crate::partner::Partner;
@@ -57,5 +57,6 @@ fn send_to<S: Site, O: Sink>(
     ensures broken { IfErr result (DeliveryBroken db.old db.new (S.seen site.old) (S.seen site.new) length partner.now (O.seen sink.old) (O.seen sink.new)) }
 {
     let sent = send(alloc, db, site, &partner.user, length, partner.ask)?;
-    tell_delivery(alloc, sink, &partner.user, sent)
+    tell_delivery(alloc, sink, &partner.user, sent)?;
+    Ok(())
 }

@@ -1,151 +1,185 @@
 //! The lines of what was done, written.
 
-ghost use Rattle.std.specs.Prelude.{◌≡◌, ◌++◌, ◌∷◌, [], List, IfErr, IfOk, OnOk};
+ghost use Rattle.std.specs.Prelude.{◌≡◌, ◌++◌, ◌∷◌, [], List, IfOk, OnErr, OnOk};
+ghost use Rattle.std.specs.Fmt.{decimal};
 ghost use Rattle.sr_agent.specs.Lines.{alarms, line_text, lines_text, received as received_line, report_lines, sent as sent_line};
-ghost use Rattle.sr_agent.specs.Steps.{IsParted, TellCause, Told};
-ghost use Rattle.sr_gather.specs.declared.report.Report.{Report as AReport};
+ghost use Rattle.sr_agent.specs.Inner.Steps.{Added, IsParted, Told, ToldInPart};
+ghost use Rattle.sr_receive_gather.specs.declared.report.Report.{Report as AReport};
+ghost use Rattle.sr_session_script.specs.Acts.{line};
 
-use crate::fault::AgentFault;
-use crate::reporting::{count_alarms, push_both, push_numbered, push_reports};
+use crate::adding::{add, add_name, add_number};
+use crate::reporting::{add_reports, count_alarms};
 use sr_base::{Name, NoMemory};
-use sr_gather::Report;
 use sr_receive::Received;
+use sr_receive_gather::Report;
 use sr_send::Sent;
 use sr_session::say;
-use sr_site::Sink;
+use sr_site::{Failed, Sink};
 use std::alloc::Global;
 
-/// Writes lines.
-fn tell<O: Sink>(sink: &mut O, lines: &[u8]) -> Result<(), AgentFault>
-    ensures told { OnOk result (Told lines.now (O.seen sink.old) (O.seen sink.new)) }
-    ensures cause { IfErr result (TellCause lines.now (O.seen sink.old) (O.seen sink.new)) }
+/// Writes what is held.
+fn tell<O: Sink>(sink: &mut O, held: &[u8]) -> Result<(), Failed>
+    ensures told { OnOk result (Told held.now (O.seen sink.old) (O.seen sink.new)) }
+    ensures failed { OnErr result (ToldInPart held.now (O.seen sink.old) (O.seen sink.new)) }
 {
-    match say(sink, lines) {
-        Ok(()) => Ok(()),
-        Err(_) => Err(AgentFault::Sink),
-    }
+    say(sink, held)?;
+    Ok(())
 }
 
-/// The lines of reports.
-fn lines_of_reports(alloc: Global, reports: &[Report]) -> Result<Vec<u8>, NoMemory>
-    ensures lines { IfOk result (λ lines. lines.items ≡ lines_text (report_lines reports.now)) }
-{
-    let mut lines = Vec::new(alloc);
-    push_reports(&mut lines, reports)?;
-    Ok(lines)
-}
-
-/// Tells reports, and answers how many lines told of something amiss.
+/// Tells reports.
+#[tactic(auto, using(crate::proofs::Additions::telling))]
 pub(crate) fn tell_reports<O: Sink>(
     alloc: Global,
     sink: &mut O,
     reports: &[Report],
-) -> Result<u32, AgentFault>
+) -> Result<(), Failed>
     ensures told { OnOk result (Told (lines_text (report_lines reports.now)) (O.seen sink.old) (O.seen sink.new)) }
-    ensures count { IfOk result (λ count. count ≡ alarms (report_lines reports.now)) }
-    ensures cause { IfErr result (TellCause (lines_text (report_lines reports.now)) (O.seen sink.old) (O.seen sink.new)) }
+    ensures failed { OnErr result (ToldInPart (lines_text (report_lines reports.now)) (O.seen sink.old) (O.seen sink.new)) }
 {
-    let count = count_alarms(reports)?;
-    let lines = lines_of_reports(alloc, reports)?;
-    let told = tell(sink, lines.as_slice());
-    drop(lines);
-    match told {
-        Ok(()) => Ok(count),
-        Err(fault) => Err(fault),
-    }
+    let mut held = Vec::new(alloc);
+    add_reports(&mut held, sink, reports)?;
+    tell(sink, held.as_slice())?;
+    Ok(())
 }
 
-/// The reports of a turn in two parts: those of ops and of torn windows, and that of what was not reached.
+/// The reports of a partner's pass in two parts: those of ops and of torn windows, and that of what was not reached.
 fn parted(reports: &[Report], ask: bool) -> (&[Report], &[Report])
-    ensures parts { (front behind : List AReport) → IsParted reports.now ask front behind → (result.0.now ≡ front) × (result.1.now ≡ behind) }
+    ensures parts { (prefix behind : List AReport) → IsParted reports.now ask prefix behind → (result.0.now ≡ prefix) × (result.1.now ≡ behind) }
 {
     let missing = if ask { 1 } else { 0 };
     reports.split_at(reports.len().saturating_sub(missing))
 }
 
-/// Appends how much was taken from a partner: `from USER took N up to OFFSET`.
-fn push_received(out: &mut Vec<u8>, user: &Name, received: Received) -> Result<(), NoMemory>
-    ensures ok { OnOk result (out.new.items ≡ out.old.items ++ line_text (received_line user.now received.took received.end.0)) }
+/// Adds a line: words and a partner's name, and two numbers, each behind words.
+fn add_counts<O: Sink>(
+    held: &mut Vec<u8>,
+    sink: &mut O,
+    words: &[u8],
+    user: &Name,
+    before: &[u8],
+    count: u64,
+    between: &[u8],
+    end: u64,
+) -> Result<(), Failed>
+    ensures added { OnOk result (Added (line (words.now ++ user.now ++ before.now ++ decimal count ++ between.now ++ decimal end)) held.old.items held.new.items (O.seen sink.old) (O.seen sink.new)) }
+    ensures failed { OnErr result (ToldInPart (held.old.items ++ line (words.now ++ user.now ++ before.now ++ decimal count ++ between.now ++ decimal end)) (O.seen sink.old) (O.seen sink.new)) }
 {
-    push_both(out, b"from ", user.bytes())?;
-    push_numbered(out, b" took ", received.took)?;
-    push_numbered(out, b" up to ", received.end.0)?;
-    out.extend_from_slice(b"\n")
+    add(held, sink, words)?;
+    add_name(held, sink, user)?;
+    add(held, sink, before)?;
+    add_number(held, sink, count)?;
+    add(held, sink, between)?;
+    add_number(held, sink, end)?;
+    add(held, sink, b"\n")?;
+    Ok(())
 }
 
-/// Appends the lines of a turn, whose reports stand in two parts.
-fn push_turn(
-    out: &mut Vec<u8>,
+/// Adds how much was taken from a partner: `from USER took N up to OFFSET`.
+fn add_received<O: Sink>(
+    held: &mut Vec<u8>,
+    sink: &mut O,
     user: &Name,
     received: Received,
-    front: &[Report],
+) -> Result<(), Failed>
+    ensures added { OnOk result (Added (line_text (received_line user.now received.took received.end.0)) held.old.items held.new.items (O.seen sink.old) (O.seen sink.new)) }
+    ensures failed { OnErr result (ToldInPart (held.old.items ++ line_text (received_line user.now received.took received.end.0)) (O.seen sink.old) (O.seen sink.new)) }
+{
+    let end = received.end.0;
+    add_counts(
+        held,
+        sink,
+        b"from ",
+        user,
+        b" took ",
+        received.took,
+        b" up to ",
+        end,
+    )
+}
+
+/// Adds the lines of a partner's pass, whose reports stand in two parts.
+#[tactic(auto, using(crate::proofs::Additions::adding))]
+fn add_partner_pass<O: Sink>(
+    held: &mut Vec<u8>,
+    sink: &mut O,
+    user: &Name,
+    received: Received,
+    prefix: &[Report],
     behind: &[Report],
-) -> Result<(), NoMemory>
-    ensures ok { OnOk result (out.new.items ≡ out.old.items ++ lines_text (report_lines front.now ++ received_line user.now received.took received.end.0 ∷ report_lines behind.now)) }
+) -> Result<(), Failed>
+    ensures added { OnOk result (Added (lines_text (report_lines prefix.now) ++ line_text (received_line user.now received.took received.end.0) ++ lines_text (report_lines behind.now)) held.old.items held.new.items (O.seen sink.old) (O.seen sink.new)) }
+    ensures failed { OnErr result (ToldInPart (held.old.items ++ (lines_text (report_lines prefix.now) ++ line_text (received_line user.now received.took received.end.0) ++ lines_text (report_lines behind.now))) (O.seen sink.old) (O.seen sink.new)) }
 {
-    push_reports(out, front)?;
-    push_received(out, user, received)?;
-    push_reports(out, behind)
+    add_reports(held, sink, prefix)?;
+    add_received(held, sink, user, received)?;
+    add_reports(held, sink, behind)?;
+    Ok(())
 }
 
-/// The lines of a turn.
-fn lines_of_turn(
+/// Tells a partner's pass, whose reports stand in two parts.
+#[tactic(auto, using(crate::proofs::Additions::telling))]
+fn tell_parts<O: Sink>(
     alloc: Global,
+    sink: &mut O,
     user: &Name,
     received: Received,
-    reports: &[Report],
-) -> Result<Vec<u8>, NoMemory>
-    ensures lines { (front behind : List AReport) → IsParted reports.now received.ask front behind
-        → IfOk result (λ lines. lines.items ≡ lines_text (report_lines front ++ received_line user.now received.took received.end.0 ∷ report_lines behind)) }
+    prefix: &[Report],
+    behind: &[Report],
+) -> Result<(), Failed>
+    ensures told { OnOk result (Told (lines_text (report_lines prefix.now) ++ line_text (received_line user.now received.took received.end.0) ++ lines_text (report_lines behind.now)) (O.seen sink.old) (O.seen sink.new)) }
+    ensures failed { OnErr result (ToldInPart (lines_text (report_lines prefix.now) ++ line_text (received_line user.now received.took received.end.0) ++ lines_text (report_lines behind.now)) (O.seen sink.old) (O.seen sink.new)) }
 {
-    let (front, behind) = parted(reports, received.ask);
-    let mut lines = Vec::new(alloc);
-    push_turn(&mut lines, user, received, front, behind)?;
-    Ok(lines)
+    let mut held = Vec::new(alloc);
+    add_partner_pass(&mut held, sink, user, received, prefix, behind)?;
+    tell(sink, held.as_slice())?;
+    Ok(())
 }
 
-/// Tells a turn, and answers how many lines told of something amiss.
-pub(crate) fn tell_turn<O: Sink>(
+/// Tells a partner's pass.
+pub(crate) fn tell_partner_pass<O: Sink>(
     alloc: Global,
     sink: &mut O,
     user: &Name,
     received: Received,
     reports: &[Report],
-) -> Result<u32, AgentFault>
-    ensures told { (front behind : List AReport) → IsParted reports.now received.ask front behind
-        → OnOk result (Told (lines_text (report_lines front ++ received_line user.now received.took received.end.0 ∷ report_lines behind)) (O.seen sink.old) (O.seen sink.new)) }
-    ensures count { (front behind : List AReport) → IsParted reports.now received.ask front behind
-        → IfOk result (λ count. count ≡ alarms (report_lines front ++ received_line user.now received.took received.end.0 ∷ report_lines behind)) }
-    ensures cause { (front behind : List AReport) → IsParted reports.now received.ask front behind
-        → IfErr result (TellCause (lines_text (report_lines front ++ received_line user.now received.took received.end.0 ∷ report_lines behind)) (O.seen sink.old) (O.seen sink.new)) }
+) -> Result<(), Failed>
+    ensures told { (prefix behind : List AReport) → IsParted reports.now received.ask prefix behind
+        → OnOk result (Told (lines_text (report_lines prefix ++ received_line user.now received.took received.end.0 ∷ report_lines behind)) (O.seen sink.old) (O.seen sink.new)) }
+    ensures failed { (prefix behind : List AReport) → IsParted reports.now received.ask prefix behind
+        → OnErr result (ToldInPart (lines_text (report_lines prefix ++ received_line user.now received.took received.end.0 ∷ report_lines behind)) (O.seen sink.old) (O.seen sink.new)) }
+{
+    let (prefix, behind) = parted(reports, received.ask);
+    tell_parts(alloc, sink, user, received, prefix, behind)?;
+    Ok(())
+}
+
+/// How many lines of a partner's pass tell of something amiss: of those that are not reports, none.
+pub(crate) fn count_partner_pass(
+    _user: &Name,
+    received: Received,
+    reports: &[Report],
+) -> Result<u32, NoMemory>
+    ensures count { (prefix behind : List AReport) → IsParted reports.now received.ask prefix behind
+        → IfOk result (λ count. count ≡ alarms (report_lines prefix ++ received_line _user.now received.took received.end.0 ∷ report_lines behind)) }
 {
     let count = count_alarms(reports)?;
-    let lines = lines_of_turn(alloc, user, received, reports)?;
-    let told = tell(sink, lines.as_slice());
-    drop(lines);
-    match told {
-        Ok(()) => Ok(count),
-        Err(fault) => Err(fault),
-    }
+    Ok(count)
 }
 
-/// Appends what was put for a partner: `to USER put K up to OFFSET`.
-fn push_delivery(out: &mut Vec<u8>, user: &Name, sent: Sent) -> Result<(), NoMemory>
-    ensures ok { OnOk result (out.new.items ≡ out.old.items ++ line_text (sent_line user.now sent.put sent.end.0)) }
+/// Adds what was put for a partner: `to USER put K up to OFFSET`.
+fn add_delivery<O: Sink>(
+    held: &mut Vec<u8>,
+    sink: &mut O,
+    user: &Name,
+    sent: Sent,
+) -> Result<(), Failed>
+    ensures added { OnOk result (Added (line_text (sent_line user.now sent.put sent.end.0)) held.old.items held.new.items (O.seen sink.old) (O.seen sink.new)) }
+    ensures failed { OnErr result (ToldInPart (held.old.items ++ line_text (sent_line user.now sent.put sent.end.0)) (O.seen sink.old) (O.seen sink.new)) }
 {
-    push_both(out, b"to ", user.bytes())?;
-    push_numbered(out, b" put ", u64::from(sent.put))?;
-    push_numbered(out, b" up to ", sent.end.0)?;
-    out.extend_from_slice(b"\n")
-}
-
-/// The line of what was put for a partner.
-fn line_of_delivery(alloc: Global, user: &Name, sent: Sent) -> Result<Vec<u8>, NoMemory>
-    ensures line { IfOk result (λ line. line.items ≡ lines_text (sent_line user.now sent.put sent.end.0 ∷ [])) }
-{
-    let mut line = Vec::new(alloc);
-    push_delivery(&mut line, user, sent)?;
-    Ok(line)
+    let put = u64::from(sent.put);
+    add_counts(
+        held, sink, b"to ", user, b" put ", put, b" up to ", sent.end.0,
+    )
 }
 
 /// Tells what was put for a partner.
@@ -154,12 +188,12 @@ pub(crate) fn tell_delivery<O: Sink>(
     sink: &mut O,
     user: &Name,
     sent: Sent,
-) -> Result<(), AgentFault>
+) -> Result<(), Failed>
     ensures told { OnOk result (Told (lines_text (sent_line user.now sent.put sent.end.0 ∷ [])) (O.seen sink.old) (O.seen sink.new)) }
-    ensures cause { IfErr result (TellCause (lines_text (sent_line user.now sent.put sent.end.0 ∷ [])) (O.seen sink.old) (O.seen sink.new)) }
+    ensures failed { OnErr result (ToldInPart (lines_text (sent_line user.now sent.put sent.end.0 ∷ [])) (O.seen sink.old) (O.seen sink.new)) }
 {
-    let line = line_of_delivery(alloc, user, sent)?;
-    let told = tell(sink, line.as_slice());
-    drop(line);
-    told
+    let mut held = Vec::new(alloc);
+    add_delivery(&mut held, sink, user, sent)?;
+    tell(sink, held.as_slice())?;
+    Ok(())
 }

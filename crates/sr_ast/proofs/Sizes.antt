@@ -1,6 +1,6 @@
 -- An action is no larger than the actions that it stands among.
 use Rattle.std.proofs.Common.{◌≡◌, ℕ, zero, suc, ◌+◌, ◌<◌, ◌≤◌, List, [], ◌∷◌, length, get_or, arith}
-use Rattle.sr_ast.specs.Chains.{chain_size}
+use Rattle.sr_ast.specs.Inner.Chains.{chain_size}
 use Rattle.sr_ast.specs.Actions.{chain_of}
 use Rattle.sr_ast.specs.declared.action.Action.{Action}
 use Rattle.sr_ast.specs.declared.action.Action.TheVariants.{Set, Insert, If, IfElse}

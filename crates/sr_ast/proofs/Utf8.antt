@@ -8,8 +8,8 @@ use Rattle.std.proofs.lemmas.Bool.Decides.{nat_tests}
 use Rattle.std.proofs.lemmas.Str.{IsUtf8-from_ascii, IsUtf8-append, IsUtf8-nil, inside_one}
 use Rattle.std.proofs.lemmas.Str.Ascii.{IsAscii-nil, IsAscii-cons}
 use Rattle.sr_base.specs.Names.{is_lower_name, is_first, is_later}
-use Rattle.sr_dates.specs.Literals.{quotes_doubled}
-use Rattle.sr_dates.specs.Calendar.{date_text, date_at, two_digits, four_digits}
+use Rattle.sr_base_dates.specs.Literals.{quotes_doubled}
+use Rattle.sr_base_dates.specs.Calendar.{date_text, date_at, two_digits, four_digits}
 use Rattle.sr_ast.specs.Printing.{quoted}
 
 later_ascii : (b : ℕ) → is_later b ≡ true → b < 128

@@ -1,7 +1,5 @@
 -- The class of an expression.
-use Rattle.std.specs.Prelude.{◌≡◌, ℕ, Bool, true, false, ◌&&◌, cond, List, [], ◌∷◌, Option, Some, None, Result, Ok, Err, bytes_eq, refl}
-use Rattle.std.specs.Option.{option_and_then}
-use Rattle.std.specs.List.{position}
+use Rattle.std.specs.Prelude.{ℕ, Bool, true, false, ◌&&◌, cond, List, [], ◌∷◌, Option, Some, None, bytes_eq}
 use Rattle.sr_base.specs.declared.value.Value.{Value}
 use Rattle.sr_base.specs.declared.value.Value.TheVariants as value
 use Rattle.sr_base.specs.declared.value.Kind.{Kind}
@@ -16,8 +14,6 @@ use Rattle.sr_ast.specs.declared.classes.Class.{Class}
 use Rattle.sr_ast.specs.declared.classes.Class.TheVariants.{Number, Text, Date, Truth, Any}
 use Rattle.sr_ast.specs.declared.classes.Typing.{Typing}
 use Rattle.sr_ast.specs.declared.classes.Typing.TheVariants.{Known, Unknown, Clash}
-use Rattle.sr_ast.specs.declared.classes.NotTyped.{NotTyped}
-use Rattle.sr_ast.specs.declared.classes.NotTyped.TheVariants.{Wrong, Memory}
 
 -- the class of a literal; NULL has each class
 abbrev pub value_class : Value → Class
@@ -114,10 +110,6 @@ abbrev pub kind_of : List (Option (List ℕ) × List ℕ × Kind) → Option (Li
 kind_of [] table reference = None
 kind_of (c ∷ columns) table reference = cond (is_meant c.0 c.1 table reference) (Some c.2) (kind_of columns table reference)
 
--- its place among them
-abbrev pub place_of : List (Option (List ℕ) × List ℕ × Kind) → Option (List ℕ) → List ℕ → Option ℕ
-place_of columns table reference = position (λ c. is_meant c.0 c.1 table reference) columns
-
 -- a class, or a clash
 abbrev pub typed : Option Class → Typing
 typed (Some c) = Known c
@@ -149,13 +141,6 @@ typing columns (column t n) = column_typing n (kind_of columns t n)
 typing columns (unary op a) = unary_typing op (typing columns a)
 typing columns (binary op a b) = binary_typing op (typing columns a) (typing columns b)
 
--- what is answered is what the expression has, unless there is no memory
-abbrev pub IsTyped : Result Class NotTyped → Typing → Type 0
-IsTyped (Ok c) found = found ≡ Known c
-IsTyped (Err (Wrong (Some name))) found = found ≡ Unknown name
-IsTyped (Err (Wrong None)) found = found ≡ Clash
-IsTyped (Err Memory) found = Unit {0}
-
 -- the class, where there is one
 abbrev pub known_class : Typing → Option Class
 known_class (Known c) = Some c
@@ -165,31 +150,6 @@ known_class Clash = None
 -- the class that an expression has over these columns, if it has one
 abbrev pub class_in : List (Option (List ℕ) × List ℕ × Kind) → Term → Option Class
 class_in columns t = known_class (typing columns t)
-
-known_typed : (c : Option Class) → known_class (typed c) ≡ c
-known_typed None = refl
-known_typed (Some c) = refl
-
-known_unary : (op : Unary) (a : Typing) → known_class (unary_typing op a) ≡ option_and_then (unary_class op) (known_class a)
-known_unary op (Known c) = known_typed (unary_class op c)
-known_unary op (Unknown name) = refl
-known_unary op Clash = refl
-
-known_binary : (op : Binary) (a b : Typing) → known_class (binary_typing op a b) ≡ option_and_then (λ c. option_and_then (binary_class op c) (known_class b)) (known_class a)
-known_binary op (Known c) (Known d) = known_typed (binary_class op c d)
-known_binary op (Known c) (Unknown name) = refl
-known_binary op (Known c) Clash = refl
-known_binary op (Unknown name) b = refl
-known_binary op Clash (Known d) = refl
-known_binary op Clash (Unknown name) = refl
-known_binary op Clash Clash = refl
-
--- the class of an operator's expression is by the classes of its operands
-pub class_in-unary : (columns : List (Option (List ℕ) × List ℕ × Kind)) (op : Unary) (a : Term) → class_in columns (unary op a) ≡ option_and_then (unary_class op) (class_in columns a)
-class_in-unary columns op a = known_unary op (typing columns a)
-
-pub class_in-binary : (columns : List (Option (List ℕ) × List ℕ × Kind)) (op : Binary) (a b : Term) → class_in columns (binary op a b) ≡ option_and_then (λ c. option_and_then (binary_class op c) (class_in columns b)) (class_in columns a)
-class_in-binary columns op a b = known_binary op (typing columns a) (typing columns b)
 
 -- the leftmost column that is not there, if there is one
 abbrev pub unknown_column : Typing → Option (List ℕ)

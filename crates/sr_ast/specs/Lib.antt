@@ -1,9 +1,7 @@
-pub mod ActionFalls
 pub mod Actions
 pub mod Chains
 pub mod Classes
 pub mod Exprs
-pub mod Falls
 pub mod Keywords
 pub mod Layout
 pub mod Normal
@@ -13,3 +11,4 @@ pub mod Printing
 pub mod Statements
 pub mod Terms
 pub mod Uses
+pub mod Inner

@@ -1,8 +1,8 @@
 -- How each statement prints: key words in upper case, names in lower case, each operand that is itself an operator in parentheses.
 use Rattle.std.specs.Prelude.{ℕ, Bool, true, false, cond, List, [], ◌∷◌, ◌++◌, Option, Some, None, codes, decimal}
 use Rattle.std.specs.Fmt.{signed_decimal}
-use Rattle.sr_dates.specs.Calendar.{date_text}
-use Rattle.sr_dates.specs.Literals.{quotes_doubled}
+use Rattle.sr_base_dates.specs.Calendar.{date_text}
+use Rattle.sr_base_dates.specs.Literals.{quotes_doubled}
 use Rattle.sr_base.specs.declared.value.Value.{Value}
 use Rattle.sr_base.specs.declared.value.Value.TheVariants as value
 use Rattle.sr_base.specs.declared.value.Kind.{Kind}

@@ -29,7 +29,8 @@ pub struct Actions {
 }
 
 impl Model for Actions {
-    ghost use Rattle.sr_ast.specs.Chains.{Chain, chain_code, chain_size};
+    ghost use Rattle.sr_ast.specs.Chains.{Chain};
+    ghost use Rattle.sr_ast.specs.Inner.Chains.{chain_code, chain_size};
 
     ghost Value = { Chain };
 
@@ -41,7 +42,7 @@ impl Model for Actions {
 
     ghost size = { chain_size };
 
-    ghost use Rattle.sr_ast.specs.ActionFalls.{actions_fall};
+    ghost use Rattle.sr_ast.specs.Inner.ActionFalls.{actions_fall};
 
     ghost size_decreases = { λ a h. actions_fall a.actions.items };
 }

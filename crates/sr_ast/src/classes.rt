@@ -1,24 +1,8 @@
 ghost use Rattle.std.specs.Prelude.{◌≡◌, ◌<◌, Option, List, ℕ, IfOk, IfSome, bytes_eq, length};
 ghost use Rattle.sr_base.specs.declared.value.Kind.{Kind};
 ghost use Rattle.sr_ast.specs.Exprs.{term_of};
-ghost use Rattle.sr_ast.specs.Classes.{
-  value_class,
-  kind_class,
-  unary_class,
-  binary_class,
-  is_truth,
-  is_number,
-  is_comparable,
-  is_meant,
-  kind_of,
-  place_of,
-  typed,
-  column_typing,
-  unary_typing,
-  binary_typing,
-  typing,
-  IsTyped,
-};
+ghost use Rattle.sr_ast.specs.Classes.{value_class, kind_class, unary_class, binary_class, is_truth, is_number, is_comparable, is_meant, kind_of, typed, column_typing, unary_typing, binary_typing, typing};
+ghost use Rattle.sr_ast.specs.Inner.Classes.{place_of, IsTyped};
 
 use crate::expr::{Expr, Operand};
 use crate::operator::{Binary, Unary};

@@ -29,7 +29,8 @@ pub struct Operand {
 }
 
 impl Model for Operand {
-    ghost use Rattle.sr_ast.specs.Terms.{Term, term_code, term_size};
+    ghost use Rattle.sr_ast.specs.Terms.{Term};
+    ghost use Rattle.sr_ast.specs.Inner.Terms.{term_code, term_size};
 
     ghost Value = { Term };
 
@@ -41,7 +42,7 @@ impl Model for Operand {
 
     ghost size = { term_size };
 
-    ghost use Rattle.sr_ast.specs.Falls.{operand_falls};
+    ghost use Rattle.sr_ast.specs.Inner.Falls.{operand_falls};
 
     ghost size_decreases = { λ o h. operand_falls o.expr.value };
 }

@@ -1,6 +1,6 @@
 ghost use Rattle.std.specs.Prelude.{◌≡◌, ◌∷◌, ◌++◌, [], codes, List, ℕ, IfOk, string_bytes, OnOk, IsUtf8};
 ghost use Rattle.std.specs.Fmt.{signed_decimal};
-ghost use Rattle.sr_dates.specs.Calendar.{date_text};
+ghost use Rattle.sr_base_dates.specs.Calendar.{date_text};
 ghost use Rattle.sr_ast.specs.Exprs.{term_of};
 ghost use Rattle.sr_ast.specs.Pages.{put_all, word, call_parenthesis, close_parenthesis};
 ghost use Rattle.sr_ast.specs.Printing.{
@@ -22,7 +22,7 @@ use crate::operator::{Binary, Unary};
 use crate::page::Page;
 use crate::printing::Printed;
 use sr_base::{Day, Kind, Name, NoMemory, Text, Value};
-use sr_dates::write_literal;
+use sr_base_dates::write_literal;
 use std::alloc::Global;
 
 impl Printed for Name {

@@ -1,5 +1,6 @@
 ghost use Rattle.std.specs.Prelude.{◌≡◌};
-ghost use Rattle.sr_ast.specs.Statements.{form, is_ddl, is_carried};
+ghost use Rattle.sr_ast.specs.Statements.{is_ddl, is_carried};
+ghost use Rattle.sr_ast.specs.Inner.Statements.{form};
 
 use crate::create::{CreatePublication, CreateTable, CreateTrigger, Grant, SubscriptionRule};
 use crate::form::Form;

@@ -7,8 +7,9 @@ use Rattle.std.specs.FinMap.{slice_cmp-IsAntisymmetric}
 use Rattle.sr_base.specs.declared.value.Value.{Value}
 use Rattle.std.specs.Cmp.{tied_itself}
 use Rattle.std.specs.declared.cmp.Ordering.TheVariants.{Equal}
-use Rattle.sr_base.specs.Codes.{Parts, parts, whole, whole-parts}
-use Rattle.sr_base.specs.Order.{value_cmp, key_cmp, key_cmp_total}
+use Rattle.sr_base.specs.Inner.Codes.{Parts, parts, whole, whole-parts}
+use Rattle.sr_base.specs.Order.{value_cmp, key_cmp}
+use Rattle.sr_base.specs.Inner.Order.{key_cmp_total}
 
 exact_worths : CmpEqualImpliesEq (λ (x y : ℤ × List ℕ). ordering_then (int_cmp x.0 y.0) (slice_cmp nat_cmp x.1 y.1))
 exact_worths = exact_pairs int_cmp (slice_cmp nat_cmp) exact_signed exact_bytes

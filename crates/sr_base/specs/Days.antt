@@ -1,3 +1,4 @@
+-- Which numbers of days are dates.
 use Rattle.std.specs.Prelude.{ℤ, pos, negsuc, ◌≤ℤ◌}
 
 -- days since 1970-01-01, from 0001-01-01 to 9999-12-31

@@ -1,3 +1,4 @@
+-- Which numbers an INTEGER holds.
 use Rattle.std.specs.Prelude.{◌-◌, ◌^◌, int_le, Bool, ◌&&◌, ℤ, pos, neg_ℤ}
 
 -- 32 bits hold the number

@@ -1,8 +1,8 @@
+-- The order of values: by their class, and within it by number or by bytes.
 use Rattle.std.specs.Prelude.{ℕ, nat_eq, nat_lt, ◌&&◌, if◌then◌else◌, ℤ, pos, List, [], Option, Some, None}
 use Rattle.std.specs.declared.cmp.Ordering.{Ordering}
 use Rattle.std.specs.Ordering.{nat_cmp, int_cmp, on, then_cmp}
-use Rattle.std.specs.Cmp.{IsTotalOrder, then_total, on_total, nat_cmp_total, int_cmp_total}
-use Rattle.std.specs.Cmp.Lexicographic.{slice_cmp, lists_total, nat_list_cmp_total}
+use Rattle.std.specs.Cmp.Lexicographic.{slice_cmp}
 use Rattle.sr_base.specs.declared.value.Value.{Value}
 use Rattle.sr_base.specs.declared.value.Value.TheVariants.{Null, Int, Big, Str, Date}
 
@@ -57,12 +57,3 @@ name_cmp = slice_cmp nat_cmp
 -- the order of keys: value by value, a prefix first
 abbrev pub key_cmp : List Value → List Value → Ordering
 key_cmp = slice_cmp value_cmp
-
-pub value_cmp_total : IsTotalOrder value_cmp
-value_cmp_total = then_total (on_total class_rank nat_cmp_total) (then_total (then_total (on_total number_of int_cmp_total) (on_total bytes_of nat_list_cmp_total)) (on_total width_of nat_cmp_total))
-
-pub key_cmp_total : IsTotalOrder key_cmp
-key_cmp_total = lists_total value_cmp_total
-
-pub name_cmp_total : IsTotalOrder name_cmp
-name_cmp_total = nat_list_cmp_total

@@ -15,7 +15,8 @@
 //! | pair, triple | one part after the other | at a part as there |
 
 ghost use Rattle.std.specs.Prelude.{◌≡◌, ℕ, List, ◌++◌, OnOk, OnErr};
-ghost use Rattle.sr_base.specs.Reading.{Read, Gives, IsFormat};
+ghost use Rattle.sr_base.specs.Reading.{Read};
+ghost use Rattle.sr_base.specs.Inner.Reading.{Gives, IsFormat};
 
 use crate::broken::Broken;
 use crate::copied::NoMemory;

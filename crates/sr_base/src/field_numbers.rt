@@ -2,8 +2,9 @@
 
 ghost use Rattle.std.specs.Prelude.{ℕ, ◌^◌, ◌<◌, [], ◌∷◌, ⊤, FitsSigned};
 ghost use Rattle.std.specs.Int.{w32, w64, to_be_bytes};
-ghost use Rattle.sr_base.specs.Fields.{byte_at, number_at, signed_at, signed_spelling};
-ghost use Rattle.sr_base.specs.NumberLaws.{byte_format, format32, format64, signed_format32, signed_format64};
+ghost use Rattle.sr_base.specs.Fields.{byte_at, signed_spelling};
+ghost use Rattle.sr_base.specs.Inner.Fields.{number_at, signed_at};
+ghost use Rattle.sr_base.specs.Inner.NumberLaws.{byte_format, format32, format64, signed_format32, signed_format64};
 
 use crate::broken::Broken;
 use crate::copied::NoMemory;
@@ -49,8 +50,8 @@ impl Field for u32 {
         if bytes.len() < 4 {
             return Err(Broken::Left(bytes.len()));
         }
-        let (front, rest) = bytes.split_at(4);
-        let number = u32::from_be_bytes([front[0], front[1], front[2], front[3]]);
+        let (prefix, rest) = bytes.split_at(4);
+        let number = u32::from_be_bytes([prefix[0], prefix[1], prefix[2], prefix[3]]);
         Ok((number, rest))
     }
 
@@ -74,9 +75,9 @@ impl Field for u64 {
         if bytes.len() < 8 {
             return Err(Broken::Left(bytes.len()));
         }
-        let (front, rest) = bytes.split_at(8);
+        let (prefix, rest) = bytes.split_at(8);
         let number = u64::from_be_bytes([
-            front[0], front[1], front[2], front[3], front[4], front[5], front[6], front[7],
+            prefix[0], prefix[1], prefix[2], prefix[3], prefix[4], prefix[5], prefix[6], prefix[7],
         ]);
         Ok((number, rest))
     }
@@ -97,7 +98,7 @@ impl Field for i32 {
 
     ghost format = { signed_format32 };
 
-    #[tactic(auto, unfolding(crate::specs::Fields::signed_at))]
+    #[tactic(auto, unfolding(crate::specs::Inner::Fields::signed_at))]
     fn read(alloc: Global, bytes: &[u8]) -> Result<(i32, &[u8]), Broken> {
         let (number, rest) = u32::read(alloc, bytes)?;
         Ok((number.cast_signed(), rest))
@@ -119,7 +120,7 @@ impl Field for i64 {
 
     ghost format = { signed_format64 };
 
-    #[tactic(auto, unfolding(crate::specs::Fields::signed_at))]
+    #[tactic(auto, unfolding(crate::specs::Inner::Fields::signed_at))]
     fn read(alloc: Global, bytes: &[u8]) -> Result<(i64, &[u8]), Broken> {
         let (number, rest) = u64::read(alloc, bytes)?;
         Ok((number.cast_signed(), rest))

@@ -1,8 +1,9 @@
 //! Options, pairs and triples as fields.
 
 ghost use Rattle.std.specs.Prelude.{◌≡◌, ◌++◌, IfSome, OnOk, OnErr};
-ghost use Rattle.sr_base.specs.Fields.{option_spelling, option_at, pair_spelling, pair_at, triple_spelling, triple_at};
-ghost use Rattle.sr_base.specs.PartLaws.{option_format, pair_format, triple_format};
+ghost use Rattle.sr_base.specs.Fields.{option_spelling, pair_spelling, triple_spelling};
+ghost use Rattle.sr_base.specs.Inner.Fields.{option_at, pair_at, triple_at};
+ghost use Rattle.sr_base.specs.Inner.PartLaws.{option_format, pair_format, triple_format};
 
 use crate::broken::Broken;
 use crate::copied::NoMemory;
@@ -20,7 +21,7 @@ impl<T: Field> Field for Option<T> {
 
     ghost format = { option_format T.format };
 
-    #[tactic(auto, unfolding(crate::specs::Fields::option_at))]
+    #[tactic(auto, unfolding(crate::specs::Inner::Fields::option_at))]
     fn read(alloc: Global, bytes: &[u8]) -> Result<(Option<T>, &[u8]), Broken> {
         match bytes {
             [] => Err(Broken::Left(0)),
@@ -106,7 +107,7 @@ impl<A: Field, B: Field> Field for (A, B) {
 
     ghost format = { pair_format A.format B.format };
 
-    #[tactic(auto, unfolding(crate::specs::Fields::pair_at))]
+    #[tactic(auto, unfolding(crate::specs::Inner::Fields::pair_at))]
     fn read(alloc: Global, bytes: &[u8]) -> Result<((A, B), &[u8]), Broken> {
         let (first, rest) = A::read(alloc, bytes)?;
         let (second, rest) = B::read(alloc, rest)?;
@@ -129,7 +130,7 @@ impl<A: Field, B: Field, C: Field> Field for (A, B, C) {
 
     ghost format = { triple_format A.format B.format C.format };
 
-    #[tactic(auto, unfolding(crate::specs::Fields::triple_at))]
+    #[tactic(auto, unfolding(crate::specs::Inner::Fields::triple_at))]
     fn read(alloc: Global, bytes: &[u8]) -> Result<((A, B, C), &[u8]), Broken> {
         let (first, rest) = A::read(alloc, bytes)?;
         let (second, rest) = B::read(alloc, rest)?;

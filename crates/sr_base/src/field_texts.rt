@@ -1,8 +1,9 @@
 //! Texts and names as fields.
 
 ghost use Rattle.std.specs.Prelude.{◌<◌, ◌^◌, ⊤, length};
-ghost use Rattle.sr_base.specs.Fields.{bytes_spelling, text_at, IsText, name_spelling, name_at, IsName};
-ghost use Rattle.sr_base.specs.TextLaws.{text_format, name_format};
+ghost use Rattle.sr_base.specs.Fields.{bytes_spelling, IsText, name_spelling, name_at, IsName};
+ghost use Rattle.sr_base.specs.Inner.Fields.{text_at};
+ghost use Rattle.sr_base.specs.Inner.TextLaws.{text_format, name_format};
 
 use crate::broken::Broken;
 use crate::copied::NoMemory;
@@ -24,15 +25,15 @@ impl Field for Text {
 
     ghost format = { text_format };
 
-    #[tactic(auto, using(crate::proofs::Utf8::utf8_tests), unfolding(crate::specs::Fields::text_at))]
+    #[tactic(auto, using(crate::proofs::Utf8::utf8_tests), unfolding(crate::specs::Inner::Fields::text_at))]
     fn read(alloc: Global, bytes: &[u8]) -> Result<(Text, &[u8]), Broken> {
         let (size, behind) = u32::read(alloc, bytes)?;
         let size = size as usize;
         if behind.len() < size {
             return Err(Broken::Left(bytes.len()));
         }
-        let (front, rest) = behind.split_at(size);
-        match str::from_utf8(front) {
+        let (prefix, rest) = behind.split_at(size);
+        match str::from_utf8(prefix) {
             Ok(text) => Ok((Text::from_str(alloc, text)?, rest)),
             Err(_) => Err(Broken::Left(behind.len())),
         }
@@ -68,11 +69,11 @@ impl Field for Name {
         if !is_name_size(size, behind.len()) {
             return Err(Broken::Left(bytes.len()));
         }
-        let (front, rest) = behind.split_at(size);
-        if !is_lower_name(front) {
+        let (prefix, rest) = behind.split_at(size);
+        if !is_lower_name(prefix) {
             return Err(Broken::Left(behind.len()));
         }
-        Ok((Name::from_lower(alloc, front)?, rest))
+        Ok((Name::from_lower(alloc, prefix)?, rest))
     }
 
     fn write(&self, out: &mut Vec<u8>) -> Result<(), NoMemory> {

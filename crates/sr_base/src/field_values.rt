@@ -4,9 +4,10 @@ ghost use Rattle.std.specs.Prelude.{⊤};
 ghost use Rattle.std.specs.Int.{w32};
 ghost use Rattle.sr_base.specs.Days.{IsDay};
 ghost use Rattle.sr_base.specs.Fields.{signed_spelling, IsListOf};
-ghost use Rattle.sr_base.specs.ListLaws.{list_format};
-ghost use Rattle.sr_base.specs.ValueLaws.{day_format, offset_format, value_format};
-ghost use Rattle.sr_base.specs.Values.{day_at, offset_at, offset_spelling, IsOffset, value_at, value_spelling, IsValue, IsShort, row_at, row_spelling, IsRow};
+ghost use Rattle.sr_base.specs.Inner.ListLaws.{list_format};
+ghost use Rattle.sr_base.specs.Inner.ValueLaws.{day_format, offset_format, value_format};
+ghost use Rattle.sr_base.specs.Values.{offset_spelling, IsOffset, value_spelling, IsValue, IsShort, row_spelling};
+ghost use Rattle.sr_base.specs.Inner.Values.{day_at, offset_at, value_at, row_at, IsRow};
 
 use crate::broken::Broken;
 use crate::copied::NoMemory;
@@ -33,7 +34,7 @@ impl Field for Day {
 
     ghost format = { day_format };
 
-    #[tactic(auto, unfolding(crate::specs::Values::day_at))]
+    #[tactic(auto, unfolding(crate::specs::Inner::Values::day_at))]
     fn read(alloc: Global, bytes: &[u8]) -> Result<(Day, &[u8]), Broken> {
         let (days, rest) = i32::read(alloc, bytes)?;
         match Day::new(days) {
@@ -79,7 +80,7 @@ impl Field for Value {
 
     ghost format = { value_format };
 
-    #[tactic(auto, unfolding(crate::specs::Values::value_at))]
+    #[tactic(auto, unfolding(crate::specs::Inner::Values::value_at))]
     fn read(alloc: Global, bytes: &[u8]) -> Result<(Value, &[u8]), Broken> {
         match bytes {
             [] => Err(Broken::Left(0)),
@@ -127,7 +128,7 @@ impl Field for Row {
 
     ghost format = { list_format value_format };
 
-    #[tactic(auto, unfolding(crate::specs::Fields::list_at, crate::specs::Fields::items_at))]
+    #[tactic(auto, unfolding(crate::specs::Inner::Fields::list_at, crate::specs::Inner::Fields::items_at))]
     fn read(alloc: Global, bytes: &[u8]) -> Result<(Row, &[u8]), Broken> {
         let (count, rest) = u32::read(alloc, bytes)?;
         if count == 2 {

@@ -3,7 +3,8 @@
 ghost use Rattle.std.specs.Prelude.{◌≡◌, IfOk, IfErr, OnOk, IsTrue};
 ghost use Rattle.std.specs.Str.{IsUtf8};
 ghost use Rattle.sr_base.specs.Names.{is_name, lowered};
-ghost use Rattle.sr_base.specs.Refusals.{IsNotUtf8, IsBadName};
+ghost use Rattle.sr_base.specs.Refusals.{IsNotUtf8};
+ghost use Rattle.sr_base.specs.Inner.Refusals.{IsBadName};
 
 use crate::copied::NoMemory;
 use crate::name::Name;

@@ -1,5 +1,5 @@
 ghost use Rattle.std.specs.Prelude.{◌≡◌, ◌∷◌, [], IfOk};
-ghost use Rattle.sr_base.specs.Held.{values_of};
+ghost use Rattle.sr_base.specs.Inner.Held.{values_of};
 
 use crate::copied::{Copied, NoMemory};
 use crate::row::Row;
@@ -25,7 +25,7 @@ pub(crate) enum Held {
 impl Model for Key {
     ghost use Rattle.std.specs.Prelude.{List};
     ghost use Rattle.sr_base.specs.declared.value.Value.{Value as Cell};
-    ghost use Rattle.sr_base.specs.Held.{values_of};
+    ghost use Rattle.sr_base.specs.Inner.Held.{values_of};
 
     ghost Value = { List Cell };
 

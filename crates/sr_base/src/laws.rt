@@ -2,9 +2,11 @@
 
 ghost use Rattle.std.specs.Prelude.{◌<◌, ◌^◌};
 ghost use Rattle.std.specs.Int.{w32, w64, to_be_bytes};
-ghost use Rattle.sr_base.specs.Fields.{number_at, name_at, name_spelling, IsName, text_at, bytes_spelling, IsText};
-ghost use Rattle.sr_base.specs.Laws.{ReadsSpellings, ReadsAgain, BeginsNoOther};
-ghost use Rattle.sr_base.specs.Values.{value_at, value_spelling, IsValue, row_at, row_spelling, IsRow};
+ghost use Rattle.sr_base.specs.Fields.{name_at, name_spelling, IsName, bytes_spelling, IsText};
+ghost use Rattle.sr_base.specs.Inner.Fields.{number_at, text_at};
+ghost use Rattle.sr_base.specs.Inner.Laws.{ReadsSpellings, ReadsAgain, BeginsNoOther};
+ghost use Rattle.sr_base.specs.Values.{value_spelling, IsValue, row_spelling};
+ghost use Rattle.sr_base.specs.Inner.Values.{value_at, row_at, IsRow};
 
 /// What is read is spelled so, each byte of it.
 pub fn what_is_read_is_spelled_so()

@@ -40,7 +40,7 @@ pub use laws::{no_spelling_begins_another, what_is_read_is_spelled_so, what_is_s
 pub use name::Name;
 pub use offset::Offset;
 pub use ordering::{compare, order};
-pub use reading::{read_front, read_name, read_row, read_text, read_u32, read_u64, read_value};
+pub use reading::{read_name, read_prefix, read_row, read_text, read_u32, read_u64, read_value};
 pub use refusals::{BadName, NotUtf8};
 pub use row::Row;
 pub use row_block::RowBlock;

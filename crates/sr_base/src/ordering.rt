@@ -3,7 +3,8 @@ ghost use Rattle.std.proofs.Common.{rules};
 ghost use Rattle.std.specs.Cmp.{IsTotalOrder, po, eq_by_cmp_equiv, partial_equiv_from_equiv};
 ghost use Rattle.std.specs.Cmp.Rules.{comparing};
 ghost use Rattle.std.specs.Ordering.{eq_by_cmp, as_partial_cmp};
-ghost use Rattle.sr_base.specs.Order.{class_rank, number_of, bytes_of, width_of, compared, worth_cmp, value_cmp, key_cmp, name_cmp, value_cmp_total, key_cmp_total, name_cmp_total};
+ghost use Rattle.sr_base.specs.Order.{class_rank, number_of, bytes_of, width_of, compared, worth_cmp, value_cmp, key_cmp, name_cmp};
+ghost use Rattle.sr_base.specs.Inner.Order.{value_cmp_total, key_cmp_total, name_cmp_total};
 
 use crate::key::{Held, Key};
 use crate::name::Name;

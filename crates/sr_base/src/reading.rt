@@ -3,9 +3,11 @@
 ghost use Rattle.std.specs.Prelude.{◌≡◌, ◌++◌, ◌<◌, ◌≤◌, ◌^◌, List, ℕ, length, drop, IfOk, IfErr, IfSome, IfNone};
 ghost use Rattle.std.specs.Int.{w32, w64, to_be_bytes};
 ghost use Rattle.sr_base.specs.declared.value.Value.{Value as Cell};
-ghost use Rattle.sr_base.specs.Fields.{name_at, name_spelling, IsName, text_at, bytes_spelling, IsText};
-ghost use Rattle.sr_base.specs.Reading.{BeginsWith, IsReadAs, IsBad};
-ghost use Rattle.sr_base.specs.Values.{value_at, value_spelling, IsValue, row_at, row_spelling, IsRow};
+ghost use Rattle.sr_base.specs.Fields.{name_at, name_spelling, IsName, bytes_spelling, IsText};
+ghost use Rattle.sr_base.specs.Inner.Fields.{text_at};
+ghost use Rattle.sr_base.specs.Inner.Reading.{BeginsWith, IsReadAs, IsBad};
+ghost use Rattle.sr_base.specs.Values.{value_spelling, IsValue, row_spelling};
+ghost use Rattle.sr_base.specs.Inner.Values.{value_at, row_at, IsRow};
 
 use crate::broken::{Bad, Broken};
 use crate::field::Field;
@@ -16,7 +18,7 @@ use crate::value::Value;
 use std::alloc::Global;
 
 /// The value at the front of the bytes, and how many bytes it takes.
-pub fn read_front<T: Field>(alloc: Global, bytes: &[u8]) -> Result<(T, usize), Bad>
+pub fn read_prefix<T: Field>(alloc: Global, bytes: &[u8]) -> Result<(T, usize), Bad>
     // What is read is spelled so.
     ensures found { IfOk result (λ x. T.fits x.0 × BeginsWith bytes.now (T.spelling x.0) x.1) }
     // What is spelled so is read, unless there is no memory.
@@ -43,7 +45,7 @@ pub fn read_value(alloc: Global, bytes: &[u8]) -> Result<(Value, usize), Bad>
     ensures only { (value : Cell) (rest : List ℕ) → IsValue value → bytes.now ≡ value_spelling value ++ rest → IsReadAs result value (length (value_spelling value)) }
     ensures place { IfErr result (IsBad (value_at bytes.now) (length bytes.now)) }
 {
-    read_front(alloc, bytes)
+    read_prefix(alloc, bytes)
 }
 
 /// Reads the name at the front of `bytes`, with the number of bytes that it takes.
@@ -54,7 +56,7 @@ pub fn read_name(alloc: Global, bytes: &[u8]) -> Result<(Name, usize), Bad>
     ensures only { (name rest : List ℕ) → IsName name → bytes.now ≡ name_spelling name ++ rest → IsReadAs result name (length (name_spelling name)) }
     ensures place { IfErr result (IsBad (name_at bytes.now) (length bytes.now)) }
 {
-    read_front(alloc, bytes)
+    read_prefix(alloc, bytes)
 }
 
 /// Reads the text at the front of `bytes`, with the number of bytes that it takes.
@@ -65,7 +67,7 @@ pub fn read_text(alloc: Global, bytes: &[u8]) -> Result<(Text, usize), Bad>
     ensures only { (text rest : List ℕ) → IsText text → bytes.now ≡ bytes_spelling text ++ rest → IsReadAs result text (length (bytes_spelling text)) }
     ensures place { IfErr result (IsBad (text_at bytes.now) (length bytes.now)) }
 {
-    read_front(alloc, bytes)
+    read_prefix(alloc, bytes)
 }
 
 /// Reads the row at the front of `bytes`, with the number of bytes that it takes.
@@ -76,7 +78,7 @@ pub fn read_row(alloc: Global, bytes: &[u8]) -> Result<(Row, usize), Bad>
     ensures only { (row : List Cell) (rest : List ℕ) → IsRow row → bytes.now ≡ row_spelling row ++ rest → IsReadAs result row (length (row_spelling row)) }
     ensures place { IfErr result (IsBad (row_at bytes.now) (length bytes.now)) }
 {
-    read_front(alloc, bytes)
+    read_prefix(alloc, bytes)
 }
 
 /// The number in the first four bytes, big-endian. `None` where there are fewer.

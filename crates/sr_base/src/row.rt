@@ -1,5 +1,5 @@
 ghost use Rattle.std.specs.Prelude.{◌≡◌, IfOk};
-ghost use Rattle.sr_base.specs.Cells.{all_values};
+ghost use Rattle.sr_base.specs.Inner.Cells.{all_values};
 
 use crate::copied::{Copied, NoMemory};
 use crate::seq::Seq;
@@ -26,7 +26,7 @@ pub(crate) enum Cells {
 impl Model for Row {
     ghost use Rattle.std.specs.Prelude.{List};
     ghost use Rattle.sr_base.specs.declared.value.Value.{Value as Cell};
-    ghost use Rattle.sr_base.specs.Cells.{values_of, LiesIn};
+    ghost use Rattle.sr_base.specs.Inner.Cells.{values_of, LiesIn};
 
     ghost Value = { List Cell };
 

@@ -19,7 +19,7 @@ pub struct RowBlock {
 impl Model for RowBlock {
     ghost use Rattle.std.specs.Prelude.{List};
     ghost use Rattle.sr_base.specs.declared.value.Value.{Value as Cell};
-    ghost use Rattle.sr_base.specs.Cells.{values_left, IsBlock};
+    ghost use Rattle.sr_base.specs.Inner.Cells.{values_left, IsBlock};
 
     ghost Value = { List Cell };
 

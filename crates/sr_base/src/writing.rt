@@ -3,7 +3,8 @@
 ghost use Rattle.std.specs.Prelude.{◌≡◌, ◌++◌, ◌<◌, ◌^◌, length, OnOk, OnErr};
 ghost use Rattle.std.specs.Int.{w32, w64, to_be_bytes};
 ghost use Rattle.sr_base.specs.Fields.{name_spelling, IsName, bytes_spelling, IsText, IsListOf};
-ghost use Rattle.sr_base.specs.Values.{value_spelling, IsValue, IsShort, row_spelling, IsRow};
+ghost use Rattle.sr_base.specs.Values.{value_spelling, IsValue, IsShort, row_spelling};
+ghost use Rattle.sr_base.specs.Inner.Values.{IsRow};
 
 use crate::copied::NoMemory;
 use crate::field::Field;

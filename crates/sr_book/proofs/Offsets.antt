@@ -7,12 +7,12 @@ top-append low [] ys = refl
 top-append low (x ∷ xs) ys = top-append x xs ys
 
 pub Rises-append : (low : ℕ) (xs ys : List ℕ) → Rises low xs → Rises (top low xs) ys → Rises low (xs ++ ys)
-Rises-append low [] ys front back = back
-Rises-append low (x ∷ xs) ys front back = (front.0, Rises-append x xs ys front.1 back)
+Rises-append low [] ys prefix back = back
+Rises-append low (x ∷ xs) ys prefix back = (prefix.0, Rises-append x xs ys prefix.1 back)
 
-pub Rises-front : (low : ℕ) (xs ys : List ℕ) → Rises low (xs ++ ys) → Rises low xs
-Rises-front low [] ys rises = tt
-Rises-front low (x ∷ xs) ys rises = (rises.0, Rises-front x xs ys rises.1)
+pub Rises-prefix : (low : ℕ) (xs ys : List ℕ) → Rises low (xs ++ ys) → Rises low xs
+Rises-prefix low [] ys rises = tt
+Rises-prefix low (x ∷ xs) ys rises = (rises.0, Rises-prefix x xs ys rises.1)
 
 pub Rises-back : (low : ℕ) (xs ys : List ℕ) → Rises low (xs ++ ys) → Rises (top low xs) ys
 Rises-back low [] ys rises = rises

@@ -1,3 +1,4 @@
+-- What a note makes of a book.
 use Rattle.std.specs.Prelude.{ℕ, ◌+◌, ◌-◌, ◌^◌, min, max, if◌then◌else◌, nat_lt}
 use Rattle.sr_book.specs.declared.book.Book.{Book}
 use Rattle.sr_book.specs.declared.note.Note.{Note}

@@ -1,3 +1,4 @@
+-- What of an entry a book sees: the notes, and what was taken.
 use Rattle.std.specs.Prelude.{ℕ, List, [], ◌∷◌, if◌then◌else◌}
 use Rattle.std.specs.Str.{bytes_eq}
 use Rattle.sr_book.specs.Books.{with_taken, with_note}

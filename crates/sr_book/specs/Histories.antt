@@ -1,3 +1,4 @@
+-- The book that a history's entries come to.
 use Rattle.std.specs.Prelude.{ℕ, List, [], ◌∷◌, ◌++◌}
 use Rattle.sr_book.specs.Books.{new_book}
 use Rattle.sr_book.specs.declared.book.Book.{Book}

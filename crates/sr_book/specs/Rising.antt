@@ -1,3 +1,4 @@
+-- Offsets that rise.
 use Rattle.std.specs.Prelude.{ℕ, ◌<◌, List, [], ◌∷◌, map}
 
 -- each number lies above the one before it, and the first above this one

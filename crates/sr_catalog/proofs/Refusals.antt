@@ -1,10 +1,11 @@
 -- What a refusal says.
 use Rattle.std.proofs.Common.{◌≡◌, Some, Err}
 use Rattle.sr_ast.specs.declared.stmt.Stmt.{Stmt}
-use Rattle.sr_schema.specs.Catalogs.{Lists}
-use Rattle.sr_change.specs.Changes.{refusal, IsChange}
-use Rattle.sr_schema.specs.declared.fault.DdlFault.{DdlFault}
-use Rattle.sr_schema.specs.declared.fault.DdlFault.TheVariants.{Exists, Missing, BadType, NoKey, KeyNotInArticle, TwiceSubscribed, InUse, TooMany, Memory}
+use Rattle.sr_catalog_schema.specs.Catalogs.{Lists}
+use Rattle.sr_catalog_change.specs.Changes.{refusal}
+use Rattle.sr_catalog_change.specs.Inner.Changes.{IsChange}
+use Rattle.sr_catalog_schema.specs.declared.fault.DdlFault.{DdlFault}
+use Rattle.sr_catalog_schema.specs.declared.fault.DdlFault.TheVariants.{Exists, Missing, BadType, NoKey, KeyNotInArticle, TwiceSubscribed, InUse, TooMany, Memory}
 
 -- the fault that refuses is what is answered
 pub refused : (c : Lists) (s : Stmt) (f : DdlFault) → refusal c s ≡ Some f → IsChange c s (Err f)

@@ -2,10 +2,10 @@
 use Rattle.std.proofs.Common.{◌≡◌, ℕ, List, None, Result, Ok, Err, OnOk, OnErr, ap, sym, subst, ◌∙◌}
 use Rattle.sr_ast.specs.NormalForms.{IsNormal}
 use Rattle.sr_ast.specs.declared.stmt.Stmt.{Stmt}
-use Rattle.sr_change.specs.Changes.{refusal, next}
-use Rattle.sr_replay.specs.Scripts.{IsSpelled}
-use Rattle.sr_replay.proofs.Spelled.{new_spelled, spelled_after}
-use Rattle.sr_schema.specs.Catalogs.{Lists, nothing_but}
+use Rattle.sr_catalog_change.specs.Changes.{refusal, next}
+use Rattle.sr_catalog_script_laws.specs.Inner.Scripts.{IsSpelled}
+use Rattle.sr_catalog_script_laws.proofs.Spelled.{new_spelled, spelled_after}
+use Rattle.sr_catalog_schema.specs.Catalogs.{Lists, nothing_but}
 
 -- a new one
 pub spelled_at_first : (c : Lists) (publisher : List ℕ) → c ≡ nothing_but publisher → IsSpelled c

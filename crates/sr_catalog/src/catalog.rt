@@ -1,17 +1,18 @@
 ghost use Rattle.std.specs.Prelude.{◌≡◌, None, IfOk, OnErr, OnOk};
 ghost use Rattle.std.specs.Option.{option_copied};
-ghost use Rattle.sr_change.specs.Changes.{IsChange, next, refusal};
-ghost use Rattle.sr_ddl.specs.Subscriptions.{is_started};
+ghost use Rattle.sr_catalog_change.specs.Changes.{next, refusal};
+ghost use Rattle.sr_catalog_change.specs.Inner.Changes.{IsChange};
+ghost use Rattle.sr_catalog_ddl.specs.Subscriptions.{is_started};
 ghost use Rattle.sr_ast.specs.NormalForms.{IsNormal};
-ghost use Rattle.sr_replay.specs.Scripts.{IsSpelled};
-ghost use Rattle.sr_schema.specs.Catalogs.{nothing_but};
-ghost use Rattle.sr_schema.specs.Members.{publication_name, table_name, user_name};
-ghost use Rattle.sr_schema.specs.Names.{named};
+ghost use Rattle.sr_catalog_script_laws.specs.Inner.Scripts.{IsSpelled};
+ghost use Rattle.sr_catalog_schema.specs.Catalogs.{nothing_but};
+ghost use Rattle.sr_catalog_schema.specs.Members.{publication_name, table_name, user_name};
+ghost use Rattle.sr_catalog_schema.specs.Names.{named};
 
 use sr_ast::{Stmt, SubscriptionRule};
 use sr_base::{Copied, Name, NoMemory};
-use sr_change::{apply, refusal};
-use sr_schema::{DdlFault, Publication, Schema, Subscription, Table, Trigger, User};
+use sr_catalog_change::{apply, refusal};
+use sr_catalog_schema::{DdlFault, Publication, Schema, Subscription, Table, Trigger, User};
 use std::alloc::Global;
 use std::marker::Model;
 
@@ -27,9 +28,9 @@ pub struct Catalog {
 
 impl Model for Catalog {
     ghost use Rattle.std.specs.Coded.{codes};
-    ghost use Rattle.sr_ast.specs.Terms.{term_code};
-    ghost use Rattle.sr_ast.specs.Chains.{chain_code};
-    ghost use Rattle.sr_schema.specs.Catalogs.{Lists};
+    ghost use Rattle.sr_ast.specs.Inner.Terms.{term_code};
+    ghost use Rattle.sr_ast.specs.Inner.Chains.{chain_code};
+    ghost use Rattle.sr_catalog_schema.specs.Catalogs.{Lists};
 
     ghost Value = { Lists };
 
@@ -37,7 +38,7 @@ impl Model for Catalog {
 
     ghost view = { λ c. c.schema };
 
-    ghost use Rattle.sr_replay.specs.Scripts.{IsSpelled};
+    ghost use Rattle.sr_catalog_script_laws.specs.Inner.Scripts.{IsSpelled};
 
     ghost invariant = { λ c. IsSpelled c.schema };
 }

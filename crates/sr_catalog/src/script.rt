@@ -5,36 +5,24 @@ ghost use Rattle.std.specs.List.{AllByRecursion};
 ghost use Rattle.sr_ast.specs.Layout.{printed};
 ghost use Rattle.sr_ast.specs.NormalForms.{IsNormal};
 ghost use Rattle.sr_ast.specs.declared.stmt.Stmt.{Stmt};
-ghost use Rattle.sr_schema.specs.Catalogs.{nothing_but};
-ghost use Rattle.sr_replay.specs.Scripts.{
-  given_address,
-  grant_rule,
-  grant_of,
-  column_rule,
-  create_table_of,
-  article_rule,
-  create_publication_of,
-  subscription_rule,
-  create_subscription_of,
-  start_of,
-  trigger_stmt,
-  statements,
-  replayed,
-};
+ghost use Rattle.sr_catalog_schema.specs.Catalogs.{nothing_but};
+ghost use Rattle.sr_catalog_script_laws.specs.Inner.Scripts.{given_address, grant_rule, grant_of, column_rule, create_table_of, article_rule, create_publication_of, subscription_rule, create_subscription_of, start_of, trigger_stmt, statements, replayed};
 
 use crate::catalog::Catalog;
 use sr_ast::{
     ArticleRule, ColumnRule, CreatePublication, CreateTable, Grant, Stmt, SubscriptionRule, print,
 };
 use sr_base::{Copied, NoMemory, Seq, Text, text_of};
-use sr_schema::{Article, Column, Publication, Subscription, Table, Trigger, User, key_names};
+use sr_catalog_schema::{
+    Article, Column, Publication, Subscription, Table, Trigger, User, key_names,
+};
 use std::alloc::{AllocError, Global};
 
 impl Catalog {
     /// The statements that make this catalog from a new one, as they print: grants, tables, publications with their articles' columns
     /// written out, triggers, subscriptions and starts, each kind in order of creation. A grant has no address where it is the user's
     /// name. They are in normal form, so that each text is read back as its statement; and a new catalog accepts them, and they make this one again.
-    #[tactic(auto, using(crate::proofs::Printings::joined, sr_replay::proofs::Spelled::script_again, sr_replay::proofs::Spelled::script_normal))]
+    #[tactic(auto, using(crate::proofs::Printings::joined, sr_catalog_script_laws::proofs::Spelled::script_again, sr_catalog_script_laws::proofs::Spelled::script_normal))]
     pub fn script(&self, alloc: Global) -> Result<Vec<Text>, NoMemory>
         ensures texts { IfOk result (λ texts. texts.items ≡ map printed (statements self.now)) }
         ensures normal { AllByRecursion IsNormal (statements self.now) }
@@ -116,7 +104,7 @@ fn add_starts(
     Ok(())
 }
 
-#[tactic(auto, unfolding(sr_replay::specs::Scripts::start_of))]
+#[tactic(auto, unfolding(sr_catalog_script_laws::specs::Inner::Scripts::start_of))]
 fn start_text(alloc: Global, subscription: &Subscription) -> Result<Text, NoMemory>
     ensures { IfOk result (λ text. text ≡ printed (start_of subscription.now)) }
 {
@@ -140,7 +128,7 @@ fn subscription_rule(
 impl Made for Subscription {
     ghost stmt_of = { create_subscription_of };
 
-    #[tactic(auto, unfolding(sr_replay::specs::Scripts::create_subscription_of))]
+    #[tactic(auto, unfolding(sr_catalog_script_laws::specs::Inner::Scripts::create_subscription_of))]
     fn stmt(&self, alloc: Global) -> Result<Stmt, NoMemory> {
         Ok(Stmt::CreateSubscription(subscription_rule(alloc, self)?))
     }
@@ -157,7 +145,7 @@ impl Made for Trigger {
 impl Made for User {
     ghost stmt_of = { grant_of };
 
-    #[tactic(auto, unfolding(sr_replay::specs::Scripts::grant_of))]
+    #[tactic(auto, unfolding(sr_catalog_script_laws::specs::Inner::Scripts::grant_of))]
     fn stmt(&self, alloc: Global) -> Result<Stmt, NoMemory> {
         let rule = grant_rule(alloc, self)?;
         if self.above {
@@ -193,7 +181,7 @@ fn given_address(alloc: Global, user: &User) -> Result<Option<Text>, NoMemory>
 impl Made for Table {
     ghost stmt_of = { create_table_of };
 
-    #[tactic(auto, unfolding(sr_replay::specs::Scripts::create_table_of))]
+    #[tactic(auto, unfolding(sr_catalog_script_laws::specs::Inner::Scripts::create_table_of))]
     fn stmt(&self, alloc: Global) -> Result<Stmt, NoMemory> {
         Ok(Stmt::CreateTable(CreateTable {
             name: self.name.copy(alloc)?,
@@ -222,7 +210,7 @@ fn column_rules(alloc: Global, columns: &[Column]) -> Result<Seq<ColumnRule>, No
 impl Made for Publication {
     ghost stmt_of = { create_publication_of };
 
-    #[tactic(auto, unfolding(sr_replay::specs::Scripts::create_publication_of))]
+    #[tactic(auto, unfolding(sr_catalog_script_laws::specs::Inner::Scripts::create_publication_of))]
     fn stmt(&self, alloc: Global) -> Result<Stmt, NoMemory> {
         Ok(Stmt::CreatePublication(CreatePublication {
             name: self.name.copy(alloc)?,

@@ -1,33 +1,35 @@
 -- What a database is behind a commit, and what it is where one was refused.
 use Rattle.std.proofs.Common.{◌≡◌, ℕ, ◌+◌, ◌≤◌, ◌^◌, Bool, List, [], ◌∷◌, ◌++◌, length, refl, sym, ◌∙◌, ap, arith}
 use Rattle.sr_book.specs.Entries.{Name}
-use Rattle.sr_history.specs.Fitting.{Fits}
-use Rattle.sr_history.specs.Folds.{state_of, end_of}
-use Rattle.sr_history.specs.Recorded.{Recorded, entry_of}
-use Rattle.sr_logfile.specs.Calls.{commit_calls}
+use Rattle.sr_database_history.specs.Fitting.{Fits}
+use Rattle.sr_database_history.specs.Folds.{state_of, end_of}
+use Rattle.sr_database_history.specs.Recorded.{Recorded, entry_of}
+use Rattle.sr_logfile.specs.Inner.Calls.{commit_calls}
 use Rattle.sr_logfile.specs.Log.{Log}
-use Rattle.sr_logfile.specs.Logs.{IsLog, gate_of, longer, spent}
-use Rattle.sr_logfile.specs.Moments.{HasOrLacks, IsAsRead}
+use Rattle.sr_logfile.specs.Logs.{gate_of}
+use Rattle.sr_logfile.specs.Inner.Logs.{IsLog, longer, spent}
+use Rattle.sr_logfile.specs.Inner.Moments.{HasOrLacks, IsAsRead}
 use Rattle.sr_logfile.specs.Records.{IsBody, body_of}
 use Rattle.sr_logfile.proofs.Commits.{length-framed}
 use Rattle.sr_logform.specs.Entries.{entry_spelling}
 use Rattle.sr_logform.specs.Limits.{longest_body}
 use Rattle.sr_logform.specs.declared.entry.Entry.{Entry}
 use Rattle.sr_logform.specs.declared.entry.Entry.TheVariants as entries
-use Rattle.sr_site.specs.Calls.{write, sync}
+use Rattle.sr_site.specs.Inner.Calls.{write, sync}
 use Rattle.sr_site.specs.Causes.{DiskStays}
 use Rattle.sr_site.specs.Files.{OthersStay}
-use Rattle.sr_site.specs.Happenings.{Made}
+use Rattle.sr_site.specs.Inner.Happenings.{Made}
 use Rattle.sr_site.specs.Images.{IsSettled, RestsThroughout}
 use Rattle.sr_site.specs.Seen.{Seen}
-use Rattle.sr_standing.specs.Items.{commit}
-use Rattle.sr_standing.specs.Standing.{bodies}
-use Rattle.sr_standing.specs.Trails.{Went}
-use Rattle.sr_database.specs.Commits.{CanCommit, CanCommitSome, IsPrepared, framed_size}
+use Rattle.sr_database_meaning.specs.Events.{commit}
+use Rattle.sr_database_meaning.specs.Standing.{bodies}
+use Rattle.sr_database_meaning.specs.Traces.{Went}
+use Rattle.sr_database.specs.Commits.{IsPrepared, framed_size}
+use Rattle.sr_database.specs.Inner.Commits.{CanCommit, CanCommitSome}
 use Rattle.sr_database.specs.Databases.{IsOf, IsOfSome, IsDatabase}
-use Rattle.sr_database.specs.Taking.{Takes}
+use Rattle.sr_database.specs.Inner.Taking.{Takes}
 use Rattle.sr_database.specs.Views.{View}
-use Rattle.sr_files.proofs.Beside.{made_on, something}
+use Rattle.sr_database_files.proofs.Beside.{made_on, something}
 use Rattle.sr_database.proofs.Commits.{may_stand, one_more, log_of_held, went, database_after}
 use Rattle.sr_database.proofs.Values.{stored_more}
 

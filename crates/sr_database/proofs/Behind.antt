@@ -4,14 +4,14 @@ use Rattle.std.specs.Prelude.{IsTrue, IfErr, MatchOption}
 use Rattle.std.proofs.lemmas.List.{map-append}
 use Rattle.sr_base.specs.declared.offset.Offset.{Offset}
 use Rattle.sr_book.specs.Entries.{Name}
-use Rattle.sr_history.specs.Fitting.{Stored}
-use Rattle.sr_history.specs.Folds.{fresh, end_of, size}
-use Rattle.sr_history.specs.Recorded.{Recorded, entry_of}
-use Rattle.sr_history.proofs.Joined.{end_from-more, stored_from-append}
-use Rattle.sr_logfile.specs.Faults.{NextCause, RecordAfterCause}
+use Rattle.sr_database_history.specs.Fitting.{Stored}
+use Rattle.sr_database_history.specs.Folds.{fresh, end_of, size}
+use Rattle.sr_database_history.specs.Recorded.{Recorded, entry_of}
+use Rattle.sr_database_history.proofs.Joined.{end_from-more, stored_from-append}
+use Rattle.sr_logfile.specs.Inner.Faults.{NextCause, RecordAfterCause}
 use Rattle.sr_logfile.specs.Log.{Log}
-use Rattle.sr_logfile.specs.Logs.{IsLog, IsAt}
-use Rattle.sr_logfile.specs.Steps.{IsNext as IsNextBody, IsLonger, IsStep}
+use Rattle.sr_logfile.specs.Inner.Logs.{IsLog, IsAt}
+use Rattle.sr_logfile.specs.Inner.Steps.{IsNext as IsNextBody, IsLonger, IsStep}
 use Rattle.sr_logfile.specs.declared.reading.Step.{Step}
 use Rattle.sr_logfile.specs.declared.reading.Step.TheVariants as steps
 use Rattle.sr_logfile.specs.declared.fault.LogFault.{LogFault}
@@ -19,7 +19,7 @@ use Rattle.sr_logfile.specs.declared.fault.LogFault.TheVariants as logs
 use Rattle.sr_logfile.specs.declared.fault.RecordFault.{RecordFault}
 use Rattle.sr_logfile.specs.declared.fault.RecordFault.TheVariants as records
 use Rattle.sr_logform.specs.Entries.{entry_spelling, IsEntry}
-use Rattle.sr_logform.specs.EntryLaws.{entry_format}
+use Rattle.sr_logform.specs.Inner.EntryLaws.{entry_format}
 use Rattle.sr_logform.specs.declared.entry.Entry.{Entry}
 use Rattle.sr_logform.specs.declared.entry.Entry.TheVariants.{Own, From, Ddl, Sync, Pass, Note}
 use Rattle.sr_logform.proofs.Once.{spells_once}
@@ -27,16 +27,16 @@ use Rattle.sr_site.specs.Files.{Files}
 use Rattle.sr_site.specs.Images.{MayLeave}
 use Rattle.sr_site.specs.Seen.{Seen}
 use Rattle.sr_site.specs.declared.file.File.{File}
-use Rattle.sr_standing.specs.Standing.{body, bodies}
-use Rattle.sr_standing.proofs.Standing.{ends_are, size_is}
-use Rattle.sr_database.specs.Causes.{EntryCause, IsRecordFault}
+use Rattle.sr_database_meaning.specs.Standing.{body, bodies}
+use Rattle.sr_database_meaning.proofs.Standing.{ends_are, size_is}
+use Rattle.sr_database.specs.Inner.Causes.{EntryCause, IsRecordFault}
 use Rattle.sr_database.specs.Databases.{IsHeld, IsDatabase}
-use Rattle.sr_database.specs.Entries.{IsNext, IsNextEnd, IsNextKind, BeginWith, Parts, BehindCause}
-use Rattle.sr_files.specs.Openings.{IsLogFault}
-use Rattle.sr_database.specs.Replays.{SpellingCause}
+use Rattle.sr_database.specs.Inner.Entries.{IsNext, IsNextEnd, IsNextKind, BeginWith, Parts, BehindCause}
+use Rattle.sr_database_files.specs.Inner.Openings.{IsLogFault}
+use Rattle.sr_database.specs.Inner.Replays.{SpellingCause}
 use Rattle.sr_database.specs.Views.{View}
-use Rattle.sr_files.specs.declared.fault.DatabaseFault.{DatabaseFault}
-use Rattle.sr_files.specs.declared.fault.DatabaseFault.TheVariants.{Missing, Exists, Damaged, Disk, Full, Long, Memory}
+use Rattle.sr_database_files.specs.declared.fault.DatabaseFault.{DatabaseFault}
+use Rattle.sr_database_files.specs.declared.fault.DatabaseFault.TheVariants.{Missing, Exists, Damaged, Disk, Full, Long, Memory}
 use Rattle.sr_database.proofs.Commits.{log_of_held}
 
 -- the position parts the log as the offset parts the history
@@ -76,7 +76,7 @@ module _ (log : Log) (publisher : Name) (done : List Recorded) (after : ℕ) (at
   next_is [] files buffer end count entry stored n spelled read = let is = n.left_is in absurd cc
   next_is (r ∷ rs) files buffer end count entry stored n spelled read =
       let heads : body r ≡ n.body = let is = n.left_is in cc in
-      let same : entry_spelling entry ≡ body r = sym read ∙ n.front ∙ sym heads in
+      let same : entry_spelling entry ≡ body r = sym read ∙ n.prefix ∙ sym heads in
       record {
         r = r;
         rest = rs;
@@ -110,7 +110,7 @@ module _ (log : Log) (publisher : Name) (done : List Recorded) (after : ℕ) (at
         left_is = refl;
         end_is = omega (arith, n.end_is, n.count_is, at, end_from-more 0 done r, size_is r, ap length heads);
         more = begins.0;
-        kind_is = heads ∙ sym n.front ∙ begins.1;
+        kind_is = heads ∙ sym n.prefix ∙ begins.1;
       }
 
   -- what is read there is spelled
@@ -119,7 +119,7 @@ module _ (log : Log) (publisher : Name) (done : List Recorded) (after : ℕ) (at
   always_spelled [] files buffer end count stored n none = let left = n.left_is in cc
   always_spelled (r ∷ rs) files buffer end count stored n none =
       let heads : body r ≡ n.body = let left = n.left_is in cc in
-      none (entry_of r) (first_fits r rs stored) (n.front ∙ sym heads)
+      none (entry_of r) (first_fits r rs stored) (n.prefix ∙ sym heads)
 
   -- no body is without a byte
   pub always_begins : (left : List Recorded) (files : Files) (buffer : List ℕ) (end count : ℕ) → Stored publisher (done ++ left) → IsNextBody log after (bodies done) (bodies left) files buffer end count → take count buffer ≡ [] → ⊥
@@ -155,7 +155,7 @@ module _ (log : Log) (after : ℕ) (before now : Seen) where
         next_kind log publisher done after parts.after_is left files buffer end count kind
         (subst (λ (o : Option (Offset × ℕ)). StepOf log after before files buffer o) found_is step (bodies done) (bodies left) parts.at) (begins.0, sym body_is ∙ begins.1)
 
-    pub unkind_behind : (IsTrue before.told → StepOf log after before files buffer found) → now.disk_faults ≡ before.disk_faults → (file : File) (place : ℕ) (fault : DatabaseFault) → (fault ≡ Damaged file place) × (body ≡ []) → BehindCause log after before now fault
+    pub unkind_behind : (IsTrue before.observable → StepOf log after before files buffer found) → now.disk_faults ≡ before.disk_faults → (file : File) (place : ℕ) (fault : DatabaseFault) → (fault ≡ Damaged file place) × (body ≡ []) → BehindCause log after before now fault
     unkind_behind step steady file place fault cause =
         subst (λ (f : DatabaseFault). BehindCause log after before now f) (sym cause.0) (
           λ told publisher done left parts.
@@ -164,7 +164,7 @@ module _ (log : Log) (after : ℕ) (before now : Seen) where
           steady,
         )
 
-    pub spelling_behind : (IsTrue before.told → StepOf log after before files buffer found) → now.disk_faults ≡ before.disk_faults → (file : File) (place : ℕ) (fault : DatabaseFault) → SpellingCause file place body fault → BehindCause log after before now fault
+    pub spelling_behind : (IsTrue before.observable → StepOf log after before files buffer found) → now.disk_faults ≡ before.disk_faults → (file : File) (place : ℕ) (fault : DatabaseFault) → SpellingCause file place body fault → BehindCause log after before now fault
     spelling_behind step steady file place Missing cause = absurd cause
     spelling_behind step steady file place Exists cause = absurd cause
     spelling_behind step steady file place (Damaged other at) cause = (

@@ -6,20 +6,22 @@ use Rattle.std.specs.Ordering.{eq_by_cmp}
 use Rattle.std.specs.Str.{bytes_eq}
 use Rattle.std.proofs.lemmas.Map.Lookups.{exact_bytes}
 use Rattle.std.proofs.lemmas.Map.Text.{is_eq-slice_cmp}
-use Rattle.sr_base.specs.Order.{name_cmp, name_cmp_total}
+use Rattle.sr_base.specs.Order.{name_cmp}
+use Rattle.sr_base.specs.Inner.Order.{name_cmp_total}
 use Rattle.sr_base.specs.declared.offset.Offset.{Offset}
 use Rattle.sr_book.specs.Books.{with_taken, with_note}
 use Rattle.sr_book.specs.Entries.{Name}
 use Rattle.sr_book.specs.declared.book.Book.{Book}
 use Rattle.sr_book.specs.declared.note.Note.{Note}
 use Rattle.sr_book.proofs.Folds.{name_test, same_name}
-use Rattle.sr_history.specs.Recorded.{Recorded, own, taken, ddl, sync, pass, note, entry_of}
+use Rattle.sr_database_history.specs.Recorded.{Recorded, own, taken, ddl, sync, pass, note, entry_of}
 use Rattle.sr_logform.specs.declared.change.Change.{Change}
 use Rattle.sr_logform.specs.declared.entry.Entry.TheVariants as entries
 use Rattle.sr_logform.specs.declared.op.Op.{Op}
 use Rattle.sr_logform.specs.declared.outcome.Outcome.{Outcome}
-use Rattle.sr_database.specs.Books.{BookMap, book_in, or_new, with_held}
-use Rattle.sr_database.specs.Taking.{BooksFollow}
+use Rattle.sr_database.specs.Books.{BookMap, book_in, or_new}
+use Rattle.sr_database.specs.Inner.Books.{with_held}
+use Rattle.sr_database.specs.Inner.Taking.{BooksFollow}
 
 -- what is found behind a book that was put
 book_put : (books : BookMap) (user other : Name) (book : Book) → book_in (insert books user book) other ≡ or_new (cond (bytes_eq other user) (Some book) (get books other))

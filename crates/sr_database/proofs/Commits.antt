@@ -3,42 +3,43 @@ use Rattle.std.proofs.Common.{◌≡◌, ◌≢◌, ◌⊎◌, inl, inr, ℕ, �
 use Rattle.std.proofs.lemmas.Bool.{cases_lt}
 use Rattle.std.proofs.lemmas.List.{map-append}
 use Rattle.sr_book.specs.Entries.{Name}
-use Rattle.sr_dml.specs.FittingChanges.{ChangesFit}
-use Rattle.sr_fold.specs.Readings.{state_in}
-use Rattle.sr_history.specs.Fitting.{FitsState, Fits, Stored}
-use Rattle.sr_history.specs.Folds.{State, fresh, next, state_of, size, end_of}
-use Rattle.sr_history.specs.Recorded.{Recorded, own, taken, ddl, sync, pass, note, entry_of}
-use Rattle.sr_history.proofs.Joined.{state_from-more, end_from-more}
-use Rattle.sr_logfile.specs.Logs.{IsLog, HasLog}
-use Rattle.sr_logfile.specs.Moments.{HasOrLacks, IsAsRead}
+use Rattle.sr_exec_dml.specs.FittingChanges.{ChangesFit}
+use Rattle.sr_database_fold.specs.Inner.Readings.{state_in}
+use Rattle.sr_database_history.specs.Fitting.{FitsState, Fits, Stored}
+use Rattle.sr_database_history.specs.Folds.{State, fresh, next, state_of, size, end_of}
+use Rattle.sr_database_history.specs.Recorded.{Recorded, own, taken, ddl, sync, pass, note, entry_of}
+use Rattle.sr_database_history.proofs.Joined.{state_from-more, end_from-more}
+use Rattle.sr_logfile.specs.Inner.Logs.{IsLog, HasLog}
+use Rattle.sr_logfile.specs.Inner.Moments.{HasOrLacks, IsAsRead}
 use Rattle.sr_logfile.specs.Records.{Spells, body_of}
 use Rattle.sr_logform.specs.Entries.{entry_spelling, IsEntry}
 use Rattle.sr_logform.specs.Limits.{longest_body}
 use Rattle.sr_logform.specs.declared.change.Change.{Change}
 use Rattle.sr_logform.specs.declared.entry.Entry.{Entry}
 use Rattle.sr_rows.specs.Marks.{Marked}
-use Rattle.sr_rows.specs.Steps.{at_mark}
-use Rattle.sr_schema.specs.Catalogs.{Lists}
+use Rattle.sr_rows.specs.Inner.Steps.{at_mark}
+use Rattle.sr_catalog_schema.specs.Catalogs.{Lists}
 use Rattle.sr_site.specs.Causes.{DiskStays}
 use Rattle.sr_site.specs.Files.{Files, bytes_of, OthersStay}
 use Rattle.sr_site.specs.Images.{IsImage, IsSettled, RestsThroughout}
 use Rattle.sr_site.specs.Seen.{Seen}
 use Rattle.sr_site.specs.declared.file.File.{File}
 use Rattle.sr_site.specs.declared.file.File.TheVariants.{Root}
-use Rattle.sr_standing.specs.Generations.{Generation, even, odd, snapshot_of, log_of, generation_in}
-use Rattle.sr_standing.specs.Items.{commit, puts_in}
-use Rattle.sr_standing.specs.Standing.{body, bodies, StandsAs}
-use Rattle.sr_standing.specs.Trails.{Went}
-use Rattle.sr_standing.proofs.Going.{one_commit}
-use Rattle.sr_standing.proofs.Standing.{Stands, stands, size_is, ends_are}
-use Rattle.sr_database.specs.Commits.{MayFollow, CanCommit, framed_size, HasRoom}
+use Rattle.sr_database_meaning.specs.Generations.{Generation, even, odd, snapshot_of, log_of, generation_in}
+use Rattle.sr_database_meaning.specs.Events.{commit, puts_in}
+use Rattle.sr_database_meaning.specs.Standing.{body, bodies, StandsAs}
+use Rattle.sr_database_meaning.specs.Traces.{Went}
+use Rattle.sr_database_meaning.proofs.Going.{one_commit}
+use Rattle.sr_database_meaning.proofs.Standing.{Stands, stands, size_is, ends_are}
+use Rattle.sr_database.specs.Commits.{framed_size, HasRoom}
+use Rattle.sr_database.specs.Inner.Commits.{MayFollow, CanCommit}
 use Rattle.sr_database.specs.Databases.{ArePending, IsOf, IsHeld, IsDatabase, HasDatabase}
-use Rattle.sr_database.specs.Taking.{at_last_commit, BooksFollow}
-use Rattle.sr_files.specs.Touching.{HappenedOn}
+use Rattle.sr_database.specs.Inner.Taking.{at_last_commit, BooksFollow}
+use Rattle.sr_database_files.specs.Inner.Touching.{HappenedOn}
 use Rattle.sr_database.specs.Views.{View, committed}
-use Rattle.sr_files.proofs.Attaches.{on_attaches}
-use Rattle.sr_files.proofs.Beside.{IsBeside, beside, rests_each, rests_both, rests_end}
-use Rattle.sr_files.proofs.Images.{stays}
+use Rattle.sr_database_files.proofs.Attaches.{on_attaches}
+use Rattle.sr_database_files.proofs.Beside.{IsBeside, beside, rests_each, rests_both, rests_end}
+use Rattle.sr_database_files.proofs.Images.{stays}
 use Rattle.sr_database.proofs.Values.{none_pending, stored_more, books_more}
 
 -- ---- the state
@@ -200,7 +201,7 @@ module _ (old new : View) (publisher : Name) (es : List Recorded) (r : Recorded)
       rests_each (λ image. HasOrLacks old.log (bodies es) framed image × IsBeside old.log.file before.first before.happened image) (λ image. IsHeld new publisher es image ⊎ IsHeld new publisher (es ++ r ∷ []) image) before now
       has_or_lacks (rests_both (HasOrLacks old.log (bodies es) framed) (IsBeside old.log.file before.first before.happened) before now rests (beside old.log.file before now on))
 
-  -- the trail
+  -- the trace
   stands_as : (fs : List Recorded) (image : Files) → IsHeld new publisher fs image → StandsAs publisher fs image
   stands_as fs image h = record { base = new.log.base; stands = h.stands }
 
@@ -209,7 +210,7 @@ module _ (old new : View) (publisher : Name) (es : List Recorded) (r : Recorded)
 
   pub went : RestsThroughout (HasOrLacks old.log (bodies es) framed) before now → HappenedOn old.log.file before.happened now.happened → DiskStays before now → ¬ (now.happened ≡ before.happened) → Went before now publisher es (commit r ∷ [])
   went rests on stay some =
-      one_commit before now publisher es r stay.told stay.first (λ image there. stands_before image (database.settled image there))
+      one_commit before now publisher es r stay.observable stay.first (λ image there. stands_before image (database.settled image there))
       stay.mail (on_attaches old.log.file before.happened now.happened on) some
       (rests_each (λ image. IsHeld new publisher es image ⊎ IsHeld new publisher (es ++ r ∷ []) image) (λ image. StandsAs publisher es image ⊎ StandsAs publisher (es ++ r ∷ []) image) before now
       (λ image either. either_stands image either) (held_moments rests on))

@@ -2,28 +2,28 @@
 use Rattle.std.proofs.Common.{◌≡◌, ◌≢◌, ℕ, ◌+◌, ◌≤◌, ◌<◌, ◌^◌, List, [], ◌∷◌, ◌++◌, length, take, drop, sym, ◌∙◌, ap, subst, arith, length-append}
 use Rattle.std.proofs.lemmas.List.{drop-drop, take_at, length-drop}
 use Rattle.sr_book.specs.Entries.{Name}
-use Rattle.sr_dml.specs.Conditions.{RowsFit}
-use Rattle.sr_fold.specs.Readings.{state_in, FitsAs}
-use Rattle.sr_history.specs.Fitting.{FitsState, Fits, Stored}
-use Rattle.sr_history.specs.Folds.{State, fresh, next, state_of, size, end_of}
-use Rattle.sr_history.specs.Recorded.{Recorded, entry_of}
-use Rattle.sr_history.proofs.Joined.{state_from-more, end_from-more}
-use Rattle.sr_history.proofs.Kept.{stored_holds}
-use Rattle.sr_logfile.specs.Heads.{HasWhole}
+use Rattle.sr_exec_dml.specs.Inner.Conditions.{RowsFit}
+use Rattle.sr_database_fold.specs.Inner.Readings.{state_in, FitsAs}
+use Rattle.sr_database_history.specs.Fitting.{FitsState, Fits, Stored}
+use Rattle.sr_database_history.specs.Folds.{State, fresh, next, state_of, size, end_of}
+use Rattle.sr_database_history.specs.Recorded.{Recorded, entry_of}
+use Rattle.sr_database_history.proofs.Joined.{state_from-more, end_from-more}
+use Rattle.sr_database_history.proofs.Kept.{stored_holds}
+use Rattle.sr_logfile.specs.Inner.Heads.{HasWhole}
 use Rattle.sr_logfile.specs.Records.{record_of}
 use Rattle.sr_logform.specs.Entries.{entry_spelling, IsEntry}
-use Rattle.sr_logform.specs.EntryLaws.{entry_format}
+use Rattle.sr_logform.specs.Inner.EntryLaws.{entry_format}
 use Rattle.sr_logform.specs.Limits.{longest_body}
 use Rattle.sr_logform.specs.declared.entry.Entry.{Entry}
 use Rattle.sr_logform.proofs.Once.{spells_once}
 use Rattle.sr_rows.specs.Marks.{Marked, RowMap}
-use Rattle.sr_rows.specs.Steps.{at_mark}
-use Rattle.sr_schema.specs.Catalogs.{Lists}
-use Rattle.sr_standing.specs.Standing.{body}
-use Rattle.sr_standing.proofs.Standing.{size_is}
+use Rattle.sr_rows.specs.Inner.Steps.{at_mark}
+use Rattle.sr_catalog_schema.specs.Catalogs.{Lists}
+use Rattle.sr_database_meaning.specs.Standing.{body}
+use Rattle.sr_database_meaning.proofs.Standing.{size_is}
 use Rattle.sr_database.specs.Books.{BookMap}
-use Rattle.sr_database.specs.Replays.{IsReplayed, BeginsWith, HasRead, IsOneMore, IsNone, piece, LacksNext}
-use Rattle.sr_database.specs.Taking.{BooksFollow}
+use Rattle.sr_database.specs.Inner.Replays.{IsReplayed, BeginsWith, HasRead, IsOneMore, IsNone, piece, LacksNext}
+use Rattle.sr_database.specs.Inner.Taking.{BooksFollow}
 use Rattle.sr_database.proofs.Opened.{other_record}
 use Rattle.sr_database.proofs.Values.{stored_more, books_more}
 

@@ -9,5 +9,6 @@ pub mod Pending
 pub mod ReadRecords
 pub mod Refused
 pub mod Reopened
+pub mod Rooms
 pub mod Settled
 pub mod Values

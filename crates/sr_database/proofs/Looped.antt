@@ -2,45 +2,45 @@
 use Rattle.std.proofs.Common.{◌≡◌, ℕ, ◌+◌, ◌≤◌, ◌<◌, ◌^◌, List, [], ◌∷◌, ◌++◌, length, drop, Option, Some, None, refl, sym, ◌∙◌, ap, subst, arith}
 use Rattle.std.specs.Prelude.{IsTrue, IfSome}
 use Rattle.sr_book.specs.Entries.{Name}
-use Rattle.sr_history.specs.Recorded.{Recorded}
-use Rattle.sr_logfile.specs.Heads.{IsClosed}
+use Rattle.sr_database_history.specs.Recorded.{Recorded}
+use Rattle.sr_logfile.specs.Inner.Heads.{IsClosed}
 use Rattle.sr_logfile.specs.Records.{HasHeader}
 use Rattle.sr_rows.specs.Marks.{Marked}
-use Rattle.sr_schema.specs.Catalogs.{Lists}
+use Rattle.sr_catalog_schema.specs.Catalogs.{Lists}
 use Rattle.sr_site.specs.Files.{Files, bytes_of}
 use Rattle.sr_site.specs.declared.file.File.{File}
 use Rattle.sr_site.specs.Seen.{Seen}
 use Rattle.sr_database.specs.Books.{BookMap}
-use Rattle.sr_files.specs.Openings.{ReadAlone}
-use Rattle.sr_database.specs.Replays.{IsReplayed, IsReplayedOf, HasReplayed, IsReadOn, EndsThere, IsNextEntry, BeginsWith, HasRead, LacksNext, RecordCause, ReplayCause}
-use Rattle.sr_files.specs.declared.fault.DatabaseFault.{DatabaseFault}
-use Rattle.sr_files.specs.declared.fault.DatabaseFault.TheVariants.{Missing, Exists, Damaged, Disk, Full, Long, Memory}
+use Rattle.sr_database_files.specs.Inner.Openings.{ReadAlone}
+use Rattle.sr_database.specs.Inner.Replays.{IsReplayed, IsReplayedOf, HasReplayed, IsReadOn, EndsThere, IsNextEntry, BeginsWith, HasRead, LacksNext, RecordCause, ReplayCause}
+use Rattle.sr_database_files.specs.declared.fault.DatabaseFault.{DatabaseFault}
+use Rattle.sr_database_files.specs.declared.fault.DatabaseFault.TheVariants.{Missing, Exists, Damaged, Disk, Full, Long, Memory}
 use Rattle.sr_database.proofs.Opened.{read_none, read_more, read_all}
-use Rattle.sr_files.proofs.Quiet.{told_then, read_then}
+use Rattle.sr_database_files.proofs.Quiet.{told_then, read_then}
 
 -- a history that was read up to a position
 pub record IsReadUpTo (log : File) (publisher : Name) (catalog : Lists) (rows : Marked) (books : BookMap) (position : ℕ) (first : Seen) : Type 0 where
   pub es : List Recorded
   pub is : IsReplayed catalog rows books position publisher es
-  pub read : IsTrue first.told → HasRead es position (bytes_of first.files log)
+  pub read : IsTrue first.observable → HasRead es position (bytes_of first.files log)
 
 pub record IsReading (log : File) (publisher : Name) (catalog : Lists) (rows : Marked) (books : BookMap) (position size : ℕ) (first now : Seen) : Type 0 where
   pub order : position ≤ 2 ^ 62
   pub alone : ReadAlone first now
   pub steady : now.disk_faults ≡ first.disk_faults
-  pub size_is : IsTrue first.told → size ≡ length (bytes_of first.files log)
+  pub size_is : IsTrue first.observable → size ≡ length (bytes_of first.files log)
   pub history : IsReadUpTo log publisher catalog rows books position first
 
-pub begins_reading : (log : File) (publisher : Name) (catalog : Lists) (rows : Marked) (books : BookMap) (first : Seen) → IsReplayed catalog rows books 0 publisher [] → (IsTrue first.told → HasHeader 0 (bytes_of first.files log)) → IsReadUpTo log publisher catalog rows books 0 first
+pub begins_reading : (log : File) (publisher : Name) (catalog : Lists) (rows : Marked) (books : BookMap) (first : Seen) → IsReplayed catalog rows books 0 publisher [] → (IsTrue first.observable → HasHeader 0 (bytes_of first.files log)) → IsReadUpTo log publisher catalog rows books 0 first
 begins_reading log publisher catalog rows books first new header = record { es = []; is = new; read = λ told. read_none (bytes_of first.files log) (header told) }
 
 -- the history for the next step
 pub replayed_of : (log : File) (publisher : Name) (catalog : Lists) (rows : Marked) (books : BookMap) (position : ℕ) (first : Seen) → IsReadUpTo log publisher catalog rows books position first → IsReplayedOf catalog rows books position publisher
 replayed_of log publisher catalog rows books position first history = record { es = history.es; is = history.is }
 
-pub size_now : (log : File) (size : ℕ) (first now : Seen) → ReadAlone first now → (IsTrue first.told → size ≡ length (bytes_of first.files log)) → IsTrue now.told → size ≡ length (bytes_of now.files log)
+pub size_now : (log : File) (size : ℕ) (first now : Seen) → ReadAlone first now → (IsTrue first.observable → size ≡ length (bytes_of first.files log)) → IsTrue now.observable → size ≡ length (bytes_of now.files log)
 size_now log size first now alone size_is told =
-    let at : IsTrue first.told = subst IsTrue alone.stays.told told in
+    let at : IsTrue first.observable = subst IsTrue alone.stays.observable told in
     size_is at ∙ ap (λ (f : Files). length (bytes_of f log)) (sym (alone.files at))
 
 pub reads_on : (log : File) (publisher : Name) (catalog new_catalog : Lists) (rows new_rows : Marked) (books new_books : BookMap) (position end : ℕ) (first now : Seen) → IsReadUpTo log publisher catalog rows books position first → ReadAlone first now

@@ -2,24 +2,24 @@
 use Rattle.std.proofs.Common.{◌≡◌, ℕ, ◌+◌, List, [], ◌∷◌, ◌++◌, length, drop, refl, sym, ◌∙◌, ap, subst, arith}
 use Rattle.std.proofs.lemmas.List.{append-nil, drop_at}
 use Rattle.sr_book.specs.Entries.{Name}
-use Rattle.sr_history.specs.Fitting.{Fits, Stored}
-use Rattle.sr_history.specs.Folds.{fresh, state_of, end_of}
-use Rattle.sr_history.specs.Recorded.{Recorded}
-use Rattle.sr_logfile.specs.Heads.{IsClosed, HasWhole, IsBroken}
-use Rattle.sr_logfile.specs.Moments.{IsAsRead}
+use Rattle.sr_database_history.specs.Fitting.{Fits, Stored}
+use Rattle.sr_database_history.specs.Folds.{fresh, state_of, end_of}
+use Rattle.sr_database_history.specs.Recorded.{Recorded}
+use Rattle.sr_logfile.specs.Inner.Heads.{IsClosed, HasWhole, IsBroken}
+use Rattle.sr_logfile.specs.Inner.Moments.{IsAsRead}
 use Rattle.sr_logfile.specs.Records.{header, open_records, HasHeader, Spells}
-use Rattle.sr_logfile.proofs.Records.{front-push}
-use Rattle.sr_logfile.proofs.Commits.{length-front}
+use Rattle.sr_logfile.proofs.Records.{prefix-push}
+use Rattle.sr_logfile.proofs.Commits.{length-prefix}
 use Rattle.sr_logfile.proofs.Uniqueness.{same_record}
 use Rattle.sr_site.specs.Images.{IsSettled}
 use Rattle.sr_site.specs.Seen.{Seen}
 use Rattle.sr_site.specs.declared.file.File.TheVariants.{Root}
-use Rattle.sr_standing.specs.Damage.{BeginsEntry}
-use Rattle.sr_standing.specs.Generations.{Generation, generation_in, snapshot_of, log_of}
-use Rattle.sr_standing.specs.Standing.{body, bodies}
-use Rattle.sr_standing.proofs.Standing.{Stands, stands, ends_are, are_bodies, within, is_body, size_is}
+use Rattle.sr_database_meaning.specs.Damage.{BeginsEntry}
+use Rattle.sr_database_meaning.specs.Generations.{Generation, generation_in, snapshot_of, log_of}
+use Rattle.sr_database_meaning.specs.Standing.{body, bodies}
+use Rattle.sr_database_meaning.proofs.Standing.{Stands, stands, ends_are, are_bodies, within, is_body, size_is}
 use Rattle.sr_database.specs.Databases.{IsOf, IsDatabase}
-use Rattle.sr_database.specs.Replays.{BeginsWith, HasRead, LacksNext}
+use Rattle.sr_database.specs.Inner.Replays.{BeginsWith, HasRead, LacksNext}
 use Rattle.sr_database.specs.Views.{View}
 use Rattle.sr_database.proofs.Commits.{is_held, bodies_more}
 
@@ -48,13 +48,13 @@ opened generation db publisher es seen is file stands root snapshot log =
 -- ---- records, one after the other
 
 -- the place of a position, where these entries were read
-front_length : (publisher : Name) (es : List Recorded) (position : ℕ) → position ≡ end_of es → length (header 0 ++ open_records (bodies es)) ≡ 16 + position
-front_length publisher es position is = omega (arith, length-front 0 (bodies es), ends_are 0 es)
+prefix_length : (publisher : Name) (es : List Recorded) (position : ℕ) → position ≡ end_of es → length (header 0 ++ open_records (bodies es)) ≡ 16 + position
+prefix_length publisher es position is = omega (arith, length-prefix 0 (bodies es), ends_are 0 es)
 
 pub read_none : (bytes : List ℕ) → HasHeader 0 bytes → HasRead [] 0 bytes
 read_none bytes has =
     record {
-      front = has.bytes_are ∙ ap (λ (l : List ℕ). l ++ has.gate ∷ has.rest) (sym (append-nil (header 0))) ∙ ap (λ (l : List ℕ). (header 0 ++ []) ++ l) (sym behind);
+      prefix = has.bytes_are ∙ ap (λ (l : List ℕ). l ++ has.gate ∷ has.rest) (sym (append-nil (header 0))) ∙ ap (λ (l : List ℕ). (header 0 ++ []) ++ l) (sym behind);
       some = omega (arith, ap length behind);
     }
   where
@@ -62,24 +62,24 @@ read_none bytes has =
     behind = ap (drop 16) has.bytes_are ∙ drop_at (header 0) (has.gate ∷ has.rest) 16 refl
 
 pub read_more : (publisher : Name) (es : List Recorded) (r : Recorded) (position end : ℕ) (bytes : List ℕ) → position ≡ end_of es → end ≡ end_of (es ++ r ∷ []) → HasRead es position bytes → BeginsWith r (drop (16 + position) bytes) → HasRead (es ++ r ∷ []) end bytes
-read_more publisher es r position end bytes at is read begins = record { front = whole ∙ ap (λ (l : List ℕ). front ++ l) (sym behind); some = omega (arith, ap length behind) }
+read_more publisher es r position end bytes at is read begins = record { prefix = whole ∙ ap (λ (l : List ℕ). prefix ++ l) (sym behind); some = omega (arith, ap length behind) }
   where
-    front : List ℕ
-    front = header 0 ++ open_records (bodies (es ++ r ∷ []))
+    prefix : List ℕ
+    prefix = header 0 ++ open_records (bodies (es ++ r ∷ []))
 
     whole : bytes ≡ (header 0 ++ open_records (bodies (es ++ r ∷ []))) ++ begins.gate ∷ begins.more
-    whole = read.front ∙ ap (λ (l : List ℕ). (header 0 ++ open_records (bodies es)) ++ l) begins.is ∙ front-push 0 (bodies es) (body r) (begins.gate ∷ begins.more)
+    whole = read.prefix ∙ ap (λ (l : List ℕ). (header 0 ++ open_records (bodies es)) ++ l) begins.is ∙ prefix-push 0 (bodies es) (body r) (begins.gate ∷ begins.more)
         ∙ ap (λ (l : List (List ℕ)). (header 0 ++ open_records l) ++ begins.gate ∷ begins.more) (sym (bodies_more es r))
 
     behind : drop (16 + end) bytes ≡ begins.gate ∷ begins.more
-    behind = ap (drop (16 + end)) whole ∙ drop_at (header 0 ++ open_records (bodies (es ++ r ∷ []))) (begins.gate ∷ begins.more) (16 + end) (front_length publisher (es ++ r ∷ []) end is)
+    behind = ap (drop (16 + end)) whole ∙ drop_at (header 0 ++ open_records (bodies (es ++ r ∷ []))) (begins.gate ∷ begins.more) (16 + end) (prefix_length publisher (es ++ r ∷ []) end is)
 
 pub read_all : (publisher : Name) (es : List Recorded) (position : ℕ) (bytes : List ℕ) → Stored publisher es → HasRead es position bytes → IsClosed (drop (16 + position) bytes) → Spells 0 (bodies es) bytes
 read_all publisher es position bytes stored read closed =
     record {
       gate = closed.gate;
       rest = closed.rest;
-      bytes_are = read.front ∙ ap (λ (l : List ℕ). (header 0 ++ open_records (bodies es)) ++ l) closed.bytes_are;
+      bytes_are = read.prefix ∙ ap (λ (l : List ℕ). (header 0 ++ open_records (bodies es)) ++ l) closed.bytes_are;
       closed = closed.closed;
       all_bodies = are_bodies (fresh publisher) 0 es stored;
       limit = within publisher es stored;
@@ -93,8 +93,8 @@ lacking publisher es position place bytes rest stored at is read open_gate broke
     record {
       es = es;
       rest = rest;
-      bytes_are = read.front ∙ ap (λ (l : List ℕ). (header 0 ++ open_records (bodies es)) ++ l) open_gate;
-      place_is = is ∙ sym (front_length publisher es position at);
+      bytes_are = read.prefix ∙ ap (λ (l : List ℕ). (header 0 ++ open_records (bodies es)) ++ l) open_gate;
+      place_is = is ∙ sym (prefix_length publisher es position at);
       stored = stored;
       broken = broken;
     }

@@ -3,16 +3,16 @@ use Rattle.std.proofs.Common.{◌≡◌, Bool, true, false, nat_eq, List, [], �
 use Rattle.std.specs.Prelude.{IsTrue}
 use Rattle.std.specs.List.{AllByRecursion}
 use Rattle.sr_book.specs.Entries.{Name}
-use Rattle.sr_dml.specs.Applying.{applied}
-use Rattle.sr_dml.specs.Conditions.{RowsFit}
-use Rattle.sr_dml.specs.FittingChanges.{ChangesFit}
-use Rattle.sr_history.specs.Recorded.{Recorded}
+use Rattle.sr_exec_dml.specs.Applying.{applied}
+use Rattle.sr_exec_dml.specs.Inner.Conditions.{RowsFit}
+use Rattle.sr_exec_dml.specs.FittingChanges.{ChangesFit}
+use Rattle.sr_database_history.specs.Recorded.{Recorded}
 use Rattle.sr_logfile.specs.Log.{Log}
 use Rattle.sr_logform.specs.Outcomes.{IsShortChange}
 use Rattle.sr_logform.specs.declared.change.Change.{Change}
 use Rattle.sr_rows.specs.Marks.{Marked}
-use Rattle.sr_rows.specs.Steps.{at_mark}
-use Rattle.sr_schema.specs.Catalogs.{Lists}
+use Rattle.sr_rows.specs.Inner.Steps.{at_mark}
+use Rattle.sr_catalog_schema.specs.Catalogs.{Lists}
 use Rattle.sr_database.specs.Books.{BookMap}
 use Rattle.sr_database.specs.Databases.{ArePending, IsOf, IsOfSome}
 use Rattle.sr_database.specs.Views.{View}

@@ -3,33 +3,33 @@ use Rattle.std.proofs.Common.{◌≡◌, ℕ, ◌+◌, ◌-◌, ◌≤◌, ◌<�
 use Rattle.std.specs.Prelude.{IsTrue, IfOk, IfErr}
 use Rattle.std.proofs.lemmas.List.{take_all}
 use Rattle.sr_book.specs.Entries.{Name}
-use Rattle.sr_fold.specs.Answers.{TellsOne}
-use Rattle.sr_fold.specs.Readings.{state_in, FitsAs}
-use Rattle.sr_history.specs.Folds.{State, next}
-use Rattle.sr_history.specs.Recorded.{Recorded, entry_of}
-use Rattle.sr_logfile.specs.Heads.{IsClosed, HasWhole, IsBroken}
-use Rattle.sr_logfile.specs.Heads.{RecordCause as GateCause}
+use Rattle.sr_database_fold.specs.Inner.Answers.{TellsOne}
+use Rattle.sr_database_fold.specs.Inner.Readings.{state_in, FitsAs}
+use Rattle.sr_database_history.specs.Folds.{State, next}
+use Rattle.sr_database_history.specs.Recorded.{Recorded, entry_of}
+use Rattle.sr_logfile.specs.Inner.Heads.{IsClosed, HasWhole, IsBroken}
+use Rattle.sr_logfile.specs.Inner.Heads.{RecordCause as GateCause}
 use Rattle.sr_logfile.specs.declared.fault.LogFault.{LogFault}
 use Rattle.sr_logfile.specs.declared.fault.LogFault.TheVariants as logs
 use Rattle.sr_logform.specs.Entries.{entry_spelling, IsEntry}
 use Rattle.sr_logform.specs.Limits.{longest_body}
 use Rattle.sr_logform.specs.declared.entry.Entry.{Entry}
 use Rattle.sr_rows.specs.Marks.{Marked}
-use Rattle.sr_rows.specs.Steps.{at_mark}
-use Rattle.sr_schema.specs.Catalogs.{Lists}
+use Rattle.sr_rows.specs.Inner.Steps.{at_mark}
+use Rattle.sr_catalog_schema.specs.Catalogs.{Lists}
 use Rattle.sr_site.specs.Files.{Files, bytes_of}
 use Rattle.sr_site.specs.Reads.{HasRead as GaveBytes}
 use Rattle.sr_site.specs.Seen.{Seen}
 use Rattle.sr_site.specs.declared.file.File.{File}
 use Rattle.sr_database.specs.Books.{BookMap}
-use Rattle.sr_files.specs.Openings.{ReadAlone, IsLogFault}
-use Rattle.sr_database.specs.Replays.{IsReplayed, BeginsWith, HasRead, LacksNext, IsNone, Followed, FollowsAny, IsReadOn, EndsThere, piece, SpellingCause, BodyCause, RecordCause}
-use Rattle.sr_database.specs.Taking.{BooksFollow}
-use Rattle.sr_files.specs.declared.fault.DatabaseFault.{DatabaseFault}
-use Rattle.sr_files.specs.declared.fault.DatabaseFault.TheVariants.{Missing, Exists, Damaged, Disk, Full, Long, Memory}
+use Rattle.sr_database_files.specs.Inner.Openings.{ReadAlone, IsLogFault}
+use Rattle.sr_database.specs.Inner.Replays.{IsReplayed, BeginsWith, HasRead, LacksNext, IsNone, Followed, FollowsAny, IsReadOn, EndsThere, piece, SpellingCause, BodyCause, RecordCause}
+use Rattle.sr_database.specs.Inner.Taking.{BooksFollow}
+use Rattle.sr_database_files.specs.declared.fault.DatabaseFault.{DatabaseFault}
+use Rattle.sr_database_files.specs.declared.fault.DatabaseFault.TheVariants.{Missing, Exists, Damaged, Disk, Full, Long, Memory}
 use Rattle.sr_database.proofs.Followed.{too_long, unfit, one_more_read, begins_there, body_there, unspelled, unfitting}
 use Rattle.sr_database.proofs.Opened.{broken_record}
-use Rattle.sr_files.proofs.Quiet.{told_then}
+use Rattle.sr_database_files.proofs.Quiet.{told_then}
 
 -- ---- an entry that is followed, or not
 
@@ -57,20 +57,20 @@ module _ (catalog new_catalog : Lists) (rows new_rows : Marked) (books new_books
 
 -- ---- the bytes of a body
 
-pub read_short : (bytes front : List ℕ) (at wanted count read : ℕ) → GaveBytes bytes at wanted read front → wanted ≡ count → read < count → at + count ≤ length bytes → ⊥
-read_short bytes front at wanted count read gave is less there = let all = gave.count_is in omega arith
+pub read_short : (bytes prefix : List ℕ) (at wanted count read : ℕ) → GaveBytes bytes at wanted read prefix → wanted ≡ count → read < count → at + count ≤ length bytes → ⊥
+read_short bytes prefix at wanted count read gave is less there = let all = gave.count_is in omega arith
 
-pub read_whole : (bytes front : List ℕ) (at wanted count read : ℕ) → GaveBytes bytes at wanted read front → wanted ≡ count → count ≤ read → length front ≡ count → front ≡ piece at count bytes
-read_whole bytes front at wanted count read gave is most long =
+pub read_whole : (bytes prefix : List ℕ) (at wanted count read : ℕ) → GaveBytes bytes at wanted read prefix → wanted ≡ count → count ≤ read → length prefix ≡ count → prefix ≡ piece at count bytes
+read_whole bytes prefix at wanted count read gave is most long =
     let all = gave.count_is in
     let same : read ≡ count = omega arith in
-    sym (take_all count front (omega arith)) ∙ subst (λ (n : ℕ). take n front ≡ take count (drop at bytes)) same (subst (λ (n : ℕ). take read front ≡ take n (drop at bytes)) is gave.front)
+    sym (take_all count prefix (omega arith)) ∙ subst (λ (n : ℕ). take n prefix ≡ take count (drop at bytes)) same (subst (λ (n : ℕ). take read prefix ≡ take n (drop at bytes)) is gave.prefix)
 
 -- a short body is no whole one
-pub short_cause : (log : File) (place count : ℕ) (before now : Seen) → (IsTrue before.told → place + 5 + count ≤ length (bytes_of before.files log) → ⊥) → now.disk_faults ≡ before.disk_faults → BodyCause log place count before now (Damaged log place)
+pub short_cause : (log : File) (place count : ℕ) (before now : Seen) → (IsTrue before.observable → place + 5 + count ≤ length (bytes_of before.files log) → ⊥) → now.disk_faults ≡ before.disk_faults → BodyCause log place count before now (Damaged log place)
 short_cause log place count before now none steady = (refl, refl, λ told there e spelled same. none told there, steady)
 
-module _ (log : File) (place count : ℕ) (before now : Seen) (body : List ℕ) (is : IsTrue before.told → body ≡ piece (place + 5) count (bytes_of before.files log)) where
+module _ (log : File) (place count : ℕ) (before now : Seen) (body : List ℕ) (is : IsTrue before.observable → body ≡ piece (place + 5) count (bytes_of before.files log)) where
   spelling_cause : now.disk_faults ≡ before.disk_faults → (fault : DatabaseFault) → SpellingCause log place body fault → BodyCause log place count before now fault
   spelling_cause steady Missing cause = absurd cause
   spelling_cause steady Exists cause = absurd cause
@@ -84,7 +84,7 @@ module _ (log : File) (place count : ℕ) (before now : Seen) (body : List ℕ) 
   body_refused steady (Ok entry) cause = tt
   body_refused steady (Err fault) cause = spelling_cause steady fault cause
 
-  pub body_read : (result : Result Entry DatabaseFault) → IsTrue before.told → IfOk result (λ entry. IsEntry entry × (body ≡ entry_spelling entry)) → IfOk result (λ entry. piece (place + 5) count (bytes_of before.files log) ≡ entry_spelling entry)
+  pub body_read : (result : Result Entry DatabaseFault) → IsTrue before.observable → IfOk result (λ entry. IsEntry entry × (body ≡ entry_spelling entry)) → IfOk result (λ entry. piece (place + 5) count (bytes_of before.files log) ≡ entry_spelling entry)
   body_read (Ok entry) told has = sym (is told) ∙ has.1
   body_read (Err fault) told has = tt
 
@@ -98,13 +98,13 @@ size_read body count (Err fault) long has = tt
 
 -- ---- a whole record
 
-module _ (log : File) (publisher : Name) (catalog : Lists) (rows : Marked) (books : BookMap) (position end : ℕ) (before now : Seen) (whole : IsTrue before.told → HasWhole position (drop (16 + position) (bytes_of before.files log)) end) where
+module _ (log : File) (publisher : Name) (catalog : Lists) (rows : Marked) (books : BookMap) (position end : ℕ) (before now : Seen) (whole : IsTrue before.observable → HasWhole position (drop (16 + position) (bytes_of before.files log)) end) where
   -- the gates are far enough apart
   pub apart_cause : end < position + 5 → now.disk_faults ≡ before.disk_faults → RecordCause log publisher catalog rows books position before now (Damaged log (16 + position))
   apart_cause near steady = (refl, λ told es is read. let far = (whole told).end_is in absurd (omega arith), steady)
 
   module _ (count : ℕ) (apart : position + (count + 5) ≡ end) where
-    sized : (told : IsTrue before.told) → count ≡ length (whole told).body
+    sized : (told : IsTrue before.observable) → count ≡ length (whole told).body
     sized told = let far = (whole told).end_is in omega arith
 
     pub body_cause : (fault : DatabaseFault) → BodyCause log (16 + position) count before now fault → RecordCause log publisher catalog rows books position before now fault
@@ -122,7 +122,7 @@ module _ (log : File) (publisher : Name) (catalog : Lists) (rows : Marked) (book
     body_cause (Long size limit) cause = absurd cause
     body_cause Memory cause = cause
 
-    module _ (new_catalog : Lists) (new_rows : Marked) (new_books : BookMap) (entry : Entry) (body : IsTrue before.told → piece (16 + position + 5) count (bytes_of before.files log) ≡ entry_spelling entry) (limit : end ≤ 2 ^ 62) where
+    module _ (new_catalog : Lists) (new_rows : Marked) (new_books : BookMap) (entry : Entry) (body : IsTrue before.observable → piece (16 + position + 5) count (bytes_of before.files log) ≡ entry_spelling entry) (limit : end ≤ 2 ^ 62) where
       room : position + (count + 5) ≤ 2 ^ 62
       room = omega arith
 
@@ -155,7 +155,7 @@ same_place : (position : ℕ) → position - 0 ≡ position
 same_place position = omega arith
 
 module _ (log : File) (publisher : Name) (catalog : Lists) (rows : Marked) (books : BookMap) (position : ℕ) (before now : Seen) where
-  pub closed_there : (new_catalog : Lists) (new_rows : Marked) (new_books : BookMap) → new_catalog ≡ catalog → new_rows ≡ rows → new_books ≡ books → (IsTrue before.told → IsClosed (drop (16 + (position - 0)) (bytes_of before.files log)))
+  pub closed_there : (new_catalog : Lists) (new_rows : Marked) (new_books : BookMap) → new_catalog ≡ catalog → new_rows ≡ rows → new_books ≡ books → (IsTrue before.observable → IsClosed (drop (16 + (position - 0)) (bytes_of before.files log)))
       → EndsThere catalog new_catalog rows new_rows books new_books position log before
   closed_there new_catalog new_rows new_books c r b closed =
       record { catalog_is = c; rows_are = r; books_are = b; closed = λ told. subst (λ (n : ℕ). IsClosed (drop (16 + n) (bytes_of before.files log))) (same_place position) (closed told) }
@@ -171,9 +171,9 @@ module _ (log : File) (publisher : Name) (catalog : Lists) (rows : Marked) (book
     cause.2,
   )
 
-  pub whole_at : (end : ℕ) → ReadAlone before now → (IsTrue before.told → HasWhole position (drop (16 + (position - 0)) (bytes_of before.files log)) end) → IsTrue now.told → HasWhole position (drop (16 + position) (bytes_of now.files log)) end
+  pub whole_at : (end : ℕ) → ReadAlone before now → (IsTrue before.observable → HasWhole position (drop (16 + (position - 0)) (bytes_of before.files log)) end) → IsTrue now.observable → HasWhole position (drop (16 + position) (bytes_of now.files log)) end
   whole_at end alone whole told =
-      let at : IsTrue before.told = subst IsTrue alone.stays.told told in
+      let at : IsTrue before.observable = subst IsTrue alone.stays.observable told in
       subst (λ (f : Files). HasWhole position (drop (16 + position) (bytes_of f log)) end) (sym (alone.files at))
       (subst (λ (n : ℕ). HasWhole position (drop (16 + n) (bytes_of before.files log)) end) (same_place position) (whole at))
 

@@ -2,23 +2,23 @@
 use Rattle.std.proofs.Common.{◌≡◌, ◌⊎◌, inl, inr, ℕ, ◌≤◌, List, [], Some, Result, Ok, Err, refl, sym, ◌∙◌, ap, subst, arith}
 use Rattle.std.specs.Prelude.{IsTrue, IfOk, IfErr}
 use Rattle.sr_book.specs.Entries.{Name}
-use Rattle.sr_history.specs.Recorded.{Recorded}
+use Rattle.sr_database_history.specs.Recorded.{Recorded}
 use Rattle.sr_site.specs.Files.{Files, bytes_of}
 use Rattle.sr_site.specs.Seen.{Seen}
 use Rattle.sr_site.specs.declared.file.File.{File}
 use Rattle.sr_site.specs.declared.file.File.TheVariants.{Snap1}
-use Rattle.sr_standing.specs.Damage.{LacksEntry, IsDamagedRoot, IsDamagedLog, HasDamagedSnapshot, HasDamagedLog, IsDamagedAt}
-use Rattle.sr_standing.specs.Generations.{Generation, even, odd, snapshot_of, log_of, generation_in}
-use Rattle.sr_standing.specs.Snapshots.{snapshot_at}
-use Rattle.sr_standing.specs.Standing.{StandsFor}
-use Rattle.sr_standing.proofs.Standing.{one_history, missing_is_none, damaged_is_none}
-use Rattle.sr_database.specs.Causes.{OpenCause, IsDiskOrMemory}
+use Rattle.sr_database_meaning.specs.Damage.{LacksEntry, IsDamagedRoot, IsDamagedLog, HasDamagedSnapshot, HasDamagedLog, IsDamagedAt}
+use Rattle.sr_database_meaning.specs.Generations.{Generation, even, odd, snapshot_of, log_of, generation_in}
+use Rattle.sr_database_meaning.specs.Snapshots.{snapshot_at}
+use Rattle.sr_database_meaning.specs.Standing.{StandsFor}
+use Rattle.sr_database_meaning.proofs.Standing.{one_history, missing_is_none, damaged_is_none}
+use Rattle.sr_database.specs.Inner.Causes.{OpenCause, IsDiskOrMemory}
 use Rattle.sr_database.specs.Databases.{IsDatabase, HasDatabase}
-use Rattle.sr_files.specs.Openings.{SyncedAlone, IsFreshOf, AreInForce, RootCause, BlamesRoot, BlamesSnapshot, SnapshotCause, IsWhole, IsDamagedShape, ShapeCause, LogCause}
-use Rattle.sr_database.specs.Replays.{LacksNext, ReplayCause}
+use Rattle.sr_database_files.specs.Inner.Openings.{SyncedAlone, IsFreshOf, AreInForce, RootCause, BlamesRoot, BlamesSnapshot, SnapshotCause, IsWholeLog, IsDamagedShape, ShapeCause, LogCause}
+use Rattle.sr_database.specs.Inner.Replays.{LacksNext, ReplayCause}
 use Rattle.sr_database.specs.Views.{View}
-use Rattle.sr_files.specs.declared.fault.DatabaseFault.{DatabaseFault}
-use Rattle.sr_files.specs.declared.fault.DatabaseFault.TheVariants.{Missing, Exists, Damaged, Disk, Full, Long, Memory}
+use Rattle.sr_database_files.specs.declared.fault.DatabaseFault.{DatabaseFault}
+use Rattle.sr_database_files.specs.declared.fault.DatabaseFault.TheVariants.{Missing, Exists, Damaged, Disk, Full, Long, Memory}
 
 -- ---- the steps of an opening
 
@@ -66,10 +66,10 @@ blames g file at files root (inr d) =
 
 -- a later step of the opening, behind a root that names a generation
 module _ (start before now : Seen) (snapshot log : File) (alone : SyncedAlone start before) (named : AreInForce snapshot log start) (steady : before.disk_faults ≡ start.disk_faults) where
-  at_told : IsTrue start.told → IsTrue before.told
-  at_told is = subst IsTrue (sym alone.stays.told) is
+  at_told : IsTrue start.observable → IsTrue before.observable
+  at_told is = subst IsTrue (sym alone.stays.observable) is
 
-  files : IsTrue start.told → before.files ≡ start.files
+  files : IsTrue start.observable → before.files ≡ start.files
   files is = (alone.only is).files
 
   pub snapshot_cause : (fault : DatabaseFault) → SnapshotCause snapshot before now fault → OpenCause start now fault
@@ -87,7 +87,7 @@ module _ (start before now : Seen) (snapshot log : File) (alone : SyncedAlone st
   snapshot_cause (Long size limit) cause = absurd cause
   snapshot_cause Memory cause = cause ∙ steady
 
-  log_cause : (publisher : Name) → (IsTrue start.told → snapshot_at (bytes_of start.files snapshot) ≡ Ok publisher) → (fault : DatabaseFault) → LogCause log publisher before now fault → OpenCause start now fault
+  log_cause : (publisher : Name) → (IsTrue start.observable → snapshot_at (bytes_of start.files snapshot) ≡ Ok publisher) → (fault : DatabaseFault) → LogCause log publisher before now fault → OpenCause start now fault
   log_cause publisher whole Missing cause = absurd cause
   log_cause publisher whole Exists cause = absurd cause
   log_cause publisher whole (Damaged file at) cause = (
@@ -109,12 +109,12 @@ module _ (start before now : Seen) (snapshot log : File) (alone : SyncedAlone st
   log_cause publisher whole Memory cause = cause ∙ steady
 
   -- the snapshot was read before that, and nothing but syncs happened since
-  pub log_refused : (publisher : Name) (middle : Seen) → SyncedAlone start middle → (IsTrue middle.told → IsFreshOf (bytes_of middle.files snapshot) publisher) → (result : Result View DatabaseFault) → IfErr result (LogCause log publisher before now) → IfErr result (OpenCause start now)
+  pub log_refused : (publisher : Name) (middle : Seen) → SyncedAlone start middle → (IsTrue middle.observable → IsFreshOf (bytes_of middle.files snapshot) publisher) → (result : Result View DatabaseFault) → IfErr result (LogCause log publisher before now) → IfErr result (OpenCause start now)
   log_refused publisher middle earlier fresh (Ok db) cause = tt
   log_refused publisher middle earlier fresh (Err fault) cause = log_cause publisher whole fault cause
     where
-      whole : IsTrue start.told → snapshot_at (bytes_of start.files snapshot) ≡ Ok publisher
-      whole is = subst (λ (f : Files). snapshot_at (bytes_of f snapshot) ≡ Ok publisher) (earlier.only is).files (fresh (subst IsTrue (sym earlier.stays.told) is)).read
+      whole : IsTrue start.observable → snapshot_at (bytes_of start.files snapshot) ≡ Ok publisher
+      whole is = subst (λ (f : Files). snapshot_at (bytes_of f snapshot) ≡ Ok publisher) (earlier.only is).files (fresh (subst IsTrue (sym earlier.stays.observable) is)).read
 
 -- the refusal of header and records is the log's
 of_shape : (publisher : Name) (bytes : List ℕ) (at : ℕ) → IsDamagedShape bytes at → IsDamagedLog publisher bytes at
@@ -132,18 +132,18 @@ shape_cause log publisher before now (Long size limit) cause = absurd cause
 shape_cause log publisher before now Memory cause = absurd cause
 
 -- where all records are whole, the refusal of the reading is the log's
-lacks_entry : (publisher : Name) (bytes : List ℕ) (place : ℕ) → IsWhole bytes → LacksNext publisher bytes place → LacksEntry publisher bytes place
+lacks_entry : (publisher : Name) (bytes : List ℕ) (place : ℕ) → IsWholeLog bytes → LacksNext publisher bytes place → LacksEntry publisher bytes place
 lacks_entry publisher bytes place whole d =
     record { all = whole.all; spells = whole.spells; es = d.es; rest = d.rest; bytes_are = d.bytes_are; place_is = d.place_is; stored = d.stored; broken = d.broken }
 
-module _ (log : File) (publisher : Name) (start before now : Seen) (alone : SyncedAlone start before) (whole : IsTrue start.told → IsWhole (bytes_of start.files log)) (steady : before.disk_faults ≡ start.disk_faults) where
+module _ (log : File) (publisher : Name) (start before now : Seen) (alone : SyncedAlone start before) (whole : IsTrue start.observable → IsWholeLog (bytes_of start.files log)) (steady : before.disk_faults ≡ start.disk_faults) where
   replay_cause : (fault : DatabaseFault) → ReplayCause log publisher before now fault → LogCause log publisher start now fault
   replay_cause Missing cause = absurd cause
   replay_cause Exists cause = absurd cause
   replay_cause (Damaged file at) cause = (
     cause.0,
     λ is.
-        let lacks : LacksNext publisher (bytes_of start.files log) at = subst (λ (f : Files). LacksNext publisher (bytes_of f log) at) (alone.only is).files (cause.1 (subst IsTrue (sym alone.stays.told) is)) in
+        let lacks : LacksNext publisher (bytes_of start.files log) at = subst (λ (f : Files). LacksNext publisher (bytes_of f log) at) (alone.only is).files (cause.1 (subst IsTrue (sym alone.stays.observable) is)) in
         inr (inr (inr (lacks_entry publisher (bytes_of start.files log) at (whole is) lacks))),
     cause.2 ∙ steady,
   )
@@ -158,7 +158,7 @@ module _ (log : File) (publisher : Name) (start before now : Seen) (alone : Sync
 
 -- ---- files that stand for a history
 
-pub not_refused : (before now : Seen) (publisher : Name) (es : List Recorded) (base : ℕ) → IsTrue before.told → StandsFor publisher es base before.files → (fault : DatabaseFault) → OpenCause before now fault → IsDiskOrMemory fault
+pub not_refused : (before now : Seen) (publisher : Name) (es : List Recorded) (base : ℕ) → IsTrue before.observable → StandsFor publisher es base before.files → (fault : DatabaseFault) → OpenCause before now fault → IsDiskOrMemory fault
 not_refused before now publisher es base told stands Missing cause = absurd (missing_is_none publisher es base before.files stands (cause.0 told))
 not_refused before now publisher es base told stands Exists cause = absurd cause
 not_refused before now publisher es base told stands (Damaged file at) cause = absurd (damaged_is_none publisher es base at file before.files stands (cause.0 told))
@@ -174,7 +174,7 @@ its_history db before now publisher es base same stands has =
     let one = one_history has.publisher publisher has.es es db.log.base base before.files held stands in
     subst (λ (l : List Recorded). IsDatabase db publisher l now) one.1 (subst (λ (p : Name). IsDatabase db p has.es now) one.0 has.is)
 
-pub stood : (before now : Seen) (publisher : Name) (es : List Recorded) (base : ℕ) (result : Result View DatabaseFault) → IsTrue before.told → now.files ≡ before.files → StandsFor publisher es base before.files → IfOk result (λ db. HasDatabase db now) → IfErr result (OpenCause before now)
+pub stood : (before now : Seen) (publisher : Name) (es : List Recorded) (base : ℕ) (result : Result View DatabaseFault) → IsTrue before.observable → now.files ≡ before.files → StandsFor publisher es base before.files → IfOk result (λ db. HasDatabase db now) → IfErr result (OpenCause before now)
     → IfOk result (λ db. IsDatabase db publisher es now) × IfErr result IsDiskOrMemory
 stood before now publisher es base (Ok db) told same stands has cause = (its_history db before now publisher es base same stands has, tt)
 stood before now publisher es base (Err fault) told same stands has cause = (tt, not_refused before now publisher es base told stands fault cause)

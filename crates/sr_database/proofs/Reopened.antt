@@ -5,29 +5,29 @@ use Rattle.std.specs.FinMap as map
 use Rattle.sr_base.specs.Fields.{IsName}
 use Rattle.sr_base.specs.Order.{name_cmp}
 use Rattle.sr_book.specs.Entries.{Name}
-use Rattle.sr_history.specs.Folds.{state_of}
-use Rattle.sr_history.specs.Recorded.{Recorded}
+use Rattle.sr_database_history.specs.Folds.{state_of}
+use Rattle.sr_database_history.specs.Recorded.{Recorded}
 use Rattle.sr_logfile.specs.Log.{Log}
-use Rattle.sr_logfile.specs.Moments.{IsAsRead}
+use Rattle.sr_logfile.specs.Inner.Moments.{IsAsRead}
 use Rattle.sr_logfile.specs.Records.{Spells}
 use Rattle.sr_rows.specs.Marks.{Marked}
-use Rattle.sr_schema.specs.Catalogs.{Lists, nothing_but}
+use Rattle.sr_catalog_schema.specs.Catalogs.{Lists, nothing_but}
 use Rattle.sr_site.specs.Files.{Files, bytes_of}
 use Rattle.sr_site.specs.Images.{IsSettled}
 use Rattle.sr_site.specs.Seen.{Seen}
 use Rattle.sr_site.specs.declared.file.File.{File}
 use Rattle.sr_site.specs.declared.file.File.TheVariants.{Root}
-use Rattle.sr_standing.specs.Generations.{generation_in}
-use Rattle.sr_standing.specs.Standing.{bodies}
-use Rattle.sr_standing.proofs.Standing.{Stands}
+use Rattle.sr_database_meaning.specs.Generations.{generation_in}
+use Rattle.sr_database_meaning.specs.Standing.{bodies}
+use Rattle.sr_database_meaning.proofs.Standing.{Stands}
 use Rattle.sr_database.specs.Books.{BookMap, book_in, or_new}
 use Rattle.sr_database.specs.Databases.{ArePending, IsOf, IsOfSome, HasDatabase}
-use Rattle.sr_files.specs.Openings.{SyncedAlone, IsFreshOf, AreInForce}
-use Rattle.sr_database.specs.Replays.{IsReplayed, IsReplayedBehind, HasReplayed, IsOpened}
+use Rattle.sr_database_files.specs.Inner.Openings.{SyncedAlone, IsFreshOf, AreInForce}
+use Rattle.sr_database.specs.Inner.Replays.{IsReplayed, IsReplayedBehind, HasReplayed, IsOpened}
 use Rattle.sr_database.specs.Views.{View}
-use Rattle.sr_files.specs.declared.fault.DatabaseFault.{DatabaseFault}
+use Rattle.sr_database_files.specs.declared.fault.DatabaseFault.{DatabaseFault}
 use Rattle.sr_database.proofs.Opened.{opened}
-use Rattle.sr_files.proofs.Quiet.{told_then, synced_then, settled_then}
+use Rattle.sr_database_files.proofs.Quiet.{told_then, synced_then, settled_then}
 use Rattle.sr_database.proofs.Values.{none_pending}
 
 -- ---- nothing was read so far
@@ -69,7 +69,7 @@ replayed_behind catalog rows books position base_catalog publisher log seen has 
 
 -- it is that of the history that the log spells, which was read at a later moment
 pub opened_of : (db : View) (catalog : Lists) (rows : Marked) (books : BookMap) (position : ℕ) (publisher : Name) (log : File) (before now : Seen) → db.log.file ≡ log → HasReplayed catalog rows books position publisher log now
-    → ((es : List Recorded) → IsReplayed catalog rows books position publisher es → IsOf db publisher es) → (IsTrue before.told → IsTrue now.told) → (IsTrue before.told → now.files ≡ before.files) → IsOpened db log publisher before
+    → ((es : List Recorded) → IsReplayed catalog rows books position publisher es → IsOf db publisher es) → (IsTrue before.observable → IsTrue now.observable) → (IsTrue before.observable → now.files ≡ before.files) → IsOpened db log publisher before
 opened_of db catalog rows books position publisher log before now file has of at files =
     record { file_is = file; es = has.es; is = of has.es has.is; spells = λ told. subst (λ (f : Files). Spells 0 (bodies has.es) (bytes_of f log)) (files told) (has.spells (at told)) }
 
@@ -86,12 +86,12 @@ opened_before log publisher before now alone (Err fault) has = tt
 -- ---- the database
 
 module _ (start first middle end : Seen) (snapshot log : File) (one : SyncedAlone start first) (two : SyncedAlone first middle) (three : SyncedAlone middle end) (named : AreInForce snapshot log start) (publisher : Name)
-    (root : IsTrue start.told → IsSettled (IsAsRead Root first) first) (fresh : IsTrue first.told → IsFreshOf (bytes_of first.files snapshot) publisher) (settled : IsTrue first.told → IsSettled (IsAsRead snapshot middle) middle) where
-  has_database : (db : View) → IsTrue start.told → IsSettled (IsAsRead log end) end → IsOpened db log publisher middle → HasDatabase db end
+    (root : IsTrue start.observable → IsSettled (IsAsRead Root first) first) (fresh : IsTrue first.observable → IsFreshOf (bytes_of first.files snapshot) publisher) (settled : IsTrue first.observable → IsSettled (IsAsRead snapshot middle) middle) where
+  has_database : (db : View) → IsTrue start.observable → IsSettled (IsAsRead log end) end → IsOpened db log publisher middle → HasDatabase db end
   has_database db told logs has =
       let g = named.generation in
-      let then : IsTrue first.told = told_then start first one.stays told in
-      let later : IsTrue middle.told = told_then first middle two.stays then in
+      let then : IsTrue first.observable = told_then start first one.stays told in
+      let later : IsTrue middle.observable = told_then first middle two.stays then in
       let two_three : SyncedAlone first end = synced_then first middle end two three in
       let on : end.files ≡ first.files = (two_three.only then).files in
       let all : end.files ≡ start.files = on ∙ (one.only told).files in
@@ -112,6 +112,6 @@ module _ (start first middle end : Seen) (snapshot log : File) (one : SyncedAlon
             (subst (λ (l : File). IsSettled (IsAsRead l end) end) named.log_is logs);
       }
 
-  pub opened_database : (result : Result View DatabaseFault) → IsTrue start.told → (IsTrue middle.told → IfOk result (λ db. IsSettled (IsAsRead log end) end)) → IfOk result (λ db. IsOpened db log publisher middle) → IfOk result (λ db. HasDatabase db end)
+  pub opened_database : (result : Result View DatabaseFault) → IsTrue start.observable → (IsTrue middle.observable → IfOk result (λ db. IsSettled (IsAsRead log end) end)) → IfOk result (λ db. IsOpened db log publisher middle) → IfOk result (λ db. HasDatabase db end)
   opened_database (Ok db) told logs has = has_database db told (logs (told_then first middle two.stays (told_then start first one.stays told))) has
   opened_database (Err fault) told logs has = tt

@@ -3,27 +3,28 @@ use Rattle.std.proofs.Common.{◌≡◌, List, [], ◌∷◌, ◌++◌, refl, sy
 use Rattle.std.specs.List.{AllByRecursion}
 use Rattle.sr_book.specs.Entries.{Name, booked}
 use Rattle.sr_book.proofs.Folds.{book_more}
-use Rattle.sr_dml.specs.Applying.{applied, applied_in}
-use Rattle.sr_dml.specs.Conditions.{RowsFit}
-use Rattle.sr_dml.specs.FittingChanges.{ChangesFit}
-use Rattle.sr_dml.specs.Statements.{table_named}
-use Rattle.sr_dml.proofs.Applied.{fitting_changes_keep}
-use Rattle.sr_history.specs.Fitting.{Fits, Stored}
-use Rattle.sr_history.specs.Folds.{fresh, state_of, end_of, sees, books_of}
-use Rattle.sr_history.specs.Laws.{Holds}
-use Rattle.sr_history.specs.Recorded.{Recorded}
-use Rattle.sr_history.proofs.Joined.{stored_from-more}
-use Rattle.sr_history.proofs.Kept.{stored_holds}
+use Rattle.sr_exec_dml.specs.Applying.{applied, applied_in}
+use Rattle.sr_exec_dml.specs.Inner.Conditions.{RowsFit}
+use Rattle.sr_exec_dml.specs.FittingChanges.{ChangesFit}
+use Rattle.sr_exec_dml.specs.Statements.{table_named}
+use Rattle.sr_exec_dml.proofs.Applied.{fitting_changes_keep}
+use Rattle.sr_database_history.specs.Fitting.{Fits, Stored}
+use Rattle.sr_database_history.specs.Folds.{fresh, state_of, end_of, sees, books_of}
+use Rattle.sr_database_history.specs.Inner.Laws.{Holds}
+use Rattle.sr_database_history.specs.Recorded.{Recorded}
+use Rattle.sr_database_history.proofs.Joined.{stored_from-more}
+use Rattle.sr_database_history.proofs.Kept.{stored_holds}
 use Rattle.sr_logform.specs.Outcomes.{IsShortChange}
-use Rattle.sr_replay.specs.Scripts.{IsSpelled}
+use Rattle.sr_catalog_script_laws.specs.Inner.Scripts.{IsSpelled}
 use Rattle.sr_logform.specs.declared.change.Change.{Change}
 use Rattle.sr_rows.specs.Marks.{Marked, RowMap}
-use Rattle.sr_rows.specs.Steps.{at_mark}
-use Rattle.sr_schema.specs.Catalogs.{Lists}
+use Rattle.sr_rows.specs.Inner.Steps.{at_mark}
+use Rattle.sr_catalog_schema.specs.Catalogs.{Lists}
 use Rattle.sr_database.specs.Books.{BookMap, book_in}
 use Rattle.sr_database.specs.Databases.{ArePending, IsOf, IsOfSome}
-use Rattle.sr_database.specs.Taking.{BooksFollow}
-use Rattle.sr_database.specs.Views.{View, present}
+use Rattle.sr_database.specs.Inner.Taking.{BooksFollow}
+use Rattle.sr_database.specs.Views.{View}
+use Rattle.sr_database.specs.Inner.Views.{present}
 
 -- ---- changes behind others
 

@@ -1,6 +1,5 @@
 -- The books of a database: those that an entry has changed, under their users' names.
-use Rattle.std.specs.Prelude.{ℕ, Option, Some, None, refl}
-use Rattle.std.specs.Coded.{Coded, code_by, coded×, coded_ℕ, coded_list}
+use Rattle.std.specs.Prelude.{Option, Some, None}
 use Rattle.std.specs.FinMap as map
 use Rattle.sr_base.specs.Order.{name_cmp}
 use Rattle.sr_book.specs.Books.{new_book}
@@ -10,14 +9,6 @@ use Rattle.sr_book.specs.declared.book.Book.{Book}
 abbrev pub BookMap : Type 0
 BookMap = map.FinMap name_cmp Book
 
-abbrev pub coded_book : Coded Book
-coded_book = code_by (ℕ × (ℕ × (ℕ × (ℕ × (ℕ × (ℕ × (ℕ × ℕ))))))) (coded× coded_ℕ (coded× coded_ℕ (coded× coded_ℕ (coded× coded_ℕ (coded× coded_ℕ (coded× coded_ℕ (coded× coded_ℕ coded_ℕ)))))))
-    (λ b. (b.log_sent, (b.confirm_sent, (b.send_count, (b.resend_count, (b.log_received, (b.confirm_received, (b.receive_count, b.rereceive_count))))))))
-    (λ p. record { log_sent = p.0; confirm_sent = p.1.0; send_count = p.1.1.0; resend_count = p.1.1.1.0; log_received = p.1.1.1.1.0; confirm_received = p.1.1.1.1.1.0; receive_count = p.1.1.1.1.1.1.0; rereceive_count = p.1.1.1.1.1.1.1 }) (λ _. refl)
-
-abbrev pub coded_books : Coded BookMap
-coded_books = map.code (coded_list coded_ℕ) coded_book
-
 -- a book, eight zeros where none is kept
 abbrev pub or_new : Option Book → Book
 or_new None = new_book
@@ -26,8 +17,3 @@ or_new (Some book) = book
 -- the book of a user
 abbrev pub book_in : BookMap → Name → Book
 book_in books user = or_new (map.get books user)
-
--- the books with this one kept of a user, or none
-abbrev pub with_held : BookMap → Name → Option Book → BookMap
-with_held books user None = map.remove books user
-with_held books user (Some book) = map.insert books user book

@@ -3,20 +3,20 @@ use Rattle.std.specs.Prelude.{◌≡◌, List, []}
 use Rattle.std.specs.List.{AllByRecursion}
 use Rattle.sr_base.specs.Fields.{IsName}
 use Rattle.sr_book.specs.Entries.{Name}
-use Rattle.sr_dml.specs.Applying.{applied}
-use Rattle.sr_dml.specs.FittingChanges.{ChangesFit}
-use Rattle.sr_history.specs.Fitting.{Stored}
-use Rattle.sr_history.specs.Folds.{state_of, end_of, books_of}
-use Rattle.sr_history.specs.Recorded.{Recorded}
+use Rattle.sr_exec_dml.specs.Applying.{applied}
+use Rattle.sr_exec_dml.specs.FittingChanges.{ChangesFit}
+use Rattle.sr_database_history.specs.Fitting.{Stored}
+use Rattle.sr_database_history.specs.Folds.{state_of, end_of, books_of}
+use Rattle.sr_database_history.specs.Recorded.{Recorded}
 use Rattle.sr_logform.specs.Outcomes.{IsShortChange}
 use Rattle.sr_logform.specs.declared.change.Change.{Change}
 use Rattle.sr_rows.specs.Marks.{Marked}
-use Rattle.sr_schema.specs.Catalogs.{Lists, nothing_but}
+use Rattle.sr_catalog_schema.specs.Catalogs.{Lists, nothing_but}
 use Rattle.sr_site.specs.Files.{Files}
 use Rattle.sr_site.specs.Images.{IsSettled}
 use Rattle.sr_site.specs.Seen.{Seen}
-use Rattle.sr_standing.specs.Generations.{log_of}
-use Rattle.sr_standing.specs.Standing.{StandsFor}
+use Rattle.sr_database_meaning.specs.Generations.{log_of}
+use Rattle.sr_database_meaning.specs.Standing.{StandsFor}
 use Rattle.sr_database.specs.Books.{book_in}
 use Rattle.sr_database.specs.Views.{View}
 

@@ -2,7 +2,6 @@ pub mod Books
 pub mod Causes
 pub mod Commits
 pub mod Databases
-pub mod Entries
-pub mod Replays
-pub mod Taking
+pub mod Rooms
 pub mod Views
+pub mod Inner

@@ -1,10 +1,10 @@
 -- What contracts see of an opened database.
 use Rattle.std.specs.Prelude.{List}
-use Rattle.sr_history.specs.Folds.{State}
+use Rattle.sr_database_history.specs.Folds.{State}
 use Rattle.sr_logfile.specs.Log.{Log}
 use Rattle.sr_logform.specs.declared.change.Change.{Change}
 use Rattle.sr_rows.specs.Marks.{Marked}
-use Rattle.sr_schema.specs.Catalogs.{Lists}
+use Rattle.sr_catalog_schema.specs.Catalogs.{Lists}
 use Rattle.sr_database.specs.Books.{BookMap}
 
 -- the catalog, that at the log's base, the rows with the pending changes in them and as they were at the last commit, these changes, the
@@ -20,7 +20,3 @@ pub record View : Type 0 where
 -- what its committed entries come to
 abbrev pub committed : View → State
 committed view = record { catalog = view.catalog; rows = view.rows.marked }
-
--- the same with the pending changes
-abbrev pub present : View → State
-present view = record { catalog = view.catalog; rows = view.rows.rows }

@@ -1,7 +1,8 @@
 ghost use Rattle.std.specs.Prelude.{◌≡◌, OnOk, OnErr, IsSome};
 ghost use Rattle.std.specs.FinMap as map;
 ghost use Rattle.std.specs.Option.{option_copied};
-ghost use Rattle.sr_database.specs.Books.{book_in, with_held};
+ghost use Rattle.sr_database.specs.Books.{book_in};
+ghost use Rattle.sr_database.specs.Inner.Books.{with_held};
 
 use sr_base::{Copied, Name, NoMemory};
 use sr_book::Book;
@@ -19,7 +20,8 @@ pub(crate) struct Books {
 
 impl Model for Books {
     ghost use Rattle.std.specs.FinMap as map;
-    ghost use Rattle.sr_database.specs.Books.{BookMap, coded_books};
+    ghost use Rattle.sr_database.specs.Books.{BookMap};
+    ghost use Rattle.sr_database.specs.Inner.Books.{coded_books};
 
     ghost Value = { BookMap };
 

@@ -1,31 +1,33 @@
 ghost use Rattle.std.specs.Prelude.{◌≡◌, ◌≤◌, ◌<◌, [], ◌∷◌, ◌++◌, ◌+◌, ◌^◌, ℕ, true, List, length, IsTrue, IfOk, IfErr, OnOk, OnErr, is_ok};
 ghost use Rattle.std.specs.Option.{SomeIff};
 ghost use Rattle.sr_book.specs.Entries.{Name as AName};
-ghost use Rattle.sr_history.specs.Recorded.{Recorded};
-ghost use Rattle.sr_logfile.specs.Calls.{commit_calls};
-ghost use Rattle.sr_logfile.specs.Logs.{IsLog, HasLog, IsFull, gate_of, longer, spent};
-ghost use Rattle.sr_logfile.specs.Moments.{HasOrLacks, IsAsRead};
+ghost use Rattle.sr_database_history.specs.Recorded.{Recorded};
+ghost use Rattle.sr_logfile.specs.Inner.Calls.{commit_calls};
+ghost use Rattle.sr_logfile.specs.Logs.{IsFull, gate_of};
+ghost use Rattle.sr_logfile.specs.Inner.Logs.{IsLog, HasLog, longer, spent};
+ghost use Rattle.sr_logfile.specs.Inner.Moments.{HasOrLacks, IsAsRead};
 ghost use Rattle.sr_logfile.specs.Records.{IsFramed, body_of};
-ghost use Rattle.sr_logform.specs.Entries.{IsShortEntry};
+ghost use Rattle.sr_logform.specs.Inner.Entries.{IsShortEntry};
 ghost use Rattle.sr_site.specs.Causes.{DiskStays, Rose};
-ghost use Rattle.sr_site.specs.Happenings.{Made};
+ghost use Rattle.sr_site.specs.Inner.Happenings.{Made};
 ghost use Rattle.sr_site.specs.Images.{IsSettled, RestsThroughout};
 ghost use Rattle.sr_site.specs.Files.{OthersStay};
-ghost use Rattle.sr_standing.specs.Items.{commit};
-ghost use Rattle.sr_standing.specs.Trails.{Went};
-ghost use Rattle.sr_database.specs.Causes.{CommitCause, FramingCause, IsBegun};
-ghost use Rattle.sr_database.specs.Commits.{CanCommit, CanCommitSome, FollowsAsSome, HasRoom, IsPrepared};
+ghost use Rattle.sr_database_meaning.specs.Events.{commit};
+ghost use Rattle.sr_database_meaning.specs.Traces.{Went};
+ghost use Rattle.sr_database.specs.Inner.Causes.{CommitCause, FramingCause, IsBegun};
+ghost use Rattle.sr_database.specs.Commits.{HasRoom, IsPrepared};
+ghost use Rattle.sr_database.specs.Inner.Commits.{CanCommit, CanCommitSome, FollowsAsSome};
 ghost use Rattle.sr_database.specs.Databases.{ArePending, IsOf, IsDatabase, HasDatabase};
-ghost use Rattle.sr_database.specs.Taking.{at_last_commit, StaysAll, Takes};
-ghost use Rattle.sr_dml.specs.Conditions.{RowsFit};
-ghost use Rattle.sr_files.specs.declared.fault.DatabaseFault.TheVariants.{Disk};
+ghost use Rattle.sr_database.specs.Inner.Taking.{at_last_commit, StaysAll, Takes};
+ghost use Rattle.sr_exec_dml.specs.Inner.Conditions.{RowsFit};
+ghost use Rattle.sr_database_files.specs.declared.fault.DatabaseFault.TheVariants.{Disk};
 
 use crate::bookkeeping::Books;
 use crate::database::Database;
 use crate::settling::settle;
 use sr_base::Offset;
 use sr_catalog::Catalog;
-use sr_files::DatabaseFault;
+use sr_database_files::DatabaseFault;
 use sr_logfile::{LogFile, frame};
 use sr_logform::{Change, Entry, farthest_end, longest_body, write_entry};
 use sr_rows::Rows;
@@ -48,16 +50,16 @@ impl Database {
     ) -> Result<Offset, DatabaseFault>
         requires usable { self.old.log.usable ≡ true }
         requires entry { CanCommitSome self.old entry.now }
-        requires stands { IsTrue (S.seen site.old).told → HasDatabase self.old (S.seen site.old) }
+        requires stands { IsTrue (S.seen site.old).observable → HasDatabase self.old (S.seen site.old) }
         ensures offset { IfOk result (λ offset. offset.0 ≡ self.new.log.end) }
         ensures ready { OnOk result ((self.new.log.usable ≡ true) × (self.new.pending ≡ [])) }
         ensures room { OnOk result (HasRoom self.old.log entry.now) }
         ensures value { (publisher : AName) (es : List Recorded) (r : Recorded) → IsOf self.old publisher es → CanCommit self.old entry.now r → OnOk result (IsOf self.new publisher (es ++ r ∷ [])) }
-        ensures database { IsTrue (S.seen site.old).told → (publisher : AName) (es : List Recorded) (r : Recorded) → IsDatabase self.old publisher es (S.seen site.old) → CanCommit self.old entry.now r
+        ensures database { IsTrue (S.seen site.old).observable → (publisher : AName) (es : List Recorded) (r : Recorded) → IsDatabase self.old publisher es (S.seen site.old) → CanCommit self.old entry.now r
             → OnOk result (IsDatabase self.new publisher (es ++ r ∷ []) (S.seen site.new)) }
-        ensures went { IsTrue (S.seen site.old).told → (publisher : AName) (es : List Recorded) (r : Recorded) → IsDatabase self.old publisher es (S.seen site.old) → CanCommit self.old entry.now r
+        ensures went { IsTrue (S.seen site.old).observable → (publisher : AName) (es : List Recorded) (r : Recorded) → IsDatabase self.old publisher es (S.seen site.old) → CanCommit self.old entry.now r
             → IsBegun result → Went (S.seen site.old) (S.seen site.new) publisher es (commit r ∷ []) }
-        ensures others { IsTrue (S.seen site.old).told → OthersStay self.old.log.file (S.seen site.old).files (S.seen site.new).files }
+        ensures others { IsTrue (S.seen site.old).observable → OthersStay self.old.log.file (S.seen site.old).files (S.seen site.new).files }
         ensures stays { DiskStays (S.seen site.old) (S.seen site.new) }
         ensures steady { OnOk result ((S.seen site.new).disk_faults ≡ (S.seen site.old).disk_faults) }
         ensures cause { IfErr result (CommitCause self.old self.new entry.now (S.seen site.old) (S.seen site.new)) }
@@ -144,15 +146,15 @@ fn append<S: Site>(
     requires framed { IsFramed framed.now }
     requires usable { log.old.usable ≡ true }
     requires room { ¬ (IsFull log.old (length framed.now) bound) }
-    requires log { IsTrue (S.seen site.old).told → HasLog log.old (S.seen site.old).files }
+    requires log { IsTrue (S.seen site.old).observable → HasLog log.old (S.seen site.old).files }
     ensures offset { IfOk result (λ offset. offset.0 ≡ log.new.end) }
     ensures log { OnOk result (log.new ≡ longer log.old (length framed.now)) }
     ensures spent { OnErr result (log.new ≡ spent log.old) }
-    ensures record { IsTrue (S.seen site.old).told → OnOk result ((bodies : List (List ℕ)) → IsLog log.old bodies (S.seen site.old).files → IsLog log.new (bodies ++ body_of framed.now ∷ []) (S.seen site.new).files) }
-    ensures happened { IsTrue (S.seen site.old).told → Made (commit_calls log.old.file (gate_of log.old) framed.now) (S.seen site.old).happened (S.seen site.new).happened (is_ok result) }
-    ensures moments { IsTrue (S.seen site.old).told → (bodies : List (List ℕ)) → IsLog log.old bodies (S.seen site.old).files → IsSettled (IsLog log.old bodies) (S.seen site.old) → RestsThroughout (HasOrLacks log.old bodies framed.now) (S.seen site.old) (S.seen site.new) }
-    ensures settled { IsTrue (S.seen site.old).told → OnOk result (IsSettled (IsAsRead log.old.file (S.seen site.new)) (S.seen site.new)) }
-    ensures others { IsTrue (S.seen site.old).told → OthersStay log.old.file (S.seen site.old).files (S.seen site.new).files }
+    ensures record { IsTrue (S.seen site.old).observable → OnOk result ((bodies : List (List ℕ)) → IsLog log.old bodies (S.seen site.old).files → IsLog log.new (bodies ++ body_of framed.now ∷ []) (S.seen site.new).files) }
+    ensures happened { IsTrue (S.seen site.old).observable → Made (commit_calls log.old.file (gate_of log.old) framed.now) (S.seen site.old).happened (S.seen site.new).happened (is_ok result) }
+    ensures moments { IsTrue (S.seen site.old).observable → (bodies : List (List ℕ)) → IsLog log.old bodies (S.seen site.old).files → IsSettled (IsLog log.old bodies) (S.seen site.old) → RestsThroughout (HasOrLacks log.old bodies framed.now) (S.seen site.old) (S.seen site.new) }
+    ensures settled { IsTrue (S.seen site.old).observable → OnOk result (IsSettled (IsAsRead log.old.file (S.seen site.new)) (S.seen site.new)) }
+    ensures others { IsTrue (S.seen site.old).observable → OthersStay log.old.file (S.seen site.old).files (S.seen site.new).files }
     ensures stays { DiskStays (S.seen site.old) (S.seen site.new) }
     ensures steady { OnOk result ((S.seen site.new).disk_faults ≡ (S.seen site.old).disk_faults) }
     ensures cause { IfErr result (λ fault. (fault ≡ Disk) × Rose (S.seen site.old).disk_faults (S.seen site.new).disk_faults) }

@@ -1,24 +1,24 @@
 ghost use Rattle.std.specs.Prelude.{◌≡◌, [], ◌∷◌, ◌++◌, true, List, IfOk, OnOk, OnErr, option_map};
 ghost use Rattle.std.specs.List.{AllByRecursion};
 ghost use Rattle.sr_book.specs.Entries.{Name as AName};
-ghost use Rattle.sr_dml.specs.Applying.{applied};
-ghost use Rattle.sr_dml.specs.FittingChanges.{ChangesFit};
-ghost use Rattle.sr_history.specs.Laws.{Holds};
-ghost use Rattle.sr_history.specs.Recorded.{Recorded};
+ghost use Rattle.sr_exec_dml.specs.Applying.{applied};
+ghost use Rattle.sr_exec_dml.specs.FittingChanges.{ChangesFit};
+ghost use Rattle.sr_database_history.specs.Inner.Laws.{Holds};
+ghost use Rattle.sr_database_history.specs.Recorded.{Recorded};
 ghost use Rattle.sr_logform.specs.Outcomes.{IsShortChange};
-ghost use Rattle.sr_rows.specs.Steps.{at_mark};
-ghost use Rattle.sr_schema.specs.Members.{user_name};
-ghost use Rattle.sr_schema.specs.Names.{named};
+ghost use Rattle.sr_rows.specs.Inner.Steps.{at_mark};
+ghost use Rattle.sr_catalog_schema.specs.Members.{user_name};
+ghost use Rattle.sr_catalog_schema.specs.Names.{named};
 ghost use Rattle.sr_database.specs.Books.{book_in};
 ghost use Rattle.sr_database.specs.Databases.{IsOf, IsOfSome};
-ghost use Rattle.sr_database.specs.Views.{present};
+ghost use Rattle.sr_database.specs.Inner.Views.{present};
 
 use crate::bookkeeping::Books;
 use sr_base::{Copied, Name, NoMemory, Offset};
 use sr_book::Book;
 use sr_catalog::Catalog;
-use sr_dml::Changes;
 use sr_exec::apply;
+use sr_exec_dml::Changes;
 use sr_logfile::LogFile;
 use sr_logform::Change;
 use sr_rows::Rows;
@@ -43,10 +43,10 @@ pub struct Database {
 impl Model for Database {
     ghost use Rattle.std.specs.Prelude.{IsTrue};
     ghost use Rattle.std.specs.Coded.{codes};
-    ghost use Rattle.sr_ast.specs.Terms.{term_code};
-    ghost use Rattle.sr_ast.specs.Chains.{chain_code};
-    ghost use Rattle.sr_rows.specs.Marks.{coded_marked};
-    ghost use Rattle.sr_database.specs.Books.{coded_books};
+    ghost use Rattle.sr_ast.specs.Inner.Terms.{term_code};
+    ghost use Rattle.sr_ast.specs.Inner.Chains.{chain_code};
+    ghost use Rattle.sr_rows.specs.Inner.Marks.{coded_marked};
+    ghost use Rattle.sr_database.specs.Inner.Books.{coded_books};
     ghost use Rattle.sr_database.specs.Views.{View};
 
     ghost Value = { View };

@@ -1,6 +1,6 @@
 //! A database in five files: made, opened, gone on with one entry at a time, and read again.
 //!
-//! It stands on sr_files for what is made and read of files before their entries, on sr_standing for what files stand for and for trails, on sr_fold
+//! It stands on sr_database_files for what is made and read of files before their entries, on sr_database_meaning for what files stand for and for traces, on sr_database_fold
 //! for what an entry does, on sr_logfile and sr_logform for records.
 //! The contract that matters most is that of `Database::commit`: the database of a history is then that of the history and one entry more,
 //! at each moment a crash leaves the one or the other, and after a refusal all is as it was.
@@ -16,4 +16,4 @@ mod replaying;
 mod settling;
 
 pub use database::Database;
-pub use sr_files::DatabaseFault;
+pub use sr_database_files::DatabaseFault;

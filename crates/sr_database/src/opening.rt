@@ -1,25 +1,25 @@
 ghost use Rattle.std.specs.Prelude.{◌≡◌, ◌≤◌, ◌^◌, [], ℕ, true, List, length, IsTrue, IfOk, IfErr, OnOk};
 ghost use Rattle.sr_book.specs.Entries.{Name as AName};
-ghost use Rattle.sr_history.specs.Recorded.{Recorded};
+ghost use Rattle.sr_database_history.specs.Recorded.{Recorded};
 ghost use Rattle.sr_base.specs.Fields.{IsName};
-ghost use Rattle.sr_logfile.specs.Moments.{IsAsRead};
+ghost use Rattle.sr_logfile.specs.Inner.Moments.{IsAsRead};
 ghost use Rattle.sr_logfile.specs.Records.{HasHeader};
-ghost use Rattle.sr_schema.specs.Catalogs.{nothing_but};
+ghost use Rattle.sr_catalog_schema.specs.Catalogs.{nothing_but};
 ghost use Rattle.sr_site.specs.Causes.{DiskStays};
 ghost use Rattle.sr_site.specs.Files.{bytes_of};
 ghost use Rattle.sr_site.specs.Images.{IsImage, IsSettled, RestsThroughout};
-ghost use Rattle.sr_standing.specs.Items.{attaches_in};
-ghost use Rattle.sr_standing.specs.Standing.{StandsFor};
-ghost use Rattle.sr_database.specs.Causes.{OpenCause, IsDiskOrMemory};
-ghost use Rattle.sr_files.specs.Openings.{SyncedAlone, ReadAlone, IsWhole, LogCause};
-ghost use Rattle.sr_database.specs.Replays.{IsReplayed, IsReplayedBehind, HasReplayed, IsOpened, ReplayCause};
+ghost use Rattle.sr_database_meaning.specs.Events.{attaches_in};
+ghost use Rattle.sr_database_meaning.specs.Standing.{StandsFor};
+ghost use Rattle.sr_database.specs.Inner.Causes.{OpenCause, IsDiskOrMemory};
+ghost use Rattle.sr_database_files.specs.Inner.Openings.{SyncedAlone, ReadAlone, IsWholeLog, LogCause};
+ghost use Rattle.sr_database.specs.Inner.Replays.{IsReplayed, IsReplayedBehind, HasReplayed, IsOpened, ReplayCause};
 ghost use Rattle.sr_database.specs.Databases.{IsOf, IsDatabase, HasDatabase};
 
 use crate::database::Database;
 use crate::replaying::{Replay, next_entry};
 use sr_base::Name;
 use sr_catalog::Catalog;
-use sr_files::{DatabaseFault, files_in_force, log_fault, open_records, read_publisher};
+use sr_database_files::{DatabaseFault, files_in_force, log_fault, open_records, read_publisher};
 use sr_logfile::LogFile;
 use sr_site::{Disk, File, Site};
 use std::alloc::Global;
@@ -35,12 +35,12 @@ impl Database {
     /// in a buffer of the longest record's length.
     pub fn open<S: Site>(alloc: Global, site: &mut S) -> Result<Database, DatabaseFault>
         ensures ready { IfOk result (λ db. (db.log.usable ≡ true) × (db.pending ≡ [])) }
-        ensures opened { IsTrue (S.seen site.old).told → IfOk result (λ db. HasDatabase db (S.seen site.new)) }
-        ensures stood { IsTrue (S.seen site.old).told → (publisher : AName) (es : List Recorded) (base : ℕ) → StandsFor publisher es base (S.seen site.old).files
+        ensures opened { IsTrue (S.seen site.old).observable → IfOk result (λ db. HasDatabase db (S.seen site.new)) }
+        ensures stood { IsTrue (S.seen site.old).observable → (publisher : AName) (es : List Recorded) (base : ℕ) → StandsFor publisher es base (S.seen site.old).files
             → IfOk result (λ db. IsDatabase db publisher es (S.seen site.new)) × IfErr result IsDiskOrMemory }
-        ensures files { IsTrue (S.seen site.old).told → (S.seen site.new).files ≡ (S.seen site.old).files }
-        ensures moments { IsTrue (S.seen site.old).told → RestsThroughout (IsImage (S.seen site.old)) (S.seen site.old) (S.seen site.new) }
-        ensures attached { IsTrue (S.seen site.old).told → attaches_in (S.seen site.new).happened ≡ attaches_in (S.seen site.old).happened }
+        ensures files { IsTrue (S.seen site.old).observable → (S.seen site.new).files ≡ (S.seen site.old).files }
+        ensures moments { IsTrue (S.seen site.old).observable → RestsThroughout (IsImage (S.seen site.old)) (S.seen site.old) (S.seen site.new) }
+        ensures attached { IsTrue (S.seen site.old).observable → attaches_in (S.seen site.new).happened ≡ attaches_in (S.seen site.old).happened }
         ensures stays { DiskStays (S.seen site.old) (S.seen site.new) }
         ensures steady { OnOk result ((S.seen site.new).disk_faults ≡ (S.seen site.old).disk_faults) }
         ensures cause { IfErr result (OpenCause (S.seen site.old) (S.seen site.new)) }
@@ -52,7 +52,7 @@ impl Database {
 /// Opens the files that are in force.
 fn open_files<S: Site>(alloc: Global, site: &mut S) -> Result<Database, DatabaseFault>
     ensures ready { IfOk result (λ db. (db.log.usable ≡ true) × (db.pending ≡ [])) }
-    ensures opened { IsTrue (S.seen site.old).told → IfOk result (λ db. HasDatabase db (S.seen site.new)) }
+    ensures opened { IsTrue (S.seen site.old).observable → IfOk result (λ db. HasDatabase db (S.seen site.new)) }
     ensures synced { SyncedAlone (S.seen site.old) (S.seen site.new) }
     ensures steady { OnOk result ((S.seen site.new).disk_faults ≡ (S.seen site.old).disk_faults) }
     ensures cause { IfErr result (OpenCause (S.seen site.old) (S.seen site.new)) }
@@ -72,7 +72,7 @@ fn open_log<S: Site>(
     requires name { IsName publisher }
     ensures ready { IfOk result (λ db. (db.log.usable ≡ true) × (db.pending ≡ [])) }
     ensures opened { IfOk result (λ db. IsOpened db log publisher (S.seen site.old)) }
-    ensures settled { IsTrue (S.seen site.old).told → OnOk result (IsSettled (IsAsRead log (S.seen site.new)) (S.seen site.new)) }
+    ensures settled { IsTrue (S.seen site.old).observable → OnOk result (IsSettled (IsAsRead log (S.seen site.new)) (S.seen site.new)) }
     ensures synced { SyncedAlone (S.seen site.old) (S.seen site.new) }
     ensures steady { OnOk result ((S.seen site.new).disk_faults ≡ (S.seen site.old).disk_faults) }
     ensures cause { IfErr result (LogCause log publisher (S.seen site.old) (S.seen site.new)) }
@@ -89,7 +89,7 @@ fn read_entries<S: Site>(
     publisher: Name,
 ) -> Result<Database, DatabaseFault>
     requires name { IsName publisher }
-    requires whole { IsTrue (S.seen site.old).told → IsWhole (bytes_of (S.seen site.old).files log) }
+    requires whole { IsTrue (S.seen site.old).observable → IsWholeLog (bytes_of (S.seen site.old).files log) }
     ensures ready { IfOk result (λ db. (db.log.usable ≡ true) × (db.pending ≡ [])) }
     ensures opened { IfOk result (λ db. IsOpened db log publisher (S.seen site.old)) }
     ensures read { ReadAlone (S.seen site.old) (S.seen site.new) }
@@ -119,8 +119,8 @@ fn replay_all<S: Site>(
     replay: &mut Replay,
     size: u64,
 ) -> Result<u64, DatabaseFault>
-    requires size { IsTrue (S.seen site.old).told → size ≡ length (bytes_of (S.seen site.old).files log) }
-    requires header { IsTrue (S.seen site.old).told → HasHeader 0 (bytes_of (S.seen site.old).files log) }
+    requires size { IsTrue (S.seen site.old).observable → size ≡ length (bytes_of (S.seen site.old).files log) }
+    requires header { IsTrue (S.seen site.old).observable → HasHeader 0 (bytes_of (S.seen site.old).files log) }
     requires new { IsReplayed replay.old.catalog replay.old.rows replay.old.books 0 publisher.now [] }
     ensures replayed { IfOk result (λ end. HasReplayed replay.new.catalog replay.new.rows replay.new.books end publisher.now log (S.seen site.old)) }
     ensures end { IfOk result (λ end. end ≤ 2 ^ 62) }

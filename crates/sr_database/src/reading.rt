@@ -1,18 +1,18 @@
 ghost use Rattle.std.specs.Prelude.{◌≡◌, ◌≢◌, ◌+◌, ◌-◌, ◌≤◌, ◌<◌, ◌++◌, [], true, List, IsTrue, IfOk, IfErr, IfSome, OnOk};
 ghost use Rattle.sr_book.specs.Entries.{Name as AName};
-ghost use Rattle.sr_history.specs.Folds.{end_of};
-ghost use Rattle.sr_history.specs.Recorded.{Recorded};
+ghost use Rattle.sr_database_history.specs.Folds.{end_of};
+ghost use Rattle.sr_database_history.specs.Recorded.{Recorded};
 ghost use Rattle.sr_site.specs.Causes.{DiskStays};
-ghost use Rattle.sr_database.specs.Causes.{EntryCause, IsRecordFault};
+ghost use Rattle.sr_database.specs.Inner.Causes.{EntryCause, IsRecordFault};
 ghost use Rattle.sr_database.specs.Databases.{IsDatabase};
-ghost use Rattle.sr_database.specs.Entries.{IsEntryAfter, IsEndAfter, IsKindAfter, BeginWith, Parts, BehindCause};
-ghost use Rattle.sr_files.specs.declared.fault.DatabaseFault.TheVariants.{Damaged, Memory};
-ghost use Rattle.sr_files.specs.Openings.{ReadAlone};
+ghost use Rattle.sr_database.specs.Inner.Entries.{IsEntryAfter, IsEndAfter, IsKindAfter, BeginWith, Parts, BehindCause};
+ghost use Rattle.sr_database_files.specs.declared.fault.DatabaseFault.TheVariants.{Damaged, Memory};
+ghost use Rattle.sr_database_files.specs.Inner.Openings.{ReadAlone};
 
 use crate::database::Database;
 use crate::replaying::entry_in;
 use sr_base::Offset;
-use sr_files::{DatabaseFault, log_fault};
+use sr_database_files::{DatabaseFault, log_fault};
 use sr_logfile::{LogFault, LogFile, RecordFault, Step};
 use sr_logform::Entry;
 use sr_site::{File, Site};
@@ -30,12 +30,12 @@ impl Database {
     ) -> Result<Option<(Offset, Entry)>, DatabaseFault>
         requires usable { self.now.log.usable ≡ true }
         requires after { (self.now.log.base ≤ after.0) × (after.0 ≤ self.now.log.end) }
-        ensures entry { IsTrue (S.seen site.old).told → (publisher : AName) (done left : List Recorded) → IsDatabase self.now publisher (done ++ left) (S.seen site.old) → after.0 ≡ end_of done
+        ensures entry { IsTrue (S.seen site.old).observable → (publisher : AName) (done left : List Recorded) → IsDatabase self.now publisher (done ++ left) (S.seen site.old) → after.0 ≡ end_of done
             → IfOk result (IsEntryAfter done left) }
         ensures within { IfOk result (λ found. IfSome found (λ x. (after.0 < x.0.0) × (x.0.0 ≤ self.now.log.end))) }
-        ensures files { IsTrue (S.seen site.old).told → (S.seen site.new).files ≡ (S.seen site.old).files }
-        ensures happened { IsTrue (S.seen site.old).told → (S.seen site.new).happened ≡ (S.seen site.old).happened }
-        ensures database { IsTrue (S.seen site.old).told → (publisher : AName) (es : List Recorded) → IsDatabase self.now publisher es (S.seen site.old) → IsDatabase self.now publisher es (S.seen site.new) }
+        ensures files { IsTrue (S.seen site.old).observable → (S.seen site.new).files ≡ (S.seen site.old).files }
+        ensures happened { IsTrue (S.seen site.old).observable → (S.seen site.new).happened ≡ (S.seen site.old).happened }
+        ensures database { IsTrue (S.seen site.old).observable → (publisher : AName) (es : List Recorded) → IsDatabase self.now publisher es (S.seen site.old) → IsDatabase self.now publisher es (S.seen site.new) }
         ensures stays { DiskStays (S.seen site.old) (S.seen site.new) }
         ensures steady { OnOk result ((S.seen site.new).disk_faults ≡ (S.seen site.old).disk_faults) }
         ensures cause { IfErr result (EntryCause self.now after (S.seen site.old) (S.seen site.new)) }
@@ -55,12 +55,12 @@ impl Database {
     ) -> Result<Option<(Offset, Entry)>, DatabaseFault>
         requires usable { self.now.log.usable ≡ true }
         requires after { (self.now.log.base ≤ after.0) × (after.0 ≤ self.now.log.end) }
-        ensures entry { IsTrue (S.seen site.old).told → (publisher : AName) (done left : List Recorded) → IsDatabase self.now publisher (done ++ left) (S.seen site.old) → after.0 ≡ end_of done
+        ensures entry { IsTrue (S.seen site.old).observable → (publisher : AName) (done left : List Recorded) → IsDatabase self.now publisher (done ++ left) (S.seen site.old) → after.0 ≡ end_of done
             → IfOk result (IsEntryAfter done left) }
         ensures within { IfOk result (λ found. IfSome found (λ x. (after.0 < x.0.0) × (x.0.0 ≤ self.now.log.end))) }
-        ensures files { IsTrue (S.seen site.old).told → (S.seen site.new).files ≡ (S.seen site.old).files }
-        ensures happened { IsTrue (S.seen site.old).told → (S.seen site.new).happened ≡ (S.seen site.old).happened }
-        ensures database { IsTrue (S.seen site.old).told → (publisher : AName) (es : List Recorded) → IsDatabase self.now publisher es (S.seen site.old) → IsDatabase self.now publisher es (S.seen site.new) }
+        ensures files { IsTrue (S.seen site.old).observable → (S.seen site.new).files ≡ (S.seen site.old).files }
+        ensures happened { IsTrue (S.seen site.old).observable → (S.seen site.new).happened ≡ (S.seen site.old).happened }
+        ensures database { IsTrue (S.seen site.old).observable → (publisher : AName) (es : List Recorded) → IsDatabase self.now publisher es (S.seen site.old) → IsDatabase self.now publisher es (S.seen site.new) }
         ensures stays { DiskStays (S.seen site.old) (S.seen site.new) }
         ensures steady { OnOk result ((S.seen site.new).disk_faults ≡ (S.seen site.old).disk_faults) }
         ensures cause { IfErr result (EntryCause self.now after (S.seen site.old) (S.seen site.new)) }
@@ -81,12 +81,12 @@ impl Database {
     ) -> Result<Option<(Offset, u8)>, DatabaseFault>
         requires usable { self.now.log.usable ≡ true }
         requires after { (self.now.log.base ≤ after.0) × (after.0 ≤ self.now.log.end) }
-        ensures kind { IsTrue (S.seen site.old).told → (publisher : AName) (done left : List Recorded) → IsDatabase self.now publisher (done ++ left) (S.seen site.old) → after.0 ≡ end_of done
+        ensures kind { IsTrue (S.seen site.old).observable → (publisher : AName) (done left : List Recorded) → IsDatabase self.now publisher (done ++ left) (S.seen site.old) → after.0 ≡ end_of done
             → IfOk result (IsKindAfter done left) }
         ensures within { IfOk result (λ found. IfSome found (λ x. (after.0 < x.0.0) × (x.0.0 ≤ self.now.log.end))) }
-        ensures files { IsTrue (S.seen site.old).told → (S.seen site.new).files ≡ (S.seen site.old).files }
-        ensures happened { IsTrue (S.seen site.old).told → (S.seen site.new).happened ≡ (S.seen site.old).happened }
-        ensures database { IsTrue (S.seen site.old).told → (publisher : AName) (es : List Recorded) → IsDatabase self.now publisher es (S.seen site.old) → IsDatabase self.now publisher es (S.seen site.new) }
+        ensures files { IsTrue (S.seen site.old).observable → (S.seen site.new).files ≡ (S.seen site.old).files }
+        ensures happened { IsTrue (S.seen site.old).observable → (S.seen site.new).happened ≡ (S.seen site.old).happened }
+        ensures database { IsTrue (S.seen site.old).observable → (publisher : AName) (es : List Recorded) → IsDatabase self.now publisher es (S.seen site.old) → IsDatabase self.now publisher es (S.seen site.new) }
         ensures stays { DiskStays (S.seen site.old) (S.seen site.new) }
         ensures steady { OnOk result ((S.seen site.new).disk_faults ≡ (S.seen site.old).disk_faults) }
         ensures cause { IfErr result (EntryCause self.now after (S.seen site.old) (S.seen site.new)) }
@@ -104,12 +104,12 @@ impl Database {
     ) -> Result<Option<Offset>, DatabaseFault>
         requires usable { self.now.log.usable ≡ true }
         requires after { (self.now.log.base ≤ after.0) × (after.0 ≤ self.now.log.end) }
-        ensures end { IsTrue (S.seen site.old).told → (publisher : AName) (done left : List Recorded) → IsDatabase self.now publisher (done ++ left) (S.seen site.old) → after.0 ≡ end_of done
+        ensures end { IsTrue (S.seen site.old).observable → (publisher : AName) (done left : List Recorded) → IsDatabase self.now publisher (done ++ left) (S.seen site.old) → after.0 ≡ end_of done
             → IfOk result (IsEndAfter done left) }
         ensures later { IfOk result (λ found. IfSome found (λ end. after.0 < end.0)) }
-        ensures files { IsTrue (S.seen site.old).told → (S.seen site.new).files ≡ (S.seen site.old).files }
-        ensures happened { IsTrue (S.seen site.old).told → (S.seen site.new).happened ≡ (S.seen site.old).happened }
-        ensures database { IsTrue (S.seen site.old).told → (publisher : AName) (es : List Recorded) → IsDatabase self.now publisher es (S.seen site.old) → IsDatabase self.now publisher es (S.seen site.new) }
+        ensures files { IsTrue (S.seen site.old).observable → (S.seen site.new).files ≡ (S.seen site.old).files }
+        ensures happened { IsTrue (S.seen site.old).observable → (S.seen site.new).happened ≡ (S.seen site.old).happened }
+        ensures database { IsTrue (S.seen site.old).observable → (publisher : AName) (es : List Recorded) → IsDatabase self.now publisher es (S.seen site.old) → IsDatabase self.now publisher es (S.seen site.new) }
         ensures stays { DiskStays (S.seen site.old) (S.seen site.new) }
         ensures steady { OnOk result ((S.seen site.new).disk_faults ≡ (S.seen site.old).disk_faults) }
         ensures cause { IfErr result (EntryCause self.now after (S.seen site.old) (S.seen site.new)) }
@@ -126,7 +126,7 @@ fn end_behind<S: Site>(
     after: Offset,
 ) -> Result<Option<Offset>, DatabaseFault>
     requires after { (log.now.base ≤ after.0) × (after.0 ≤ log.now.end) }
-    ensures end { IsTrue (S.seen site.old).told → (publisher : AName) (done left : List Recorded) → Parts log.now after.0 publisher done left (S.seen site.old) → IfOk result (IsEndAfter done left) }
+    ensures end { IsTrue (S.seen site.old).observable → (publisher : AName) (done left : List Recorded) → Parts log.now after.0 publisher done left (S.seen site.old) → IfOk result (IsEndAfter done left) }
     ensures later { IfOk result (λ found. IfSome found (λ end. after.0 < end.0)) }
     ensures read { ReadAlone (S.seen site.old) (S.seen site.new) }
     ensures steady { OnOk result ((S.seen site.new).disk_faults ≡ (S.seen site.old).disk_faults) }
@@ -134,8 +134,8 @@ fn end_behind<S: Site>(
     ensures memory { IfErr result (λ fault. fault ≢ Memory) }
 {
     let _end = log.end();
-    let mut front = [0];
-    match log.next(site, after, &mut front) {
+    let mut prefix = [0];
+    match log.next(site, after, &mut prefix) {
         Ok(Step::End) => Ok(None),
         Ok(Step::Short { need }) => Ok(Some(Offset(after.0 + 5 + need as u64))),
         Ok(Step::Record { end, .. }) => Ok(Some(end)),
@@ -152,7 +152,7 @@ fn entry_behind<S: Site>(
     buffer: &mut Vec<u8>,
 ) -> Result<Option<(Offset, Entry)>, DatabaseFault>
     requires after { (log.now.base ≤ after.0) × (after.0 ≤ log.now.end) }
-    ensures entry { IsTrue (S.seen site.old).told → (publisher : AName) (done left : List Recorded) → Parts log.now after.0 publisher done left (S.seen site.old) → IfOk result (IsEntryAfter done left) }
+    ensures entry { IsTrue (S.seen site.old).observable → (publisher : AName) (done left : List Recorded) → Parts log.now after.0 publisher done left (S.seen site.old) → IfOk result (IsEntryAfter done left) }
     ensures within { IfOk result (λ found. IfSome found (λ x. (after.0 < x.0.0) × (x.0.0 ≤ log.now.end))) }
     ensures read { ReadAlone (S.seen site.old) (S.seen site.new) }
     ensures steady { OnOk result ((S.seen site.new).disk_faults ≡ (S.seen site.old).disk_faults) }
@@ -177,7 +177,7 @@ fn kind_behind<S: Site>(
     room: &mut Vec<u8>,
 ) -> Result<Option<(Offset, u8)>, DatabaseFault>
     requires after { (log.now.base ≤ after.0) × (after.0 ≤ log.now.end) }
-    ensures kind { IsTrue (S.seen site.old).told → (publisher : AName) (done left : List Recorded) → Parts log.now after.0 publisher done left (S.seen site.old) → IfOk result (IsKindAfter done left) }
+    ensures kind { IsTrue (S.seen site.old).observable → (publisher : AName) (done left : List Recorded) → Parts log.now after.0 publisher done left (S.seen site.old) → IfOk result (IsKindAfter done left) }
     ensures within { IfOk result (λ found. IfSome found (λ x. (after.0 < x.0.0) × (x.0.0 ≤ log.now.end))) }
     ensures read { ReadAlone (S.seen site.old) (S.seen site.new) }
     ensures steady { OnOk result ((S.seen site.new).disk_faults ≡ (S.seen site.old).disk_faults) }

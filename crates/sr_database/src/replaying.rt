@@ -4,21 +4,21 @@ ghost use Rattle.std.specs.Prelude.{◌≡◌, ◌<◌, ◌≤◌, ◌+◌, ◌^
 ghost use Rattle.std.specs.FinMap as map;
 ghost use Rattle.sr_base.specs.Fields.{IsName};
 ghost use Rattle.sr_book.specs.Books.{with_taken, with_note};
-ghost use Rattle.sr_history.specs.Recorded.{Recorded, entry_of};
-ghost use Rattle.sr_logfile.specs.Heads.{HasWhole};
+ghost use Rattle.sr_database_history.specs.Recorded.{Recorded, entry_of};
+ghost use Rattle.sr_logfile.specs.Inner.Heads.{HasWhole};
 ghost use Rattle.sr_logform.specs.Entries.{entry_spelling, IsEntry};
 ghost use Rattle.sr_site.specs.Files.{bytes_of};
 ghost use Rattle.sr_database.specs.Books.{book_in};
-ghost use Rattle.sr_files.specs.Openings.{ReadAlone};
-ghost use Rattle.sr_database.specs.Replays.{IsReplayed, IsReplayedOf, IsReplayedSome, IsNextEntry, IsReadOn, FollowsAny, piece, SpellingCause, BodyCause, RecordCause};
-ghost use Rattle.sr_database.specs.Taking.{BooksFollow};
+ghost use Rattle.sr_database_files.specs.Inner.Openings.{ReadAlone};
+ghost use Rattle.sr_database.specs.Inner.Replays.{IsReplayed, IsReplayedOf, IsReplayedSome, IsNextEntry, IsReadOn, FollowsAny, piece, SpellingCause, BodyCause, RecordCause};
+ghost use Rattle.sr_database.specs.Inner.Taking.{BooksFollow};
 
 use crate::bookkeeping::Books;
 use sr_base::{Bad, Copied, Name, NoMemory, Offset};
 use sr_book::{Book, Note};
 use sr_catalog::Catalog;
-use sr_files::{DatabaseFault, log_fault};
-use sr_fold::go_on;
+use sr_database_files::{DatabaseFault, log_fault};
+use sr_database_fold::go_on;
 use sr_logfile::record_end;
 use sr_logform::{Entry, longest_body, read_entry};
 use sr_rows::Rows;
@@ -62,7 +62,7 @@ pub(crate) fn next_entry<S: Site>(
     size: u64,
 ) -> Result<Option<u64>, DatabaseFault>
     requires order { position ≤ 2 ^ 62 }
-    requires size { IsTrue (S.seen site.old).told → size ≡ length (bytes_of (S.seen site.old).files log) }
+    requires size { IsTrue (S.seen site.old).observable → size ≡ length (bytes_of (S.seen site.old).files log) }
     requires replayed { IsReplayedOf replay.old.catalog replay.old.rows replay.old.books position publisher.now }
     ensures next { IfOk result (IsNextEntry replay.old.catalog replay.new.catalog replay.old.rows replay.new.rows replay.old.books replay.new.books position publisher.now log (S.seen site.old)) }
     ensures onward { IfOk result (λ found. IfSome found (λ end. (position < end) × (end ≤ 2 ^ 62))) }
@@ -91,7 +91,7 @@ fn read_record<S: Site>(
     end: u64,
 ) -> Result<(), DatabaseFault>
     requires order { (position < end) × (end ≤ 2 ^ 62) }
-    requires whole { IsTrue (S.seen site.old).told → HasWhole position (drop (16 + position) (bytes_of (S.seen site.old).files log)) end }
+    requires whole { IsTrue (S.seen site.old).observable → HasWhole position (drop (16 + position) (bytes_of (S.seen site.old).files log)) end }
     requires replayed { IsReplayedOf replay.old.catalog replay.old.rows replay.old.books position publisher.now }
     ensures on { OnOk result (IsReadOn replay.old.catalog replay.new.catalog replay.old.rows replay.new.rows replay.old.books replay.new.books position end publisher.now log (S.seen site.old)) }
     ensures read { ReadAlone (S.seen site.old) (S.seen site.new) }
@@ -150,21 +150,21 @@ fn read_body<S: Site>(
     requires place { place + 5 < 2 ^ 64 }
     ensures entry { IfOk result IsEntry }
     ensures size { IfOk result (λ entry. length (entry_spelling entry) ≡ count) }
-    ensures body { IsTrue (S.seen site.old).told → IfOk result (λ entry. piece (place + 5) count (bytes_of (S.seen site.old).files log) ≡ entry_spelling entry) }
+    ensures body { IsTrue (S.seen site.old).observable → IfOk result (λ entry. piece (place + 5) count (bytes_of (S.seen site.old).files log) ≡ entry_spelling entry) }
     ensures read { ReadAlone (S.seen site.old) (S.seen site.new) }
     ensures steady { OnOk result ((S.seen site.new).disk_faults ≡ (S.seen site.old).disk_faults) }
     ensures cause { IfErr result (BodyCause log place count (S.seen site.old) (S.seen site.new)) }
 {
     make_room(buffer, count)?;
-    let (front, _) = buffer.as_mut_slice().split_at_mut(count);
-    let read = site.read_at(log, place + 5, front)?;
+    let (prefix, _) = buffer.as_mut_slice().split_at_mut(count);
+    let read = site.read_at(log, place + 5, prefix)?;
     if read < count {
         return Err(DatabaseFault::Damaged {
             file: log,
             at: place,
         });
     }
-    entry_in(alloc, log, place, front)
+    entry_in(alloc, log, place, prefix)
 }
 
 /// Gives a buffer a length of at least `count`.

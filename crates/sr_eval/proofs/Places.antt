@@ -5,14 +5,15 @@ use Rattle.std.specs.Option.{option_map, option_and_then}
 use Rattle.sr_base.specs.declared.value.Value.{Value}
 use Rattle.sr_base.specs.declared.value.Value.TheVariants.{Null}
 use Rattle.sr_base.specs.declared.value.Kind.{Kind}
-use Rattle.sr_ast.specs.Classes.{is_meant, place_of}
+use Rattle.sr_ast.specs.Classes.{is_meant}
+use Rattle.sr_ast.specs.Inner.Classes.{place_of}
 use Rattle.sr_ast.specs.Terms.{Term}
 use Rattle.sr_ast.specs.Terms.Term.{literal, column, unary, binary}
-use Rattle.sr_eval.specs.Bounds.{values_of}
+use Rattle.sr_eval.specs.Inner.Bounds.{values_of}
 use Rattle.sr_eval.specs.declared.bound.Bound.{Bound}
 use Rattle.sr_eval.specs.Meanings.{meaning, unary_meaning, binary_meaning, of_one, of_both, value_at, found_at}
 use Rattle.sr_eval.specs.Meanings.Meaning.{value}
-use Rattle.sr_eval.specs.Resolutions.{at_place, resolved, meaning_at}
+use Rattle.sr_eval.specs.Inner.Resolutions.{at_place, resolved, meaning_at}
 
 -- the place of the first that passes: here, or among those behind
 pub position_next : {A : Type 0} (p : A → Bool) (x : A) (xs : List A) → position p (x ∷ xs) ≡ cond (p x) (Some 0) (option_map suc (position p xs))

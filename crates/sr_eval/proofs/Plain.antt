@@ -9,7 +9,7 @@ use Rattle.sr_ast.specs.declared.operator.Binary.{Binary}
 use Rattle.sr_ast.specs.declared.operator.Binary.TheVariants.{Or, And, Equal, Unequal, Less, AtMost, Greater, AtLeast, Add, Subtract, Multiply}
 use Rattle.sr_ast.specs.Uses.{is_plain, is_plain_unary, is_plain_binary}
 use Rattle.sr_eval.specs.Meanings.{Meaning, meaning, unary_meaning, binary_meaning, of_one, of_both}
-use Rattle.sr_eval.specs.Laws.{PlainHaveValues}
+use Rattle.sr_eval.specs.Inner.Laws.{PlainHaveValues}
 
 plain_one : (op : Unary) (m : Option Meaning) → IsTrue (is_plain_unary op) → IsSome m → IsSome (of_one (unary_meaning op) m)
 plain_one op None p h = cc

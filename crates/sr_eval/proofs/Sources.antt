@@ -5,7 +5,8 @@ use Rattle.std.specs.Prelude.{unwrap_or}
 use Rattle.sr_base.specs.declared.value.Value.{Value as Cell}
 use Rattle.sr_base.specs.declared.value.Kind.{Kind}
 use Rattle.sr_ast.specs.Classes.{is_meant}
-use Rattle.sr_eval.specs.Bounds.{IsRowOf, AreRows, columns_of, values_of}
+use Rattle.sr_eval.specs.Bounds.{IsRowOf}
+use Rattle.sr_eval.specs.Inner.Bounds.{AreRows, columns_of, values_of}
 use Rattle.sr_eval.specs.declared.bound.Bound.{Bound}
 use Rattle.sr_eval.specs.Meanings.{value_at, found_at}
 

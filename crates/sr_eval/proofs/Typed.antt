@@ -1,15 +1,16 @@
 -- What an expression gives is of its class.
 use Rattle.std.proofs.Common.{◌≡◌, ℕ, Bool, true, false, cond, ◌⊎◌, inl, inr, List, [], ◌∷◌, Option, Some, None, IfSome, IsTrue, ℤ, ◌+ℤ◌, ◌-ℤ◌, ◌*ℤ◌, refl, sym, ◌∙◌}
 use Rattle.std.specs.Option.{option_map, option_and_then}
-use Rattle.sr_dates.specs.Calendar.{day_named}
-use Rattle.sr_dates.specs.Fitting.{fitted}
+use Rattle.sr_base_dates.specs.Calendar.{day_named}
+use Rattle.sr_base_dates.specs.Fitting.{fitted}
 use Rattle.sr_base.specs.declared.value.Value.{Value as Cell}
 use Rattle.sr_base.specs.declared.value.Value.TheVariants as cell
 use Rattle.sr_base.specs.declared.value.Kind.{Kind}
 use Rattle.sr_base.specs.declared.value.Kind.TheVariants as kind
 use Rattle.sr_ast.specs.Terms.{Term}
 use Rattle.sr_ast.specs.Terms.Term.{literal, column, unary, binary}
-use Rattle.sr_ast.specs.Classes.{value_class, kind_class, known_class, column_typing, unary_class, binary_class, kind_of, is_meant, class_in, class_in-unary, class_in-binary}
+use Rattle.sr_ast.specs.Classes.{value_class, kind_class, known_class, column_typing, unary_class, binary_class, kind_of, is_meant, class_in}
+use Rattle.sr_ast.specs.Inner.Classes.{class_in-unary, class_in-binary}
 use Rattle.sr_ast.specs.declared.classes.Class.{Class}
 use Rattle.sr_ast.specs.declared.classes.Class.TheVariants.{Number, Text, Date, Truth, Any}
 use Rattle.sr_ast.specs.declared.operator.Unary.{Unary}
@@ -22,7 +23,7 @@ use Rattle.sr_eval.specs.declared.truth.Truth.{Truth as Known}
 use Rattle.sr_eval.specs.Numbers.{negated, arithmetic}
 use Rattle.sr_eval.specs.Meanings.{Meaning, meaning, unary_meaning, binary_meaning, of_one, of_both, value_at, cell_of}
 use Rattle.sr_eval.specs.Meanings.Meaning.{value, truth}
-use Rattle.sr_eval.specs.Laws.{IsOf, HaveTheirClass}
+use Rattle.sr_eval.specs.Inner.Laws.{IsOf, HaveTheirClass}
 
 -- a value that fits a column as it is has the column's class
 fits-class : (v : Cell) (k : Kind) → fitted v k ≡ Some v → (v ≡ cell.Null) ⊎ (value_class v ≡ kind_class k)

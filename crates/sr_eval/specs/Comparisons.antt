@@ -1,6 +1,5 @@
 -- Comparisons of values.
 use Rattle.std.specs.Prelude.{Bool, true, false, Option, Some, None}
-use Rattle.std.specs.Ordering.{is_eq, is_ne, is_lt, is_le, is_gt, is_ge}
 use Rattle.std.specs.declared.cmp.Ordering.{Ordering}
 use Rattle.sr_base.specs.Order.{compared}
 use Rattle.sr_base.specs.declared.value.Value.{Value}
@@ -8,8 +7,6 @@ use Rattle.sr_base.specs.declared.value.Value.TheVariants.{Null, Int, Big, Str, 
 use Rattle.sr_eval.specs.declared.truth.Truth.{Truth}
 use Rattle.sr_eval.specs.declared.truth.Truth.TheVariants.{Unknown}
 use Rattle.sr_eval.specs.Truths.{known}
-use Rattle.sr_eval.specs.declared.comparison.Sign.{Sign}
-use Rattle.sr_eval.specs.declared.comparison.Sign.TheVariants.{Equal, Unequal, Less, AtMost, Greater, AtLeast}
 
 -- whether a value is NULL
 abbrev pub is_null : Value → Bool
@@ -26,12 +23,3 @@ tested test None = Unknown
 
 abbrev pub comparison : (Ordering → Bool) → Value → Value → Truth
 comparison test a b = tested test (compared a b)
-
--- the test that a sign is
-abbrev pub test_of : Sign → Ordering → Bool
-test_of Equal = is_eq
-test_of Unequal = is_ne
-test_of Less = is_lt
-test_of AtMost = is_le
-test_of Greater = is_gt
-test_of AtLeast = is_ge

@@ -1,10 +1,6 @@
 pub mod Bounds
 pub mod Comparisons
-pub mod Laws
 pub mod Meanings
 pub mod Numbers
-pub mod ResolutionFalls
-pub mod Resolutions
-pub mod Resolving
 pub mod Truths
-pub mod Worths
+pub mod Inner

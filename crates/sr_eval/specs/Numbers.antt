@@ -1,10 +1,8 @@
 -- Arithmetic on values. Past its type's end a number has no value.
-use Rattle.std.specs.Prelude.{◌-◌, ◌^◌, Bool, ◌&&◌, if◌then◌else◌, ℤ, pos, neg_ℤ, ◌+ℤ◌, ◌-ℤ◌, ◌*ℤ◌, int_le, Option, Some, None}
+use Rattle.std.specs.Prelude.{◌-◌, ◌^◌, Bool, ◌&&◌, if◌then◌else◌, ℤ, pos, neg_ℤ, int_le, Option, Some, None}
 use Rattle.sr_base.specs.Fitting.{is_int}
 use Rattle.sr_base.specs.declared.value.Value.{Value}
 use Rattle.sr_base.specs.declared.value.Value.TheVariants.{Null, Int, Big, Str, Date}
-use Rattle.sr_eval.specs.declared.number.Arithmetic.{Arithmetic}
-use Rattle.sr_eval.specs.declared.number.Arithmetic.TheVariants.{Add, Subtract, Multiply}
 
 -- 64 bits hold the number
 abbrev pub is_big : ℤ → Bool
@@ -33,9 +31,3 @@ arithmetic f (Int a) (Big b) = big_of (f a b)
 arithmetic f (Big a) (Int b) = big_of (f a b)
 arithmetic f (Big a) (Big b) = big_of (f a b)
 arithmetic f a b = Some Null
-
--- the function that an operator is
-abbrev pub function_of : Arithmetic → ℤ → ℤ → ℤ
-function_of Add = ◌+ℤ◌
-function_of Subtract = ◌-ℤ◌
-function_of Multiply = ◌*ℤ◌

@@ -1,5 +1,6 @@
 ghost use Rattle.std.specs.Prelude.{◌≡◌};
-ghost use Rattle.sr_eval.specs.Comparisons.{is_null, comparison, test_of};
+ghost use Rattle.sr_eval.specs.Comparisons.{is_null, comparison};
+ghost use Rattle.sr_eval.specs.Inner.Comparisons.{test_of};
 
 use crate::truth::Truth;
 use sr_base::{Value, compare};

@@ -2,9 +2,11 @@ ghost use Rattle.std.specs.Prelude.{◌≡◌, IsTrue};
 ghost use Rattle.sr_ast.specs.Exprs.{term_of};
 ghost use Rattle.sr_ast.specs.Classes.{class_in};
 ghost use Rattle.sr_ast.specs.Uses.{gives_value, gives_truth};
-ghost use Rattle.sr_eval.specs.Bounds.{IsRowOf, AreRows, columns_of, values_of};
-ghost use Rattle.sr_eval.specs.Meanings.{meaning, is_true, IsEvaluated, IsHeld};
-ghost use Rattle.sr_eval.specs.Worths.{meant};
+ghost use Rattle.sr_eval.specs.Bounds.{IsRowOf};
+ghost use Rattle.sr_eval.specs.Inner.Bounds.{AreRows, columns_of, values_of};
+ghost use Rattle.sr_eval.specs.Meanings.{meaning, is_true};
+ghost use Rattle.sr_eval.specs.Inner.Meanings.{IsEvaluated, IsHeld};
+ghost use Rattle.sr_eval.specs.Inner.Worths.{meant};
 ghost use Rattle.sr_eval.specs.Meanings.Meaning.{value as a_value};
 
 use crate::bound::Bound;

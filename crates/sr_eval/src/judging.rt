@@ -3,8 +3,9 @@
 ghost use Rattle.std.specs.Prelude.{◌≡◌, Some};
 ghost use Rattle.std.specs.Option.{option_map};
 ghost use Rattle.sr_ast.specs.Exprs.{term_of};
-ghost use Rattle.sr_eval.specs.Bounds.{AreRows, columns_of, values_of};
-ghost use Rattle.sr_eval.specs.Comparisons.{comparison, test_of};
+ghost use Rattle.sr_eval.specs.Inner.Bounds.{AreRows, columns_of, values_of};
+ghost use Rattle.sr_eval.specs.Comparisons.{comparison};
+ghost use Rattle.sr_eval.specs.Inner.Comparisons.{test_of};
 ghost use Rattle.sr_eval.specs.Meanings.{meaning, truth_of, of_both, cell_of};
 ghost use Rattle.sr_eval.specs.Meanings.Meaning.{truth as a_truth};
 

@@ -1,6 +1,6 @@
 //! Laws of the meaning of expressions. Each is the contract of a function that does nothing.
 
-ghost use Rattle.sr_eval.specs.Laws.{HaveTheirClass, PlainHaveValues, AndIsBoth, AndNeedsBoth, NullEqualsNothing, ResolvedMeanTheSame};
+ghost use Rattle.sr_eval.specs.Inner.Laws.{HaveTheirClass, PlainHaveValues, AndIsBoth, AndNeedsBoth, NullEqualsNothing, ResolvedMeanTheSame};
 
 /// Over a row that fits, an expression of class number, text or date has a value of that class, or NULL, or none. One of
 /// class any has NULL, or none. A condition has a truth, or none.

@@ -1,12 +1,14 @@
 ghost use Rattle.std.specs.Prelude.{◌≡◌, Some, IfSome, unwrap_or};
 ghost use Rattle.std.specs.Option.{option_map, option_copied};
 ghost use Rattle.sr_ast.specs.Exprs.{term_of};
-ghost use Rattle.sr_eval.specs.Bounds.{AreRows, columns_of, values_of};
+ghost use Rattle.sr_eval.specs.Inner.Bounds.{AreRows, columns_of, values_of};
 ghost use Rattle.sr_eval.specs.Meanings.{meaning, unary_meaning, binary_meaning, cell_of, value_at, found_at};
 ghost use Rattle.sr_eval.specs.Meanings.Meaning.{value as a_value, truth as a_truth};
-ghost use Rattle.sr_eval.specs.Comparisons.{comparison, test_of};
-ghost use Rattle.sr_eval.specs.Numbers.{arithmetic, function_of};
-ghost use Rattle.sr_eval.specs.Worths.{meant};
+ghost use Rattle.sr_eval.specs.Comparisons.{comparison};
+ghost use Rattle.sr_eval.specs.Inner.Comparisons.{test_of};
+ghost use Rattle.sr_eval.specs.Numbers.{arithmetic};
+ghost use Rattle.sr_eval.specs.Inner.Numbers.{function_of};
+ghost use Rattle.sr_eval.specs.Inner.Worths.{meant};
 
 use crate::bound::Bound;
 use crate::comparison::{Sign, comparison, is_null};

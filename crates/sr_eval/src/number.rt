@@ -1,5 +1,6 @@
 ghost use Rattle.std.specs.Prelude.{◌≡◌};
-ghost use Rattle.sr_eval.specs.Numbers.{int_of, big_of, negated, arithmetic, function_of};
+ghost use Rattle.sr_eval.specs.Numbers.{int_of, big_of, negated, arithmetic};
+ghost use Rattle.sr_eval.specs.Inner.Numbers.{function_of};
 
 use sr_base::Value;
 

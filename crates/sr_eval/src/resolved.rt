@@ -1,7 +1,7 @@
 ghost use Rattle.std.specs.Prelude.{◌≡◌, IfOk};
 ghost use Rattle.sr_ast.specs.Exprs.{term_of};
-ghost use Rattle.sr_eval.specs.Resolutions.{at_place, resolved};
-ghost use Rattle.sr_eval.specs.Resolving.{resolution_of, operation_of};
+ghost use Rattle.sr_eval.specs.Inner.Resolutions.{at_place, resolved};
+ghost use Rattle.sr_eval.specs.Inner.Resolving.{resolution_of, operation_of};
 
 use sr_ast::{Binary, Expr, Operand, Places, Unary};
 use sr_base::{Copied, Name, NoMemory, Value};
@@ -36,19 +36,19 @@ pub(crate) enum Operation {
 }
 
 impl Model for Boxed {
-    ghost use Rattle.sr_eval.specs.Resolutions.{Resolution, resolution_code, resolution_size};
+    ghost use Rattle.sr_eval.specs.Inner.Resolutions.{Resolution, resolution_code, resolution_size};
 
     ghost Value = { Resolution };
 
     ghost coded = { resolution_code };
 
-    ghost use Rattle.sr_eval.specs.Resolving.{operation_of};
+    ghost use Rattle.sr_eval.specs.Inner.Resolving.{operation_of};
 
     ghost view = { λ b. operation_of b.operation.value };
 
     ghost size = { resolution_size };
 
-    ghost use Rattle.sr_eval.specs.ResolutionFalls.{operands_fall};
+    ghost use Rattle.sr_eval.specs.Inner.ResolutionFalls.{operands_fall};
 
     ghost size_decreases = { λ b h. operands_fall b.operation.value };
 }

@@ -2,13 +2,16 @@
 
 ghost use Rattle.std.specs.Prelude.{◌≡◌, Some, IfSome, slice_get, unwrap_or};
 ghost use Rattle.std.specs.Option.{option_map, option_copied};
-ghost use Rattle.sr_eval.specs.Comparisons.{comparison, test_of};
-ghost use Rattle.sr_eval.specs.Meanings.{Meaning, binary_meaning, of_both, cell_of, truth_of, IsValued, IsHeld};
+ghost use Rattle.sr_eval.specs.Comparisons.{comparison};
+ghost use Rattle.sr_eval.specs.Inner.Comparisons.{test_of};
+ghost use Rattle.sr_eval.specs.Meanings.{Meaning, binary_meaning, of_both, cell_of, truth_of};
+ghost use Rattle.sr_eval.specs.Inner.Meanings.{IsValued, IsHeld};
 ghost use Rattle.sr_eval.specs.Meanings.Meaning.{value as a_value, truth as a_truth};
-ghost use Rattle.sr_eval.specs.Numbers.{arithmetic, function_of};
-ghost use Rattle.sr_eval.specs.Resolutions.{meaning_at};
-ghost use Rattle.sr_eval.specs.Resolving.{resolution_of};
-ghost use Rattle.sr_eval.specs.Worths.{meant};
+ghost use Rattle.sr_eval.specs.Numbers.{arithmetic};
+ghost use Rattle.sr_eval.specs.Inner.Numbers.{function_of};
+ghost use Rattle.sr_eval.specs.Inner.Resolutions.{meaning_at};
+ghost use Rattle.sr_eval.specs.Inner.Resolving.{resolution_of};
+ghost use Rattle.sr_eval.specs.Inner.Worths.{meant};
 ghost use Rattle.sr_base.specs.declared.value.Value.TheVariants.{Null};
 
 use crate::comparison::{Sign, comparison};

@@ -2,8 +2,9 @@
 
 ghost use Rattle.std.specs.Prelude.{Some};
 ghost use Rattle.sr_ast.specs.Exprs.{term_of};
-ghost use Rattle.sr_eval.specs.Bounds.{AreRows, columns_of, values_of};
-ghost use Rattle.sr_eval.specs.Meanings.{meaning, IsValued, IsHeld};
+ghost use Rattle.sr_eval.specs.Inner.Bounds.{AreRows, columns_of, values_of};
+ghost use Rattle.sr_eval.specs.Meanings.{meaning};
+ghost use Rattle.sr_eval.specs.Inner.Meanings.{IsValued, IsHeld};
 ghost use Rattle.sr_eval.specs.Meanings.Meaning.{value as a_value};
 
 use crate::bound::Bound;

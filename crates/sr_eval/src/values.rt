@@ -3,7 +3,7 @@
 ghost use Rattle.std.specs.Prelude.{◌≡◌, ◌<◌, List, length, slice_get};
 ghost use Rattle.std.specs.Option.{option_copied};
 ghost use Rattle.sr_base.specs.declared.value.Value.{Value as Cell};
-ghost use Rattle.sr_eval.specs.Bounds.{values_of};
+ghost use Rattle.sr_eval.specs.Inner.Bounds.{values_of};
 
 use crate::bound::Bound;
 use sr_base::Value;

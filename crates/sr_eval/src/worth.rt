@@ -1,6 +1,6 @@
 ghost use Rattle.std.specs.Prelude.{◌≡◌};
 ghost use Rattle.sr_eval.specs.Meanings.{cell_of, truth_of};
-ghost use Rattle.sr_eval.specs.Worths.{meant};
+ghost use Rattle.sr_eval.specs.Inner.Worths.{meant};
 
 use crate::truth::Truth;
 use sr_base::Value;

@@ -1,10 +1,10 @@
 ghost use Rattle.std.specs.Prelude.{◌≡◌, OnOk, OnErr};
-ghost use Rattle.sr_rows.specs.Steps.{GoesOn};
-ghost use Rattle.sr_dml.specs.Applying.{applied};
+ghost use Rattle.sr_rows.specs.Inner.Steps.{GoesOn};
+ghost use Rattle.sr_exec_dml.specs.Applying.{applied};
 
 use sr_base::NoMemory;
 use sr_catalog::Catalog;
-use sr_dml::{apply_in, apply_same};
+use sr_exec_dml::{apply_in, apply_same};
 use sr_logform::Change;
 use sr_rows::Rows;
 use std::alloc::Global;

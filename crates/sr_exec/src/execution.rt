@@ -1,11 +1,11 @@
 ghost use Rattle.std.specs.Prelude.{◌≡◌, IfOk};
-ghost use Rattle.sr_dml.specs.Conditions.{Answers, RowsFit};
-ghost use Rattle.sr_dml.specs.Statements.{done};
+ghost use Rattle.sr_exec_dml.specs.Inner.Conditions.{Answers, RowsFit};
+ghost use Rattle.sr_exec_dml.specs.Statements.{done};
 
 use sr_ast::Dml;
 use sr_base::{Copied, Name, NoMemory};
 use sr_catalog::{Catalog, DmlFault};
-use sr_dml::{Changes, delete, insert, update};
+use sr_exec_dml::{Changes, delete, insert, update};
 use sr_logform::Change;
 use sr_rows::Rows;
 use std::alloc::Global;

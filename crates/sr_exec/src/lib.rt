@@ -1,6 +1,6 @@
 //! INSERT, UPDATE and DELETE on the rows of a database: the table that a statement names is looked up in the catalog.
 //!
-//! It stands on sr_dml for what a statement changes in the rows of its table, and on sr_catalog for the tables. A statement changes
+//! It stands on sr_exec_dml for what a statement changes in the rows of its table, and on sr_catalog for the tables. A statement changes
 //! nothing by itself: it is answered with its changes, which `apply` makes.
 //! The contract that matters most is that of `exec`.
 #![tactic(auto)]
@@ -10,7 +10,7 @@ mod execution;
 
 pub use applying::apply;
 pub use execution::{exec, exec_reusing};
-pub use sr_dml::{
+pub use sr_exec_dml::{
     Changes, changes_are_where_rows_differ, changes_fit, changes_make_the_rows_afterwards, key_of,
     rows_stay_fitting,
 };

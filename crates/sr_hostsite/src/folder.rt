@@ -209,9 +209,9 @@ fn make_folder<R: Runtime>(rt: &R, path: &str) -> io::Result<()> {
 /// The front of a path of `end` bytes, where it names one of the folders on the way or all of it.
 fn folder_at(path: &str, end: usize) -> Option<&str> {
     match path.split_at_checked(end) {
-        Some((front, rest))
-            if !front.ends_with('/') && (rest.is_empty() || rest.starts_with('/')) => {
-            Some(front)
+        Some((prefix, rest))
+            if !prefix.ends_with('/') && (rest.is_empty() || rest.starts_with('/')) => {
+            Some(prefix)
         }
         _ => None,
     }

@@ -23,7 +23,7 @@ impl<R: Runtime> HostSink<R> {
 }
 
 impl<R: Runtime> Sink for HostSink<R> {
-    ghost seen = { λ s. record { told = false; taken = []; faults = s.faults } };
+    ghost seen = { λ s. record { observable = false; taken = []; faults = s.faults } };
 
     fn write(&mut self, bytes: &[u8]) -> Result<usize, Failed> {
         match told(&self.rt, "standard output", write_some(&self.rt, bytes)) {

@@ -1,7 +1,7 @@
 //! The host as a site: it counts the faults of its disk and of its mail, and tells nothing else.
 ghost use Rattle.std.specs.Prelude.{◌≡◌, ◌≤◌, ◌-◌, Ok, IfOk, OnOk, OnErr, refl};
 ghost use Rattle.sr_site.specs.Causes.{Rose};
-ghost use Rattle.sr_hostsite.specs.Untold.{untold};
+ghost use Rattle.sr_hostsite.specs.Inner.Untold.{untold};
 
 use crate::files::DatabaseFiles;
 use sr_base::Text;

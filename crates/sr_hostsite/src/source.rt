@@ -44,7 +44,7 @@ fn read_some<C: Clock, T: Read>(clock: &C, reader: &mut T, buffer: &mut [u8]) ->
 }
 
 impl<R: Runtime> Source for HostSource<R> {
-    ghost seen = { λ s. record { told = false; left = []; faults = s.faults } };
+    ghost seen = { λ s. record { observable = false; left = []; faults = s.faults } };
 
     fn read(&mut self, buffer: &mut [u8]) -> Result<usize, Failed> {
         let answer = read_some(&self.rt, &mut self.reader, buffer);

@@ -3,7 +3,7 @@ use Rattle.std.proofs.Common.{◌≡◌, ℕ, suc, ◌≤◌, Bool, true, false,
 use Rattle.std.proofs.lemmas.Bool.{eqb-true, and_parts, not-true, cond-true}
 use Rattle.sr_lex.specs.Tokens.{is_blank, is_feed, is_dash, is_line, begins, Skips}
 use Rattle.sr_lex.specs.Tokens.Skips.{none, blank, comment}
-use Rattle.sr_lex.specs.Reading.{after_gap, after_line}
+use Rattle.sr_lex.specs.Inner.Reading.{after_gap, after_line}
 
 -- where a line ends: at a line feed, or at the end
 abbrev pub EndsLine : List ℕ → Type 0
@@ -84,7 +84,7 @@ mutual
   skips_line [] = record { line = []; after = []; is = refl; all = refl; end = inr refl; skips = none }
   skips_line (byte ∷ bytes) = line_of byte bytes (is_feed byte) refl (skips_gap bytes) (skips_line bytes)
 
--- what is skipped is a front
+-- what is skipped is a prefix
 pub skips-shorter : {bytes rest : List ℕ} → Skips bytes rest → length rest ≤ length bytes
 skips-shorter none = omega arith
 skips-shorter (blank {byte} {bytes} {rest} h s) = let r = skips-shorter s in omega arith

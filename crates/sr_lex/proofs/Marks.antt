@@ -8,7 +8,7 @@ use Rattle.std.proofs.lemmas.Bool.Decides.{nat_tests}
 use Rattle.sr_lex.specs.declared.token.TokenKind.{TokenKind}
 use Rattle.sr_lex.specs.declared.token.TokenKind.TheVariants.{Word, Number, TopNumber, Str, Sign}
 use Rattle.sr_lex.specs.Tokens.{is_blank, is_dash, is_quote, is_start, is_digit, is_part, is_word, is_digits, is_sign, begins, number, quoted, doubled, IsToken}
-use Rattle.sr_lex.specs.Reading.{token_at, word_at, number_at, text_at, text_rest, number_of, sign_at, sign_length, first_of, utf8_text, sign_of, after_gap, after_line, text_of}
+use Rattle.sr_lex.specs.Inner.Reading.{token_at, word_at, number_at, text_at, text_rest, number_of, sign_at, sign_length, first_of, utf8_text, sign_of, after_gap, after_line, text_of}
 use Rattle.sr_lex.proofs.Gaps.{after_gap-le, after_line-le}
 use Rattle.sr_lex.proofs.Runs.{prefix_len-run, run_passes, run_stops, run_first}
 use Rattle.sr_lex.proofs.Texts.{text_rest-again, text_rest-closes, Closes, utf8_text-yes, utf8_text-Some}
@@ -37,9 +37,9 @@ token_at-sign : (byte : ℕ) (bytes : List ℕ) → is_start byte ≡ false → 
 token_at-sign byte bytes s d q =
     cond-false (is_start byte) (word_at (byte ∷ bytes)) _ s ∙ (cond-false (is_digit byte) (number_at (byte ∷ bytes)) _ d ∙ cond-false (is_quote byte) (text_at bytes) _ q)
 
-take_front : (xs ys : List ℕ) → take (length xs) (xs ++ ys) ≡ xs
-take_front [] ys = refl
-take_front (x ∷ xs) ys = ap (λ t. x ∷ t) (take_front xs ys)
+take_prefix : (xs ys : List ℕ) → take (length xs) (xs ++ ys) ≡ xs
+take_prefix [] ys = refl
+take_prefix (x ∷ xs) ys = ap (λ t. x ∷ t) (take_prefix xs ys)
 
 word_again : (word rest : List ℕ) → is_word word ≡ true → begins is_part rest ≡ false → token_at (word ++ rest) ≡ Some (Word, length word)
 word_again word rest h stop =
@@ -52,7 +52,7 @@ number_again : (word rest : List ℕ) → is_digits word ≡ true → begins is_
 number_again word rest h stop =
     let parts = and_parts (begins is_digit word) (list_all is_digit word) h in
     let run : prefix_len is_digit (word ++ rest) ≡ length word = prefix_len-run is_digit word rest parts.1 stop in
-    token_at-number (word ++ rest) (begins-append is_digit word rest parts.0) ∙ rw (run, take_front word rest) refl
+    token_at-number (word ++ rest) (begins-append is_digit word rest parts.0) ∙ rw (run, take_prefix word rest) refl
 
 text_again : (text rest : List ℕ) → IsUtf8 text → begins is_quote rest ≡ false → token_at (quoted text ++ rest) ≡ Some (Str text, length (quoted text))
 text_again text rest u stop =
@@ -175,7 +175,7 @@ word_stands bytes kind n false h e s = absurd (cc)
 word_stands bytes kind n true h e s =
     let some = run_some is_part is_start bytes h start_part in
     let len = word_length is_part bytes in
-    let front : (begins is_start (take (prefix_len is_part bytes) bytes) && list_all is_part (take (prefix_len is_part bytes) bytes)) ≡ true = and_from _ _ some.0 (run_passes is_part bytes) in
+    let prefix : (begins is_start (take (prefix_len is_part bytes) bytes) && list_all is_part (take (prefix_len is_part bytes) bytes)) ≡ true = and_from _ _ some.0 (run_passes is_part bytes) in
     let small : nat_le (length (take (prefix_len is_part bytes) bytes)) 64 ≡ true = rw len e in
     stands_as bytes Word kind (prefix_len is_part bytes) n
     (record {
@@ -184,7 +184,7 @@ word_stands bytes kind n true h e s =
       is = sym (take-append-drop (prefix_len is_part bytes) bytes);
       count = len;
       some = some.1;
-      token = (and_from _ _ front small, run_stops is_part bytes);
+      token = (and_from _ _ prefix small, run_stops is_part bytes);
     })
     s
 

@@ -4,15 +4,15 @@ use Rattle.std.proofs.lemmas.Bool.{eqb-true}
 use Rattle.sr_lex.specs.Tokens.{is_quote, begins, doubled}
 use Rattle.std.specs.Str.{is_utf8}
 use Rattle.std.proofs.lemmas.Str.{is_utf8-from_IsUtf8, IsUtf8-from_is_utf8}
-use Rattle.sr_lex.specs.Reading.{text_rest, with_byte, utf8_text}
+use Rattle.sr_lex.specs.Inner.Reading.{text_rest, with_byte, utf8_text}
 
 -- what was found, behind bytes that were read before
 abbrev pub in_front : List ℕ → Option (List ℕ × ℕ) → Option (List ℕ × ℕ)
-in_front front found = option_map (λ x. (front ++ x.0, x.1)) found
+in_front prefix found = option_map (λ x. (prefix ++ x.0, x.1)) found
 
-pub in_front-with_byte : (front : List ℕ) (byte : ℕ) (found : Option (List ℕ × ℕ)) → in_front (front ++ byte ∷ []) found ≡ in_front front (with_byte byte found)
-in_front-with_byte front byte None = refl
-in_front-with_byte front byte (Some x) = rw append_assoc refl
+pub in_front-with_byte : (prefix : List ℕ) (byte : ℕ) (found : Option (List ℕ × ℕ)) → in_front (prefix ++ byte ∷ []) found ≡ in_front prefix (with_byte byte found)
+in_front-with_byte prefix byte None = refl
+in_front-with_byte prefix byte (Some x) = rw append_assoc refl
 
 pub in_front-nil : (found : Option (List ℕ × ℕ)) → in_front [] found ≡ found
 in_front-nil None = refl

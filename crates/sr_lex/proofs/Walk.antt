@@ -6,8 +6,8 @@ use Rattle.sr_lex.specs.declared.token.Token.{Token}
 use Rattle.sr_lex.specs.declared.token.TokenKind.{TokenKind}
 use Rattle.sr_lex.specs.Tokens.{Skips, IsToken, TakesToken, Takes, IsTokens, NoTokenAt}
 use Rattle.sr_lex.specs.Tokens.Skips.{none}
-use Rattle.sr_lex.specs.Reading.{token_at, after_gap}
-use Rattle.sr_lex.specs.Fronts.{Front, IsFront, AreAll, IsRefused, Goes}
+use Rattle.sr_lex.specs.Inner.Reading.{token_at, after_gap}
+use Rattle.sr_lex.specs.Inner.Prefixes.{Prefix, IsPrefix, AreAll, IsRefused, Goes}
 use Rattle.sr_lex.specs.declared.fault.LexFault.{LexFault}
 use Rattle.sr_lex.specs.declared.fault.LexFault.TheVariants.{NoToken, Memory}
 use Rattle.sr_lex.proofs.Gaps.{after_gap-skips, join, skips_gap, bare_skips, after_gap-le}
@@ -35,8 +35,8 @@ gap_back at to bytes (token ∷ more) e (after, t, ts) =
     (after, record { word = t.word; skips = subst (λ (b : List ℕ). Skips b (t.word ++ after)) (sym same) none; is = t.is; start = t.start ∙ sym e; end = t.end }, ts)
 
 -- before the first token
-front_start : (text : List ℕ) (at : ℕ) → at + length (after_gap text) ≡ length text → Front text at [] (after_gap text)
-front_start text at e = record {
+prefix_start : (text : List ℕ) (at : ℕ) → at + length (after_gap text) ≡ length text → Prefix text at [] (after_gap text)
+prefix_start text at e = record {
   forth = λ more left s. gap_forth 0 at text more left (omega arith) s;
   back = λ all s. (all, refl, gap_back 0 at text all (omega arith) s);
   bare = after_gap-twice text;
@@ -72,7 +72,7 @@ token_is : (t : Token) (at n : ℕ) (kind : TokenKind) → t.kind ≡ kind → t
 token_is t at n kind e f g = token_same t.kind kind t.start at t.end (at + n) e f g
 
 -- what is taken at a token's place begins with it
-back_more : (text : List ℕ) (at to n : ℕ) (done : List Token) (rest : List ℕ) (kind : TokenKind) (all : List Token) → Front text at done rest → token_at rest ≡ Some (kind, n) →
+back_more : (text : List ℕ) (at to n : ℕ) (done : List Token) (rest : List ℕ) (kind : TokenKind) (all : List Token) → Prefix text at done rest → token_at rest ≡ Some (kind, n) →
     to + length (after_gap (drop n rest)) ≡ (at + n) + length (drop n rest) → (more : List Token) × (all ≡ done ++ more) × Takes at rest more [] →
     (more : List Token) × (all ≡ (done ++ mark at n kind ∷ []) ++ more) × Takes to (after_gap (drop n rest)) more []
 back_more text at to n done rest kind all f found along ([], e, s) =
@@ -94,9 +94,9 @@ back_more text at to n done rest kind all f found along (token ∷ more, e, (aft
     (more, e ∙ (ap (λ (z : Token). done ++ z ∷ more) is ∙ sym (append_assoc done (mark at n kind ∷ []) more)), gap_back (at + n) to (drop n rest) more along ts')
 
 -- one token more, and the white space and comments behind it
-front_more : (text : List ℕ) (at to n : ℕ) (done : List Token) (rest : List ℕ) (kind : TokenKind) →
-    Front text at done rest → token_at rest ≡ Some (kind, n) → to + length (after_gap (drop n rest)) ≡ length text → Front text to (done ++ mark at n kind ∷ []) (after_gap (drop n rest))
-front_more text at to n done rest kind f found place =
+prefix_more : (text : List ℕ) (at to n : ℕ) (done : List Token) (rest : List ℕ) (kind : TokenKind) →
+    Prefix text at done rest → token_at rest ≡ Some (kind, n) → to + length (after_gap (drop n rest)) ≡ length text → Prefix text to (done ++ mark at n kind ∷ []) (after_gap (drop n rest))
+prefix_more text at to n done rest kind f found place =
     let s = token_at-stands rest kind n f.bare found in
     let behind : drop n rest ≡ s.rest = ap (λ k. drop k rest) (sym s.count) ∙ (ap (λ b. drop (length s.word) b) s.is ∙ drop-append_seam s.word s.rest) in
     let size : length rest ≡ length s.word + length s.rest = ap length s.is ∙ length-append s.word s.rest in
@@ -117,8 +117,8 @@ front_more text at to n done rest kind f found place =
     }
 
 -- at the text's end
-front_end : (text : List ℕ) (at : ℕ) (done : List Token) (rest : List ℕ) → Front text at done rest → rest ≡ [] → Takes 0 text done []
-front_end text at done rest f e = subst (λ (l : List Token). Takes 0 text l []) (append-nil done) (f.forth [] [] (none_of rest e))
+prefix_end : (text : List ℕ) (at : ℕ) (done : List Token) (rest : List ℕ) → Prefix text at done rest → rest ≡ [] → Takes 0 text done []
+prefix_end text at done rest f e = subst (λ (l : List Token). Takes 0 text l []) (append-nil done) (f.forth [] [] (none_of rest e))
 
 only_end : (at : ℕ) (rest : List ℕ) (more : List Token) → after_gap rest ≡ rest → rest ≡ [] → Takes at rest more [] → more ≡ []
 only_end at rest [] bare e t = refl
@@ -129,15 +129,15 @@ only_end at rest (token ∷ more) bare e (after, t, ts) =
     let here : token_at [] ≡ Some (token.kind, length t.word) = ap token_at none ∙ found in
     absurd (cc)
 
-front_only : (text : List ℕ) (at : ℕ) (done : List Token) (rest : List ℕ) (all : List Token) → Front text at done rest → rest ≡ [] → Takes 0 text all [] → done ≡ all
-front_only text at done rest all f e t =
+prefix_only : (text : List ℕ) (at : ℕ) (done : List Token) (rest : List ℕ) (all : List Token) → Prefix text at done rest → rest ≡ [] → Takes 0 text all [] → done ≡ all
+prefix_only text at done rest all f e t =
     let b = f.back all t in
     let none = only_end at rest b.0 f.bare e b.2 in
     sym (b.1 ∙ (ap (λ l. done ++ l) none ∙ append-nil done))
 
 -- at the text's end these are its tokens
-pub front_all : (text : List ℕ) (at : ℕ) (done : List Token) (rest : List ℕ) → Front text at done rest → rest ≡ [] → AreAll text done
-front_all text at done rest f e = (front_end text at done rest f e, λ all t. front_only text at done rest all f e t)
+pub prefix_all : (text : List ℕ) (at : ℕ) (done : List Token) (rest : List ℕ) → Prefix text at done rest → rest ≡ [] → AreAll text done
+prefix_all text at done rest f e = (prefix_end text at done rest f e, λ all t. prefix_only text at done rest all f e t)
 
 -- where no token begins
 no_more : (at : ℕ) (rest : List ℕ) (more : List Token) → after_gap rest ≡ rest → rest ≢ [] → token_at rest ≡ None → Takes at rest more [] → ⊥
@@ -148,8 +148,8 @@ no_more at rest (token ∷ more) bare some lacks (after, t, ts) =
     let here : token_at rest ≡ Some (token.kind, length t.word) = ap token_at same ∙ found in
     absurd (cc)
 
-front_none : (text : List ℕ) (at : ℕ) (done : List Token) (rest : List ℕ) (all : List Token) → Front text at done rest → rest ≢ [] → token_at rest ≡ None → Takes 0 text all [] → ⊥
-front_none text at done rest all f some lacks t = let b = f.back all t in no_more at rest b.0 f.bare some lacks b.2
+prefix_none : (text : List ℕ) (at : ℕ) (done : List Token) (rest : List ℕ) (all : List Token) → Prefix text at done rest → rest ≢ [] → token_at rest ≡ None → Takes 0 text all [] → ⊥
+prefix_none text at done rest all f some lacks t = let b = f.back all t in no_more at rest b.0 f.bare some lacks b.2
 
 none_is : (rest : List ℕ) (kind : TokenKind) (word after : List ℕ) → token_at rest ≡ None → rest ≡ word ++ after → IsToken kind word after → ⊥
 none_is rest kind word after lacks e t =
@@ -157,8 +157,8 @@ none_is rest kind word after lacks e t =
     let here : token_at rest ≡ Some (kind, length word) = ap token_at e ∙ found in
     absurd (cc)
 
-front_fault : (text : List ℕ) (at : ℕ) (done : List Token) (rest : List ℕ) → Front text at done rest → rest ≢ [] → token_at rest ≡ None → NoTokenAt text at
-front_fault text at done rest f some lacks =
+prefix_fault : (text : List ℕ) (at : ℕ) (done : List Token) (rest : List ℕ) → Prefix text at done rest → rest ≢ [] → token_at rest ≡ None → NoTokenAt text at
+prefix_fault text at done rest f some lacks =
     let takes : Takes at rest [] rest = none in
     record {
       tokens = done;
@@ -169,23 +169,23 @@ front_fault text at done rest f some lacks =
     }
 
 -- there the text is refused
-pub front_refused : (text : List ℕ) (at : ℕ) (done : List Token) (rest : List ℕ) → Front text at done rest → rest ≢ [] → token_at rest ≡ None → IsRefused text at
-front_refused text at done rest f some lacks = (front_fault text at done rest f some lacks, λ all t. front_none text at done rest all f some lacks t)
+pub prefix_refused : (text : List ℕ) (at : ℕ) (done : List Token) (rest : List ℕ) → Prefix text at done rest → rest ≢ [] → token_at rest ≡ None → IsRefused text at
+prefix_refused text at done rest f some lacks = (prefix_fault text at done rest f some lacks, λ all t. prefix_none text at done rest all f some lacks t)
 
 -- how the code's loop begins and goes on
-pub begins_with : (text rest : List ℕ) → rest ≡ after_gap text → Front text (length text - length rest) [] rest
+pub begins_with : (text rest : List ℕ) → rest ≡ after_gap text → Prefix text (length text - length rest) [] rest
 begins_with text rest e =
-    subst (λ (r : List ℕ). Front text (length text - length r) [] r) (sym e) (front_start text (length text - length (after_gap text)) (omega (arith, after_gap-le text)))
+    subst (λ (r : List ℕ). Prefix text (length text - length r) [] r) (sym e) (prefix_start text (length text - length (after_gap text)) (omega (arith, after_gap-le text)))
 
-pub goes_on : (text rest after next : List ℕ) (at n : ℕ) (done : List Token) (kind : TokenKind) → Front text at done rest → token_at rest ≡ Some (kind, n) → after ≡ drop n rest → next ≡ after_gap after →
-    Front text (length text - length next) (done ++ mark at n kind ∷ []) next
+pub goes_on : (text rest after next : List ℕ) (at n : ℕ) (done : List Token) (kind : TokenKind) → Prefix text at done rest → token_at rest ≡ Some (kind, n) → after ≡ drop n rest → next ≡ after_gap after →
+    Prefix text (length text - length next) (done ++ mark at n kind ∷ []) next
 goes_on text rest after next at n done kind f found e g =
     let same : after_gap (drop n rest) ≡ next = ap after_gap (sym e) ∙ sym g in
     let p = f.place in
     let short : length next ≤ length rest = rw (← same) (le_trans (after_gap-le (drop n rest)) (omega (arith, length-drop n rest))) in
     let size : length (after_gap (drop n rest)) ≡ length next = ap length same in
-    subst (λ (r : List ℕ). Front text (length text - length next) (done ++ mark at n kind ∷ []) r) same
-    (front_more text at (length text - length next) n done rest kind f found (omega arith))
+    subst (λ (r : List ℕ). Prefix text (length text - length next) (done ++ mark at n kind ∷ []) r) same
+    (prefix_more text at (length text - length next) n done rest kind f found (omega arith))
 
 -- a token takes a byte at least, and no more than there are
 pub token_fits : (rest : List ℕ) (n : ℕ) (kind : TokenKind) → after_gap rest ≡ rest → token_at rest ≡ Some (kind, n) → (0 < n) × (n ≤ length rest)
@@ -215,7 +215,7 @@ refused_at text done lexer e g same at is =
     subst (λ (b : List ℕ). NoTokenAt b at) same there.0
 
 -- a token was taken, or there is none
-pub taken : (done : List Token) (lexer : List ℕ × List ℕ) (found : Option Token) (t : Token) → Goes done lexer (Ok found) → found ≡ Some t → IsFront lexer (done ++ t ∷ [])
+pub taken : (done : List Token) (lexer : List ℕ × List ℕ) (found : Option Token) (t : Token) → Goes done lexer (Ok found) → found ≡ Some t → IsPrefix lexer (done ++ t ∷ [])
 taken done lexer found t g e = subst (λ (o : Option Token). Goes done lexer (Ok o)) e g
 
 pub ended : (text : List ℕ) (done : List Token) (lexer : List ℕ × List ℕ) (found : Option Token) → Goes done lexer (Ok found) → found ≡ None → lexer.0 ≡ text → AreAll text done

@@ -1,4 +1,2 @@
-pub mod Faults
-pub mod Fronts
-pub mod Reading
 pub mod Tokens
+pub mod Inner

@@ -1,5 +1,5 @@
 ghost use Rattle.std.specs.Prelude.{◌≡◌, ◌≤◌, length};
-ghost use Rattle.sr_lex.specs.Reading.{after_gap, after_line};
+ghost use Rattle.sr_lex.specs.Inner.Reading.{after_gap, after_line};
 
 use crate::bytes::{begins_dash, is_blank};
 

@@ -1,7 +1,7 @@
 ghost use Rattle.std.specs.Prelude.{◌≡◌, IfOk, ◌≤◌, length};
 ghost use Rattle.std.specs.List.{prefix_len};
 ghost use Rattle.sr_lex.specs.Tokens.{is_part, is_digit};
-ghost use Rattle.sr_lex.specs.Reading.{token_at, word_at, number_at, text_at, sign_at, sign_length, utf8_text};
+ghost use Rattle.sr_lex.specs.Inner.Reading.{token_at, word_at, number_at, text_at, sign_at, sign_length, utf8_text};
 
 use crate::bytes::{is_digit, is_part, is_start};
 use crate::number::{TOP, number_up_to_past};

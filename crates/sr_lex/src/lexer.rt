@@ -1,6 +1,6 @@
 ghost use Rattle.std.specs.Prelude.{◌≡◌, ◌<◌, List, [], length, OnOk, OnErr, OnSome, IfOk, IfSome};
 ghost use Rattle.sr_lex.specs.declared.token.Token.{Token};
-ghost use Rattle.sr_lex.specs.Fronts.{IsFront, Goes};
+ghost use Rattle.sr_lex.specs.Inner.Prefixes.{IsPrefix, Goes};
 
 use crate::fault::LexFault;
 use crate::gap::after_gap;
@@ -19,7 +19,7 @@ pub struct Lexer<'a> {
 
 impl<'a> Model for Lexer<'a> {
     ghost use Rattle.std.specs.Prelude.{◌≡◌, ℕ, ◌≤◌, List, length};
-    ghost use Rattle.sr_lex.specs.Reading.{after_gap};
+    ghost use Rattle.sr_lex.specs.Inner.Reading.{after_gap};
 
     ghost Value = { List ℕ × List ℕ };
 
@@ -32,7 +32,7 @@ impl<'a> Lexer<'a> {
     /// At the text's begin: no token was taken.
     pub fn new(text: &'a [u8]) -> Lexer<'a>
         ensures text { result.0 ≡ text.now }
-        ensures begins { IsFront result [] }
+        ensures begins { IsPrefix result [] }
     {
         Lexer {
             text,
@@ -44,7 +44,7 @@ impl<'a> Lexer<'a> {
     /// begins. After a fault the lexer stands where it stood.
     pub fn next(&mut self, alloc: Global) -> Result<Option<Token>, LexFault>
         ensures text { self.new.0 ≡ self.old.0 }
-        ensures goes { (done : List Token) → IsFront self.old done → Goes done self.new result }
+        ensures goes { (done : List Token) → IsPrefix self.old done → Goes done self.new result }
         ensures shorter { IfOk result (λ found. OnSome found (length self.new.1 < length self.old.1)) }
         ensures kept { OnErr result (self.new ≡ self.old) }
     {

@@ -1,7 +1,7 @@
 ghost use Rattle.std.specs.Prelude.{◌≡◌, ℕ, List, IfOk};
 ghost use Rattle.sr_lex.specs.declared.token.Token.{Token};
 ghost use Rattle.sr_lex.specs.Tokens.{IsTokens, NoTokenAt};
-ghost use Rattle.sr_lex.specs.Faults.{IsLexed};
+ghost use Rattle.sr_lex.specs.Inner.Faults.{IsLexed};
 
 use crate::fault::LexFault;
 use crate::lexer::Lexer;

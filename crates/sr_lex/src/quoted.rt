@@ -1,5 +1,5 @@
 ghost use Rattle.std.specs.Prelude.{◌≡◌, ◌≤◌, length, IfOk, IfSome, option_map};
-ghost use Rattle.sr_lex.specs.Reading.{text_rest};
+ghost use Rattle.sr_lex.specs.Inner.Reading.{text_rest};
 
 use sr_base::NoMemory;
 use std::alloc::Global;

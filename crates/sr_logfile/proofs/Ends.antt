@@ -4,14 +4,14 @@ use Rattle.std.specs.Int.{w32, to_be_bytes, from_be_bytes}
 use Rattle.std.proofs.lemmas.List.{take_at, drop_more, length-take, length-drop}
 use Rattle.std.proofs.lemmas.Nat.{from_be_bytes-to_be_bytes_4}
 use Rattle.sr_logfile.specs.Damage.{BeginsRecord}
-use Rattle.sr_logfile.specs.Heads.{HasLength, IsCut, FitsBody, HasWhole, IsBroken}
+use Rattle.sr_logfile.specs.Inner.Heads.{HasLength, IsCut, FitsBody, HasWhole, IsBroken}
 use Rattle.sr_logfile.specs.Records.{record_of}
 use Rattle.sr_logfile.proofs.Records.{length-record}
 
 -- the length that a record's front spells
-pub length_is : (n m : ℕ) (front other : List ℕ) → n < 2 ^ 32 → m < 2 ^ 32 → to_be_bytes w32 n ++ front ≡ to_be_bytes w32 m ++ other → n ≡ m
-length_is n m front other n_fits m_fits same =
-    let four : to_be_bytes w32 n ≡ to_be_bytes w32 m = sym (take_at (to_be_bytes w32 n) front 4 refl) ∙ ap (take 4) same ∙ take_at (to_be_bytes w32 m) other 4 refl in
+pub length_is : (n m : ℕ) (prefix other : List ℕ) → n < 2 ^ 32 → m < 2 ^ 32 → to_be_bytes w32 n ++ prefix ≡ to_be_bytes w32 m ++ other → n ≡ m
+length_is n m prefix other n_fits m_fits same =
+    let four : to_be_bytes w32 n ≡ to_be_bytes w32 m = sym (take_at (to_be_bytes w32 n) prefix 4 refl) ∙ ap (take 4) same ∙ take_at (to_be_bytes w32 m) other 4 refl in
     sym (from_be_bytes-to_be_bytes_4 n n_fits) ∙ ap (from_be_bytes w32) four ∙ from_be_bytes-to_be_bytes_4 m m_fits
 
 -- the body is the bytes behind the length

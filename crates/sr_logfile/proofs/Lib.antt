@@ -1,7 +1,7 @@
 pub mod Appends
 pub mod Commits
 pub mod Ends
-pub mod Fronts
+pub mod Prefixes
 pub mod Makings
 pub mod Moments
 pub mod Nexts

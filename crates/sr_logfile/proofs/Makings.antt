@@ -1,10 +1,11 @@
 -- The calls of a commit, and of a fresh log, as they were made.
 use Rattle.std.proofs.Common.{◌≡◌, ◌+◌, refl, Bool, true, false, List, [], ◌∷◌, ℕ, inl, inr, ◌∙◌, ap, subst}
-use Rattle.sr_site.specs.Calls.{Call, write, cut, sync}
-use Rattle.sr_site.specs.Happenings.{Happening, happening, wrote, cut_to, synced, Made}
+use Rattle.sr_site.specs.Inner.Calls.{Call, write, cut, sync}
+use Rattle.sr_site.specs.Happenings.{Happening, wrote, cut_to, synced}
+use Rattle.sr_site.specs.Inner.Happenings.{happening, Made}
 use Rattle.sr_site.specs.declared.file.File.{File}
-use Rattle.sr_logfile.specs.Calls.{commit_calls, fresh_calls}
-use Rattle.sr_logfile.specs.Records.{fresh_bytes}
+use Rattle.sr_logfile.specs.Inner.Calls.{commit_calls, fresh_calls}
+use Rattle.sr_logfile.specs.Inner.Records.{fresh_bytes}
 
 -- the first of some calls failed
 stops : (call : Call) (calls : List Call) (before now : List Happening) (after : List ℕ) (told done : Bool) → now ≡ happening call told after ∷ before → told ≡ false → done ≡ false → Made (call ∷ calls) before now done

@@ -3,12 +3,13 @@ use Rattle.std.proofs.Common.{◌≡◌, ◌⊎◌, ◌+◌, ◌≤◌, ◌^◌,
 use Rattle.sr_site.specs.Files.{Files, bytes_of, overwritten}
 use Rattle.sr_site.specs.Happenings.{Happening, wrote, synced}
 use Rattle.sr_site.specs.Images.{MayLeave, IsImage, IsSettled, RestsThroughout}
-use Rattle.sr_site.specs.Growing.{throughout_each}
+use Rattle.sr_site.specs.Inner.Growing.{throughout_each}
 use Rattle.sr_site.specs.Seen.{Seen}
 use Rattle.sr_site.specs.declared.file.File.{File}
 use Rattle.sr_logfile.specs.Log.{Log}
-use Rattle.sr_logfile.specs.Logs.{IsLog, gate_of}
-use Rattle.sr_logfile.specs.Moments.{HasOrLacks, IsAsRead, IsPartPut}
+use Rattle.sr_logfile.specs.Logs.{gate_of}
+use Rattle.sr_logfile.specs.Inner.Logs.{IsLog}
+use Rattle.sr_logfile.specs.Inner.Moments.{HasOrLacks, IsAsRead, IsPartPut}
 use Rattle.sr_logfile.specs.Records.{open_records, body_of, IsFramed}
 use Rattle.sr_logfile.proofs.Appends.{bytes_of-with_bytes, first_torn, first_written, second_torn, second_part, nothing_put}
 use Rattle.sr_logfile.proofs.Commits.{part_committed, length-framed}

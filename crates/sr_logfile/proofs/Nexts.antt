@@ -8,13 +8,13 @@ use Rattle.sr_site.specs.Reads.{HasRead}
 use Rattle.sr_site.specs.declared.file.File.{File}
 use Rattle.sr_logfile.specs.declared.head.Head.{Head}
 use Rattle.sr_logfile.specs.declared.head.Head.TheVariants.{Closed, Cut, Open}
-use Rattle.sr_logfile.specs.Heads.{IsHead, IsClosed, IsCut, HasLength}
+use Rattle.sr_logfile.specs.Inner.Heads.{IsHead, IsClosed, IsCut, HasLength}
 use Rattle.sr_logfile.specs.Log.{Log}
-use Rattle.sr_logfile.specs.Logs.{IsLog, IsAt}
+use Rattle.sr_logfile.specs.Inner.Logs.{IsLog, IsAt}
 use Rattle.sr_logfile.specs.Records.{header, record_of, open_records, IsBody}
-use Rattle.sr_logfile.specs.Steps.{IsNext}
+use Rattle.sr_logfile.specs.Inner.Steps.{IsNext}
 use Rattle.sr_logfile.proofs.Records.{length-record, length-push}
-use Rattle.sr_logfile.proofs.Commits.{length-front}
+use Rattle.sr_logfile.proofs.Commits.{length-prefix}
 use Rattle.sr_logfile.proofs.Ends.{length_is}
 
 open_records-append : (done left : List (List ℕ)) → open_records (done ++ left) ≡ open_records done ++ open_records left
@@ -53,14 +53,14 @@ module _ (log : Log) (after : ℕ) (done : List (List ℕ)) (files : Files) wher
   tail_is left at =
       let s = at.is_log.spells in
       let after_is = at.after_is in
-      let front = header log.base ++ open_records done in
-      let place : length front ≡ 16 + (after - log.base) = omega (arith, length-front log.base done) in
-      let apart : bytes_of files log.file ≡ front ++ (open_records left ++ s.gate ∷ s.rest) =
+      let prefix = header log.base ++ open_records done in
+      let place : length prefix ≡ 16 + (after - log.base) = omega (arith, length-prefix log.base done) in
+      let apart : bytes_of files log.file ≡ prefix ++ (open_records left ++ s.gate ∷ s.rest) =
       s.bytes_are
       ∙ ap (λ (l : List ℕ). (header log.base ++ l) ++ s.gate ∷ s.rest) (open_records-append done left)
       ∙ ap (λ (l : List ℕ). l ++ s.gate ∷ s.rest) (sym (append_assoc (header log.base) (open_records done) (open_records left)))
-      ∙ append_assoc front (open_records left) (s.gate ∷ s.rest) in
-      ap (drop (16 + (after - log.base))) apart ∙ drop_at front (open_records left ++ s.gate ∷ s.rest) (16 + (after - log.base)) place
+      ∙ append_assoc prefix (open_records left) (s.gate ∷ s.rest) in
+      ap (drop (16 + (after - log.base))) apart ∙ drop_at prefix (open_records left ++ s.gate ∷ s.rest) (16 + (after - log.base)) place
 
   pub has_next : (left : List (List ℕ)) → IsAt log after done left files → after < log.end → HasNext log after done left files
   has_next [] at before = absurd (omega (arith, before, at.is_log.end_is, at.after_is, ap (λ (l : List (List ℕ)). length (open_records l)) (append-nil done)))
@@ -108,13 +108,13 @@ module _ (log : Log) (after : ℕ) (done : List (List ℕ)) (files : Files) wher
     behind_head : drop (16 + (after - log.base) + 5) (bytes_of files log.file) ≡ next.body ++ next.tail
     behind_head = sym (drop-drop 5 (16 + (after - log.base)) (bytes_of files log.file)) ∙ ap (drop 5) (next.bytes_are ∙ ap (λ (l : List ℕ). 1 ∷ l) (append_assoc (to_be_bytes w32 (length next.body)) next.body next.tail))
 
-    pub whole_read : (count : ℕ) (front : List ℕ) → HasRead (bytes_of files log.file) (16 + (after - log.base) + 5) (length next.body) count front → count ≡ length next.body
-    whole_read count front read = omega (arith, read.count_is, ap length behind_head, length-append next.body next.tail, length-drop (16 + (after - log.base) + 5) (bytes_of files log.file))
+    pub whole_read : (count : ℕ) (prefix : List ℕ) → HasRead (bytes_of files log.file) (16 + (after - log.base) + 5) (length next.body) count prefix → count ≡ length next.body
+    whole_read count prefix read = omega (arith, read.count_is, ap length behind_head, length-append next.body next.tail, length-drop (16 + (after - log.base) + 5) (bytes_of files log.file))
 
-    pub front_read : (count : ℕ) (front : List ℕ) → HasRead (bytes_of files log.file) (16 + (after - log.base) + 5) (length next.body) count front → take (length next.body) front ≡ next.body
-    front_read count front read =
-        let all = whole_read count front read in
-        subst (λ (n : ℕ). take n front ≡ take (length next.body) (drop (16 + (after - log.base) + 5) (bytes_of files log.file))) all read.front ∙ ap (take (length next.body)) behind_head ∙ take_at next.body next.tail (length next.body) refl
+    pub prefix_read : (count : ℕ) (prefix : List ℕ) → HasRead (bytes_of files log.file) (16 + (after - log.base) + 5) (length next.body) count prefix → take (length next.body) prefix ≡ next.body
+    prefix_read count prefix read =
+        let all = whole_read count prefix read in
+        subst (λ (n : ℕ). take n prefix ≡ take (length next.body) (drop (16 + (after - log.base) + 5) (bytes_of files log.file))) all read.prefix ∙ ap (take (length next.body)) behind_head ∙ take_at next.body next.tail (length next.body) refl
 
 -- the head of the record is read, at a base and a file that are the log's
 module _ (log : Log) (after base : ℕ) (done left : List (List ℕ)) (files : Files) (file : File) (base_is : base ≡ log.base) (file_is : file ≡ log.file) (next : HasNext log after done left files) where
@@ -129,27 +129,27 @@ module _ (log : Log) (after base : ℕ) (done left : List (List ℕ)) (files : F
   pub length_read : (head : Head) (count : ℕ) → IsHead (drop (16 + (after - base)) (bytes_of files file)) head → head ≡ Open count → count ≡ length next.body
   length_read head count is opened = same_length log after done files left next count (subst (λ (h : Head). IsHead (drop (16 + (after - log.base)) (bytes_of files log.file)) h) opened (here head is))
 
-  pub body_read : (now : Files) (wanted count : ℕ) (front : List ℕ) → now ≡ files → wanted ≡ length next.body → HasRead (bytes_of now file) (16 + (after - base) + 5) wanted count front → HasRead (bytes_of files log.file) (16 + (after - log.base) + 5) (length next.body) count front
-  body_read now wanted count front same is read =
-      subst (λ (n : ℕ). HasRead (bytes_of files log.file) (16 + (after - log.base) + 5) n count front) is
-      (subst (λ (f : File). HasRead (bytes_of files f) (16 + (after - log.base) + 5) wanted count front) file_is
-      (subst (λ (b : ℕ). HasRead (bytes_of files file) (16 + (after - b) + 5) wanted count front) base_is
-      (subst (λ (f : Files). HasRead (bytes_of f file) (16 + (after - base) + 5) wanted count front) same read)))
+  pub body_read : (now : Files) (wanted count : ℕ) (prefix : List ℕ) → now ≡ files → wanted ≡ length next.body → HasRead (bytes_of now file) (16 + (after - base) + 5) wanted count prefix → HasRead (bytes_of files log.file) (16 + (after - log.base) + 5) (length next.body) count prefix
+  body_read now wanted count prefix same is read =
+      subst (λ (n : ℕ). HasRead (bytes_of files log.file) (16 + (after - log.base) + 5) n count prefix) is
+      (subst (λ (f : File). HasRead (bytes_of files f) (16 + (after - log.base) + 5) wanted count prefix) file_is
+      (subst (λ (b : ℕ). HasRead (bytes_of files file) (16 + (after - b) + 5) wanted count prefix) base_is
+      (subst (λ (f : Files). HasRead (bytes_of f file) (16 + (after - base) + 5) wanted count prefix) same read)))
 
-  pub record_step : (prior now : Files) (count wanted got : ℕ) (front back : List ℕ) → prior ≡ files → now ≡ files → count ≡ length next.body → wanted ≡ count → length front ≡ wanted
-      → HasRead (bytes_of prior file) (16 + (after - base) + 5) wanted got front → IsNext log after done left now (front ++ back) (after + 5 + count) count × (count ≤ length (front ++ back))
-  record_step prior now count wanted got front back before stands is wants long read =
-      let whole = body_read prior wanted got front before (wants ∙ is) read in
-      let body_is : take (length next.body) front ≡ next.body = front_read log after done files left next got front whole in
-      let fits : count ≤ length front = omega arith in (
+  pub record_step : (prior now : Files) (count wanted got : ℕ) (prefix back : List ℕ) → prior ≡ files → now ≡ files → count ≡ length next.body → wanted ≡ count → length prefix ≡ wanted
+      → HasRead (bytes_of prior file) (16 + (after - base) + 5) wanted got prefix → IsNext log after done left now (prefix ++ back) (after + 5 + count) count × (count ≤ length (prefix ++ back))
+  record_step prior now count wanted got prefix back before stands is wants long read =
+      let whole = body_read prior wanted got prefix before (wants ∙ is) read in
+      let body_is : take (length next.body) prefix ≡ next.body = prefix_read log after done files left next got prefix whole in
+      let fits : count ≤ length prefix = omega arith in (
         record {
           body = next.body;
           rest = next.rest;
           left_is = next.left_is;
           count_is = is;
-          front = take-append-le count front back fits ∙ ap (λ (n : ℕ). take n front) is ∙ body_is;
+          prefix = take-append-le count prefix back fits ∙ ap (λ (n : ℕ). take n prefix) is ∙ body_is;
           end_is = refl;
           goes_on = subst (λ (f : Files). IsAt log (after + 5 + count) (done ++ next.body ∷ []) next.rest f) (sym stands) (subst (λ (n : ℕ). IsAt log (after + 5 + n) (done ++ next.body ∷ []) next.rest files) (sym is) next.goes_on);
         },
-        omega (arith, length-append front back),
+        omega (arith, length-append prefix back),
       )

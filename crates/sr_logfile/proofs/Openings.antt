@@ -7,13 +7,13 @@ use Rattle.sr_site.specs.Seen.{Seen}
 use Rattle.sr_logfile.specs.declared.fault.LogFault.{LogFault}
 use Rattle.sr_logfile.specs.declared.fault.LogFault.TheVariants.{Disk, Full, Damaged}
 use Rattle.sr_logfile.specs.Damage.{IsDamaged}
-use Rattle.sr_logfile.specs.Faults.{HeaderCause, IsDisk, IsDiskOrDamaged, OpenCause}
+use Rattle.sr_logfile.specs.Inner.Faults.{HeaderCause, IsDisk, IsDiskOrDamaged, OpenCause}
 use Rattle.sr_logfile.specs.Log.{Log}
-use Rattle.sr_logfile.specs.Logs.{IsLog, HasLog}
+use Rattle.sr_logfile.specs.Inner.Logs.{IsLog, HasLog}
 use Rattle.sr_logfile.specs.Records.{Spells}
 use Rattle.sr_logfile.proofs.Uniqueness.{one_spelling, one_damage, never_both}
 
-module _ (file : File) (before now : Seen) (told : IsTrue before.told) (same : now.files ≡ before.files) where
+module _ (file : File) (before now : Seen) (told : IsTrue before.observable) (same : now.files ≡ before.files) where
   -- the log's file is the one that was read
   spells_of : (log : Log) → log.file ≡ file → (has : HasLog log now.files) → Spells log.base has.bodies (bytes_of before.files file)
   spells_of log is has = subst (λ (f : File). Spells log.base has.bodies (bytes_of before.files f)) is (subst (λ (f : Files). Spells log.base has.bodies (bytes_of f log.file)) same has.is_log.spells)
@@ -41,7 +41,7 @@ of_header file before now (Full end need) cause = absurd cause
 of_header file before now (Damaged at) cause = (λ told. inl (cause.1 told, cause.0), cause.2)
 
 -- a cause that was told of a later moment, where nothing differed
-pub cause_before : (file : File) (before middle now : Seen) (fault : LogFault) → middle.told ≡ before.told → (IsTrue before.told → middle.files ≡ before.files) → middle.disk_faults ≡ before.disk_faults → OpenCause file middle now fault → OpenCause file before now fault
+pub cause_before : (file : File) (before middle now : Seen) (fault : LogFault) → middle.observable ≡ before.observable → (IsTrue before.observable → middle.files ≡ before.files) → middle.disk_faults ≡ before.disk_faults → OpenCause file middle now fault → OpenCause file before now fault
 cause_before file before middle now Disk told files steady cause = omega arith
 cause_before file before middle now (Full end need) told files steady cause = absurd cause
 cause_before file before middle now (Damaged at) told files steady cause = (λ is. subst (λ (f : Files). IsDamaged (bytes_of f file) at) (files is) (cause.0 (subst IsTrue (sym told) is)), cause.1 ∙ steady)

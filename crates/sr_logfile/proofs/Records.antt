@@ -4,8 +4,9 @@ use Rattle.std.specs.Int.{w32, to_be_bytes}
 use Rattle.std.specs.List.{AllByRecursion}
 use Rattle.std.proofs.lemmas.List.{append-nil}
 use Rattle.std.proofs.lemmas.Bool.{cases_eq}
-use Rattle.sr_logfile.specs.Appends.{GoesOn, HasRecord, HasPart}
-use Rattle.sr_logfile.specs.Records.{header, fresh_bytes, record_of, framed_of, open_records, IsBody, Spells}
+use Rattle.sr_logfile.specs.Inner.Appends.{GoesOn, HasRecord, HasPart}
+use Rattle.sr_logfile.specs.Records.{header, record_of, framed_of, open_records, IsBody, Spells}
+use Rattle.sr_logfile.specs.Inner.Records.{fresh_bytes}
 
 -- one more record behind the others
 pub open_records-push : (bodies : List (List ℕ)) (body tail : List ℕ) → open_records (bodies ++ body ∷ []) ++ tail ≡ open_records bodies ++ 1 ∷ (record_of body ++ tail)
@@ -28,8 +29,8 @@ all_bodies-push [] body all is = (is, tt)
 all_bodies-push (x ∷ xs) body all is = (all.0, all_bodies-push xs body all.1 is)
 
 -- the header and one more record
-pub front-push : (base : ℕ) (bodies : List (List ℕ)) (body tail : List ℕ) → (header base ++ open_records bodies) ++ 1 ∷ (record_of body ++ tail) ≡ (header base ++ open_records (bodies ++ body ∷ [])) ++ tail
-front-push base bodies body tail =
+pub prefix-push : (base : ℕ) (bodies : List (List ℕ)) (body tail : List ℕ) → (header base ++ open_records bodies) ++ 1 ∷ (record_of body ++ tail) ≡ (header base ++ open_records (bodies ++ body ∷ [])) ++ tail
+prefix-push base bodies body tail =
     append_assoc (header base) (open_records bodies) (1 ∷ (record_of body ++ tail))
     ∙ ap (λ (l : List ℕ). header base ++ l) (sym (open_records-push bodies body tail))
     ∙ sym (append_assoc (header base) (open_records (bodies ++ body ∷ [])) tail)
@@ -41,7 +42,7 @@ spells_opened base bodies body bytes all is limit has =
     record {
       gate = 0;
       rest = has.rest;
-      bytes_are = has.bytes_are ∙ ap (λ (l : List ℕ). (header base ++ open_records bodies) ++ 1 ∷ l) (append_assoc (record_of body) (0 ∷ []) has.rest) ∙ front-push base bodies body (0 ∷ has.rest);
+      bytes_are = has.bytes_are ∙ ap (λ (l : List ℕ). (header base ++ open_records bodies) ++ 1 ∷ l) (append_assoc (record_of body) (0 ∷ []) has.rest) ∙ prefix-push base bodies body (0 ∷ has.rest);
       closed = omega arith;
       all_bodies = all_bodies-push bodies body all is;
       limit = omega (arith, length-push bodies body);

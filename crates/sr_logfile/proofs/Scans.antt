@@ -4,31 +4,31 @@ use Rattle.std.specs.Prelude.{IsTrue}
 use Rattle.std.proofs.lemmas.List.{append-nil, drop_at}
 use Rattle.sr_site.specs.declared.file.File.{File}
 use Rattle.sr_site.specs.Causes.{DiskStays}
-use Rattle.sr_site.specs.Growing.{disk_stays_on}
+use Rattle.sr_site.specs.Inner.Growing.{disk_stays_on}
 use Rattle.sr_site.specs.Files.{bytes_of}
 use Rattle.sr_site.specs.Seen.{Seen}
 use Rattle.sr_logfile.specs.Damage.{LacksRecord, BeginsRecord}
-use Rattle.sr_logfile.specs.Heads.{IsClosed, HasWhole, IsBroken, Reaches, SpellsTo}
-use Rattle.sr_logfile.specs.Log.{InOrder}
+use Rattle.sr_logfile.specs.Inner.Heads.{IsClosed, HasWhole, IsBroken, Reaches, SpellsTo}
+use Rattle.sr_logfile.specs.Inner.Log.{InOrder}
 use Rattle.std.specs.List.{AllByRecursion}
 use Rattle.sr_logfile.specs.Records.{header, open_records, IsBody, HasHeader}
-use Rattle.sr_logfile.proofs.Records.{front-push, length-push, all_bodies-push}
-use Rattle.sr_logfile.proofs.Commits.{length-front}
+use Rattle.sr_logfile.proofs.Records.{prefix-push, length-push, all_bodies-push}
+use Rattle.sr_logfile.proofs.Commits.{length-prefix}
 
 -- what the loop over the records keeps
 pub record IsReading (file : File) (base position size : ℕ) (first now : Seen) : Type 0 where
   pub order : InOrder base position
   pub stays : DiskStays first now
-  pub files : IsTrue first.told → now.files ≡ first.files
-  pub happened : IsTrue first.told → now.happened ≡ first.happened
+  pub files : IsTrue first.observable → now.files ≡ first.files
+  pub happened : IsTrue first.observable → now.happened ≡ first.happened
   pub steady : now.disk_faults ≡ first.disk_faults
-  pub size_is : IsTrue first.told → size ≡ length (bytes_of first.files file)
-  pub reaches : IsTrue first.told → Reaches base position (bytes_of first.files file)
+  pub size_is : IsTrue first.observable → size ≡ length (bytes_of first.files file)
+  pub reaches : IsTrue first.observable → Reaches base position (bytes_of first.files file)
 
--- bytes behind a front of that length
+-- bytes behind a prefix of that length
 behind : (base : ℕ) (bodies : List (List ℕ)) (position : ℕ) (bytes tail : List ℕ) → position ≡ base + length (open_records bodies) → bytes ≡ (header base ++ open_records bodies) ++ tail → drop (16 + (position - base)) bytes ≡ tail
 behind base bodies position bytes tail is e =
-    let at : length (header base ++ open_records bodies) ≡ 16 + (position - base) = omega (arith, length-front base bodies) in
+    let at : length (header base ++ open_records bodies) ≡ 16 + (position - base) = omega (arith, length-prefix base bodies) in
     ap (drop (16 + (position - base))) e ∙ drop_at (header base ++ open_records bodies) tail (16 + (position - base)) at
 
 -- at a gate behind some records
@@ -49,8 +49,8 @@ starts base bytes has = reaches_gate base [] base has.gate bytes has.rest (omega
 pub goes_on : (base position : ℕ) (bytes : List ℕ) (end : ℕ) → Reaches base position bytes → HasWhole position (drop (16 + (position - base)) bytes) end → Reaches base end bytes
 goes_on base position bytes end reaches has =
     let b = has.begins in
-    let front = header base ++ open_records reaches.bodies in
-    let e = reaches.bytes_are ∙ ap (λ (l : List ℕ). front ++ l) (has.bytes_are ∙ ap (λ (l : List ℕ). 1 ∷ l) b.rest_is) ∙ front-push base reaches.bodies has.body (b.gate ∷ b.more) in
+    let prefix = header base ++ open_records reaches.bodies in
+    let e = reaches.bytes_are ∙ ap (λ (l : List ℕ). prefix ++ l) (has.bytes_are ∙ ap (λ (l : List ℕ). 1 ∷ l) b.rest_is) ∙ prefix-push base reaches.bodies has.body (b.gate ∷ b.more) in
     reaches_gate base (reaches.bodies ++ has.body ∷ []) end b.gate bytes b.more (omega (arith, has.end_is, reaches.position_is, length-push reaches.bodies has.body)) e (all_bodies-push reaches.bodies has.body reaches.all_bodies b.is_body)
 
 pub ends : (base position : ℕ) (bytes : List ℕ) → Reaches base position bytes → IsClosed (drop (16 + (position - base)) bytes) → position ≤ 2 ^ 62 → SpellsTo base position bytes
@@ -77,7 +77,7 @@ breaks base position bytes reaches broken limit =
       bodies = reaches.bodies;
       rest = drop 1 tail;
       bytes_are = reaches.bytes_are ∙ ap (λ (l : List ℕ). (header base ++ open_records reaches.bodies) ++ l) (broken.some reaches.some);
-      place_is = omega (arith, length-front base reaches.bodies);
+      place_is = omega (arith, length-prefix base reaches.bodies);
       all_bodies = reaches.all_bodies;
       limit = omega arith;
       broken = λ body b. broken.broken body (subst (λ (p : ℕ). BeginsRecord body p (drop 1 tail)) (sym at) b);

@@ -3,15 +3,16 @@ use Rattle.std.proofs.Common.{◌≡◌, ◌⊎◌, ◌+◌, ◌-◌, ◌≤◌,
 use Rattle.std.proofs.lemmas.Bool.{cases_lt}
 use Rattle.std.proofs.lemmas.List.{length-drop, append-nil}
 use Rattle.std.proofs.Math.Seq.{drop-nil}
-use Rattle.sr_site.specs.Calls.{sync}
+use Rattle.sr_site.specs.Inner.Calls.{sync}
 use Rattle.sr_site.specs.Files.{Files, bytes_of, overwritten, IsTorn}
-use Rattle.sr_site.specs.Happenings.{Happening, Made, wrote, cut_to, synced}
+use Rattle.sr_site.specs.Happenings.{Happening, wrote, cut_to, synced}
+use Rattle.sr_site.specs.Inner.Happenings.{Made}
 use Rattle.sr_site.specs.Images.{MayLeave, KeepsOthers, RestsThroughout}
 use Rattle.sr_site.specs.Seen.{Seen}
 use Rattle.sr_site.specs.declared.file.File.{File}
 use Rattle.sr_site.proofs.Images.{with_same}
 use Rattle.sr_site.proofs.Others.{others_on, others_but, rests}
-use Rattle.sr_logfile.specs.Moments.{IsPartFresh}
+use Rattle.sr_logfile.specs.Inner.Moments.{IsPartFresh}
 use Rattle.sr_logfile.proofs.Moments.{after_sync}
 
 module _ (file : File) (before : Seen) where

@@ -4,8 +4,9 @@ use Rattle.std.specs.Int.{w32, w64, to_be_bytes, from_be_bytes}
 use Rattle.std.proofs.lemmas.Bool.{cases_eq, cases_lt}
 use Rattle.std.proofs.lemmas.List.{length-drop, length-take, get_or-drop, get_or-take, get_or_past, take_at, drop_more}
 use Rattle.std.proofs.lemmas.Nat.{be_bytes_4, from_be_bytes-to_be_bytes_8}
-use Rattle.sr_logfile.specs.Damage.{LacksHeader, AreBytes, IsSpelled, IsDamagedSomewhere}
-use Rattle.sr_logfile.specs.Heads.{IsClosed, HasLength, FitsBody, HasWhole, IsBroken, Reaches}
+use Rattle.sr_logfile.specs.Damage.{LacksHeader, IsSpelled, IsDamagedSomewhere}
+use Rattle.sr_logfile.specs.Inner.Damage.{AreBytes}
+use Rattle.sr_logfile.specs.Inner.Heads.{IsClosed, HasLength, FitsBody, HasWhole, IsBroken, Reaches}
 use Rattle.sr_logfile.specs.Records.{header, HasHeader}
 use Rattle.sr_logfile.proofs.Ends.{has_whole, broken_length, broken_cut}
 use Rattle.sr_logfile.proofs.Scans.{starts, goes_on, ends, breaks}

@@ -7,26 +7,26 @@ use Rattle.std.proofs.lemmas.Nat.{from_be_bytes-to_be_bytes_8}
 use Rattle.sr_logfile.specs.Damage.{BeginsRecord, IsDamaged}
 use Rattle.sr_logfile.specs.Records.{header, record_of, open_records, IsBody, HasHeader, Spells}
 use Rattle.sr_logfile.proofs.Records.{length-record}
-use Rattle.sr_logfile.proofs.Commits.{length-front}
+use Rattle.sr_logfile.proofs.Commits.{length-prefix}
 use Rattle.sr_logfile.proofs.Ends.{length_is}
 
 -- two headers in one place are one
-pub same_header : (b c : ℕ) (front other : List ℕ) → b ≤ 2 ^ 62 → c ≤ 2 ^ 62 → header b ++ front ≡ header c ++ other → (b ≡ c) × (front ≡ other)
-same_header b c front other b_fits c_fits same =
-    let sixteen : header b ≡ header c = sym (take_at (header b) front 16 refl) ∙ ap (take 16) same ∙ take_at (header c) other 16 refl in
+pub same_header : (b c : ℕ) (prefix other : List ℕ) → b ≤ 2 ^ 62 → c ≤ 2 ^ 62 → header b ++ prefix ≡ header c ++ other → (b ≡ c) × (prefix ≡ other)
+same_header b c prefix other b_fits c_fits same =
+    let sixteen : header b ≡ header c = sym (take_at (header b) prefix 16 refl) ∙ ap (take 16) same ∙ take_at (header c) other 16 refl in
     let eight : to_be_bytes w64 b ≡ to_be_bytes w64 c = ap (drop 8) sixteen in (
       sym (from_be_bytes-to_be_bytes_8 b (omega arith)) ∙ ap (from_be_bytes w64) eight ∙ from_be_bytes-to_be_bytes_8 c (omega arith),
-      sym (drop_at (header b) front 16 refl) ∙ ap (drop 16) same ∙ drop_at (header c) other 16 refl,
+      sym (drop_at (header b) prefix 16 refl) ∙ ap (drop 16) same ∙ drop_at (header c) other 16 refl,
     )
 
 -- two records in one place are one
-pub same_record : (x y front other : List ℕ) → IsBody x → IsBody y → record_of x ++ front ≡ record_of y ++ other → (x ≡ y) × (front ≡ other)
-same_record x y front other x_is y_is same =
-    let apart : to_be_bytes w32 (length x) ++ (x ++ front) ≡ to_be_bytes w32 (length y) ++ (y ++ other) = sym (append_assoc (to_be_bytes w32 (length x)) x front) ∙ same ∙ append_assoc (to_be_bytes w32 (length y)) y other in
-    let long : length x ≡ length y = length_is (length x) (length y) (x ++ front) (y ++ other) (omega arith) (omega arith) apart in
-    let rest : x ++ front ≡ y ++ other = ap (drop 4) apart in (
-      sym (take_at x front (length y) long) ∙ ap (take (length y)) rest ∙ take_at y other (length y) refl,
-      sym (drop_at x front (length y) long) ∙ ap (drop (length y)) rest ∙ drop_at y other (length y) refl,
+pub same_record : (x y prefix other : List ℕ) → IsBody x → IsBody y → record_of x ++ prefix ≡ record_of y ++ other → (x ≡ y) × (prefix ≡ other)
+same_record x y prefix other x_is y_is same =
+    let apart : to_be_bytes w32 (length x) ++ (x ++ prefix) ≡ to_be_bytes w32 (length y) ++ (y ++ other) = sym (append_assoc (to_be_bytes w32 (length x)) x prefix) ∙ same ∙ append_assoc (to_be_bytes w32 (length y)) y other in
+    let long : length x ≡ length y = length_is (length x) (length y) (x ++ prefix) (y ++ other) (omega arith) (omega arith) apart in
+    let rest : x ++ prefix ≡ y ++ other = ap (drop 4) apart in (
+      sym (take_at x prefix (length y) long) ∙ ap (take (length y)) rest ∙ take_at y other (length y) refl,
+      sym (drop_at x prefix (length y) long) ∙ ap (drop (length y)) rest ∙ drop_at y other (length y) refl,
     )
 
 -- the second records go on where the first end
@@ -118,7 +118,7 @@ one_damage bytes place other (inr p) (inl q) = absurd (q.0 p.base (has_header p.
 one_damage bytes place other (inr p) (inr q) =
     let both = compared p.base q.base p.bodies q.bodies 1 1 p.rest q.rest bytes p.all_bodies q.all_bodies (omega (arith, p.limit)) (omega (arith, q.limit)) p.bytes_are q.bytes_are in
     elim both.1 [
-      | inl same ↦ omega (arith, p.place_is, q.place_is, length-front p.base p.bodies, length-front q.base q.bodies, ap (λ (l : List (List ℕ)). length (open_records l)) same.0)
+      | inl same ↦ omega (arith, p.place_is, q.place_is, length-prefix p.base p.bodies, length-prefix q.base q.bodies, ap (λ (l : List (List ℕ)). length (open_records l)) same.0)
       | inr (inl longer) ↦ absurd (p.broken longer.body (begins_onward p.base p.bodies q.bodies 1 1 p.rest q.rest q.all_bodies (omega (arith, q.limit, both.0)) longer))
       | inr (inr longer) ↦ absurd (q.broken longer.body (begins_onward q.base q.bodies p.bodies 1 1 q.rest p.rest p.all_bodies (omega (arith, p.limit, both.0)) longer))
     ]

@@ -1,4 +1,5 @@
-use Rattle.std.specs.Prelude.{◌≡◌, ℕ, ◌+◌, ◌^◌, ◌≤◌, ◌<◌, ◌⊎◌, List, ◌∷◌, ◌++◌, length, get_or}
+-- Where a log is damaged.
+use Rattle.std.specs.Prelude.{◌≡◌, ℕ, ◌+◌, ◌^◌, ◌≤◌, ◌⊎◌, List, ◌∷◌, ◌++◌, length}
 use Rattle.std.specs.List.{AllByRecursion}
 use Rattle.sr_logfile.specs.Records.{header, record_of, open_records, IsBody, HasHeader, Spells}
 
@@ -29,10 +30,6 @@ pub record LacksRecord (bytes : List ℕ) (place : ℕ) : Type 0 where
 -- a log file is damaged at a place: at 0 where its header is not whole, else at the gate of the first open record that is not as written
 abbrev pub IsDamaged : List ℕ → ℕ → Type 0
 IsDamaged bytes place = (LacksHeader bytes × (place ≡ 0)) ⊎ LacksRecord bytes place
-
--- each is a byte
-abbrev pub AreBytes : List ℕ → Type 0
-AreBytes bytes = (i : ℕ) → get_or bytes i 0 < 256
 
 -- bytes that stand for some base and bodies
 pub record IsSpelled (bytes : List ℕ) : Type 0 where

@@ -1,4 +1,5 @@
-use Rattle.std.specs.Prelude.{ℕ, ◌^◌, ◌≤◌, Bool}
+-- A log, as contracts see it.
+use Rattle.std.specs.Prelude.{ℕ, Bool}
 use Rattle.sr_site.specs.declared.file.File.{File}
 
 -- a log file that was opened: which of the five, the stream positions of its first gate and of its first closed gate, and whether it can
@@ -8,8 +9,3 @@ pub record Log : Type 0 where
   pub base : ℕ
   pub end : ℕ
   pub usable : Bool
-
--- positions come in order, up to the last offset
-pub record InOrder (base end : ℕ) : Type 0 where
-  pub order : base ≤ end
-  pub limit : end ≤ 2 ^ 62

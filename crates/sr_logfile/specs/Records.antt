@@ -1,3 +1,4 @@
+-- How a log's records stand in its file.
 use Rattle.std.specs.Prelude.{◌≡◌, ◌≢◌, ℕ, ◌+◌, ◌-◌, ◌^◌, ◌≤◌, List, [], ◌∷◌, ◌++◌, length, take, drop}
 use Rattle.std.specs.Int.{w32, w64, to_be_bytes}
 use Rattle.std.specs.List.{AllByRecursion}
@@ -5,10 +6,6 @@ use Rattle.std.specs.List.{AllByRecursion}
 -- the 16 bytes before the first gate: SRLOG001 and the base
 abbrev pub header : ℕ → List ℕ
 header base = (83 ∷ 82 ∷ 76 ∷ 79 ∷ 71 ∷ 48 ∷ 48 ∷ 49 ∷ []) ++ to_be_bytes w64 base
-
--- the 17 bytes of a log without records: a header and a closed gate
-abbrev pub fresh_bytes : ℕ → List ℕ
-fresh_bytes base = header base ++ 0 ∷ []
 
 -- a record without a gate: the body's length and the body
 abbrev pub record_of : List ℕ → List ℕ

@@ -2,7 +2,7 @@ ghost use Rattle.std.specs.Prelude.{◌≡◌, List, ℕ, drop, IsTrue, IfOk, On
 ghost use Rattle.sr_site.specs.Causes.{DiskStays};
 ghost use Rattle.sr_site.specs.Files.{bytes_of};
 ghost use Rattle.sr_site.specs.Reads.{HasRead};
-ghost use Rattle.sr_logfile.specs.Heads.{HeadCause, IsHead};
+ghost use Rattle.sr_logfile.specs.Inner.Heads.{HeadCause, IsHead};
 
 use crate::fault::LogFault;
 use sr_site::{Disk, File};
@@ -32,9 +32,9 @@ pub(crate) enum Head {
 
 /// Reads the gate at a place of the file, and the length behind it.
 pub(crate) fn head_at<S: Disk>(site: &mut S, file: File, place: u64) -> Result<Head, LogFault>
-    ensures head { IsTrue (S.seen site.old).told → IfOk result (IsHead (drop place (bytes_of (S.seen site.old).files file))) }
-    ensures files { IsTrue (S.seen site.old).told → (S.seen site.new).files ≡ (S.seen site.old).files }
-    ensures happened { IsTrue (S.seen site.old).told → (S.seen site.new).happened ≡ (S.seen site.old).happened }
+    ensures head { IsTrue (S.seen site.old).observable → IfOk result (IsHead (drop place (bytes_of (S.seen site.old).files file))) }
+    ensures files { IsTrue (S.seen site.old).observable → (S.seen site.new).files ≡ (S.seen site.old).files }
+    ensures happened { IsTrue (S.seen site.old).observable → (S.seen site.new).happened ≡ (S.seen site.old).happened }
     ensures stays { DiskStays (S.seen site.old) (S.seen site.new) }
     ensures steady { OnOk result ((S.seen site.new).disk_faults ≡ (S.seen site.old).disk_faults) }
     ensures cause { IfErr result (HeadCause (S.seen site.old) (S.seen site.new)) }

@@ -1,5 +1,6 @@
 ghost use Rattle.std.specs.Prelude.{◌≡◌, ◌⊎◌, List, ℕ};
-ghost use Rattle.sr_logfile.specs.Damage.{AreBytes, IsDamaged, IsDamagedSomewhere, IsSpelled};
+ghost use Rattle.sr_logfile.specs.Damage.{IsDamaged, IsDamagedSomewhere, IsSpelled};
+ghost use Rattle.sr_logfile.specs.Inner.Damage.{AreBytes};
 ghost use Rattle.sr_logfile.specs.Records.{Spells};
 
 /// A file of any bytes stands for exactly one base and one list of bodies, or it is damaged at exactly one place, and never both.

@@ -1,13 +1,14 @@
 ghost use Rattle.std.specs.Prelude.{◌≡◌, ◌⊎◌, ◌+◌, ◌^◌, ◌≤◌, [], ◌∷◌, ◌++◌, List, ℕ, length, true, IsTrue, IfOk, OnOk, OnErr, IfErr, Err, is_ok};
-ghost use Rattle.sr_site.specs.Happenings.{Made};
+ghost use Rattle.sr_site.specs.Inner.Happenings.{Made};
 ghost use Rattle.sr_site.specs.Images.{IsSettled, KeepsOthers, RestsThroughout};
-ghost use Rattle.sr_logfile.specs.Calls.{commit_calls};
-ghost use Rattle.sr_logfile.specs.Moments.{HasOrLacks, IsAsRead};
+ghost use Rattle.sr_logfile.specs.Inner.Calls.{commit_calls};
+ghost use Rattle.sr_logfile.specs.Inner.Moments.{HasOrLacks, IsAsRead};
 ghost use Rattle.sr_site.specs.Causes.{DiskStays};
 ghost use Rattle.sr_site.specs.Files.{bytes_of, OthersStay};
-ghost use Rattle.sr_logfile.specs.Faults.{CommitCause};
-ghost use Rattle.sr_logfile.specs.Logs.{IsLog, HasLog, IsFull, gate_of, longer};
-ghost use Rattle.sr_logfile.specs.Log.{InOrder};
+ghost use Rattle.sr_logfile.specs.Inner.Faults.{CommitCause};
+ghost use Rattle.sr_logfile.specs.Logs.{IsFull, gate_of};
+ghost use Rattle.sr_logfile.specs.Inner.Logs.{IsLog, HasLog, longer};
+ghost use Rattle.sr_logfile.specs.Inner.Log.{InOrder};
 ghost use Rattle.sr_logfile.specs.Records.{IsFramed, Spells, body_of};
 ghost use Rattle.sr_logfile.specs.declared.fault.LogFault.TheVariants.{Full};
 
@@ -30,7 +31,8 @@ pub struct LogFile {
 }
 
 impl Model for LogFile {
-    ghost use Rattle.sr_logfile.specs.Log.{Log, InOrder};
+    ghost use Rattle.sr_logfile.specs.Log.{Log};
+    ghost use Rattle.sr_logfile.specs.Inner.Log.{InOrder};
 
     ghost Value = { Log };
 
@@ -96,18 +98,18 @@ impl LogFile {
     ) -> Result<Offset, LogFault>
         requires framed { IsFramed framed.now }
         requires usable { self.old.usable ≡ true }
-        requires log { IsTrue (S.seen site.old).told → HasLog self.old (S.seen site.old).files }
+        requires log { IsTrue (S.seen site.old).observable → HasLog self.old (S.seen site.old).files }
         ensures offset { IfOk result (λ offset. offset.0 ≡ self.old.end + length framed.now) }
         ensures log { OnOk result (self.new ≡ longer self.old (length framed.now)) }
-        ensures has_log { IsTrue (S.seen site.old).told → OnOk result (HasLog self.new (S.seen site.new).files) }
-        ensures record { IsTrue (S.seen site.old).told → OnOk result ((bodies : List (List ℕ)) → IsLog self.old bodies (S.seen site.old).files → IsLog self.new (bodies ++ body_of framed.now ∷ []) (S.seen site.new).files) }
-        ensures stands { IsTrue (S.seen site.old).told → OnErr result ((bodies : List (List ℕ)) → IsLog self.old bodies (S.seen site.old).files → Spells self.old.base bodies (bytes_of (S.seen site.new).files self.old.file) ⊎ Spells self.old.base (bodies ++ body_of framed.now ∷ []) (bytes_of (S.seen site.new).files self.old.file)) }
-        ensures happened { IsTrue (S.seen site.old).told → (IsFull self.old (length framed.now) bound → ⊥) → Made (commit_calls self.old.file (gate_of self.old) framed.now) (S.seen site.old).happened (S.seen site.new).happened (is_ok result) }
+        ensures has_log { IsTrue (S.seen site.old).observable → OnOk result (HasLog self.new (S.seen site.new).files) }
+        ensures record { IsTrue (S.seen site.old).observable → OnOk result ((bodies : List (List ℕ)) → IsLog self.old bodies (S.seen site.old).files → IsLog self.new (bodies ++ body_of framed.now ∷ []) (S.seen site.new).files) }
+        ensures stands { IsTrue (S.seen site.old).observable → OnErr result ((bodies : List (List ℕ)) → IsLog self.old bodies (S.seen site.old).files → Spells self.old.base bodies (bytes_of (S.seen site.new).files self.old.file) ⊎ Spells self.old.base (bodies ++ body_of framed.now ∷ []) (bytes_of (S.seen site.new).files self.old.file)) }
+        ensures happened { IsTrue (S.seen site.old).observable → (IsFull self.old (length framed.now) bound → ⊥) → Made (commit_calls self.old.file (gate_of self.old) framed.now) (S.seen site.old).happened (S.seen site.new).happened (is_ok result) }
         ensures room { OnOk result (IsFull self.old (length framed.now) bound → ⊥) }
-        ensures moments { IsTrue (S.seen site.old).told → (bodies : List (List ℕ)) → IsLog self.old bodies (S.seen site.old).files → IsSettled (IsLog self.old bodies) (S.seen site.old) → RestsThroughout (HasOrLacks self.old bodies framed.now) (S.seen site.old) (S.seen site.new) }
-        ensures beside { IsTrue (S.seen site.old).told → RestsThroughout (KeepsOthers self.old.file (S.seen site.old)) (S.seen site.old) (S.seen site.new) }
-        ensures settled { IsTrue (S.seen site.old).told → OnOk result (IsSettled (IsAsRead self.old.file (S.seen site.new)) (S.seen site.new)) }
-        ensures others { IsTrue (S.seen site.old).told → OthersStay self.old.file (S.seen site.old).files (S.seen site.new).files }
+        ensures moments { IsTrue (S.seen site.old).observable → (bodies : List (List ℕ)) → IsLog self.old bodies (S.seen site.old).files → IsSettled (IsLog self.old bodies) (S.seen site.old) → RestsThroughout (HasOrLacks self.old bodies framed.now) (S.seen site.old) (S.seen site.new) }
+        ensures beside { IsTrue (S.seen site.old).observable → RestsThroughout (KeepsOthers self.old.file (S.seen site.old)) (S.seen site.old) (S.seen site.new) }
+        ensures settled { IsTrue (S.seen site.old).observable → OnOk result (IsSettled (IsAsRead self.old.file (S.seen site.new)) (S.seen site.new)) }
+        ensures others { IsTrue (S.seen site.old).observable → OthersStay self.old.file (S.seen site.old).files (S.seen site.new).files }
         ensures full { IsFull self.old (length framed.now) bound → result ≡ Err (Full (gate_of self.old + 1) (length framed.now)) }
         ensures stays { DiskStays (S.seen site.old) (S.seen site.new) }
         ensures steady { OnOk result ((S.seen site.new).disk_faults ≡ (S.seen site.old).disk_faults) }

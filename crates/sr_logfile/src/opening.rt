@@ -1,15 +1,15 @@
 ghost use Rattle.std.specs.Prelude.{◌≡◌, ◌∷◌, ◌+◌, ◌-◌, ◌^◌, ◌≤◌, ◌<◌, List, ℕ, length, take, drop, true, IsTrue, IfOk, OnOk, IfErr, IfSome, IsErr, IsNone};
 ghost use Rattle.std.specs.Option.{SomeIff};
 ghost use Rattle.sr_site.specs.Images.{IsSettled, KeepsOthers, RestsThroughout};
-ghost use Rattle.sr_logfile.specs.Calls.{HasSynced};
-ghost use Rattle.sr_logfile.specs.Moments.{IsAsRead};
+ghost use Rattle.sr_logfile.specs.Inner.Calls.{HasSynced};
+ghost use Rattle.sr_logfile.specs.Inner.Moments.{IsAsRead};
 ghost use Rattle.sr_site.specs.Causes.{DiskStays};
 ghost use Rattle.sr_site.specs.Files.{bytes_of};
 ghost use Rattle.sr_logfile.specs.Damage.{IsDamaged};
-ghost use Rattle.sr_logfile.specs.Faults.{HeaderCause, IsDisk, IsDiskOrDamaged, OpenCause};
-ghost use Rattle.sr_logfile.specs.Heads.{FitsBody, IsRecordEnd, RecordCause, RecordsCause, SpellsTo};
-ghost use Rattle.sr_logfile.specs.Log.{InOrder};
-ghost use Rattle.sr_logfile.specs.Logs.{HasLog, IsLog};
+ghost use Rattle.sr_logfile.specs.Inner.Faults.{HeaderCause, IsDisk, IsDiskOrDamaged, OpenCause};
+ghost use Rattle.sr_logfile.specs.Inner.Heads.{FitsBody, IsRecordEnd, RecordCause, RecordsCause, SpellsTo};
+ghost use Rattle.sr_logfile.specs.Inner.Log.{InOrder};
+ghost use Rattle.sr_logfile.specs.Inner.Logs.{HasLog, IsLog};
 ghost use Rattle.sr_logfile.specs.Records.{HasHeader, Spells, header};
 
 use crate::fault::LogFault;
@@ -22,14 +22,14 @@ use sr_site::{Disk, File};
 /// It syncs, so that what it reads is durable, and reads front to back once, five bytes a record. `Damaged` comes exactly where the header or
 /// an open record is not as written, with the place of that record's gate, or 0. It takes no memory.
 pub fn open<S: Disk>(site: &mut S, file: File) -> Result<LogFile, LogFault>
-    ensures log { IsTrue (S.seen site.old).told → IfOk result (λ log. HasLog log (S.seen site.new).files) }
+    ensures log { IsTrue (S.seen site.old).observable → IfOk result (λ log. HasLog log (S.seen site.new).files) }
     ensures usable { IfOk result (λ log. (log.file ≡ file) × (log.usable ≡ true)) }
-    ensures spelled { IsTrue (S.seen site.old).told → (base : ℕ) (bodies : List (List ℕ)) → Spells base bodies (bytes_of (S.seen site.old).files file) → IfOk result (λ log. (log.base ≡ base) × IsLog log bodies (S.seen site.new).files) × IfErr result IsDisk }
-    ensures damaged { IsTrue (S.seen site.old).told → (place : ℕ) → IsDamaged (bytes_of (S.seen site.old).files file) place → IsErr result × IfErr result (IsDiskOrDamaged place) }
-    ensures files { IsTrue (S.seen site.old).told → (S.seen site.new).files ≡ (S.seen site.old).files }
-    ensures happened { IsTrue (S.seen site.old).told → HasSynced file result (S.seen site.old) (S.seen site.new) }
-    ensures beside { IsTrue (S.seen site.old).told → RestsThroughout (KeepsOthers file (S.seen site.old)) (S.seen site.old) (S.seen site.new) }
-    ensures settled { IsTrue (S.seen site.old).told → OnOk result (IsSettled (IsAsRead file (S.seen site.new)) (S.seen site.new)) }
+    ensures spelled { IsTrue (S.seen site.old).observable → (base : ℕ) (bodies : List (List ℕ)) → Spells base bodies (bytes_of (S.seen site.old).files file) → IfOk result (λ log. (log.base ≡ base) × IsLog log bodies (S.seen site.new).files) × IfErr result IsDisk }
+    ensures damaged { IsTrue (S.seen site.old).observable → (place : ℕ) → IsDamaged (bytes_of (S.seen site.old).files file) place → IsErr result × IfErr result (IsDiskOrDamaged place) }
+    ensures files { IsTrue (S.seen site.old).observable → (S.seen site.new).files ≡ (S.seen site.old).files }
+    ensures happened { IsTrue (S.seen site.old).observable → HasSynced file result (S.seen site.old) (S.seen site.new) }
+    ensures beside { IsTrue (S.seen site.old).observable → RestsThroughout (KeepsOthers file (S.seen site.old)) (S.seen site.old) (S.seen site.new) }
+    ensures settled { IsTrue (S.seen site.old).observable → OnOk result (IsSettled (IsAsRead file (S.seen site.new)) (S.seen site.new)) }
     ensures stays { DiskStays (S.seen site.old) (S.seen site.new) }
     ensures steady { OnOk result ((S.seen site.new).disk_faults ≡ (S.seen site.old).disk_faults) }
     ensures cause { IfErr result (OpenCause file (S.seen site.old) (S.seen site.new)) }
@@ -38,13 +38,13 @@ pub fn open<S: Disk>(site: &mut S, file: File) -> Result<LogFile, LogFault>
 }
 
 /// Syncs the file and reads it up to the first closed gate.
-#[tactic(auto, using(sr_site::specs::Growing::disk_stays_on))]
+#[tactic(auto, using(sr_site::specs::Inner::Growing::disk_stays_on))]
 fn read_records<S: Disk>(site: &mut S, file: File) -> Result<LogFile, LogFault>
-    ensures log { IsTrue (S.seen site.old).told → IfOk result (λ log. HasLog log (S.seen site.new).files) }
+    ensures log { IsTrue (S.seen site.old).observable → IfOk result (λ log. HasLog log (S.seen site.new).files) }
     ensures usable { IfOk result (λ log. (log.file ≡ file) × (log.usable ≡ true)) }
-    ensures files { IsTrue (S.seen site.old).told → (S.seen site.new).files ≡ (S.seen site.old).files }
-    ensures happened { IsTrue (S.seen site.old).told → HasSynced file result (S.seen site.old) (S.seen site.new) }
-    ensures settled { IsTrue (S.seen site.old).told → OnOk result (IsSettled (IsAsRead file (S.seen site.new)) (S.seen site.new)) }
+    ensures files { IsTrue (S.seen site.old).observable → (S.seen site.new).files ≡ (S.seen site.old).files }
+    ensures happened { IsTrue (S.seen site.old).observable → HasSynced file result (S.seen site.old) (S.seen site.new) }
+    ensures settled { IsTrue (S.seen site.old).observable → OnOk result (IsSettled (IsAsRead file (S.seen site.new)) (S.seen site.new)) }
     ensures stays { DiskStays (S.seen site.old) (S.seen site.new) }
     ensures steady { OnOk result ((S.seen site.new).disk_faults ≡ (S.seen site.old).disk_faults) }
     ensures cause { IfErr result (OpenCause file (S.seen site.old) (S.seen site.new)) }
@@ -58,26 +58,26 @@ fn read_records<S: Disk>(site: &mut S, file: File) -> Result<LogFile, LogFault>
 
 /// The base that the file's header has, where a gate stands behind it. `Damaged { at: 0 }` comes exactly where there is no such header.
 pub fn base_of<S: Disk>(site: &mut S, file: File) -> Result<u64, LogFault>
-    ensures header { IsTrue (S.seen site.old).told → IfOk result (λ base. HasHeader base (bytes_of (S.seen site.old).files file)) }
+    ensures header { IsTrue (S.seen site.old).observable → IfOk result (λ base. HasHeader base (bytes_of (S.seen site.old).files file)) }
     ensures limit { IfOk result (λ base. base ≤ 2 ^ 62) }
-    ensures files { IsTrue (S.seen site.old).told → (S.seen site.new).files ≡ (S.seen site.old).files }
-    ensures happened { IsTrue (S.seen site.old).told → (S.seen site.new).happened ≡ (S.seen site.old).happened }
+    ensures files { IsTrue (S.seen site.old).observable → (S.seen site.new).files ≡ (S.seen site.old).files }
+    ensures happened { IsTrue (S.seen site.old).observable → (S.seen site.new).happened ≡ (S.seen site.old).happened }
     ensures stays { DiskStays (S.seen site.old) (S.seen site.new) }
     ensures steady { OnOk result ((S.seen site.new).disk_faults ≡ (S.seen site.old).disk_faults) }
     ensures cause { IfErr result (HeaderCause file (S.seen site.old) (S.seen site.new)) }
 {
-    let mut front = [0; 17];
-    let count = site.read_at(file, 0, &mut front)?;
-    match base_in(&front) {
+    let mut prefix = [0; 17];
+    let count = site.read_at(file, 0, &mut prefix)?;
+    match base_in(&prefix) {
         Some(base) if count == 17 => Ok(base),
         _ => Err(LogFault::Damaged { at: 0 }),
     }
 }
 
 /// The base in the header at the front of 17 bytes, if they have one.
-fn base_in(front: &[u8; 17]) -> Option<u64>
-    ensures some { IfSome result (λ base. (take 16 front.now ≡ header base) × (base ≤ 2 ^ 62)) }
-    ensures none { IsNone result → (base : ℕ) → base ≤ 2 ^ 62 → take 16 front.now ≡ header base → ⊥ }
+fn base_in(prefix: &[u8; 17]) -> Option<u64>
+    ensures some { IfSome result (λ base. (take 16 prefix.now ≡ header base) × (base ≤ 2 ^ 62)) }
+    ensures none { IsNone result → (base : ℕ) → base ≤ 2 ^ 62 → take 16 prefix.now ≡ header base → ⊥ }
 {
     let [
         b'S',
@@ -97,7 +97,7 @@ fn base_in(front: &[u8; 17]) -> Option<u64>
         g,
         h,
         _,
-    ] = *front
+    ] = *prefix
     else {
         return None;
     };
@@ -109,12 +109,12 @@ fn base_in(front: &[u8; 17]) -> Option<u64>
 #[tactic(auto, using(crate::proofs::Scans::scanning))]
 fn end_of<S: Disk>(site: &mut S, file: File, base: u64, size: u64) -> Result<u64, LogFault>
     requires limit { base ≤ 2 ^ 62 }
-    requires header { IsTrue (S.seen site.old).told → HasHeader base (bytes_of (S.seen site.old).files file) }
-    requires size { IsTrue (S.seen site.old).told → size ≡ length (bytes_of (S.seen site.old).files file) }
-    ensures spelled { IsTrue (S.seen site.old).told → IfOk result (λ end. SpellsTo base end (bytes_of (S.seen site.old).files file)) }
+    requires header { IsTrue (S.seen site.old).observable → HasHeader base (bytes_of (S.seen site.old).files file) }
+    requires size { IsTrue (S.seen site.old).observable → size ≡ length (bytes_of (S.seen site.old).files file) }
+    ensures spelled { IsTrue (S.seen site.old).observable → IfOk result (λ end. SpellsTo base end (bytes_of (S.seen site.old).files file)) }
     ensures order { IfOk result (λ end. InOrder base end) }
-    ensures files { IsTrue (S.seen site.old).told → (S.seen site.new).files ≡ (S.seen site.old).files }
-    ensures happened { IsTrue (S.seen site.old).told → (S.seen site.new).happened ≡ (S.seen site.old).happened }
+    ensures files { IsTrue (S.seen site.old).observable → (S.seen site.new).files ≡ (S.seen site.old).files }
+    ensures happened { IsTrue (S.seen site.old).observable → (S.seen site.new).happened ≡ (S.seen site.old).happened }
     ensures stays { DiskStays (S.seen site.old) (S.seen site.new) }
     ensures steady { OnOk result ((S.seen site.new).disk_faults ≡ (S.seen site.old).disk_faults) }
     ensures cause { IfErr result (RecordsCause file (S.seen site.old) (S.seen site.new)) }
@@ -136,11 +136,11 @@ pub fn record_end<S: Disk>(
     size: u64,
 ) -> Result<Option<u64>, LogFault>
     requires order { InOrder base position }
-    requires size { IsTrue (S.seen site.old).told → size ≡ length (bytes_of (S.seen site.old).files file) }
-    ensures record { IsTrue (S.seen site.old).told → IfOk result (IsRecordEnd position (drop (16 + (position - base)) (bytes_of (S.seen site.old).files file))) }
+    requires size { IsTrue (S.seen site.old).observable → size ≡ length (bytes_of (S.seen site.old).files file) }
+    ensures record { IsTrue (S.seen site.old).observable → IfOk result (IsRecordEnd position (drop (16 + (position - base)) (bytes_of (S.seen site.old).files file))) }
     ensures onward { IfOk result (λ found. IfSome found (λ end. (position < end) × (end ≤ 2 ^ 62))) }
-    ensures files { IsTrue (S.seen site.old).told → (S.seen site.new).files ≡ (S.seen site.old).files }
-    ensures happened { IsTrue (S.seen site.old).told → (S.seen site.new).happened ≡ (S.seen site.old).happened }
+    ensures files { IsTrue (S.seen site.old).observable → (S.seen site.new).files ≡ (S.seen site.old).files }
+    ensures happened { IsTrue (S.seen site.old).observable → (S.seen site.new).happened ≡ (S.seen site.old).happened }
     ensures stays { DiskStays (S.seen site.old) (S.seen site.new) }
     ensures steady { OnOk result ((S.seen site.new).disk_faults ≡ (S.seen site.old).disk_faults) }
     ensures cause { IfErr result (RecordCause file (16 + (position - base)) position (S.seen site.old) (S.seen site.new)) }

@@ -1,8 +1,8 @@
 ghost use Rattle.std.specs.Prelude.{◌≡◌, ◌+◌, ◌≤◌, [], List, ℕ, length, IsTrue, MatchOption, IfOk, IfSome, OnOk, IfErr};
 ghost use Rattle.sr_site.specs.Causes.{DiskStays};
-ghost use Rattle.sr_logfile.specs.Faults.{NextCause, RecordAfterCause};
-ghost use Rattle.sr_logfile.specs.Logs.{IsAt};
-ghost use Rattle.sr_logfile.specs.Steps.{IsNext, IsStep, StaysWithin};
+ghost use Rattle.sr_logfile.specs.Inner.Faults.{NextCause, RecordAfterCause};
+ghost use Rattle.sr_logfile.specs.Inner.Logs.{IsAt};
+ghost use Rattle.sr_logfile.specs.Inner.Steps.{IsNext, IsStep, StaysWithin};
 
 use crate::fault::{LogFault, RecordFault};
 use crate::head::{HEADER, Head, LONGEST_BODY, RECORD_HEAD, head_at};
@@ -23,17 +23,17 @@ pub enum Step {
 
 impl LogFile {
     /// Reads the body of the record behind the position `after`, the base or a record's offset, to the front of `buffer`.
-    #[tactic(auto, using(sr_site::specs::Growing::disk_stays_on))]
+    #[tactic(auto, using(sr_site::specs::Inner::Growing::disk_stays_on))]
     pub fn next<S: Disk>(
         &self,
         site: &mut S,
         after: Offset,
         buffer: &mut [u8],
     ) -> Result<Step, LogFault>
-        ensures step { IsTrue (S.seen site.old).told → IfOk result (λ step. (done left : List (List ℕ)) → IsAt self.now after.0 done left (S.seen site.old).files → IsStep self.now after.0 done left (S.seen site.new).files buffer.new step) }
+        ensures step { IsTrue (S.seen site.old).observable → IfOk result (λ step. (done left : List (List ℕ)) → IsAt self.now after.0 done left (S.seen site.old).files → IsStep self.now after.0 done left (S.seen site.new).files buffer.new step) }
         ensures within { IfOk result (StaysWithin self.now after.0 (length buffer.old)) }
-        ensures files { IsTrue (S.seen site.old).told → (S.seen site.new).files ≡ (S.seen site.old).files }
-        ensures happened { IsTrue (S.seen site.old).told → (S.seen site.new).happened ≡ (S.seen site.old).happened }
+        ensures files { IsTrue (S.seen site.old).observable → (S.seen site.new).files ≡ (S.seen site.old).files }
+        ensures happened { IsTrue (S.seen site.old).observable → (S.seen site.new).happened ≡ (S.seen site.old).happened }
         ensures stays { DiskStays (S.seen site.old) (S.seen site.new) }
         ensures steady { OnOk result ((S.seen site.new).disk_faults ≡ (S.seen site.old).disk_faults) }
         ensures cause { IfErr result (NextCause self.now after.0 (S.seen site.old) (S.seen site.new)) }
@@ -55,8 +55,8 @@ impl LogFile {
         if buffer.len() < need {
             return Ok(Step::Short { need });
         }
-        let (front, _) = buffer.split_at_mut(need);
-        let count = site.read_at(self.file(), place + RECORD_HEAD, front)?;
+        let (prefix, _) = buffer.split_at_mut(need);
+        let count = site.read_at(self.file(), place + RECORD_HEAD, prefix)?;
         if count < need {
             return Err(LogFault::Damaged { at: place });
         }
@@ -68,7 +68,7 @@ impl LogFile {
 
     /// Reads the body of the record behind the position `after`, the base or a record's offset, to the front of `buffer`, which grows where it
     /// is shorter. It answers the record's offset and the body's length, or `None` where no record follows.
-    #[tactic(auto, using(sr_site::specs::Growing::disk_stays_on))]
+    #[tactic(auto, using(sr_site::specs::Inner::Growing::disk_stays_on))]
     pub fn record_after<S: Disk>(
         &self,
         site: &mut S,
@@ -76,10 +76,10 @@ impl LogFile {
         buffer: &mut Vec<u8>,
     ) -> Result<Option<(Offset, usize)>, RecordFault>
         requires { (self.now.base ≤ after.0) × (after.0 ≤ self.now.end) }
-        ensures step { IsTrue (S.seen site.old).told → IfOk result (λ found. (done left : List (List ℕ)) → IsAt self.now after.0 done left (S.seen site.old).files → MatchOption found (left ≡ []) (λ x. IsNext self.now after.0 done left (S.seen site.new).files buffer.new.items x.0.0 x.1)) }
+        ensures step { IsTrue (S.seen site.old).observable → IfOk result (λ found. (done left : List (List ℕ)) → IsAt self.now after.0 done left (S.seen site.old).files → MatchOption found (left ≡ []) (λ x. IsNext self.now after.0 done left (S.seen site.new).files buffer.new.items x.0.0 x.1)) }
         ensures within { IfOk result (λ found. IfSome found (λ x. (x.0.0 ≡ after.0 + 5 + x.1) × (x.0.0 ≤ self.now.end) × (x.1 ≤ length buffer.new.items))) }
-        ensures files { IsTrue (S.seen site.old).told → (S.seen site.new).files ≡ (S.seen site.old).files }
-        ensures happened { IsTrue (S.seen site.old).told → (S.seen site.new).happened ≡ (S.seen site.old).happened }
+        ensures files { IsTrue (S.seen site.old).observable → (S.seen site.new).files ≡ (S.seen site.old).files }
+        ensures happened { IsTrue (S.seen site.old).observable → (S.seen site.new).happened ≡ (S.seen site.old).happened }
         ensures stays { DiskStays (S.seen site.old) (S.seen site.new) }
         ensures steady { OnOk result ((S.seen site.new).disk_faults ≡ (S.seen site.old).disk_faults) }
         ensures cause { IfErr result (RecordAfterCause self.now after.0 (S.seen site.old) (S.seen site.new)) }

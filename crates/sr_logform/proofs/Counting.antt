@@ -14,7 +14,7 @@ use Rattle.sr_logform.specs.declared.op.Op.TheVariants.{Insert, Remove, Set, Cle
 use Rattle.sr_logform.specs.declared.outcome.Outcome.{Outcome}
 use Rattle.sr_logform.specs.declared.outcome.Outcome.TheVariants as outcomes
 use Rattle.sr_logform.specs.Entries.{entry_spelling, judged_spelling, table_spelling, flag_spelling}
-use Rattle.sr_logform.specs.Limits.{total, outcome_ops, judged_ops, table_ops, op_count}
+use Rattle.sr_logform.specs.Inner.Limits.{total, outcome_ops, judged_ops, table_ops, op_count}
 use Rattle.sr_logform.specs.Ops.{op_spelling}
 use Rattle.sr_logform.specs.Outcomes.{change_spelling, outcome_spelling}
 
@@ -56,8 +56,8 @@ outcome_long : (outcome : Outcome) → outcome_ops outcome ≤ length (outcome_s
 unfolding outcome_spelling
 outcome_long (outcomes.Plain changes) = omega (arith, list_filled change_spelling change_long changes)
 outcome_long (outcomes.Conflict inserts before after) =
-    let front = list_spelling change_spelling inserts in
-    omega (arith, list_filled change_spelling change_long inserts, length-append (front ++ row_spelling before) (row_spelling after), length-append front (row_spelling before))
+    let prefix = list_spelling change_spelling inserts in
+    omega (arith, list_filled change_spelling change_long inserts, length-append (prefix ++ row_spelling before) (row_spelling after), length-append prefix (row_spelling before))
 outcome_long (outcomes.Clash clash) = omega arith
 
 judged_long : (p : Op × Outcome) → judged_ops p ≤ length (judged_spelling p)
@@ -70,12 +70,12 @@ pub entry_long : (entry : Entry) → op_count entry ≤ length (entry_spelling e
 unfolding entry_spelling
 entry_long (Own changes) = omega (arith, list_filled change_spelling change_long changes)
 entry_long (From user at ops) =
-    let front = name_spelling user ++ offset_spelling at in
-    omega (arith, list_long judged_ops judged_spelling judged_long ops, length-append front (list_spelling judged_spelling ops))
+    let prefix = name_spelling user ++ offset_spelling at in
+    omega (arith, list_long judged_ops judged_spelling judged_long ops, length-append prefix (list_spelling judged_spelling ops))
 entry_long (Ddl text) = omega arith
 entry_long (Sync user tables) =
     omega (arith, list_long table_ops table_spelling table_long tables, length-append (name_spelling user) (list_spelling table_spelling tables))
 entry_long (Pass users only text changes) =
-    let front = list_spelling name_spelling users ++ flag_spelling only ++ bytes_spelling text in
-    omega (arith, list_filled change_spelling change_long changes, length-append front (list_spelling change_spelling changes))
+    let prefix = list_spelling name_spelling users ++ flag_spelling only ++ bytes_spelling text in
+    omega (arith, list_filled change_spelling change_long changes, length-append prefix (list_spelling change_spelling changes))
 entry_long (Note user note) = omega arith

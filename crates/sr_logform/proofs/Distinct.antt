@@ -5,7 +5,7 @@ use Rattle.std.specs.BTreeSet.{BTreeSet, contains, Updates}
 use Rattle.std.specs.List.{list_all}
 use Rattle.std.specs.Str.{bytes_eq}
 use Rattle.sr_base.specs.Order.{name_cmp}
-use Rattle.sr_logform.specs.Rules.{is_absent, are_distinct}
+use Rattle.sr_logform.specs.Inner.Rules.{is_absent, are_distinct}
 
 -- whether none of the names is in the set
 abbrev pub are_new : BTreeSet (List ℕ) → List (List ℕ) → Bool

@@ -1,8 +1,9 @@
 -- A format spells each value once.
 use Rattle.std.proofs.Common.{ℕ, List}
 use Rattle.sr_base.proofs.Formats.{reads_spellings, reads_again, begins_no_other}
-use Rattle.sr_base.specs.Reading.{Read, IsFormat}
-use Rattle.sr_logform.specs.Laws.{SpellsOnce}
+use Rattle.sr_base.specs.Reading.{Read}
+use Rattle.sr_base.specs.Inner.Reading.{IsFormat}
+use Rattle.sr_logform.specs.Inner.Laws.{SpellsOnce}
 
 pub spells_once : {A : Type 0} {reading : List ℕ → Read A} {spelling : A → List ℕ} {fits : A → Type 0}
     → IsFormat reading spelling fits → SpellsOnce reading spelling fits

@@ -14,8 +14,10 @@ use Rattle.sr_logform.specs.declared.op.Op.TheVariants.{Insert, Remove, Set, Cle
 use Rattle.sr_logform.specs.declared.op.Transaction.{Transaction}
 use Rattle.sr_logform.specs.declared.outcome.Outcome.{Outcome}
 use Rattle.sr_logform.specs.declared.outcome.Outcome.TheVariants as outcomes
-use Rattle.sr_logform.specs.Entries.{IsEntry, IsShortEntry}
-use Rattle.sr_logform.specs.Ops.{OpHas, IsOp, IsShortOp, IsTransaction, IsShortTransaction}
+use Rattle.sr_logform.specs.Entries.{IsEntry}
+use Rattle.sr_logform.specs.Inner.Entries.{IsShortEntry}
+use Rattle.sr_logform.specs.Ops.{OpHas, IsOp, IsShortOp, IsTransaction}
+use Rattle.sr_logform.specs.Inner.Ops.{IsShortTransaction}
 use Rattle.sr_logform.specs.Outcomes.{IsChange, IsShortChange, OutcomeHas, IsOutcome, IsShortOutcome}
 use Rattle.sr_logform.specs.Rules.{IsFilledListOf, AreColumns}
 

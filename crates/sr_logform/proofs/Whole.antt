@@ -3,17 +3,18 @@ use Rattle.std.proofs.Common.{◌≡◌, ℕ, ◌-◌, ◌≤◌, ◌<◌, List,
 use Rattle.std.proofs.lemmas.List.{append-nil, nil_from_length}
 use Rattle.sr_base.specs.declared.broken.Bad.{Bad}
 use Rattle.sr_base.specs.declared.broken.Bad.TheVariants as bad
-use Rattle.sr_base.specs.Reading.{BeginsWith, IsReadAs, IsBad}
+use Rattle.sr_base.specs.Inner.Reading.{BeginsWith, IsReadAs, IsBad}
 use Rattle.sr_logform.specs.declared.entry.Entry.{Entry}
-use Rattle.sr_logform.specs.Entries.{entry_at, entry_spelling, IsEntry, alone, body_at, IsReadWhole}
-use Rattle.sr_logform.specs.EntryLaws.{entry_format}
+use Rattle.sr_logform.specs.Entries.{entry_spelling, IsEntry}
+use Rattle.sr_logform.specs.Inner.Entries.{entry_at, alone, body_at, IsReadWhole}
+use Rattle.sr_logform.specs.Inner.EntryLaws.{entry_format}
 
 -- no byte is left behind it
 pub whole_found : (bytes : List ℕ) (entry : Entry) (taken : ℕ) → BeginsWith bytes (entry_spelling entry) taken → length bytes ≤ taken
     → bytes ≡ entry_spelling entry
-whole_found bytes entry taken front le =
+whole_found bytes entry taken prefix le =
     let none : drop taken bytes ≡ [] = nil_from_length (drop taken bytes) (length-drop taken bytes ∙ omega arith) in
-    front.front ∙ ap (λ (rest : List ℕ). entry_spelling entry ++ rest) none ∙ append-nil (entry_spelling entry)
+    prefix.prefix ∙ ap (λ (rest : List ℕ). entry_spelling entry ++ rest) none ∙ append-nil (entry_spelling entry)
 
 -- the entry that was read is the one that the bytes spell
 pub whole_is : (bytes : List ℕ) (found entry : Entry) (taken : ℕ)
@@ -39,9 +40,9 @@ left_over entry (byte ∷ rest) lt = refl
 pub rest_breaks : (bytes : List ℕ) (entry : Entry) (taken : ℕ) → IsEntry entry → BeginsWith bytes (entry_spelling entry) taken → taken < length bytes
     → IsBad (body_at bytes) (length bytes) (bad.Field taken)
 unfolding body_at
-rest_breaks bytes entry taken h front lt =
+rest_breaks bytes entry taken h prefix lt =
     let size : length (drop taken bytes) ≡ length bytes - taken = length-drop taken bytes in
-    let read : entry_at bytes ≡ Ok (entry, drop taken bytes) = ap entry_at front.front ∙ entry_format.again entry (drop taken bytes) h in
+    let read : entry_at bytes ≡ Ok (entry, drop taken bytes) = ap entry_at prefix.prefix ∙ entry_format.again entry (drop taken bytes) h in
     (length (drop taken bytes), (rw read (left_over entry (drop taken bytes) (omega (arith, size)))), omega (arith, size))
 
 -- where the entry breaks, the whole does

@@ -1,10 +1,9 @@
 -- Changes, outcomes and notes of a book: their bytes, and how they are read.
-use Rattle.std.specs.Prelude.{◌≡◌, ℕ, ◌<◌, ◌^◌, Bool, not, ⊤, List, [], ◌∷◌, ◌++◌, Option, IfSome}
+use Rattle.std.specs.Prelude.{◌≡◌, ℕ, ◌<◌, ◌^◌, ⊤, List, [], ◌∷◌, ◌++◌, Option, IfSome}
 use Rattle.std.specs.Int.{w32, w64, to_be_bytes}
 use Rattle.sr_base.specs.declared.value.Value.{Value}
-use Rattle.sr_base.specs.Fields.{number_at, name_at, name_spelling, IsName, list_at, list_spelling, IsListOf, option_at, option_spelling, pair_at, pair_spelling, triple_at, mapped_at, tag_at, just_at, untagged_at}
-use Rattle.sr_base.specs.Reading.{Read}
-use Rattle.sr_base.specs.Values.{row_at, row_spelling, IsValue, IsShort, offset_at, offset_spelling, IsOffset}
+use Rattle.sr_base.specs.Fields.{name_spelling, IsName, list_spelling, IsListOf, option_spelling}
+use Rattle.sr_base.specs.Values.{row_spelling, IsValue, IsShort, offset_spelling, IsOffset}
 use Rattle.sr_book.specs.declared.note.Note.{Note}
 use Rattle.sr_book.specs.declared.note.Note.TheVariants as notes
 use Rattle.sr_logform.specs.declared.change.Change.{Change}
@@ -12,7 +11,6 @@ use Rattle.sr_logform.specs.declared.outcome.Clash.{Clash}
 use Rattle.sr_logform.specs.declared.outcome.Clash.TheVariants as clashes
 use Rattle.sr_logform.specs.declared.outcome.Outcome.{Outcome}
 use Rattle.sr_logform.specs.declared.outcome.Outcome.TheVariants as outcomes
-use Rattle.sr_logform.specs.Rules.{checked_at, is_same_row}
 
 -- ---- changes: a name, the row before if there is one, and the row after if there is one
 
@@ -38,29 +36,11 @@ IsShortChange = ChangeHas (λ name. ⊤) IsShort
 abbrev pub Images : Type 0
 Images = Option (List Value) × Option (List Value)
 
--- whether they differ
-abbrev pub are_two : Images → Bool
-are_two p = not (is_same_row p.0 p.1)
-
-unfoldable pub images_at : List ℕ → Read Images
-images_at = checked_at are_two (pair_at (option_at row_at) (option_at row_at))
-
--- one behind the other
-abbrev pub images_spelling : Images → List ℕ
-images_spelling = pair_spelling (option_spelling row_spelling) (option_spelling row_spelling)
-
 -- they differ, and their values are such
 pub record ImagesHave (values : Value → Type 0) (p : Images) : Type 0 where
   pub before : IfSome p.0 (IsListOf values)
   pub after : IfSome p.1 (IsListOf values)
   pub differ : ¬ (p.0 ≡ p.1)
-
--- the change of a table with these rows
-abbrev pub change_of : List ℕ × Images → Change
-change_of p = record { table = p.0; before = p.1.0; after = p.1.1 }
-
-unfoldable pub change_at : List ℕ → Read Change
-change_at = mapped_at change_of (pair_at name_at images_at)
 
 -- ---- clashes: a byte from 1 to 8
 
@@ -73,17 +53,6 @@ clash_spelling clashes.BadValue = 5 ∷ []
 clash_spelling clashes.Null = 6 ∷ []
 clash_spelling clashes.Trigger = 7 ∷ []
 clash_spelling clashes.Statement = 8 ∷ []
-
-unfoldable pub clash_at : List ℕ → Read Clash
-clash_at =
-    tag_at 1 (just_at clashes.Duplicate)
-    (tag_at 2 (just_at clashes.NoRow)
-    (tag_at 3 (just_at clashes.NoTable)
-    (tag_at 4 (just_at clashes.NoColumn)
-    (tag_at 5 (just_at clashes.BadValue)
-    (tag_at 6 (just_at clashes.Null)
-    (tag_at 7 (just_at clashes.Trigger)
-    (tag_at 8 (just_at clashes.Statement) untagged_at)))))))
 
 -- ---- outcomes: a tag byte, and what stands behind it
 
@@ -106,12 +75,6 @@ IsOutcome = OutcomeHas IsChange IsValue
 abbrev pub IsShortOutcome : Outcome → Type 0
 IsShortOutcome = OutcomeHas IsShortChange IsShort
 
-unfoldable pub outcome_at : List ℕ → Read Outcome
-outcome_at =
-    tag_at 0 (mapped_at (λ changes. outcomes.Plain changes) (list_at change_at))
-    (tag_at 1 (mapped_at (λ p. outcomes.Conflict p.0 p.1 p.2) (triple_at (list_at change_at) row_at row_at))
-    (tag_at 2 (mapped_at (λ clash. outcomes.Clash clash) clash_at) untagged_at))
-
 -- ---- notes: a tag byte, and what stands behind it
 
 unfoldable pub note_spelling : Note → List ℕ
@@ -126,10 +89,3 @@ IsNote (notes.Confirmed place) = IsOffset place
 IsNote (notes.Asked count place) = (count < 2 ^ 64) × IsOffset place
 IsNote notes.Raised = ⊤
 IsNote (notes.Sent end messages confirm) = IsOffset end × (messages < 2 ^ 32) × IsOffset confirm
-
-unfoldable pub note_at : List ℕ → Read Note
-note_at =
-    tag_at 1 (mapped_at (λ place. notes.Confirmed place) offset_at)
-    (tag_at 2 (mapped_at (λ p. notes.Asked p.0 p.1) (pair_at (number_at w64) offset_at))
-    (tag_at 3 (just_at notes.Raised)
-    (tag_at 4 (mapped_at (λ p. notes.Sent p.0 p.1 p.2) (triple_at offset_at (number_at w32) offset_at)) untagged_at)))

@@ -2,9 +2,10 @@
 
 ghost use Rattle.std.specs.Prelude.{◌≡◌};
 ghost use Rattle.sr_base.specs.Values.{IsValue, IsShort};
-ghost use Rattle.sr_logform.specs.OutcomeLaws.{images_format, change_format};
-ghost use Rattle.sr_logform.specs.Outcomes.{images_at, images_spelling, ImagesHave, change_at, change_spelling, IsChange, IsShortChange};
-ghost use Rattle.sr_logform.specs.Rules.{is_same_row};
+ghost use Rattle.sr_logform.specs.Inner.OutcomeLaws.{images_format, change_format};
+ghost use Rattle.sr_logform.specs.Outcomes.{ImagesHave, change_spelling, IsChange, IsShortChange};
+ghost use Rattle.sr_logform.specs.Inner.Outcomes.{images_at, images_spelling, change_at};
+ghost use Rattle.sr_logform.specs.Inner.Rules.{is_same_row};
 
 use crate::change::Change;
 use sr_base::{Broken, Field, Name, NoMemory, Row, write_pair, write_triple};
@@ -60,7 +61,7 @@ impl Field for Images {
 
     ghost format = { images_format };
 
-    #[tactic(auto, unfolding(crate::specs::Outcomes::images_at, crate::specs::Rules::checked_at))]
+    #[tactic(auto, unfolding(crate::specs::Inner::Outcomes::images_at, crate::specs::Inner::Rules::checked_at))]
     fn read(alloc: Global, bytes: &[u8]) -> Result<(Images, &[u8]), Broken> {
         let ((before, after), rest) = <(Option<Row>, Option<Row>)>::read(alloc, bytes)?;
         if are_same(&before, &after) {
@@ -85,7 +86,7 @@ impl Field for Change {
 
     ghost format = { change_format };
 
-    #[tactic(auto, unfolding(crate::specs::Outcomes::change_at))]
+    #[tactic(auto, unfolding(crate::specs::Inner::Outcomes::change_at))]
     fn read(alloc: Global, bytes: &[u8]) -> Result<(Change, &[u8]), Broken> {
         let ((table, images), rest) = <(Name, Images)>::read(alloc, bytes)?;
         let (before, after) = images.into_rows();

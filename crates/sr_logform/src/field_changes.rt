@@ -1,10 +1,11 @@
 //! A list of changes as a field. Changes of one table that follow one another, as most transactions have them, share its name.
 
 ghost use Rattle.std.specs.Prelude.{◌≡◌, Ok, List, ℕ, IfSome};
-ghost use Rattle.sr_base.specs.Fields.{items_at, name_at};
-ghost use Rattle.sr_base.specs.Reading.{Gives};
-ghost use Rattle.sr_logform.specs.Outcomes.{change_at};
-ghost use Rattle.sr_logform.specs.Rules.{filled_at};
+ghost use Rattle.sr_base.specs.Fields.{name_at};
+ghost use Rattle.sr_base.specs.Inner.Fields.{items_at};
+ghost use Rattle.sr_base.specs.Inner.Reading.{Gives};
+ghost use Rattle.sr_logform.specs.Inner.Outcomes.{change_at};
+ghost use Rattle.sr_logform.specs.Inner.Rules.{filled_at};
 
 use crate::change::Change;
 use crate::field_change::Images;
@@ -15,7 +16,7 @@ use std::alloc::Global;
 const FIRST_ROOM: usize = 16;
 
 /// A list of changes that is not empty.
-#[tactic(auto, unfolding(sr_base::specs::Fields::list_at, crate::specs::Rules::filled_at, crate::specs::Rules::checked_at))]
+#[tactic(auto, unfolding(sr_base::specs::Inner::Fields::list_at, crate::specs::Inner::Rules::filled_at, crate::specs::Inner::Rules::checked_at))]
 pub(crate) fn filled_changes(alloc: Global, bytes: &[u8]) -> Result<(Seq<Change>, &[u8]), Broken>
     ensures { Gives (λ x. (x.0, x.1.now)) result (filled_at change_at bytes.now) }
 {
@@ -68,15 +69,15 @@ fn behind_name<'a>(bytes: &'a [u8], name: &Name) -> Option<&'a [u8]>
     if *size as usize != length || rest.len() < length {
         return None;
     }
-    let (front, behind) = rest.split_at(length);
-    if front != letters {
+    let (prefix, behind) = rest.split_at(length);
+    if prefix != letters {
         return None;
     }
     Some(behind)
 }
 
 /// The change of this table whose rows stand at the front.
-#[tactic(auto, unfolding(crate::specs::Outcomes::change_at, sr_base::specs::Fields::pair_at, sr_base::specs::Fields::mapped_at))]
+#[tactic(auto, unfolding(crate::specs::Inner::Outcomes::change_at, sr_base::specs::Inner::Fields::pair_at, sr_base::specs::Inner::Fields::mapped_at))]
 fn change_of_table<'a>(
     alloc: Global,
     table: &Name,

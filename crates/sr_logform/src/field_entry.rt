@@ -2,8 +2,9 @@
 
 ghost use Rattle.std.specs.Prelude.{◌≡◌, ⊤, Bool};
 ghost use Rattle.sr_base.specs.Fields.{name_spelling, IsName, list_spelling};
-ghost use Rattle.sr_logform.specs.Entries.{flag_at, flag_spelling, users_at, AreUsers, entry_at, entry_spelling, IsEntry, IsShortEntry};
-ghost use Rattle.sr_logform.specs.EntryLaws.{flag_format, users_format, entry_format};
+ghost use Rattle.sr_logform.specs.Entries.{flag_spelling, AreUsers, entry_spelling, IsEntry};
+ghost use Rattle.sr_logform.specs.Inner.Entries.{flag_at, users_at, entry_at, IsShortEntry};
+ghost use Rattle.sr_logform.specs.Inner.EntryLaws.{flag_format, users_format, entry_format};
 
 use crate::change::Change;
 use crate::entry::Entry;
@@ -65,7 +66,7 @@ impl Field for Flag {
 
     ghost format = { flag_format };
 
-    #[tactic(auto, unfolding(crate::specs::Entries::flag_at))]
+    #[tactic(auto, unfolding(crate::specs::Inner::Entries::flag_at))]
     fn read(_alloc: Global, bytes: &[u8]) -> Result<(Flag, &[u8]), Broken> {
         match bytes {
             [] => Err(Broken::Left(0)),
@@ -118,7 +119,7 @@ impl Field for Users {
 
     ghost format = { users_format };
 
-    #[tactic(auto, unfolding(crate::specs::Entries::users_at, crate::specs::Rules::checked_at))]
+    #[tactic(auto, unfolding(crate::specs::Inner::Entries::users_at, crate::specs::Inner::Rules::checked_at))]
     fn read(alloc: Global, bytes: &[u8]) -> Result<(Users, &[u8]), Broken> {
         let (names, rest) = Seq::<Name>::read(alloc, bytes)?;
         if !are_distinct(alloc, names.as_slice())? {
@@ -143,7 +144,7 @@ impl Field for Entry {
 
     ghost format = { entry_format };
 
-    #[tactic(auto, unfolding(crate::specs::Entries::entry_at))]
+    #[tactic(auto, unfolding(crate::specs::Inner::Entries::entry_at))]
     fn read(alloc: Global, bytes: &[u8]) -> Result<(Entry, &[u8]), Broken> {
         match bytes {
             [] => Err(Broken::Left(0)),

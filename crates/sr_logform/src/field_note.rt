@@ -1,8 +1,9 @@
 //! Notes of a partner's book as fields.
 
 ghost use Rattle.std.specs.Prelude.{◌≡◌, ⊤};
-ghost use Rattle.sr_logform.specs.OutcomeLaws.{note_format};
-ghost use Rattle.sr_logform.specs.Outcomes.{note_at, note_spelling, IsNote};
+ghost use Rattle.sr_logform.specs.Inner.OutcomeLaws.{note_format};
+ghost use Rattle.sr_logform.specs.Outcomes.{note_spelling, IsNote};
+ghost use Rattle.sr_logform.specs.Inner.Outcomes.{note_at};
 
 use crate::writing_parts::write_four;
 use sr_base::{Broken, Field, NoMemory, Offset, write_pair, write_triple};
@@ -53,7 +54,7 @@ impl Field for BookNote {
 
     ghost format = { note_format };
 
-    #[tactic(auto, unfolding(crate::specs::Outcomes::note_at))]
+    #[tactic(auto, unfolding(crate::specs::Inner::Outcomes::note_at))]
     fn read(alloc: Global, bytes: &[u8]) -> Result<(BookNote, &[u8]), Broken> {
         match bytes {
             [] => Err(Broken::Left(0)),

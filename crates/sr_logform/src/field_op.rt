@@ -5,8 +5,9 @@ ghost use Rattle.sr_base.specs.Values.{value_spelling, IsValue, IsShort};
 ghost use Rattle.std.specs.Prelude.{◌≡◌, ⊤};
 ghost use Rattle.sr_base.specs.declared.value.Value.TheVariants.{Null};
 ghost use Rattle.sr_base.specs.Fields.{IsName};
-ghost use Rattle.sr_logform.specs.OpLaws.{present_format, op_format, transaction_format};
-ghost use Rattle.sr_logform.specs.Ops.{present_at, op_at, op_spelling, IsOp, IsShortOp, transaction_at, transaction_spelling, IsTransaction, IsShortTransaction};
+ghost use Rattle.sr_logform.specs.Inner.OpLaws.{present_format, op_format, transaction_format};
+ghost use Rattle.sr_logform.specs.Ops.{op_spelling, IsOp, IsShortOp, transaction_spelling, IsTransaction};
+ghost use Rattle.sr_logform.specs.Inner.Ops.{present_at, op_at, transaction_at, IsShortTransaction};
 
 use crate::filled::{Columns, Filled};
 use crate::op::{Op, Transaction};
@@ -32,7 +33,7 @@ impl Field for Op {
 
     ghost format = { op_format };
 
-    #[tactic(auto, unfolding(crate::specs::Ops::op_at))]
+    #[tactic(auto, unfolding(crate::specs::Inner::Ops::op_at))]
     fn read(alloc: Global, bytes: &[u8]) -> Result<(Op, &[u8]), Broken> {
         match bytes {
             [] => Err(Broken::Left(0)),
@@ -96,7 +97,7 @@ impl Field for Transaction {
 
     ghost format = { transaction_format };
 
-    #[tactic(auto, unfolding(crate::specs::Ops::transaction_at))]
+    #[tactic(auto, unfolding(crate::specs::Inner::Ops::transaction_at))]
     fn read(alloc: Global, bytes: &[u8]) -> Result<(Transaction, &[u8]), Broken> {
         let ((at, ops), rest) = <(Offset, Filled<Op>)>::read(alloc, bytes)?;
         let ops = ops.into_seq();

@@ -1,8 +1,9 @@
 //! Clashes and outcomes as fields.
 
 ghost use Rattle.std.specs.Prelude.{⊤};
-ghost use Rattle.sr_logform.specs.OutcomeLaws.{clash_format, outcome_format};
-ghost use Rattle.sr_logform.specs.Outcomes.{clash_at, clash_spelling, outcome_at, outcome_spelling, IsOutcome, IsShortOutcome};
+ghost use Rattle.sr_logform.specs.Inner.OutcomeLaws.{clash_format, outcome_format};
+ghost use Rattle.sr_logform.specs.Outcomes.{clash_spelling, outcome_spelling, IsOutcome, IsShortOutcome};
+ghost use Rattle.sr_logform.specs.Inner.Outcomes.{clash_at, outcome_at};
 
 use crate::change::Change;
 use crate::outcome::{Clash, Outcome};
@@ -23,7 +24,7 @@ impl Field for Clash {
 
     ghost format = { clash_format };
 
-    #[tactic(auto, unfolding(crate::specs::Outcomes::clash_at))]
+    #[tactic(auto, unfolding(crate::specs::Inner::Outcomes::clash_at))]
     fn read(_alloc: Global, bytes: &[u8]) -> Result<(Clash, &[u8]), Broken> {
         match bytes {
             [] => Err(Broken::Left(0)),
@@ -65,7 +66,7 @@ impl Field for Outcome {
 
     ghost format = { outcome_format };
 
-    #[tactic(auto, unfolding(crate::specs::Outcomes::outcome_at))]
+    #[tactic(auto, unfolding(crate::specs::Inner::Outcomes::outcome_at))]
     fn read(alloc: Global, bytes: &[u8]) -> Result<(Outcome, &[u8]), Broken> {
         match bytes {
             [] => Err(Broken::Left(0)),

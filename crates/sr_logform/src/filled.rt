@@ -2,8 +2,9 @@
 
 ghost use Rattle.std.specs.Prelude.{◌≡◌};
 ghost use Rattle.sr_base.specs.Fields.{list_spelling};
-ghost use Rattle.sr_logform.specs.RuleLaws.{filled_format, columns_format};
-ghost use Rattle.sr_logform.specs.Rules.{filled_at, IsFilledListOf, columns_at, AreColumns};
+ghost use Rattle.sr_logform.specs.Inner.RuleLaws.{filled_format, columns_format};
+ghost use Rattle.sr_logform.specs.Rules.{IsFilledListOf, AreColumns};
+ghost use Rattle.sr_logform.specs.Inner.Rules.{filled_at, columns_at};
 
 use crate::names::{Named, are_distinct};
 use sr_base::{Broken, Field, NoMemory, Seq};
@@ -44,7 +45,7 @@ impl<T: Field> Field for Filled<T> {
 
     ghost format = { filled_format T.format };
 
-    #[tactic(auto, unfolding(crate::specs::Rules::filled_at, crate::specs::Rules::checked_at))]
+    #[tactic(auto, unfolding(crate::specs::Inner::Rules::filled_at, crate::specs::Inner::Rules::checked_at))]
     fn read(alloc: Global, bytes: &[u8]) -> Result<(Filled<T>, &[u8]), Broken> {
         let (items, rest) = Seq::<T>::read(alloc, bytes)?;
         if items.as_slice().is_empty() {
@@ -92,7 +93,7 @@ impl<T: Field + Named> Field for Columns<T> {
 
     ghost format = { columns_format T.format T.name_of };
 
-    #[tactic(auto, unfolding(crate::specs::Rules::columns_at, crate::specs::Rules::checked_at))]
+    #[tactic(auto, unfolding(crate::specs::Inner::Rules::columns_at, crate::specs::Inner::Rules::checked_at))]
     fn read(alloc: Global, bytes: &[u8]) -> Result<(Columns<T>, &[u8]), Broken> {
         let (items, rest) = Seq::<T>::read(alloc, bytes)?;
         if items.as_slice().is_empty() {

@@ -4,11 +4,14 @@ ghost use Rattle.std.specs.Prelude.{◌≤◌, length};
 ghost use Rattle.sr_logform.specs.declared.entry.Entry.{Entry as Body};
 ghost use Rattle.sr_logform.specs.declared.op.Op.{Op as AnOp};
 ghost use Rattle.sr_logform.specs.declared.op.Transaction.{Transaction as ATransaction};
-ghost use Rattle.sr_logform.specs.Entries.{entry_at, entry_spelling, IsEntry, IsShortEntry};
-ghost use Rattle.sr_logform.specs.Laws.{SpellsOnce};
-ghost use Rattle.sr_logform.specs.Limits.{op_count};
-ghost use Rattle.sr_logform.specs.Ops.{op_at, op_spelling, IsOp, IsShortOp, transaction_at, transaction_spelling, IsTransaction, IsShortTransaction};
-ghost use Rattle.sr_logform.specs.Outcomes.{change_at, change_spelling, IsChange, outcome_at, outcome_spelling, IsOutcome};
+ghost use Rattle.sr_logform.specs.Entries.{entry_spelling, IsEntry};
+ghost use Rattle.sr_logform.specs.Inner.Entries.{entry_at, IsShortEntry};
+ghost use Rattle.sr_logform.specs.Inner.Laws.{SpellsOnce};
+ghost use Rattle.sr_logform.specs.Inner.Limits.{op_count};
+ghost use Rattle.sr_logform.specs.Ops.{op_spelling, IsOp, IsShortOp, transaction_spelling, IsTransaction};
+ghost use Rattle.sr_logform.specs.Inner.Ops.{op_at, transaction_at, IsShortTransaction};
+ghost use Rattle.sr_logform.specs.Outcomes.{change_spelling, IsChange, outcome_spelling, IsOutcome};
+ghost use Rattle.sr_logform.specs.Inner.Outcomes.{change_at, outcome_at};
 
 /// What is read is spelled so, what is spelled is read again whatever follows it, and no spelling begins another one.
 pub fn each_has_one_spelling()

@@ -1,7 +1,7 @@
 //! Names of which none stands twice.
 
 ghost use Rattle.std.specs.Prelude.{◌≡◌, map, IfOk};
-ghost use Rattle.sr_logform.specs.Rules.{are_distinct};
+ghost use Rattle.sr_logform.specs.Inner.Rules.{are_distinct};
 
 use sr_base::{Copied, Name, NoMemory};
 use std::alloc::Global;

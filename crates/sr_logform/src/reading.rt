@@ -1,15 +1,17 @@
 //! Reading entries and ops.
 
 ghost use Rattle.std.specs.Prelude.{◌≡◌, ◌++◌, ℕ, List, length, IfOk, IfErr};
-ghost use Rattle.sr_base.specs.Reading.{BeginsWith, IsReadAs, IsBad};
+ghost use Rattle.sr_base.specs.Inner.Reading.{BeginsWith, IsReadAs, IsBad};
 ghost use Rattle.sr_logform.specs.declared.entry.Entry.{Entry as Body};
 ghost use Rattle.sr_logform.specs.declared.op.Op.{Op as AnOp};
-ghost use Rattle.sr_logform.specs.Entries.{entry_spelling, IsEntry, body_at, IsReadWhole};
-ghost use Rattle.sr_logform.specs.Ops.{op_at, op_spelling, IsOp};
+ghost use Rattle.sr_logform.specs.Entries.{entry_spelling, IsEntry};
+ghost use Rattle.sr_logform.specs.Inner.Entries.{body_at, IsReadWhole};
+ghost use Rattle.sr_logform.specs.Ops.{op_spelling, IsOp};
+ghost use Rattle.sr_logform.specs.Inner.Ops.{op_at};
 
 use crate::entry::Entry;
 use crate::op::Op;
-use sr_base::{Bad, read_front};
+use sr_base::{Bad, read_prefix};
 use std::alloc::Global;
 
 /// The entry that these bytes spell, all of the bytes.
@@ -24,7 +26,7 @@ pub fn read_entry(alloc: Global, bytes: &[u8]) -> Result<Entry, Bad>
     // Where it breaks.
     ensures place { IfErr result (IsBad (body_at bytes.now) (length bytes.now)) }
 {
-    match read_front::<Entry>(alloc, bytes) {
+    match read_prefix::<Entry>(alloc, bytes) {
         Ok((entry, taken)) => {
             if taken < bytes.len() {
                 return Err(Bad::Field { at: taken });
@@ -44,5 +46,5 @@ pub fn read_op(alloc: Global, bytes: &[u8]) -> Result<(Op, usize), Bad>
     ensures only { (op : AnOp) (rest : List ℕ) → IsOp op → bytes.now ≡ op_spelling op ++ rest → IsReadAs result op (length (op_spelling op)) }
     ensures place { IfErr result (IsBad (op_at bytes.now) (length bytes.now)) }
 {
-    read_front(alloc, bytes)
+    read_prefix(alloc, bytes)
 }

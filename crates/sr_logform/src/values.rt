@@ -2,11 +2,13 @@
 
 ghost use Rattle.std.specs.Prelude.{◌≡◌, ⊤, List};
 ghost use Rattle.sr_base.specs.declared.value.Value.TheVariants.{Null};
-ghost use Rattle.sr_base.specs.Fields.{IsName, items_at, list_at, list_spelling, pair_at, name_at};
-ghost use Rattle.sr_base.specs.Reading.{Gives};
+ghost use Rattle.sr_base.specs.Fields.{IsName, list_spelling, name_at};
+ghost use Rattle.sr_base.specs.Inner.Fields.{items_at, list_at, pair_at};
+ghost use Rattle.sr_base.specs.Inner.Reading.{Gives};
 ghost use Rattle.sr_base.specs.Values.{value_spelling, IsValue, IsShort};
-ghost use Rattle.sr_logform.specs.OpLaws.{present_format, values_format};
-ghost use Rattle.sr_logform.specs.Ops.{present_at, values_at, column_spelling, AreValues};
+ghost use Rattle.sr_logform.specs.Inner.OpLaws.{present_format, values_format};
+ghost use Rattle.sr_logform.specs.Ops.{column_spelling, AreValues};
+ghost use Rattle.sr_logform.specs.Inner.Ops.{present_at, values_at};
 ghost use Rattle.sr_logform.specs.Rules.{is_present};
 
 use crate::names::are_distinct;
@@ -59,7 +61,7 @@ impl Field for Present {
 
     ghost format = { present_format };
 
-    #[tactic(auto, unfolding(crate::specs::Ops::present_at, crate::specs::Rules::checked_at))]
+    #[tactic(auto, unfolding(crate::specs::Inner::Ops::present_at, crate::specs::Inner::Rules::checked_at))]
     fn read(alloc: Global, bytes: &[u8]) -> Result<(Present, &[u8]), Broken> {
         let (value, rest) = Value::read(alloc, bytes)?;
         if !is_present(&value) {
@@ -116,7 +118,7 @@ fn present_items(
 }
 
 /// A list of columns of which none is NULL.
-#[tactic(auto, unfolding(sr_base::specs::Fields::list_at))]
+#[tactic(auto, unfolding(sr_base::specs::Inner::Fields::list_at))]
 fn present_list(alloc: Global, bytes: &[u8]) -> Result<(Seq<(Name, Value)>, &[u8]), Broken>
     ensures { Gives (λ x. (x.0, x.1.now)) result (list_at (pair_at name_at present_at) bytes.now) }
 {
@@ -136,7 +138,7 @@ impl Field for Values {
 
     ghost format = { values_format };
 
-    #[tactic(auto, unfolding(crate::specs::Ops::values_at, crate::specs::Rules::columns_at, crate::specs::Rules::checked_at))]
+    #[tactic(auto, unfolding(crate::specs::Inner::Ops::values_at, crate::specs::Inner::Rules::columns_at, crate::specs::Inner::Rules::checked_at))]
     fn read(alloc: Global, bytes: &[u8]) -> Result<(Values, &[u8]), Broken> {
         let (items, rest) = present_list(alloc, bytes)?;
         if items.as_slice().is_empty() {

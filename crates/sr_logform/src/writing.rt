@@ -1,7 +1,8 @@
 //! Writing entries and ops.
 
 ghost use Rattle.std.specs.Prelude.{◌≡◌, ◌++◌, IfOk, OnOk, OnErr};
-ghost use Rattle.sr_logform.specs.Entries.{entry_spelling, IsEntry, IsShortEntry};
+ghost use Rattle.sr_logform.specs.Entries.{entry_spelling, IsEntry};
+ghost use Rattle.sr_logform.specs.Inner.Entries.{IsShortEntry};
 ghost use Rattle.sr_logform.specs.Ops.{op_spelling, IsOp, IsShortOp};
 
 use crate::entry::Entry;

@@ -5,7 +5,7 @@ use Rattle.std.proofs.lemmas.List.{get_or-take, get_or-drop, ext_get_or}
 use Rattle.sr_mail.specs.declared.piece.Piece.{Piece}
 use Rattle.sr_mail.specs.Assembled.{IsItsPiece, byte_at, IsAssembled}
 use Rattle.sr_mail.specs.Seen.{covers}
-use Rattle.sr_cut.specs.Truths.{IsFragmentOf}
+use Rattle.sr_mail_cut.specs.Truths.{IsFragmentOf}
 use Rattle.sr_msgform.specs.declared.message.Message.{Message}
 
 pub covers-at : (place : ℕ) (p : Piece) → covers place p ≡ true → (p.start ≤ place) × (place < p.start + p.length)

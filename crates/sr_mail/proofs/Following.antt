@@ -9,9 +9,9 @@ use Rattle.std.proofs.lemmas.List.Folds.{list_any-append}
 use Rattle.sr_mail.specs.declared.piece.Piece.{Piece}
 use Rattle.sr_mail.specs.declared.reach.Reach.{Reach}
 use Rattle.sr_mail.specs.Seen.{covers, Cover}
-use Rattle.sr_mail.specs.Tracking.{Waits, Follows, IsSettled, IsSame, NowWaits}
+use Rattle.sr_mail.specs.Inner.Tracking.{Waits, Follows, IsSettled, IsSame, NowWaits}
 use Rattle.sr_mail.proofs.Covered.{covers-at, covers-here}
-use Rattle.sr_cut.proofs.Lists.{AllByRecursion-append, AllByRecursion-map}
+use Rattle.sr_mail_cut.proofs.Lists.{AllByRecursion-append, AllByRecursion-map}
 
 or_left : (a b : Bool) → a ≡ true → (a || b) ≡ true
 or_left a b e = rw e refl

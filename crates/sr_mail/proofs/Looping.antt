@@ -14,10 +14,10 @@ use Rattle.sr_mail.specs.declared.piece.Piece.{Piece}
 use Rattle.sr_mail.specs.declared.reach.Reach.{Reach}
 use Rattle.sr_mail.specs.Assembled.{total_of, IsItsPiece, byte_at, IsAssembled}
 use Rattle.sr_mail.specs.Seen.{covers, Cover}
-use Rattle.sr_mail.specs.Spans.{Span, spans_from, has_place, AreSorted, SpanOf}
-use Rattle.sr_mail.specs.Tracking.{BeginsWithin}
+use Rattle.sr_mail.specs.Inner.Spans.{Span, spans_from, has_place, AreSorted, SpanOf}
+use Rattle.sr_mail.specs.Inner.Tracking.{BeginsWithin}
 use Rattle.sr_mail.proofs.Covered.{covers-at, covers-here}
-use Rattle.sr_cut.proofs.Lists.{AllByRecursion-map, take_item}
+use Rattle.sr_mail_cut.proofs.Lists.{AllByRecursion-map, take_item}
 use Rattle.sr_mail.proofs.Spanning.{All-at, spans-append}
 use Rattle.sr_msgform.specs.declared.message.Message.{Message}
 

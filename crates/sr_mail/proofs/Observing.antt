@@ -3,11 +3,12 @@ use Rattle.std.proofs.Common.{◌≡◌, ℕ, ◌<◌, ◌≤◌, inl, inr, Bool
 use Rattle.std.specs.List.{AllByRecursion}
 use Rattle.sr_mail.specs.declared.piece.Piece.{Piece}
 use Rattle.sr_mail.specs.declared.window.Window.{Window}
-use Rattle.sr_mail.specs.Inboxes.{Gathered, pieces_of, is_dropped, is_some, is_seen, IsSeen, IsWhole}
+use Rattle.sr_mail.specs.Inboxes.{Gathered, pieces_of, is_dropped, IsSeen}
+use Rattle.sr_mail.specs.Inner.Inboxes.{is_some, is_seen, IsWholeWindow}
 use Rattle.sr_mail.specs.Reaching.{Leads}
 use Rattle.sr_mail.specs.Seen.{ComesBefore, same_window, window_of, Cover}
-use Rattle.sr_mail.specs.Shelves.{is_before, AllBehind, AreInOrder, added, without, first_dropped, EndsPast, IsFirstPast, stands_among}
-use Rattle.sr_cut.proofs.Lists.{AllByRecursion-append, AllByRecursion-map, AllByRecursion-back}
+use Rattle.sr_mail.specs.Inner.Shelves.{is_before, AllBehind, AreInOrder, added, without, first_dropped, EndsPast, IsFirstPast, stands_among}
+use Rattle.sr_mail_cut.proofs.Lists.{AllByRecursion-append, AllByRecursion-map, AllByRecursion-back}
 use Rattle.sr_mail.proofs.Order.{before-is, is-before, before-on, before-other, behind-other, other-before, same-is, is-same}
 use Rattle.sr_mail.proofs.Shelving.{begun, grown, order-back}
 
@@ -125,51 +126,51 @@ stands-seen (g ∷ gs) w h = stands_case (same_window g.window w) g gs w h.0.0 (
 -- ---- whole windows
 
 -- what an inbox shows of one of its windows
-pub shown : (front : List Gathered) (g : Gathered) (behind : List Gathered) → AreInOrder (front ++ g ∷ behind) → (pieces_of (front ++ g ∷ behind) g.window ≡ g.pieces) × (is_dropped (front ++ g ∷ behind) g.window ≡ g.dropped)
+pub shown : (prefix : List Gathered) (g : Gathered) (behind : List Gathered) → AreInOrder (prefix ++ g ∷ behind) → (pieces_of (prefix ++ g ∷ behind) g.window ≡ g.pieces) × (is_dropped (prefix ++ g ∷ behind) g.window ≡ g.dropped)
 shown [] g behind order = let same : same_window g.window g.window ≡ true = is-same g.window g.window refl in (rw same refl, rw same refl)
-shown (f ∷ front) g behind order =
-    let before = AllByRecursion-back (λ (x : Gathered). is_before f.window x.window ≡ true) front (g ∷ behind) order.0 in
+shown (f ∷ prefix) g behind order =
+    let before = AllByRecursion-back (λ (x : Gathered). is_before f.window x.window ≡ true) prefix (g ∷ behind) order.0 in
     let apart : same_window f.window g.window ≡ false = before-other f.window g.window before.0 in
-    let rest = shown front g behind order.1 in
+    let rest = shown prefix g behind order.1 in
     (rw apart rest.0, rw apart rest.1)
 
-least_case : (b : Bool) (f : Gathered) (front : List Gathered) (g : Gathered) (behind : List Gathered) (r : ℕ) (w : Window) → same_window f.window w ≡ b → AreInOrder ((f ∷ front) ++ g ∷ behind) → AllByRecursion (λ x. ¬ (EndsPast r x)) (f ∷ front) →
-    ¬ (pieces_of ((f ∷ front) ++ g ∷ behind) w ≡ []) → Cover (pieces_of ((f ∷ front) ++ g ∷ behind) w) w.total → is_dropped ((f ∷ front) ++ g ∷ behind) w ≡ false → r < w.upto → ComesBefore w g.window →
-    (¬ (pieces_of (front ++ g ∷ behind) w ≡ []) → Cover (pieces_of (front ++ g ∷ behind) w) w.total → is_dropped (front ++ g ∷ behind) w ≡ false → r < w.upto → ComesBefore w g.window → ⊥) → ⊥
-least_case true f front g behind r w is order passed seen covered kept ends before rest =
+least_case : (b : Bool) (f : Gathered) (prefix : List Gathered) (g : Gathered) (behind : List Gathered) (r : ℕ) (w : Window) → same_window f.window w ≡ b → AreInOrder ((f ∷ prefix) ++ g ∷ behind) → AllByRecursion (λ x. ¬ (EndsPast r x)) (f ∷ prefix) →
+    ¬ (pieces_of ((f ∷ prefix) ++ g ∷ behind) w ≡ []) → Cover (pieces_of ((f ∷ prefix) ++ g ∷ behind) w) w.total → is_dropped ((f ∷ prefix) ++ g ∷ behind) w ≡ false → r < w.upto → ComesBefore w g.window →
+    (¬ (pieces_of (prefix ++ g ∷ behind) w ≡ []) → Cover (pieces_of (prefix ++ g ∷ behind) w) w.total → is_dropped (prefix ++ g ∷ behind) w ≡ false → r < w.upto → ComesBefore w g.window → ⊥) → ⊥
+least_case true f prefix g behind r w is order passed seen covered kept ends before rest =
     let same : f.window ≡ w = same-is f.window w is in
     let ready : Cover f.pieces w.total = rw is at covered in
     let stays : f.dropped ≡ false = rw is at kept in
     passed.0 ((stays, subst (λ (x : Window). Cover f.pieces x.total) (sym same) ready), subst (λ (x : Window). r < x.upto) (sym same) ends)
-least_case false f front g behind r w is order passed seen covered kept ends before rest =
+least_case false f prefix g behind r w is order passed seen covered kept ends before rest =
     rest (rw is at seen) (rw is at covered) (rw is at kept) ends before
 
 -- the windows before the first ready one are not it
-least_first : (front : List Gathered) (g : Gathered) (behind : List Gathered) (r : ℕ) (w : Window) → AreInOrder (front ++ g ∷ behind) → AllByRecursion (λ x. ¬ (EndsPast r x)) front →
-    ¬ (pieces_of (front ++ g ∷ behind) w ≡ []) → Cover (pieces_of (front ++ g ∷ behind) w) w.total → is_dropped (front ++ g ∷ behind) w ≡ false → r < w.upto → ComesBefore w g.window → ⊥
+least_first : (prefix : List Gathered) (g : Gathered) (behind : List Gathered) (r : ℕ) (w : Window) → AreInOrder (prefix ++ g ∷ behind) → AllByRecursion (λ x. ¬ (EndsPast r x)) prefix →
+    ¬ (pieces_of (prefix ++ g ∷ behind) w ≡ []) → Cover (pieces_of (prefix ++ g ∷ behind) w) w.total → is_dropped (prefix ++ g ∷ behind) w ≡ false → r < w.upto → ComesBefore w g.window → ⊥
 least_first [] g behind r w order passed seen covered kept ends before =
     let first : is_before w g.window ≡ true = is-before w g.window before in
     seen (none_of (g ∷ behind) w (first, further w g.window behind first order.0))
-least_first (f ∷ front) g behind r w order passed seen covered kept ends before = least_case (same_window f.window w) f front g behind r w refl order passed seen covered kept ends before
-    (least_first front g behind r w order.1 passed.1)
+least_first (f ∷ prefix) g behind r w order passed seen covered kept ends before = least_case (same_window f.window w) f prefix g behind r w refl order passed seen covered kept ends before
+    (least_first prefix g behind r w order.1 passed.1)
 
 -- the first ready window is the one to be taken next
-pub first_is_next : (gs : List Gathered) (r : ℕ) (g : Gathered) (other : Window) → AreInOrder gs → IsFirstPast r gs g → IsWhole gs other → Leads other r → ComesBefore other g.window → ⊥
+pub first_is_next : (gs : List Gathered) (r : ℕ) (g : Gathered) (other : Window) → AreInOrder gs → IsFirstPast r gs g → IsWholeWindow gs other → Leads other r → ComesBefore other g.window → ⊥
 first_is_next gs r g other order first whole leads before =
     let h = subst AreInOrder first.parts order in
-    least_first first.front g first.behind r other h first.passed
+    least_first first.prefix g first.behind r other h first.passed
     (λ none. whole.seen (ap (λ (x : List Gathered). pieces_of x other) first.parts ∙ none))
     (subst (λ (x : List Gathered). Cover (pieces_of x other) other.total) first.parts whole.covered)
     (ap (λ (x : List Gathered). is_dropped x other) (sym first.parts) ∙ whole.kept) leads.ends before
 
 -- it is whole
-pub first_is_whole : (gs : List Gathered) (r : ℕ) (g : Gathered) → AreInOrder gs → AllByRecursion (λ x. ¬ (x.pieces ≡ []) × AllByRecursion (λ p. window_of p ≡ x.window) x.pieces) gs → IsFirstPast r gs g → IsWhole gs g.window
+pub first_is_whole : (gs : List Gathered) (r : ℕ) (g : Gathered) → AreInOrder gs → AllByRecursion (λ x. ¬ (x.pieces ≡ []) × AllByRecursion (λ p. window_of p ≡ x.window) x.pieces) gs → IsFirstPast r gs g → IsWholeWindow gs g.window
 first_is_whole gs r g order filled first =
     let h = subst AreInOrder first.parts order in
-    let s = shown first.front g first.behind h in
+    let s = shown first.prefix g first.behind h in
     let pieces : pieces_of gs g.window ≡ g.pieces = ap (λ (x : List Gathered). pieces_of x g.window) first.parts ∙ s.0 in
     let dropped : is_dropped gs g.window ≡ g.dropped = ap (λ (x : List Gathered). is_dropped x g.window) first.parts ∙ s.1 in
-    let some = (AllByRecursion-back (λ x. ¬ (x.pieces ≡ []) × AllByRecursion (λ p. window_of p ≡ x.window) x.pieces) first.front (g ∷ first.behind)
+    let some = (AllByRecursion-back (λ x. ¬ (x.pieces ≡ []) × AllByRecursion (λ p. window_of p ≡ x.window) x.pieces) first.prefix (g ∷ first.behind)
     (subst (AllByRecursion (λ x. ¬ (x.pieces ≡ []) × AllByRecursion (λ p. window_of p ≡ x.window) x.pieces)) first.parts filled)).0 in
     record {
       seen = λ none. some.0 (sym pieces ∙ none);
@@ -179,7 +180,7 @@ first_is_whole gs r g order filled first =
 
 -- its pieces
 pub first_pieces : (gs : List Gathered) (r : ℕ) (g : Gathered) → AreInOrder gs → IsFirstPast r gs g → pieces_of gs g.window ≡ g.pieces
-first_pieces gs r g order first = ap (λ (x : List Gathered). pieces_of x g.window) first.parts ∙ (shown first.front g first.behind (subst AreInOrder first.parts order)).0
+first_pieces gs r g order first = ap (λ (x : List Gathered). pieces_of x g.window) first.parts ∙ (shown first.prefix g first.behind (subst AreInOrder first.parts order)).0
 
 none_case : (b : Bool) (g : Gathered) (gs : List Gathered) (r : ℕ) (w : Window) → same_window g.window w ≡ b → AllByRecursion (λ x. EndsPast r x → r < x.window.prev) (g ∷ gs) → ¬ (pieces_of (g ∷ gs) w ≡ []) → Cover (pieces_of (g ∷ gs) w) w.total → is_dropped (g ∷ gs) w ≡ false → Leads w r →
     (¬ (pieces_of gs w ≡ []) → Cover (pieces_of gs w) w.total → is_dropped gs w ≡ false → Leads w r → ⊥) → ⊥
@@ -197,7 +198,7 @@ none_leads_of [] r w h seen covered kept leads = seen refl
 none_leads_of (g ∷ gs) r w h seen covered kept leads = none_case (same_window g.window w) g gs r w refl h seen covered kept leads (none_leads_of gs r w h.1)
 
 -- where each ready window that ends past an offset begins past it too, none leads on
-pub none_leads : (gs : List Gathered) (r : ℕ) (w : Window) → AllByRecursion (λ g. EndsPast r g → r < g.window.prev) gs → IsWhole gs w → Leads w r → ⊥
+pub none_leads : (gs : List Gathered) (r : ℕ) (w : Window) → AllByRecursion (λ g. EndsPast r g → r < g.window.prev) gs → IsWholeWindow gs w → Leads w r → ⊥
 none_leads gs r w h whole leads = none_leads_of gs r w h whole.seen whole.covered whole.kept leads
 
 -- where none is ready, and where the first ready one begins past the offset
@@ -210,9 +211,9 @@ later_begins w v r lt (inr (e, a)) = omega arith
 
 pub first_begins : (gs : List Gathered) (r : ℕ) (g : Gathered) → AreInOrder gs → IsFirstPast r gs g → r < g.window.prev → AllByRecursion (λ x. EndsPast r x → r < x.window.prev) gs
 first_begins gs r g order first past =
-    let h = order-back first.front (g ∷ first.behind) (subst AreInOrder first.parts order) in
+    let h = order-back first.prefix (g ∷ first.behind) (subst AreInOrder first.parts order) in
     subst (AllByRecursion (λ x. EndsPast r x → r < x.window.prev)) (sym first.parts)
-    (AllByRecursion-append (λ x. EndsPast r x → r < x.window.prev) first.front (g ∷ first.behind) (none_ready first.front r first.passed)
+    (AllByRecursion-append (λ x. EndsPast r x → r < x.window.prev) first.prefix (g ∷ first.behind) (none_ready first.prefix r first.passed)
     ((λ e. past), AllByRecursion-map (λ x. is_before g.window x.window ≡ true) (λ x. EndsPast r x → r < x.window.prev) first.behind (λ x k e. later_begins g.window x.window r past (before-is g.window x.window k)) h.0))
 
 seen_case : (b : Bool) (P : Window → Type 0) (g : Gathered) (gs : List Gathered) (w : Window) → same_window g.window w ≡ b → P g.window → IsSeen (g ∷ gs) w → (IsSeen gs w → P w) → P w

@@ -3,8 +3,8 @@ use Rattle.std.proofs.Common.{◌≡◌, ℕ, ◌⊎◌, inl, inr, Bool, true, f
 use Rattle.std.proofs.lemmas.Bool.{eqb-true, lt-ltb, ltb-true}
 use Rattle.sr_mail.specs.declared.window.Window.{Window}
 use Rattle.sr_mail.specs.Seen.{ComesBefore, same_window}
-use Rattle.sr_mail.specs.Shelves.{is_before}
-use Rattle.sr_cut.proofs.Lists.{three_ways}
+use Rattle.sr_mail.specs.Inner.Shelves.{is_before}
+use Rattle.sr_mail_cut.proofs.Lists.{three_ways}
 
 both_true : (a b : Bool) → (a && b) ≡ true → (a ≡ true) × (b ≡ true)
 both_true true b e = (refl, e)

@@ -1,11 +1,12 @@
 -- The pieces of a window that is to be taken next, each with its message.
 use Rattle.std.proofs.Common.{◌≡◌, ℕ, List, [], ◌∷◌, map, sym, ap, ◌∙◌, subst}
 use Rattle.std.specs.List.{AllByRecursion, Contains}
-use Rattle.sr_cut.proofs.Lists.{AllByRecursion-map}
+use Rattle.sr_mail_cut.proofs.Lists.{AllByRecursion-map}
 use Rattle.sr_mail.specs.declared.piece.Piece.{Piece}
 use Rattle.sr_mail.specs.declared.window.Window.{Window}
-use Rattle.sr_mail.specs.Assembled.{AreOfOneWindow}
-use Rattle.sr_mail.specs.Inboxes.{Gathered, pieces_of, IsNext}
+use Rattle.sr_mail.specs.Inner.Assembled.{AreOfOneWindow}
+use Rattle.sr_mail.specs.Inboxes.{Gathered, pieces_of}
+use Rattle.sr_mail.specs.Inner.Inboxes.{IsNext}
 use Rattle.sr_mail.specs.Seen.{window_of}
 use Rattle.sr_msgform.specs.declared.message.Message.{Message}
 

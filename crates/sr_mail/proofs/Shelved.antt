@@ -6,14 +6,15 @@ use Rattle.std.proofs.lemmas.List.{append-nil, length-append, take-append-drop, 
 use Rattle.std.proofs.lemmas.Option.{get_or_from_slice_get}
 use Rattle.sr_mail.specs.declared.piece.Piece.{Piece}
 use Rattle.sr_mail.specs.declared.window.Window.{Window}
-use Rattle.sr_mail.specs.Inboxes.{Gathered, pieces_of, is_dropped, is_seen, IsSeen, IsWhole, IsGreatest}
+use Rattle.sr_mail.specs.Inboxes.{Gathered, pieces_of, is_dropped, IsSeen, IsGreatest}
+use Rattle.sr_mail.specs.Inner.Inboxes.{is_seen, IsWholeWindow}
 use Rattle.sr_mail.specs.Reaching.{Leads}
 use Rattle.sr_mail.specs.Seen.{ComesBefore, same_window, window_of}
-use Rattle.sr_mail.specs.Shelves.{is_before, IsReady, EndsPast, AllBefore, AllBehind, BeginsBehind, StandsFirst, AreInOrder, EndBy, added, without, first_dropped, all_of, IsFirstPast, OneEnds, IsInbox, IsLeading}
-use Rattle.sr_cut.proofs.Lists.{AllByRecursion-append, AllByRecursion-front, AllByRecursion-back, AllByRecursion-map, take_item}
+use Rattle.sr_mail.specs.Inner.Shelves.{is_before, IsReady, EndsPast, AllBefore, AllBehind, BeginsBehind, StandsFirst, AreInOrder, EndBy, added, without, first_dropped, all_of, IsFirstPast, OneEnds, IsInbox, IsLeading}
+use Rattle.sr_mail_cut.proofs.Lists.{AllByRecursion-append, AllByRecursion-prefix, AllByRecursion-back, AllByRecursion-map, take_item}
 use Rattle.sr_mail.proofs.Observing.{pieces-added, dropped-added, pieces-without, dropped-without, stands-seen, first_is_next, first_is_whole, first_pieces, none_leads, none_ready, first_begins, seen_in}
 use Rattle.sr_mail.proofs.Order.{is-same, same-is, before-on, is-before, not_before_itself}
-use Rattle.sr_mail.proofs.Shelving.{begun, grown, added-first, added-new, added-skip, added-within, all_behind, order-front, order-back, order-across, order-added, order-without, without-skip, without-within, without-first, without-absent}
+use Rattle.sr_mail.proofs.Shelving.{begun, grown, added-first, added-new, added-skip, added-within, all_behind, order-prefix, order-back, order-across, order-added, order-without, without-skip, without-within, without-first, without-absent}
 
 -- what stands at a place of a list and behind it
 parted : (gs : List Gathered) (place : ℕ) (y : Gathered) → place < length gs → y ≡ get_or gs place y → (drop place gs ≡ y ∷ drop (place + 1) gs) × (gs ≡ take place gs ++ y ∷ drop (place + 1) gs)
@@ -24,26 +25,26 @@ parted gs place y lt is =
 changed : (gs : List Gathered) (place : ℕ) (x : Gathered) → place < length gs → set gs place x ≡ take place gs ++ x ∷ drop (place + 1) gs
 changed gs place x lt = let next : suc place ≡ place + 1 = omega arith in set_split gs place x lt ∙ ap (λ (k : ℕ). take place gs ++ x ∷ drop k gs) next
 
-order-replaced : (front : List Gathered) (y x : Gathered) (behind : List Gathered) → x.window ≡ y.window → AreInOrder (front ++ y ∷ behind) → AreInOrder (front ++ x ∷ behind)
+order-replaced : (prefix : List Gathered) (y x : Gathered) (behind : List Gathered) → x.window ≡ y.window → AreInOrder (prefix ++ y ∷ behind) → AreInOrder (prefix ++ x ∷ behind)
 order-replaced [] y x behind same h = (subst (AllBehind behind) (sym same) h.0, h.1)
-order-replaced (f ∷ front) y x behind same h =
-    let first = AllByRecursion-front (λ (g : Gathered). is_before f.window g.window ≡ true) front (y ∷ behind) h.0 in
-    let last = AllByRecursion-back (λ (g : Gathered). is_before f.window g.window ≡ true) front (y ∷ behind) h.0 in (
-      AllByRecursion-append (λ (g : Gathered). is_before f.window g.window ≡ true) front (x ∷ behind) first (subst (λ (w : Window). is_before f.window w ≡ true) (sym same) last.0, last.1),
-      order-replaced front y x behind same h.1,
+order-replaced (f ∷ prefix) y x behind same h =
+    let first = AllByRecursion-prefix (λ (g : Gathered). is_before f.window g.window ≡ true) prefix (y ∷ behind) h.0 in
+    let last = AllByRecursion-back (λ (g : Gathered). is_before f.window g.window ≡ true) prefix (y ∷ behind) h.0 in (
+      AllByRecursion-append (λ (g : Gathered). is_before f.window g.window ≡ true) prefix (x ∷ behind) first (subst (λ (w : Window). is_before f.window w ≡ true) (sym same) last.0, last.1),
+      order-replaced prefix y x behind same h.1,
     )
 
-order-inserted : (front : List Gathered) (x : Gathered) (behind : List Gathered) → AreInOrder (front ++ behind) → AllBefore front x.window → AllBehind behind x.window → AreInOrder (front ++ x ∷ behind)
+order-inserted : (prefix : List Gathered) (x : Gathered) (behind : List Gathered) → AreInOrder (prefix ++ behind) → AllBefore prefix x.window → AllBehind behind x.window → AreInOrder (prefix ++ x ∷ behind)
 order-inserted [] x behind h before after = (after, h)
-order-inserted (f ∷ front) x behind h before after =
-    let first = AllByRecursion-front (λ (g : Gathered). is_before f.window g.window ≡ true) front behind h.0 in
-    let last = AllByRecursion-back (λ (g : Gathered). is_before f.window g.window ≡ true) front behind h.0 in
-    (AllByRecursion-append (λ (g : Gathered). is_before f.window g.window ≡ true) front (x ∷ behind) first (before.0, last), order-inserted front x behind h.1 before.1 after)
+order-inserted (f ∷ prefix) x behind h before after =
+    let first = AllByRecursion-prefix (λ (g : Gathered). is_before f.window g.window ≡ true) prefix behind h.0 in
+    let last = AllByRecursion-back (λ (g : Gathered). is_before f.window g.window ≡ true) prefix behind h.0 in
+    (AllByRecursion-append (λ (g : Gathered). is_before f.window g.window ≡ true) prefix (x ∷ behind) first (before.0, last), order-inserted prefix x behind h.1 before.1 after)
 
-ends-more : (farthest later : ℕ) (front : List Gathered) (x : Gathered) (behind : List Gathered) → farthest ≤ later → EndBy farthest front → (IsReady x → x.window.upto ≤ later) → EndBy farthest behind → EndBy later (front ++ x ∷ behind)
-ends-more farthest later front x behind le first one last =
-    AllByRecursion-append (λ g. IsReady g → g.window.upto ≤ later) front (x ∷ behind)
-    (AllByRecursion-map (λ g. IsReady g → g.window.upto ≤ farthest) (λ g. IsReady g → g.window.upto ≤ later) front (λ g h ready. omega (arith, h ready, le)) first)
+ends-more : (farthest later : ℕ) (prefix : List Gathered) (x : Gathered) (behind : List Gathered) → farthest ≤ later → EndBy farthest prefix → (IsReady x → x.window.upto ≤ later) → EndBy farthest behind → EndBy later (prefix ++ x ∷ behind)
+ends-more farthest later prefix x behind le first one last =
+    AllByRecursion-append (λ g. IsReady g → g.window.upto ≤ later) prefix (x ∷ behind)
+    (AllByRecursion-map (λ g. IsReady g → g.window.upto ≤ farthest) (λ g. IsReady g → g.window.upto ≤ later) prefix (λ g h ready. omega (arith, h ready, le)) first)
     (one, AllByRecursion-map (λ g. IsReady g → g.window.upto ≤ farthest) (λ g. IsReady g → g.window.upto ≤ later) behind (λ g h ready. omega (arith, h ready, le)) last)
 
 -- ---- one window of a shelf changes
@@ -56,7 +57,7 @@ pub ends-set : (farthest later : ℕ) (gs : List Gathered) (place : ℕ) (y x : 
 ends-set farthest later gs place y x lt is le one h =
     let k = subst (EndBy farthest) (parted gs place y lt is).1 h in
     subst (EndBy later) (sym (changed gs place x lt))
-    (ends-more farthest later (take place gs) x (drop (place + 1) gs) le (AllByRecursion-front (λ g. IsReady g → g.window.upto ≤ farthest) (take place gs) (y ∷ drop (place + 1) gs) k) one
+    (ends-more farthest later (take place gs) x (drop (place + 1) gs) le (AllByRecursion-prefix (λ g. IsReady g → g.window.upto ≤ farthest) (take place gs) (y ∷ drop (place + 1) gs) k) one
     (AllByRecursion-back (λ g. IsReady g → g.window.upto ≤ farthest) (take place gs) (y ∷ drop (place + 1) gs) k).1)
 
 pub stands_within : (gs : List Gathered) (place : ℕ) (w : Window) → StandsFirst (drop place gs) w → place < length gs
@@ -89,7 +90,7 @@ order-insert gs place x h before behind not =
 pub ends-insert : (farthest later : ℕ) (gs : List Gathered) (place : ℕ) (x : Gathered) → farthest ≤ later → (IsReady x → x.window.upto ≤ later) → EndBy farthest gs → EndBy later (insert gs place x)
 ends-insert farthest later gs place x le one h =
     let k = subst (EndBy farthest) (sym (take-append-drop place gs)) h in
-    ends-more farthest later (take place gs) x (drop place gs) le (AllByRecursion-front (λ g. IsReady g → g.window.upto ≤ farthest) (take place gs) (drop place gs) k) one (AllByRecursion-back (λ g. IsReady g → g.window.upto ≤ farthest) (take place gs) (drop place gs) k)
+    ends-more farthest later (take place gs) x (drop place gs) le (AllByRecursion-prefix (λ g. IsReady g → g.window.upto ≤ farthest) (take place gs) (drop place gs) k) one (AllByRecursion-back (λ g. IsReady g → g.window.upto ≤ farthest) (take place gs) (drop place gs) k)
 
 pub comes : (gs : List Gathered) (place : ℕ) (piece : Piece) (x : Gathered) → x ≡ begun piece → BeginsBehind (drop place gs) (window_of piece) → ¬ (StandsFirst (drop place gs) (window_of piece)) → insert gs place x ≡ take place gs ++ added piece (drop place gs)
 comes gs place piece x e behind not = ap (λ (l : List Gathered). take place gs ++ l) (ap (λ (g : Gathered). g ∷ drop place gs) e ∙ sym (added-new piece (drop place gs) behind not))
@@ -135,21 +136,21 @@ pub all_of-append : (a b : List (List Gathered)) → all_of (a ++ b) ≡ all_of 
 all_of-append [] b = refl
 all_of-append (x ∷ a) b = ap (λ (l : List Gathered). x ++ l) (all_of-append a b) ∙ sym (append_assoc x (all_of a) (all_of b))
 
-pub first_on_shelf : (offset : ℕ) (shelves front : List (List Gathered)) (shelf : List Gathered) (behind : List (List Gathered)) (g : Gathered) → shelves ≡ front ++ shelf ∷ behind → AllByRecursion (λ x. ¬ (EndsPast offset x)) (all_of front) → IsFirstPast offset shelf g → IsFirstPast offset (all_of shelves) g
-first_on_shelf offset shelves front shelf behind g e passed first = record {
-  front = all_of front ++ first.front;
+pub first_on_shelf : (offset : ℕ) (shelves prefix : List (List Gathered)) (shelf : List Gathered) (behind : List (List Gathered)) (g : Gathered) → shelves ≡ prefix ++ shelf ∷ behind → AllByRecursion (λ x. ¬ (EndsPast offset x)) (all_of prefix) → IsFirstPast offset shelf g → IsFirstPast offset (all_of shelves) g
+first_on_shelf offset shelves prefix shelf behind g e passed first = record {
+  prefix = all_of prefix ++ first.prefix;
   behind = first.behind ++ all_of behind;
   parts =
-      ap all_of e ∙ all_of-append front (shelf ∷ behind) ∙ ap (λ (l : List Gathered). all_of front ++ (l ++ all_of behind)) first.parts
-      ∙ ap (λ (l : List Gathered). all_of front ++ l) (append_assoc first.front (g ∷ first.behind) (all_of behind)) ∙ sym (append_assoc (all_of front) first.front (g ∷ (first.behind ++ all_of behind)));
-  passed = AllByRecursion-append (λ x. ¬ (EndsPast offset x)) (all_of front) first.front passed first.passed;
+      ap all_of e ∙ all_of-append prefix (shelf ∷ behind) ∙ ap (λ (l : List Gathered). all_of prefix ++ (l ++ all_of behind)) first.parts
+      ∙ ap (λ (l : List Gathered). all_of prefix ++ l) (append_assoc first.prefix (g ∷ first.behind) (all_of behind)) ∙ sym (append_assoc (all_of prefix) first.prefix (g ∷ (first.behind ++ all_of behind)));
+  passed = AllByRecursion-append (λ x. ¬ (EndsPast offset x)) (all_of prefix) first.prefix passed first.passed;
   is_one = first.is_one;
 }
 
-pub passed_shelf : (offset : ℕ) (front : List (List Gathered)) (shelf : List Gathered) → AllByRecursion (λ x. ¬ (EndsPast offset x)) (all_of front) → AllByRecursion (λ x. ¬ (EndsPast offset x)) shelf → AllByRecursion (λ x. ¬ (EndsPast offset x)) (all_of (front ++ shelf ∷ []))
-passed_shelf offset front shelf passed h =
-    subst (AllByRecursion (λ x. ¬ (EndsPast offset x))) (sym (all_of-append front (shelf ∷ []) ∙ ap (λ (l : List Gathered). all_of front ++ l) (append-nil shelf)))
-    (AllByRecursion-append (λ x. ¬ (EndsPast offset x)) (all_of front) shelf passed h)
+pub passed_shelf : (offset : ℕ) (prefix : List (List Gathered)) (shelf : List Gathered) → AllByRecursion (λ x. ¬ (EndsPast offset x)) (all_of prefix) → AllByRecursion (λ x. ¬ (EndsPast offset x)) shelf → AllByRecursion (λ x. ¬ (EndsPast offset x)) (all_of (prefix ++ shelf ∷ []))
+passed_shelf offset prefix shelf passed h =
+    subst (AllByRecursion (λ x. ¬ (EndsPast offset x))) (sym (all_of-append prefix (shelf ∷ []) ∙ ap (λ (l : List Gathered). all_of prefix ++ l) (append-nil shelf)))
+    (AllByRecursion-append (λ x. ¬ (EndsPast offset x)) (all_of prefix) shelf passed h)
 
 -- the shelves before a place, the one there, and those behind it
 pub shelf_at : (shelves : List (List Gathered)) (at : ℕ) (shelf : List Gathered) → at < length shelves → shelf ≡ get_or shelves at shelf → shelves ≡ take at shelves ++ shelf ∷ drop (at + 1) shelves
@@ -218,10 +219,10 @@ leading inbox farthest received g h first le = record {
   pieces = first_pieces inbox received g h.order first;
 }
 
-pub none_leading : (inbox : List Gathered) (farthest received : ℕ) → IsInbox inbox farthest → AllByRecursion (λ g. ¬ (EndsPast received g)) inbox → (w : Window) → IsWhole inbox w → Leads w received → ⊥
+pub none_leading : (inbox : List Gathered) (farthest received : ℕ) → IsInbox inbox farthest → AllByRecursion (λ g. ¬ (EndsPast received g)) inbox → (w : Window) → IsWholeWindow inbox w → Leads w received → ⊥
 none_leading inbox farthest received h none w whole leads = none_leads inbox received w (none_ready inbox received none) whole leads
 
-pub later_leading : (inbox : List Gathered) (farthest received : ℕ) (g : Gathered) → IsInbox inbox farthest → IsFirstPast received inbox g → received < g.window.prev → (w : Window) → IsWhole inbox w → Leads w received → ⊥
+pub later_leading : (inbox : List Gathered) (farthest received : ℕ) (g : Gathered) → IsInbox inbox farthest → IsFirstPast received inbox g → received < g.window.prev → (w : Window) → IsWholeWindow inbox w → Leads w received → ⊥
 later_leading inbox farthest received g h first past w whole leads = none_leads inbox received w (first_begins inbox received g h.order first past) whole leads
 
 ends_added_case : (a b : Bool) (P : Window → Type 0) (piece : Piece) (g : Gathered) (gs rest : List Gathered) → AllByRecursion (λ g. P g.window) (g ∷ gs) → P (window_of piece) → AllByRecursion (λ g. P g.window) rest →
@@ -359,27 +360,27 @@ inbox_shows now gs after piece own e f order g w =
 pub all_of-insert : (shelves : List (List Gathered)) (n : ℕ) → all_of (insert shelves n []) ≡ all_of shelves
 all_of-insert shelves n = all_of-append (take n shelves) ([] ∷ drop n shelves) ∙ sym (all_of-append (take n shelves) (drop n shelves)) ∙ ap all_of (take-append-drop n shelves)
 
-pub half_moved : (shelves : List (List Gathered)) (at : ℕ) (shelf front behind : List Gathered) → at + 1 < length shelves → shelf ≡ get_or shelves at shelf → slice_get shelves (at + 1) ≡ Some [] → shelf ≡ front ++ behind →
-    all_of (set (set shelves at front) (at + 1) behind) ≡ all_of shelves
-half_moved shelves at shelf front behind lt is empty e =
+pub half_moved : (shelves : List (List Gathered)) (at : ℕ) (shelf prefix behind : List Gathered) → at + 1 < length shelves → shelf ≡ get_or shelves at shelf → slice_get shelves (at + 1) ≡ Some [] → shelf ≡ prefix ++ behind →
+    all_of (set (set shelves at prefix) (at + 1) behind) ≡ all_of shelves
+half_moved shelves at shelf prefix behind lt is empty e =
     let within : at < length shelves = omega (arith, lt) in
     let second : [] ≡ get_or shelves (at + 1) [] = sym (get_or_from_slice_get shelves (at + 1) [] [] empty) in
     let before : length (take at shelves) ≡ at = omega (arith, length-take at shelves) in
     let parts : shelves ≡ take at shelves ++ shelf ∷ [] ∷ drop (at + 1 + 1) shelves =
     shelf_at shelves at shelf within is ∙ ap (λ (l : List (List Gathered)). take at shelves ++ shelf ∷ l) (drop_more shelves (at + 1) [] lt ∙ ap (λ (x : List Gathered). x ∷ drop (at + 1 + 1) shelves) (sym second)) in
-    let one : set shelves at front ≡ take at shelves ++ front ∷ [] ∷ drop (at + 1 + 1) shelves =
-    ap (λ (l : List (List Gathered)). set l at front) parts ∙ set_at (take at shelves) shelf ([] ∷ drop (at + 1 + 1) shelves) front at before in
-    let both : set (set shelves at front) (at + 1) behind ≡ take at shelves ++ front ∷ behind ∷ drop (at + 1 + 1) shelves =
-    ap (λ (l : List (List Gathered)). set l (at + 1) behind) (one ∙ sym (append_assoc (take at shelves) (front ∷ []) ([] ∷ drop (at + 1 + 1) shelves)))
-    ∙ set_at (take at shelves ++ front ∷ []) [] (drop (at + 1 + 1) shelves) behind (at + 1) (omega (arith, before, length-append (take at shelves) (front ∷ [])))
-    ∙ append_assoc (take at shelves) (front ∷ []) (behind ∷ drop (at + 1 + 1) shelves) in
-    ap all_of both ∙ all_of-append (take at shelves) (front ∷ behind ∷ drop (at + 1 + 1) shelves)
-    ∙ ap (λ (l : List Gathered). all_of (take at shelves) ++ l) (sym (append_assoc front behind (all_of (drop (at + 1 + 1) shelves))) ∙ ap (λ (l : List Gathered). l ++ all_of (drop (at + 1 + 1) shelves)) (sym e))
+    let one : set shelves at prefix ≡ take at shelves ++ prefix ∷ [] ∷ drop (at + 1 + 1) shelves =
+    ap (λ (l : List (List Gathered)). set l at prefix) parts ∙ set_at (take at shelves) shelf ([] ∷ drop (at + 1 + 1) shelves) prefix at before in
+    let both : set (set shelves at prefix) (at + 1) behind ≡ take at shelves ++ prefix ∷ behind ∷ drop (at + 1 + 1) shelves =
+    ap (λ (l : List (List Gathered)). set l (at + 1) behind) (one ∙ sym (append_assoc (take at shelves) (prefix ∷ []) ([] ∷ drop (at + 1 + 1) shelves)))
+    ∙ set_at (take at shelves ++ prefix ∷ []) [] (drop (at + 1 + 1) shelves) behind (at + 1) (omega (arith, before, length-append (take at shelves) (prefix ∷ [])))
+    ∙ append_assoc (take at shelves) (prefix ∷ []) (behind ∷ drop (at + 1 + 1) shelves) in
+    ap all_of both ∙ all_of-append (take at shelves) (prefix ∷ behind ∷ drop (at + 1 + 1) shelves)
+    ∙ ap (λ (l : List Gathered). all_of (take at shelves) ++ l) (sym (append_assoc prefix behind (all_of (drop (at + 1 + 1) shelves))) ∙ ap (λ (l : List Gathered). l ++ all_of (drop (at + 1 + 1) shelves)) (sym e))
     ∙ sym (ap all_of parts ∙ all_of-append (take at shelves) (shelf ∷ [] ∷ drop (at + 1 + 1) shelves))
 
 -- parts of what stands in order
 pub order-taken : (n : ℕ) (gs : List Gathered) → AreInOrder gs → AreInOrder (take n gs)
-order-taken n gs h = order-front (take n gs) (drop n gs) (subst AreInOrder (sym (take-append-drop n gs)) h)
+order-taken n gs h = order-prefix (take n gs) (drop n gs) (subst AreInOrder (sym (take-append-drop n gs)) h)
 
 pub order-dropped : (n : ℕ) (gs : List Gathered) → AreInOrder gs → AreInOrder (drop n gs)
 order-dropped n gs h = order-back (take n gs) (drop n gs) (subst AreInOrder (sym (take-append-drop n gs)) h)

@@ -5,8 +5,8 @@ use Rattle.sr_mail.specs.declared.piece.Piece.{Piece}
 use Rattle.sr_mail.specs.declared.window.Window.{Window}
 use Rattle.sr_mail.specs.Inboxes.{Gathered}
 use Rattle.sr_mail.specs.Seen.{same_window, window_of}
-use Rattle.sr_mail.specs.Shelves.{is_before, AllBefore, AllBehind, BeginsBehind, StandsFirst, AreInOrder, added, without, first_dropped}
-use Rattle.sr_cut.proofs.Lists.{AllByRecursion-map, AllByRecursion-append, AllByRecursion-front, AllByRecursion-back}
+use Rattle.sr_mail.specs.Inner.Shelves.{is_before, AllBefore, AllBehind, BeginsBehind, StandsFirst, AreInOrder, added, without, first_dropped}
+use Rattle.sr_mail_cut.proofs.Lists.{AllByRecursion-map, AllByRecursion-append, AllByRecursion-prefix, AllByRecursion-back}
 use Rattle.sr_mail.proofs.Order.{before-on, before-other, behind-other, not-behind, other-before, same-is, is-same}
 
 -- what a piece begins
@@ -17,9 +17,9 @@ begun piece = record { window = window_of piece; pieces = piece ∷ []; dropped 
 abbrev pub grown : Piece → Gathered → Gathered
 grown piece g = record { window = g.window; pieces = g.pieces ++ piece ∷ []; dropped = g.dropped }
 
-pub added-skip : (piece : Piece) (front rest : List Gathered) → AllBefore front (window_of piece) → added piece (front ++ rest) ≡ front ++ added piece rest
+pub added-skip : (piece : Piece) (prefix rest : List Gathered) → AllBefore prefix (window_of piece) → added piece (prefix ++ rest) ≡ prefix ++ added piece rest
 added-skip piece [] rest h = refl
-added-skip piece (g ∷ front) rest h = rw h.0 (ap (λ (gs : List Gathered). g ∷ gs) (added-skip piece front rest h.1))
+added-skip piece (g ∷ prefix) rest h = rw h.0 (ap (λ (gs : List Gathered). g ∷ gs) (added-skip piece prefix rest h.1))
 
 -- where the first is the piece's window, and where it is another one behind it
 pub added-first : (piece : Piece) (g : Gathered) (gs : List Gathered) → is_before g.window (window_of piece) ≡ false → same_window g.window (window_of piece) ≡ true → added piece (g ∷ gs) ≡ grown piece g ∷ gs
@@ -84,9 +84,9 @@ pub order-added : (piece : Piece) (gs : List Gathered) → AreInOrder gs → Are
 order-added piece [] h = (tt, tt)
 order-added piece (g ∷ gs) h = order_case (is_before g.window (window_of piece)) (same_window g.window (window_of piece)) piece g gs refl refl h (order-added piece gs h.1)
 
-pub order-front : (a b : List Gathered) → AreInOrder (a ++ b) → AreInOrder a
-order-front [] b h = tt
-order-front (g ∷ a) b h = (AllByRecursion-front (λ (x : Gathered). is_before g.window x.window ≡ true) a b h.0, order-front a b h.1)
+pub order-prefix : (a b : List Gathered) → AreInOrder (a ++ b) → AreInOrder a
+order-prefix [] b h = tt
+order-prefix (g ∷ a) b h = (AllByRecursion-prefix (λ (x : Gathered). is_before g.window x.window ≡ true) a b h.0, order-prefix a b h.1)
 
 pub order-back : (a b : List Gathered) → AreInOrder (a ++ b) → AreInOrder b
 order-back [] b h = h
@@ -99,7 +99,7 @@ before_one (g ∷ a) x b h = ((AllByRecursion-back (λ (y : Gathered). is_before
 order-drop : (a : List Gathered) (x : Gathered) (b : List Gathered) → AreInOrder (a ++ x ∷ b) → AreInOrder (a ++ b)
 order-drop [] x b h = h.1
 order-drop (g ∷ a) x b h = (
-  AllByRecursion-append (λ (y : Gathered). is_before g.window y.window ≡ true) a b (AllByRecursion-front (λ (y : Gathered). is_before g.window y.window ≡ true) a (x ∷ b) h.0) (AllByRecursion-back (λ (y : Gathered). is_before g.window y.window ≡ true) a (x ∷ b) h.0).1,
+  AllByRecursion-append (λ (y : Gathered). is_before g.window y.window ≡ true) a b (AllByRecursion-prefix (λ (y : Gathered). is_before g.window y.window ≡ true) a (x ∷ b) h.0) (AllByRecursion-back (λ (y : Gathered). is_before g.window y.window ≡ true) a (x ∷ b) h.0).1,
   order-drop a x b h.1,
 )
 
@@ -110,11 +110,11 @@ order-across a (x ∷ b) h = (before_one a x b h, order-across a b (order-drop a
 
 -- ---- a window dropped
 
-pub without-skip : (w : Window) (front rest : List Gathered) → AllBefore front w → without w (front ++ rest) ≡ front ++ without w rest
+pub without-skip : (w : Window) (prefix rest : List Gathered) → AllBefore prefix w → without w (prefix ++ rest) ≡ prefix ++ without w rest
 without-skip w [] rest h = refl
-without-skip w (g ∷ front) rest h =
+without-skip w (g ∷ prefix) rest h =
     let apart : same_window g.window w ≡ false = before-other g.window w h.0 in
-    rw apart (ap (λ (gs : List Gathered). g ∷ gs) (without-skip w front rest h.1))
+    rw apart (ap (λ (gs : List Gathered). g ∷ gs) (without-skip w prefix rest h.1))
 
 without-none : (w : Window) (gs : List Gathered) → AllBehind gs w → without w gs ≡ gs
 without-none w [] h = refl
@@ -141,8 +141,8 @@ all_behind w (g ∷ gs) order behind not =
     (first, AllByRecursion-map (λ (x : Gathered). is_before g.window x.window ≡ true) (λ (x : Gathered). is_before w x.window ≡ true) gs (λ x k. before-on w g.window x.window first k) order.0)
 
 -- where it is not there
-pub without-absent : (w : Window) (front rest : List Gathered) → AreInOrder (front ++ rest) → AllBefore front w → BeginsBehind rest w → ¬ (StandsFirst rest w) → without w (front ++ rest) ≡ front ++ rest
-without-absent w front rest order before behind not = without-skip w front rest before ∙ ap (λ (gs : List Gathered). front ++ gs) (without-none w rest (all_behind w rest (order-back front rest order) behind not))
+pub without-absent : (w : Window) (prefix rest : List Gathered) → AreInOrder (prefix ++ rest) → AllBefore prefix w → BeginsBehind rest w → ¬ (StandsFirst rest w) → without w (prefix ++ rest) ≡ prefix ++ rest
+without-absent w prefix rest order before behind not = without-skip w prefix rest before ∙ ap (λ (gs : List Gathered). prefix ++ gs) (without-none w rest (all_behind w rest (order-back prefix rest order) behind not))
 
 behind_without_case : (b : Bool) (v : Window) (g : Gathered) (gs rest : List Gathered) → AllBehind (g ∷ gs) v → AllBehind rest v → AllBehind (cond b (first_dropped (g ∷ gs)) (g ∷ rest)) v
 behind_without_case true v g gs rest h k = h

@@ -7,11 +7,11 @@ use Rattle.std.proofs.lemmas.List.{length-append, get_or_at, get_or_append_left}
 use Rattle.std.proofs.lemmas.List.Folds.{list_any-append}
 use Rattle.sr_mail.specs.declared.piece.Piece.{Piece}
 use Rattle.sr_mail.specs.Seen.{covers}
-use Rattle.sr_mail.specs.Spans.{Span, spans_from, has_place, SpansCover, BeginsLater, AreSorted, IsSoFar, SpanOf}
-use Rattle.sr_cut.proofs.Lists.{AllByRecursion-append, AllByRecursion-map}
+use Rattle.sr_mail.specs.Inner.Spans.{Span, spans_from, has_place, SpansCover, BeginsLater, AreSorted, IsSoFar, SpanOf}
+use Rattle.sr_mail_cut.proofs.Lists.{AllByRecursion-append, AllByRecursion-map}
 
-pub Contains-at : {A : Type 0} (front : List A) (x : A) (behind : List A) → Contains (front ++ x ∷ behind) x
-Contains-at front x behind = (length front, omega (arith, length-append front (x ∷ behind)), get_or_at front x behind x (length front) refl)
+pub Contains-at : {A : Type 0} (prefix : List A) (x : A) (behind : List A) → Contains (prefix ++ x ∷ behind) x
+Contains-at prefix x behind = (length prefix, omega (arith, length-append prefix (x ∷ behind)), get_or_at prefix x behind x (length prefix) refl)
 
 pub Contains-left : {A : Type 0} (xs ys : List A) (x : A) → Contains xs x → Contains (xs ++ ys) x
 Contains-left xs ys x h = (h.0, omega (arith, h.1, length-append xs ys), get_or_append_left xs ys x h.0 h.1 ∙ h.2)
@@ -171,18 +171,18 @@ pub spans-cover : (place n : ℕ) (pieces : List Piece) → list_any (has_place 
 spans-cover place n [] = refl
 spans-cover place n (p ∷ pieces) = ap (λ (b : Bool). covers place p || b) (spans-cover place (n + 1) pieces)
 
-slice_get-at : {A : Type 0} (front : List A) (x : A) (behind : List A) → slice_get (front ++ x ∷ behind) (length front) ≡ Some x
+slice_get-at : {A : Type 0} (prefix : List A) (x : A) (behind : List A) → slice_get (prefix ++ x ∷ behind) (length prefix) ≡ Some x
 slice_get-at [] x behind = refl
-slice_get-at (y ∷ front) x behind = slice_get-at front x behind
+slice_get-at (y ∷ prefix) x behind = slice_get-at prefix x behind
 
-pub spans-own : (front pieces : List Piece) → AllByRecursion (SpanOf (front ++ pieces)) (spans_from (length front) pieces)
-spans-own front [] = tt
-spans-own front (p ∷ pieces) =
-    let longer : length (front ++ p ∷ []) ≡ length front + 1 = length-append front (p ∷ []) in
-    let one : SpanOf (front ++ p ∷ pieces) (p.start, p.start + p.length, length front) = record { piece = p; number = slice_get-at front p pieces; starts = refl; ends = refl } in (
+pub spans-own : (prefix pieces : List Piece) → AllByRecursion (SpanOf (prefix ++ pieces)) (spans_from (length prefix) pieces)
+spans-own prefix [] = tt
+spans-own prefix (p ∷ pieces) =
+    let longer : length (prefix ++ p ∷ []) ≡ length prefix + 1 = length-append prefix (p ∷ []) in
+    let one : SpanOf (prefix ++ p ∷ pieces) (p.start, p.start + p.length, length prefix) = record { piece = p; number = slice_get-at prefix p pieces; starts = refl; ends = refl } in (
       one,
-      subst (λ (x : List Piece). AllByRecursion (SpanOf x) (spans_from (length front + 1) pieces)) (append_assoc front (p ∷ []) pieces)
-          (subst (λ (k : ℕ). AllByRecursion (SpanOf ((front ++ p ∷ []) ++ pieces)) (spans_from k pieces)) longer (spans-own (front ++ p ∷ []) pieces)),
+      subst (λ (x : List Piece). AllByRecursion (SpanOf x) (spans_from (length prefix + 1) pieces)) (append_assoc prefix (p ∷ []) pieces)
+          (subst (λ (k : ℕ). AllByRecursion (SpanOf ((prefix ++ p ∷ []) ++ pieces)) (spans_from k pieces)) longer (spans-own (prefix ++ p ∷ []) pieces)),
     )
 
 -- nothing covers nothing

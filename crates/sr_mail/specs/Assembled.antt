@@ -1,14 +1,9 @@
 -- The bytes of a body, put together of fragments.
-use Rattle.std.specs.Prelude.{◌≡◌, ℕ, ◌-◌, ◌<◌, ⊤, List, [], ◌∷◌, length, map, get_or, Option, Some, None, if◌then◌else◌}
+use Rattle.std.specs.Prelude.{◌≡◌, ℕ, ◌-◌, ◌<◌, List, [], ◌∷◌, length, map, get_or, Option, Some, None, if◌then◌else◌}
 use Rattle.std.specs.List.{AllByRecursion}
 use Rattle.sr_mail.specs.declared.piece.Piece.{Piece}
-use Rattle.sr_mail.specs.Seen.{window_of, covers, Cover}
+use Rattle.sr_mail.specs.Seen.{covers, Cover}
 use Rattle.sr_msgform.specs.declared.message.Message.{Message}
-
--- the pieces are of one window
-abbrev pub AreOfOneWindow : List (Piece × Message) → Type 0
-AreOfOneWindow [] = ⊤
-AreOfOneWindow (first ∷ others) = AllByRecursion (λ other. window_of other.0 ≡ window_of first.0) others
 
 -- the length of that window's body
 abbrev pub total_of : List (Piece × Message) → ℕ

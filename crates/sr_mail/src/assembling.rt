@@ -2,7 +2,8 @@
 
 ghost use Rattle.std.specs.Prelude.{◌≡◌, ℕ, ◌+◌, ◌-◌, ◌<◌, ◌≤◌, ◌↔◌, [], Some, map, length, get_or, IfOk, IfSome, IfNone, IsTrue};
 ghost use Rattle.std.specs.List.{AllByRecursion};
-ghost use Rattle.sr_mail.specs.Assembled.{AreOfOneWindow, IsItsPiece, CanAssemble, IsAssembled, byte_at, total_of};
+ghost use Rattle.sr_mail.specs.Assembled.{IsItsPiece, CanAssemble, IsAssembled, byte_at, total_of};
+ghost use Rattle.sr_mail.specs.Inner.Assembled.{AreOfOneWindow};
 ghost use Rattle.sr_mail.specs.Seen.{Cover};
 
 use crate::piece::Piece;

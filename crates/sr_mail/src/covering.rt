@@ -3,7 +3,7 @@
 ghost use Rattle.std.specs.Prelude.{◌≡◌, ◌++◌, ◌<◌, ◌≤◌, [], ◌∷◌, ℕ, List, map, IfOk, IfSome, IfNone, MatchOption};
 ghost use Rattle.std.specs.List.{AllByRecursion, Contains, list_any};
 ghost use Rattle.sr_mail.specs.Seen.{Cover, covers};
-ghost use Rattle.sr_mail.specs.Spans.{spans_from, has_place, SpansCover, AreSorted, BeginsLater, IsSoFar, SpanOf};
+ghost use Rattle.sr_mail.specs.Inner.Spans.{spans_from, has_place, SpansCover, AreSorted, BeginsLater, IsSoFar, SpanOf};
 
 use crate::piece::Piece;
 use sr_base::{Copied, NoMemory};

@@ -4,7 +4,7 @@ ghost use Rattle.std.specs.Prelude.{◌≡◌, ◌++◌, ◌↔◌, false, true,
 ghost use Rattle.std.specs.List.{AllByRecursion, Contains};
 ghost use Rattle.sr_mail.specs.Inboxes.{Gathered};
 ghost use Rattle.sr_mail.specs.Seen.{window_of, Cover};
-ghost use Rattle.sr_mail.specs.Shelves.{IsReady};
+ghost use Rattle.sr_mail.specs.Inner.Shelves.{IsReady};
 
 use crate::covering::choose;
 use crate::piece::Piece;
@@ -25,7 +25,7 @@ pub(crate) struct Held {
 
 impl Model for Held {
     ghost use Rattle.sr_mail.specs.Inboxes.{Gathered};
-    ghost use Rattle.sr_mail.specs.Tracking.{IsHeld};
+    ghost use Rattle.sr_mail.specs.Inner.Tracking.{IsHeld};
 
     ghost Value = { Gathered };
 

@@ -3,10 +3,11 @@
 ghost use Rattle.std.specs.Prelude.{◌≡◌, ◌+◌, ◌≤◌, ◌<◌, ◌⊎◌, [], Some, slice_get, length, take, drop, Bool, IfOk, IfSome, IfNone, OnOk, OnErr, if◌then◌else◌};
 ghost use Rattle.std.specs.List.{AllByRecursion};
 ghost use Rattle.sr_mail.specs.declared.window.Window.{Window as AWindow};
-ghost use Rattle.sr_mail.specs.Inboxes.{Gathered, pieces_of, is_dropped, is_seen, IsSeen, IsWhole, IsNext, IsGreatest, Adds};
+ghost use Rattle.sr_mail.specs.Inboxes.{Gathered, pieces_of, is_dropped, IsSeen, IsGreatest};
+ghost use Rattle.sr_mail.specs.Inner.Inboxes.{is_seen, IsWholeWindow, IsNext, Adds};
 ghost use Rattle.sr_mail.specs.Reaching.{Leads, IsFar};
 ghost use Rattle.sr_mail.specs.Seen.{same_window, window_of, piece_of};
-ghost use Rattle.sr_mail.specs.Shelves.{EndsPast, AllBefore, AllBehind, AreInOrder, all_of, added, IsFirstPast, IsLeading};
+ghost use Rattle.sr_mail.specs.Inner.Shelves.{EndsPast, AllBefore, AllBehind, AreInOrder, all_of, added, IsFirstPast, IsLeading};
 
 use crate::held::Held;
 use crate::piece::{Piece, piece_of};
@@ -34,7 +35,7 @@ pub struct Inbox {
 impl Model for Inbox {
     ghost use Rattle.std.specs.Prelude.{List};
     ghost use Rattle.sr_mail.specs.Inboxes.{Gathered};
-    ghost use Rattle.sr_mail.specs.Shelves.{all_of, IsInbox};
+    ghost use Rattle.sr_mail.specs.Inner.Shelves.{all_of, IsInbox};
 
     ghost Value = { List Gathered };
 
@@ -71,7 +72,7 @@ impl Inbox {
 
     /// The greatest offset that whole windows reach from `received`, one after the other.
     pub fn far(&self, _alloc: Global, received: Offset) -> Result<Offset, NoMemory>
-        ensures far { IfOk result (λ far. IsFar (IsWhole self.now) received.0 far.0) }
+        ensures far { IfOk result (λ far. IsFar (IsWholeWindow self.now) received.0 far.0) }
     {
         let mut far = received.0;
         'windows: while let Some(upto) = self.upto_from(far) {
@@ -84,7 +85,7 @@ impl Inbox {
     /// then least upto, then least total. `None` exactly where there is none.
     pub fn next(&self, alloc: Global, received: Offset) -> Result<Option<Vec<Piece>>, NoMemory>
         ensures found { IfOk result (λ found. IfSome found (λ pieces. IsNext self.now received.0 pieces.items)) }
-        ensures none { IfOk result (λ found. IfNone found ((w : AWindow) → IsWhole self.now w → ¬ (Leads w received.0))) }
+        ensures none { IfOk result (λ found. IfNone found ((w : AWindow) → IsWholeWindow self.now w → ¬ (Leads w received.0))) }
     {
         match self.leading_from(received.0) {
             Some(held) => Ok(Some(held.cover(alloc)?)),
@@ -123,7 +124,7 @@ impl Inbox {
     /// The whole window that is to be taken next.
     fn leading_from(&self, received: u64) -> Option<&Held>
         ensures found { IfSome result (λ held. IsLeading self.now received held.now) }
-        ensures none { IfNone result ((w : AWindow) → IsWhole self.now w → ¬ (Leads w received)) }
+        ensures none { IfNone result ((w : AWindow) → IsWholeWindow self.now w → ¬ (Leads w received)) }
     {
         match first_past(self.shelves.as_slice(), received) {
             Some(held) => {
@@ -139,8 +140,8 @@ impl Inbox {
 
     /// Where it ends.
     fn upto_from(&self, received: u64) -> Option<u64>
-        ensures found { IfSome result (λ upto. (w : AWindow) × IsWhole self.now w × Leads w received × (w.upto ≡ upto)) }
-        ensures none { IfNone result ((w : AWindow) → IsWhole self.now w → ¬ (Leads w received)) }
+        ensures found { IfSome result (λ upto. (w : AWindow) × IsWholeWindow self.now w × Leads w received × (w.upto ≡ upto)) }
+        ensures none { IfNone result ((w : AWindow) → IsWholeWindow self.now w → ¬ (Leads w received)) }
     {
         match self.leading_from(received) {
             Some(held) => Some(held.window().upto),

@@ -6,12 +6,12 @@ ghost use Rattle.sr_mail.specs.declared.piece.Piece.{Piece as APiece};
 ghost use Rattle.sr_mail.specs.declared.window.Window.{Window as AWindow};
 ghost use Rattle.sr_mail.specs.Assembled.{IsAssembled};
 ghost use Rattle.sr_mail.specs.Reaching.{Leads, IsFar};
-ghost use Rattle.sr_cut.specs.Truths.{IsFragmentOf};
-ghost use Rattle.sr_msgform.specs.declared.message.Message.{Message as Letter};
+ghost use Rattle.sr_mail_cut.specs.Truths.{IsFragmentOf};
+ghost use Rattle.sr_msgform.specs.declared.message.Message.{Message as AMessage};
 
 /// Fragments that are true of a body are put together to it.
 pub fn true_fragments_make_the_body()
-    ensures { (body : List ℕ) (pieces : List (APiece × Letter)) (bytes : List ℕ) → AllByRecursion (λ p. IsFragmentOf body p.1) pieces → ¬ (pieces ≡ []) → IsAssembled pieces bytes → bytes ≡ body }
+    ensures { (body : List ℕ) (pieces : List (APiece × AMessage)) (bytes : List ℕ) → AllByRecursion (λ p. IsFragmentOf body p.1) pieces → ¬ (pieces ≡ []) → IsAssembled pieces bytes → bytes ≡ body }
 {}
 
 /// The offset that windows reach is found by taking one that leads on after the other, in any order, until none does.

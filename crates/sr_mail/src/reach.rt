@@ -2,7 +2,7 @@
 
 ghost use Rattle.std.specs.Prelude.{◌≡◌, ◌<◌, ◌++◌, List, [], ◌∷◌, length, false, IsTrue, OnOk, OnErr};
 ghost use Rattle.sr_mail.specs.declared.piece.Piece.{Piece as APiece};
-ghost use Rattle.sr_mail.specs.Tracking.{Follows, IsSettled, IsSame, NowWaits, BeginsWithin};
+ghost use Rattle.sr_mail.specs.Inner.Tracking.{Follows, IsSettled, IsSame, NowWaits, BeginsWithin};
 
 use sr_base::NoMemory;
 use std::alloc::Global;

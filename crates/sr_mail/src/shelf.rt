@@ -5,7 +5,7 @@ ghost use Rattle.std.specs.List.{AllByRecursion};
 ghost use Rattle.std.specs.Option.{option_copied};
 ghost use Rattle.sr_mail.specs.Inboxes.{Gathered};
 ghost use Rattle.sr_mail.specs.Seen.{ComesBefore, window_of};
-ghost use Rattle.sr_mail.specs.Shelves.{IsReady, EndsPast, AllBefore, BeginsBehind, StandsFirst, AreInOrder, EndBy, added, without, first_dropped, IsFirstPast};
+ghost use Rattle.sr_mail.specs.Inner.Shelves.{IsReady, EndsPast, AllBefore, BeginsBehind, StandsFirst, AreInOrder, EndBy, added, without, first_dropped, IsFirstPast};
 
 use crate::held::Held;
 use crate::piece::Piece;
@@ -24,7 +24,7 @@ pub(crate) struct Shelf {
 impl Model for Shelf {
     ghost use Rattle.std.specs.Prelude.{List};
     ghost use Rattle.sr_mail.specs.Inboxes.{Gathered};
-    ghost use Rattle.sr_mail.specs.Shelves.{AreInOrder, EndBy};
+    ghost use Rattle.sr_mail.specs.Inner.Shelves.{AreInOrder, EndBy};
 
     ghost Value = { List Gathered };
 

@@ -1,6 +1,6 @@
 ghost use Rattle.std.specs.Prelude.{◌≡◌, IsTrue, ◌↔◌};
 ghost use Rattle.sr_mail.specs.Seen.{same_window};
-ghost use Rattle.sr_mail.specs.Shelves.{is_before};
+ghost use Rattle.sr_mail.specs.Inner.Shelves.{is_before};
 
 /// A window of a sender's log: what the log gives past `prev` and up to `upto`, and how many bytes its body has.
 ///

@@ -5,14 +5,17 @@ use Rattle.sr_site.specs.Happenings.{Happening, synced}
 use Rattle.sr_site.specs.Images.{MayLeave}
 use Rattle.sr_site.specs.declared.file.File.{File}
 use Rattle.sr_site.specs.declared.file.File.TheVariants.{Root, Log0, Log1, Snap0, Snap1}
-use Rattle.sr_memdisk.specs.Picks.{standing}
-use Rattle.sr_memdisk.specs.Store.{Store, settled_on}
-use Rattle.sr_memdisk.specs.Stores.{Stores, store_of, with_store, stores_of, files_of, outcomes, AreBacked}
-use Rattle.sr_memdisk.proofs.Backing.{sync_done, begins, bytes_in, is_image, chosen, lost, whole}
-use Rattle.sr_memdisk.proofs.Standing.{told, standing_first, standing_sync}
+use Rattle.sr_memsite_disk.specs.Picks.{standing}
+use Rattle.sr_memsite_disk.specs.Store.{Store}
+use Rattle.sr_memsite_disk.specs.Inner.Store.{settled_on}
+use Rattle.sr_memsite_disk.specs.Stores.{Stores}
+use Rattle.sr_memsite_disk.specs.Inner.Stores.{store_of, with_store, stores_of, files_of, outcomes, AreBacked}
+use Rattle.sr_memsite_disk.proofs.Backing.{sync_done, begins, bytes_in, is_image, chosen, lost, whole}
+use Rattle.sr_memsite_disk.proofs.Standing.{told, standing_first, standing_sync}
 use Rattle.sr_site.proofs.Images.{with_same}
-use Rattle.sr_memsite.specs.Disks.{Disk, files_in, with_happening, HasCrashed}
-use Rattle.sr_memsite.specs.Steps.{first_of, happened_of}
+use Rattle.sr_memsite.specs.Disks.{Disk, files_in}
+use Rattle.sr_memsite.specs.Inner.Disks.{with_happening, HasCrashed}
+use Rattle.sr_memsite.specs.Inner.Steps.{first_of, happened_of}
 use Rattle.sr_memsite.specs.declared.calls.Step.{Step}
 
 abbrev pub Steps : Type 0

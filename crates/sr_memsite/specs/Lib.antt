@@ -1,5 +1,3 @@
 pub mod Disks
 pub mod Meaning
-pub mod Numbering
-pub mod Steps
-pub mod Streams
+pub mod Inner

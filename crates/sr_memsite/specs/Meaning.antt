@@ -1,41 +1,8 @@
-use Rattle.std.specs.Prelude.{Bool, true}
+-- What a site in memory is when it begins.
+use Rattle.std.specs.Prelude.{true}
 use Rattle.sr_site.specs.Seen.{Seen}
-use Rattle.sr_memmail.specs.Folders.{Folders}
-use Rattle.sr_memsite.specs.Numbering.{Numbering}
 use Rattle.sr_memsite.specs.Disks.{Disk, files_in}
-use Rattle.sr_memsite.specs.declared.site.MemorySite.{MemorySite}
-
--- what a site in memory means: it tells everything
-abbrev pub seen_of : MemorySite → Seen
-seen_of site = record {
-  told = true;
-  files = files_in site.disk;
-  first = site.disk.first;
-  happened = site.disk.happened;
-  disk_faults = site.disk_faults;
-  mail_faults = site.mail_faults;
-}
-
--- its disk: the files now and at first, and what happened
-abbrev pub disk_of : MemorySite → Disk
-disk_of site = site.disk
-
--- the mail folder that it stands over
-abbrev pub folders_of : MemorySite → Folders
-folders_of site = site.mail
-
--- its calls since the last `fail_calls`, and those that are to fail
-abbrev pub numbering_of : MemorySite → Numbering
-numbering_of site = site.turns
-
--- whether a write has failed for want of memory
-abbrev pub wanted_of : MemorySite → Bool
-wanted_of site = site.wanted
-
--- its disk and its folders: what it is made from, and what it is taken apart into
-abbrev pub parts_of : MemorySite → Disk × Folders
-parts_of site = (site.disk, site.mail)
 
 -- a site that was just made: it begins with what the disk tells, and no call has failed
 abbrev pub begun : Disk → Seen
-begun disk = record { told = true; files = files_in disk; first = disk.first; happened = disk.happened; disk_faults = 0; mail_faults = 0 }
+begun disk = record { observable = true; files = files_in disk; first = disk.first; happened = disk.happened; disk_faults = 0; mail_faults = 0 }

@@ -3,8 +3,8 @@ ghost use Rattle.std.specs.Borrow.{ftrue};
 ghost use Rattle.sr_memsite.specs.declared.calls.Step.{Step as step};
 
 use sr_base::{Name, Text};
-use sr_memdisk::{FiveFiles, Stored};
-use sr_memmail::SharedMail;
+use sr_memsite_disk::{FiveFiles, Stored};
+use sr_memsite_mail::SharedMail;
 use sr_site::{File, Listing, MailFault};
 use std::marker::Model;
 use std::snapshot::Snapshot;

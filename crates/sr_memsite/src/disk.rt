@@ -3,14 +3,15 @@ ghost use Rattle.std.specs.Option.{option_map};
 ghost use Rattle.std.specs.Result.{result_map_both};
 ghost use Rattle.sr_site.specs.Files.{bytes_of, with_bytes, overwritten};
 ghost use Rattle.sr_site.specs.Happenings.{attached, wrote, cut_to, synced, listed, fetched, sent, removed};
-ghost use Rattle.sr_memsite.specs.Disks.{begun_with, files_in, with_happening, HasCrashed};
-ghost use Rattle.sr_memmail.specs.Folders.{names_in};
-ghost use Rattle.sr_memdisk.specs.Stores.{no_bytes};
+ghost use Rattle.sr_memsite.specs.Disks.{begun_with, files_in};
+ghost use Rattle.sr_memsite.specs.Inner.Disks.{with_happening, HasCrashed};
+ghost use Rattle.sr_memsite_mail.specs.Inner.Folders.{names_in};
+ghost use Rattle.sr_memsite_disk.specs.Stores.{no_bytes};
 
 use crate::calls::{Calls, Step};
 use sr_base::{Name, NoMemory, Text};
-use sr_memdisk::{FiveFiles, Stored};
-use sr_memmail::SharedMail;
+use sr_memsite_disk::{FiveFiles, Stored};
+use sr_memsite_mail::SharedMail;
 use sr_site::{Failed, File, Listing, MailFault};
 use std::alloc::Global;
 use std::marker::Model;
@@ -25,8 +26,8 @@ pub struct MemoryDisk {
 
 impl Model for MemoryDisk {
     ghost use Rattle.sr_memsite.specs.Disks.{Disk};
-    ghost use Rattle.sr_memsite.specs.Steps.{first_of, happened_of};
-    ghost use Rattle.sr_memdisk.specs.Stores.{AreBacked};
+    ghost use Rattle.sr_memsite.specs.Inner.Steps.{first_of, happened_of};
+    ghost use Rattle.sr_memsite_disk.specs.Inner.Stores.{AreBacked};
 
     ghost Value = { Disk };
 
@@ -142,7 +143,7 @@ impl MemoryDisk {
     }
 
     /// Tells that names were given to the site, and whether that succeeded.
-    #[tactic(auto, using(sr_memdisk::proofs::Standing::quiet))]
+    #[tactic(auto, using(sr_memsite_disk::proofs::Standing::quiet))]
     pub(crate) fn note_attach(&mut self, name: &Text, mail: &Text, done: bool)
         ensures noted { self.new ≡ with_happening self.old (attached name.now mail.now done) }
         ensures files { files_in self.new ≡ files_in self.old }
@@ -152,7 +153,7 @@ impl MemoryDisk {
     }
 
     /// Tells that a folder was listed, and what came of it.
-    #[tactic(auto, using(sr_memdisk::proofs::Standing::quiet))]
+    #[tactic(auto, using(sr_memsite_disk::proofs::Standing::quiet))]
     pub(crate) fn note_list(
         &mut self,
         address: &Name,
@@ -171,7 +172,7 @@ impl MemoryDisk {
     }
 
     /// Tells that a file was fetched, and what came of it.
-    #[tactic(auto, using(sr_memdisk::proofs::Standing::quiet))]
+    #[tactic(auto, using(sr_memsite_disk::proofs::Standing::quiet))]
     pub(crate) fn note_fetch(
         &mut self,
         address: &Name,
@@ -192,7 +193,7 @@ impl MemoryDisk {
     }
 
     /// Tells that a file was put, and whether that succeeded.
-    #[tactic(auto, using(sr_memdisk::proofs::Standing::quiet))]
+    #[tactic(auto, using(sr_memsite_disk::proofs::Standing::quiet))]
     pub(crate) fn note_put(&mut self, address: &Name, name: &Text, bytes: &[u8], done: bool)
         ensures noted { self.new ≡ with_happening self.old (sent address.now name.now bytes.now done) }
         ensures files { files_in self.new ≡ files_in self.old }
@@ -202,7 +203,7 @@ impl MemoryDisk {
     }
 
     /// Tells that a file was removed, and whether that succeeded.
-    #[tactic(auto, using(sr_memdisk::proofs::Standing::quiet))]
+    #[tactic(auto, using(sr_memsite_disk::proofs::Standing::quiet))]
     pub(crate) fn note_remove(&mut self, address: &Name, name: &Text, done: bool)
         ensures noted { self.new ≡ with_happening self.old (removed address.now name.now done) }
         ensures files { files_in self.new ≡ files_in self.old }

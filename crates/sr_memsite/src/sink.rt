@@ -12,13 +12,13 @@ pub struct MemorySink {
 }
 
 impl MemorySink {
-    ghost use Rattle.sr_memsite.specs.Numbering.{failing_at};
+    ghost use Rattle.sr_memsite.specs.Inner.Numbering.{failing_at};
     ghost use Rattle.std.specs.Prelude.{◌≡◌, [], true, OnOk, OnErr};
-    ghost use Rattle.sr_memsite.specs.Streams.{output_of, taken_of, sink_numbering};
+    ghost use Rattle.sr_memsite.specs.Inner.Streams.{output_of, taken_of, sink_numbering};
 
     /// A sink that took no byte so far. No call fails. It takes no memory.
     pub fn new(alloc: Global) -> MemorySink
-        ensures seen { output_of result ≡ record { told = true; taken = []; faults = 0 } }
+        ensures seen { output_of result ≡ record { observable = true; taken = []; faults = 0 } }
         ensures numbering { sink_numbering result ≡ failing_at [] }
     {
         MemorySink {
@@ -51,8 +51,8 @@ impl Sink for MemorySink {
     ghost use Rattle.std.specs.Prelude.{◌≡◌, ◌⊎◌, ◌++◌, ◌<◌, ◌≤◌, take, length, IsTrue, IfOk, OnOk, OnErr, IsErr};
     ghost use Rattle.sr_site.specs.Causes.{Rose};
     ghost use Rattle.sr_site.specs.Streams.{OutputStays};
-    ghost use Rattle.sr_memsite.specs.Streams.{output_of, taken_of, sink_numbering, sink_faults, IsFull};
-    ghost use Rattle.sr_memsite.specs.Numbering.{fails, counted};
+    ghost use Rattle.sr_memsite.specs.Inner.Streams.{output_of, taken_of, sink_numbering, sink_faults, IsFull};
+    ghost use Rattle.sr_memsite.specs.Inner.Numbering.{fails, counted};
 
     ghost seen = { output_of };
 

@@ -1,7 +1,7 @@
 use crate::disk::MemoryDisk;
 use crate::turns::Turns;
 use sr_base::{NoMemory, Text};
-use sr_memmail::SharedMail;
+use sr_memsite_mail::SharedMail;
 use sr_site::{Held, MailFault, Site};
 use std::alloc::Global;
 
@@ -22,8 +22,8 @@ pub struct MemorySite {
 }
 
 impl Held for MemorySite {
-    ghost use Rattle.sr_memdisk.proofs.Standing.{standing_is_image};
-    ghost use Rattle.sr_memsite.specs.Meaning.{seen_of};
+    ghost use Rattle.sr_memsite_disk.proofs.Standing.{standing_is_image};
+    ghost use Rattle.sr_memsite.specs.Inner.Meaning.{seen_of};
 
     ghost seen = { seen_of };
 
@@ -33,10 +33,12 @@ impl Held for MemorySite {
 impl MemorySite {
     ghost use Rattle.std.specs.Prelude.{◌≡◌, ◌≤◌, [], false, IsTrue, IsFalse, OnOk, OnErr};
     ghost use Rattle.sr_site.specs.Causes.{Rose};
-    ghost use Rattle.sr_memsite.specs.Meaning.{seen_of, disk_of, folders_of, numbering_of, parts_of, wanted_of, begun};
-    ghost use Rattle.sr_memsite.specs.Disks.{begun_with, HasCrashed};
-    ghost use Rattle.sr_memsite.specs.Numbering.{failing_at};
-    ghost use Rattle.sr_memdisk.specs.Stores.{no_bytes};
+    ghost use Rattle.sr_memsite.specs.Meaning.{begun};
+    ghost use Rattle.sr_memsite.specs.Inner.Meaning.{seen_of, disk_of, folders_of, numbering_of, parts_of, wanted_of};
+    ghost use Rattle.sr_memsite.specs.Disks.{begun_with};
+    ghost use Rattle.sr_memsite.specs.Inner.Disks.{HasCrashed};
+    ghost use Rattle.sr_memsite.specs.Inner.Numbering.{failing_at};
+    ghost use Rattle.sr_memsite_disk.specs.Stores.{no_bytes};
 
     /// A site with empty files over the folders of `mail`. It takes no memory.
     pub fn new(alloc: Global, mail: SharedMail) -> MemorySite
@@ -123,7 +125,7 @@ impl MemorySite {
     pub fn crash(&mut self, alloc: Global, pick: u64) -> Result<(), NoMemory>
         ensures crashed { OnOk result (HasCrashed pick (disk_of self.old) (disk_of self.new)) }
         ensures err { OnErr result (disk_of self.new ≡ disk_of self.old) }
-        ensures told { IsTrue (seen_of self.new).told }
+        ensures told { IsTrue (seen_of self.new).observable }
         ensures counts { ((seen_of self.new).disk_faults ≡ (seen_of self.old).disk_faults) × ((seen_of self.new).mail_faults ≡ (seen_of self.old).mail_faults) }
         ensures numbering { numbering_of self.new ≡ numbering_of self.old }
         ensures folders { folders_of self.new ≡ folders_of self.old }
@@ -170,8 +172,8 @@ impl Site for MemorySite {
     ghost use Rattle.sr_site.specs.Causes.{DiskStays, Rose};
     ghost use Rattle.sr_site.specs.Happenings.{attached};
     ghost use Rattle.sr_site.specs.declared.mail.MailFault.TheVariants.{Memory as no_memory};
-    ghost use Rattle.sr_memsite.specs.Meaning.{seen_of, folders_of, numbering_of, wanted_of};
-    ghost use Rattle.sr_memsite.specs.Numbering.{fails, counted};
+    ghost use Rattle.sr_memsite.specs.Inner.Meaning.{seen_of, folders_of, numbering_of, wanted_of};
+    ghost use Rattle.sr_memsite.specs.Inner.Numbering.{fails, counted};
 
     /// Nothing needs to be opened. It fails only where `fail_calls` named it.
     fn attach(&mut self, _alloc: Global, name: &Text, mail: &Text) -> Result<(), MailFault>

@@ -17,13 +17,13 @@ pub struct MemorySource {
 }
 
 impl MemorySource {
-    ghost use Rattle.sr_memsite.specs.Numbering.{failing_at};
+    ghost use Rattle.sr_memsite.specs.Inner.Numbering.{failing_at};
     ghost use Rattle.std.specs.Prelude.{◌≡◌, [], true, OnOk, OnErr};
-    ghost use Rattle.sr_memsite.specs.Streams.{input_of, source_numbering};
+    ghost use Rattle.sr_memsite.specs.Inner.Streams.{input_of, source_numbering};
 
     /// A source that has these bytes left. No call fails.
     pub fn new(bytes: Vec<u8>) -> MemorySource
-        ensures seen { input_of result ≡ record { told = true; left = bytes.items; faults = 0 } }
+        ensures seen { input_of result ≡ record { observable = true; left = bytes.items; faults = 0 } }
         ensures numbering { source_numbering result ≡ failing_at [] }
     {
         let turns = Turns::new(*bytes.allocator());
@@ -51,8 +51,8 @@ impl Source for MemorySource {
     ghost use Rattle.std.specs.Prelude.{◌≡◌, ◌++◌, ◌<◌, [], take, min, IfOk, OnOk, OnErr, is_err};
     ghost use Rattle.sr_site.specs.Causes.{Rose};
     ghost use Rattle.sr_site.specs.Streams.{InputStays};
-    ghost use Rattle.sr_memsite.specs.Streams.{input_of, left_of, source_numbering, source_faults};
-    ghost use Rattle.sr_memsite.specs.Numbering.{fails, counted};
+    ghost use Rattle.sr_memsite.specs.Inner.Streams.{input_of, left_of, source_numbering, source_faults};
+    ghost use Rattle.sr_memsite.specs.Inner.Numbering.{fails, counted};
 
     ghost seen = { input_of };
 

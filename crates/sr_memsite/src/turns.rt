@@ -1,5 +1,5 @@
 ghost use Rattle.std.specs.Prelude.{◌≡◌, [], IfOk};
-ghost use Rattle.sr_memsite.specs.Numbering.{failing_at, fails, counted, IsSetOf};
+ghost use Rattle.sr_memsite.specs.Inner.Numbering.{failing_at, fails, counted, IsSetOf};
 
 use sr_base::NoMemory;
 use std::alloc::Global;
@@ -17,7 +17,7 @@ pub struct Turns {
 
 impl Model for Turns {
     ghost use Rattle.std.specs.Prelude.{ℕ, ◌≡◌};
-    ghost use Rattle.sr_memsite.specs.Numbering.{Numbering, IsSetOf};
+    ghost use Rattle.sr_memsite.specs.Inner.Numbering.{Numbering, IsSetOf};
 
     ghost Value = { Numbering };
 

@@ -2,8 +2,9 @@
 use Rattle.std.proofs.Common.{◌≡◌, ℕ, List, Ok, Err, refl}
 use Rattle.sr_base.specs.declared.broken.Broken.{Broken}
 use Rattle.sr_base.specs.declared.broken.Broken.TheVariants as broken
-use Rattle.sr_base.specs.Fields.{triple_at, mapped_at}
-use Rattle.sr_base.specs.Reading.{Read, Fails}
+use Rattle.sr_base.specs.Inner.Fields.{triple_at, mapped_at}
+use Rattle.sr_base.specs.Reading.{Read}
+use Rattle.sr_base.specs.Inner.Reading.{Fails}
 
 module _ {A B C D : Type 0} (first : List ℕ → Read A) (second : List ℕ → Read B) (third : List ℕ → Read C) (to : A × B × C → D) where
   pub all_read : (bytes : List ℕ) (one : A × List ℕ) (two : B × List ℕ) (three : C × List ℕ) → first bytes ≡ Ok one → second one.1 ≡ Ok two → third two.1 ≡ Ok three → mapped_at to (triple_at first second third) bytes ≡ Ok (to (one.0, two.0, three.0), three.1)

@@ -13,7 +13,7 @@ length-sealed content = omega (arith, length-append content (sha256 content), le
 -- a file taken apart
 pub record AreParts (bytes content : List ℕ) : Type 0 where
   pub long : 32 ≤ length bytes
-  pub front : take (length bytes - 32) bytes ≡ content
+  pub prefix : take (length bytes - 32) bytes ≡ content
   pub back : drop (length bytes - 32) bytes ≡ sha256 content
 
 pub sealed_parts : (bytes content : List ℕ) → bytes ≡ sealed content → AreParts bytes content
@@ -23,7 +23,7 @@ sealed_parts bytes content e =
     let at : length bytes - 32 ≡ length content = omega arith in
     record {
       long = omega arith;
-      front = rw (at, e) (take_at content (sha256 content) (length content) refl);
+      prefix = rw (at, e) (take_at content (sha256 content) (length content) refl);
       back = rw (at, e) (drop_at content (sha256 content) (length content) refl);
     }
 
@@ -31,7 +31,7 @@ pub sealed_same : (a b : List ℕ) → sealed a ≡ sealed b → a ≡ b
 sealed_same a b e =
     let p = sealed_parts (sealed b) a (sym e) in
     let q = sealed_parts (sealed b) b refl in
-    sym p.front ∙ q.front
+    sym p.prefix ∙ q.prefix
 
 -- what holds of nothing, in other words
 pub none_too : {A : Type 0} {P Q : Type 0} (o : Option A) → (P → Q) → IfNone o P → IfNone o Q

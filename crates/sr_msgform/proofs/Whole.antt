@@ -3,10 +3,12 @@ use Rattle.std.proofs.Common.{◌≡◌, ℕ, ◌+◌, ◌≤◌, List, [], ◌�
 use Rattle.std.proofs.lemmas.List.{append-nil, nil_from_length, length-append}
 use Rattle.std.specs.Prelude.{IfOk, IfSome}
 use Rattle.std.specs.declared.alloc.AllocError.{AllocError}
-use Rattle.sr_base.specs.Reading.{Read, IsBytes}
+use Rattle.sr_base.specs.Reading.{Read}
+use Rattle.sr_base.specs.Inner.Reading.{IsBytes}
 use Rattle.sr_msgform.specs.declared.message.Message.{Message}
-use Rattle.sr_msgform.specs.MessageLaws.{fields_format}
-use Rattle.sr_msgform.specs.Messages.{heading, fields, fields_at, sealed, message_spelling, message_length, IsInRange, KeepsRules, IsMessage}
+use Rattle.sr_msgform.specs.Inner.MessageLaws.{fields_format}
+use Rattle.sr_msgform.specs.Messages.{heading, fields, sealed, message_spelling, message_length, IsInRange, KeepsRules, IsMessage}
+use Rattle.sr_msgform.specs.Inner.Messages.{fields_at}
 use Rattle.sr_msgform.proofs.Sealing.{length-sealed, sealed_same}
 
 pub fields_whole : (m : Message) (bytes : List ℕ) → IsInRange m → bytes ≡ fields m → fields_at bytes ≡ Ok (m, [])

@@ -2,10 +2,8 @@
 use Rattle.std.specs.Prelude.{◌≡◌, ℕ, ◌+◌, ◌<◌, ◌≤◌, ◌^◌, ◌↔◌, List, [], ◌∷◌, ◌++◌, length}
 use Rattle.std.specs.Int.{w32, w64, to_be_bytes}
 use Rattle.sha2.specs.Sha256.{sha256}
-use Rattle.sr_base.specs.declared.offset.Offset.{Offset}
-use Rattle.sr_base.specs.Fields.{number_at, bytes_at, bytes_spelling, name_at, name_spelling, IsName, triple_at, mapped_at}
-use Rattle.sr_base.specs.Reading.{Read}
-use Rattle.sr_base.specs.Values.{offset_at, offset_spelling, IsOffset}
+use Rattle.sr_base.specs.Fields.{bytes_spelling, name_spelling, IsName}
+use Rattle.sr_base.specs.Values.{offset_spelling, IsOffset}
 use Rattle.sr_msgform.specs.declared.message.Message.{Message}
 
 -- the magic `SRMF`, and version 1
@@ -73,35 +71,3 @@ pub record IsMessage (m : Message) : Type 0 where
   pub ranges : IsInRange m
   pub rules : KeepsRules m
   pub file : message_length m ≤ 2097152
-
--- ---- reading the fields, which breaks at the first field from the left
-
-abbrev pub Head : Type 0
-Head = (List ℕ × List ℕ × ℕ) × (Offset × Offset × ℕ) × ℕ
-
-abbrev pub Tail : Type 0
-Tail = Offset × ℕ × Offset
-
-abbrev pub head_at : List ℕ → Read Head
-head_at = triple_at (triple_at name_at name_at (number_at w64)) (triple_at offset_at offset_at (number_at w32)) (number_at w32)
-
-abbrev pub tail_at : List ℕ → Read Tail
-tail_at = triple_at offset_at (number_at w64) offset_at
-
-abbrev pub message_of : Head × List ℕ × Tail → Message
-message_of parts = record {
-  from = parts.0.0.0;
-  to = parts.0.0.1;
-  resend_count = parts.0.0.2;
-  prev = parts.0.1.0;
-  upto = parts.0.1.1;
-  total = parts.0.1.2;
-  start = parts.0.2;
-  fragment = parts.1;
-  confirm = parts.2.0;
-  ask_count = parts.2.1;
-  ask_offset = parts.2.2;
-}
-
-unfoldable pub fields_at : List ℕ → Read Message
-fields_at = mapped_at message_of (triple_at head_at bytes_at tail_at)

@@ -1,9 +1,11 @@
 //! The fields of a message between its version and its digest.
 
 ghost use Rattle.std.specs.Prelude.{◌≡◌, ◌++◌, ◌<◌, ◌^◌, length, OnOk};
-ghost use Rattle.sr_base.specs.Fields.{bytes_at, bytes_spelling};
-ghost use Rattle.sr_base.specs.Reading.{Gives};
-ghost use Rattle.sr_msgform.specs.Messages.{head_fields, fields, fields_at, HeadInRange, IsInRange};
+ghost use Rattle.sr_base.specs.Fields.{bytes_spelling};
+ghost use Rattle.sr_base.specs.Inner.Fields.{bytes_at};
+ghost use Rattle.sr_base.specs.Inner.Reading.{Gives};
+ghost use Rattle.sr_msgform.specs.Messages.{head_fields, fields, HeadInRange, IsInRange};
+ghost use Rattle.sr_msgform.specs.Inner.Messages.{fields_at};
 
 use crate::message::Message;
 use sr_base::{Broken, Field, Name, NoMemory, Offset, Seq, write_triple};
@@ -14,7 +16,7 @@ type Head = ((Name, Name, u64), (Offset, Offset, u32), u32);
 type Tail = (Offset, u64, Offset);
 
 /// A u32 length, and so many bytes.
-#[tactic(auto, unfolding(sr_base::specs::Fields::bytes_at))]
+#[tactic(auto, unfolding(sr_base::specs::Inner::Fields::bytes_at))]
 fn fragment_of(alloc: Global, bytes: &[u8]) -> Result<(Seq<u8>, &[u8]), Broken>
     ensures { Gives (λ x. (x.0, x.1.now)) result (bytes_at bytes.now) }
 {
@@ -23,12 +25,12 @@ fn fragment_of(alloc: Global, bytes: &[u8]) -> Result<(Seq<u8>, &[u8]), Broken>
     if behind.len() < size {
         return Err(Broken::Left(bytes.len()));
     }
-    let (front, rest) = behind.split_at(size);
-    Ok((Seq::from_vec(Vec::from_slice(alloc, front)?), rest))
+    let (prefix, rest) = behind.split_at(size);
+    Ok((Seq::from_vec(Vec::from_slice(alloc, prefix)?), rest))
 }
 
 /// The message whose fields stand at the front of the bytes, and the bytes after them.
-#[tactic(auto, unfolding(crate::specs::Messages::fields_at))]
+#[tactic(auto, unfolding(crate::specs::Inner::Messages::fields_at))]
 pub(crate) fn fields_of(alloc: Global, bytes: &[u8]) -> Result<(Message, &[u8]), Broken>
     ensures { Gives (λ x. (x.0, x.1.now)) result (fields_at bytes.now) }
 {

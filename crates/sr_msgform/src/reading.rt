@@ -1,5 +1,5 @@
 ghost use Rattle.std.specs.Prelude.{◌≡◌, IfOk, IfSome, Some};
-ghost use Rattle.sr_msgform.specs.declared.message.Message.{Message as Letter};
+ghost use Rattle.sr_msgform.specs.declared.message.Message.{Message as AMessage};
 ghost use Rattle.sr_msgform.specs.Messages.{fields, IsInRange, KeepsRules, IsMessage, message_spelling};
 
 use crate::fields::fields_of;
@@ -15,7 +15,7 @@ const LONGEST_FILE: usize = 2_097_152;
 /// The message whose fields are all of these bytes. `None` where no message has them.
 fn message_in(alloc: Global, bytes: &[u8]) -> Result<Option<Message>, NoMemory>
     ensures found { IfOk result (λ found. IfSome found (λ m. IsInRange m × KeepsRules m × (bytes.now ≡ fields m))) }
-    ensures only { (m : Letter) → IsInRange m → KeepsRules m → bytes.now ≡ fields m → IfOk result (λ found. found ≡ Some m) }
+    ensures only { (m : AMessage) → IsInRange m → KeepsRules m → bytes.now ≡ fields m → IfOk result (λ found. found ≡ Some m) }
 {
     match fields_of(alloc, bytes) {
         Ok((message, rest)) => {
@@ -41,7 +41,7 @@ pub fn read_message(alloc: Global, bytes: &[u8]) -> Result<Option<Message>, NoMe
     // What is read is spelled so.
     ensures found { IfOk result (λ found. IfSome found (λ m. IsMessage m × (bytes.now ≡ message_spelling m))) }
     // What is spelled so is read, unless there is no memory.
-    ensures only { (m : Letter) → IsMessage m → bytes.now ≡ message_spelling m → IfOk result (λ found. found ≡ Some m) }
+    ensures only { (m : AMessage) → IsMessage m → bytes.now ≡ message_spelling m → IfOk result (λ found. found ≡ Some m) }
 {
     if bytes.len() > LONGEST_FILE {
         return Ok(None);

@@ -7,29 +7,30 @@ use Rattle.sr_ast.specs.declared.action.Action.{Action}
 use Rattle.sr_ast.specs.declared.action.Action.TheVariants.{Set, Insert, If, IfElse}
 use Rattle.sr_ast.specs.declared.keyword.Keyword.{Keyword}
 use Rattle.sr_ast.specs.declared.keyword.Keyword.TheVariants as key
-use Rattle.sr_grammar.specs.declared.symbol.Sign.TheVariants as mark
-use Rattle.sr_grammar.specs.declared.symbol.Symbol.{Symbol}
-use Rattle.sr_reader.specs.declared.reader.Broken.{Broken}
-use Rattle.sr_reader.specs.declared.reader.Broken.TheVariants.{Refused}
-use Rattle.sr_grammar.specs.Symbols.{Symbols, first, behind, word, IsName, IsWord, IsSign}
-use Rattle.sr_grammar.specs.Listing.{Row, IsNames}
-use Rattle.sr_grammar.specs.Listing.Listed.{one as one_listed}
-use Rattle.sr_grammar.specs.Listing.Row.{none as no_row, then as and_row}
-use Rattle.sr_grammar.specs.Expressions.{IsExpr}
-use Rattle.sr_grammar.specs.Writing.{IsRow}
-use Rattle.sr_grammar.specs.Triggers.{Acts, IsActions}
-use Rattle.sr_grammar.specs.Triggers.Amount.{many}
-use Rattle.sr_grammar.specs.Triggers.Acts.{none, then as and_act, set, insert}
-use Rattle.sr_grammar.specs.Going.{Stop, Begins, is_dot, is_open, expression_goes, action_starts}
-use Rattle.sr_reader.specs.Reading.{Alike, Reading, Anywhere, mapped}
-use Rattle.sr_reader.specs.Productions.{Word, Mark, TwoWords, Reference, OneAction, Assigned, Inserted}
-use Rattle.sr_grammar.proofs.Steps.{Stop-at, Stop-begins}
+use Rattle.sr_parse_grammar.specs.declared.symbol.Sign.TheVariants as mark
+use Rattle.sr_parse_grammar.specs.declared.symbol.Symbol.{Symbol}
+use Rattle.sr_parse_reader.specs.declared.reader.Broken.{Broken}
+use Rattle.sr_parse_reader.specs.declared.reader.Broken.TheVariants.{Refused}
+use Rattle.sr_parse_grammar.specs.Symbols.{Symbols, first, word, IsName, IsWord, IsSign}
+use Rattle.sr_parse_grammar.specs.Inner.Symbols.{behind}
+use Rattle.sr_parse_grammar.specs.Listing.{Row, IsNames}
+use Rattle.sr_parse_grammar.specs.Listing.Listed.{one as one_listed}
+use Rattle.sr_parse_grammar.specs.Listing.Row.{none as no_row, then as and_row}
+use Rattle.sr_parse_grammar.specs.Expressions.{IsExpr}
+use Rattle.sr_parse_grammar.specs.Writing.{IsRow}
+use Rattle.sr_parse_grammar.specs.Triggers.{Acts, IsActions}
+use Rattle.sr_parse_grammar.specs.Triggers.Amount.{many}
+use Rattle.sr_parse_grammar.specs.Triggers.Acts.{none, then as and_act, set, insert}
+use Rattle.sr_parse_grammar.specs.Inner.Going.{Stop, Begins, is_dot, is_open, expression_goes, action_starts}
+use Rattle.sr_parse_reader.specs.Inner.Reading.{Alike, Reading, Anywhere, mapped}
+use Rattle.sr_parse_reader.specs.Inner.Productions.{Word, Mark, TwoWords, Reference, OneAction, Assigned, Inserted}
+use Rattle.sr_parse_grammar.proofs.Steps.{Stop-at, Stop-begins}
 use Rattle.sr_parse.proofs.Tabling.{Acts-when, Acts-choose}
 use Rattle.sr_parse.proofs.Doing.{AtIf, AtEnd, set_in, insert_in, if_in, no_ifs, act_begins}
-use Rattle.sr_reader.proofs.Parts.{Seq, Sample, Leads, Casts, then, first_fails, goes_first, recast, cast, paired}
-use Rattle.sr_reader.proofs.Starts.{standing, lacks, none_read, word_read, word_sample, sign_sample, name_sample, expr_sample}
-use Rattle.sr_reader.proofs.Constants.{stayed}
-use Rattle.sr_reader.proofs.Loops.{Goes-on}
+use Rattle.sr_parse_reader.proofs.Parts.{Seq, Sample, Leads, Casts, then, first_fails, goes_first, recast, cast, paired}
+use Rattle.sr_parse_reader.proofs.Starts.{standing, lacks, none_read, word_read, word_sample, sign_sample, name_sample, expr_sample}
+use Rattle.sr_parse_reader.proofs.Constants.{stayed}
+use Rattle.sr_parse_reader.proofs.Loops.{Goes-on}
 
 -- what spells a value spells what is made of it
 sample_of : {A B : Type 0} (X : Symbols → A → Symbols → Type 0) (Y : Symbols → B → Symbols → Type 0) (f : A → B) → ((b : Symbols) (x : A) (a : Symbols) → X b x a → Y b (f x) a) → Sample X → Sample Y

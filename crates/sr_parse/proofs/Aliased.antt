@@ -3,22 +3,23 @@ use Rattle.std.proofs.Common.{◌≡◌, ℕ, ◌+◌, ◌<◌, List, [], ◌∷
 use Rattle.std.proofs.Math.Seq.{get_or-append_seam}
 use Rattle.std.proofs.lemmas.List.{get_or_append_left}
 use Rattle.std.proofs.lemmas.List.Quantifiers.{all_pairs_push}
-use Rattle.sr_reader.specs.declared.reader.Broken.{Broken}
-use Rattle.sr_reader.specs.declared.reader.Broken.TheVariants.{Memory}
+use Rattle.sr_parse_reader.specs.declared.reader.Broken.{Broken}
+use Rattle.sr_parse_reader.specs.declared.reader.Broken.TheVariants.{Memory}
 use Rattle.sr_ast.specs.declared.create.Image.{Image}
 use Rattle.sr_ast.specs.declared.keyword.Keyword.TheVariants as key
 use Rattle.sr_ast.specs.NormalForms.{Differ}
-use Rattle.sr_grammar.specs.declared.symbol.Symbol.{Symbol}
-use Rattle.sr_grammar.specs.declared.symbol.Symbol.TheVariants as symbol
-use Rattle.sr_grammar.specs.Symbols.{Symbols, first, behind, word, IsName, IsWord}
-use Rattle.sr_grammar.specs.Listing.{Row}
-use Rattle.sr_grammar.specs.Triggers.{image_word, IsAlias, AreAliases}
-use Rattle.sr_grammar.specs.Going.{Stop, is_image}
-use Rattle.sr_grammar.proofs.Steps.{Stop-begins}
-use Rattle.sr_grammar.proofs.Lists.{File}
-use Rattle.sr_grammar.proofs.Lists.File.{empty, first as front}
-use Rattle.sr_reader.proofs.Lines.{Runs}
-use Rattle.sr_grammar.proofs.Triggering.{image_once, image_is}
+use Rattle.sr_parse_grammar.specs.declared.symbol.Symbol.{Symbol}
+use Rattle.sr_parse_grammar.specs.declared.symbol.Symbol.TheVariants as symbol
+use Rattle.sr_parse_grammar.specs.Symbols.{Symbols, first, word, IsName, IsWord}
+use Rattle.sr_parse_grammar.specs.Inner.Symbols.{behind}
+use Rattle.sr_parse_grammar.specs.Listing.{Row}
+use Rattle.sr_parse_grammar.specs.Triggers.{image_word, IsAlias, AreAliases}
+use Rattle.sr_parse_grammar.specs.Inner.Going.{Stop, is_image}
+use Rattle.sr_parse_grammar.proofs.Steps.{Stop-begins}
+use Rattle.sr_parse_grammar.proofs.Lists.{File}
+use Rattle.sr_parse_grammar.proofs.Lists.File.{empty, first as prefix}
+use Rattle.sr_parse_reader.proofs.Lines.{Runs}
+use Rattle.sr_parse_grammar.proofs.Triggering.{image_once, image_is}
 
 -- the next symbol, and what is behind it
 pub next_is : (symbols : Symbols) (s : Symbol) → first symbols ≡ Some s → symbols ≡ s ∷ behind symbols
@@ -38,7 +39,7 @@ pub record Ahead (image : Image) (here : Symbols) (read xs : List (Image × List
 ahead_file : (image : Image) (here : Symbols) (read xs others : List (Image × List ℕ)) (rest : Symbols) → first here ≡ Some (word (image_word image))
     → xs ≡ read ++ others → File IsAlias here others rest → Stop is_image rest → Ahead image here read xs
 ahead_file image here read xs others rest f e empty s = absurd (Stop-begins is_image (next_is here _ f) (image_is image) s)
-ahead_file image here read xs others rest f e (front {middle = middle} {x = x} {xs = left} h others_) s =
+ahead_file image here read xs others rest f e (prefix {middle = middle} {x = x} {xs = left} h others_) s =
     let is = h.image in let n = next_is here _ f in
     let same : symbol.Keyword (image_word x.0) ≡ symbol.Keyword (image_word image) = cc in
     let i : x.0 ≡ image = image_once x.0 image same in

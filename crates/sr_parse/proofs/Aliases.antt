@@ -9,21 +9,22 @@ use Rattle.sr_ast.specs.declared.keyword.Keyword.{Keyword}
 use Rattle.sr_ast.specs.declared.keyword.Keyword.TheVariants as key
 use Rattle.sr_ast.specs.Keywords.{named}
 use Rattle.sr_ast.specs.NormalForms.{Differ}
-use Rattle.sr_reader.specs.declared.reader.Broken.{Broken}
-use Rattle.sr_reader.specs.declared.reader.Broken.TheVariants.{Memory, Refused}
-use Rattle.sr_grammar.specs.Symbols.{Symbols, first, behind, name_meant, word, IsName, IsWord}
-use Rattle.sr_grammar.specs.Meant.{AreMeant}
-use Rattle.sr_grammar.specs.Listing.{Row}
-use Rattle.sr_grammar.specs.Triggers.{image_word, IsAlias, AreAliases}
-use Rattle.sr_grammar.specs.Going.{Stop, is_image}
-use Rattle.sr_reader.specs.Reading.{Spells, GoesOn, Alike, Reading, Anywhere}
-use Rattle.sr_reader.specs.Reading.Reading.{read, refused, memory}
-use Rattle.sr_reader.specs.Productions.{Word}
-use Rattle.sr_grammar.proofs.Triggering.{image_once}
+use Rattle.sr_parse_reader.specs.declared.reader.Broken.{Broken}
+use Rattle.sr_parse_reader.specs.declared.reader.Broken.TheVariants.{Memory, Refused}
+use Rattle.sr_parse_grammar.specs.Symbols.{Symbols, first, name_meant, word, IsName, IsWord}
+use Rattle.sr_parse_grammar.specs.Inner.Symbols.{behind}
+use Rattle.sr_parse_grammar.specs.Inner.Meant.{AreMeant}
+use Rattle.sr_parse_grammar.specs.Listing.{Row}
+use Rattle.sr_parse_grammar.specs.Triggers.{image_word, IsAlias, AreAliases}
+use Rattle.sr_parse_grammar.specs.Inner.Going.{Stop, is_image}
+use Rattle.sr_parse_reader.specs.Inner.Reading.{Spells, GoesOn, Alike, Reading, Anywhere}
+use Rattle.sr_parse_reader.specs.Inner.Reading.Reading.{read, refused, memory}
+use Rattle.sr_parse_reader.specs.Inner.Productions.{Word}
+use Rattle.sr_parse_grammar.proofs.Triggering.{image_once}
 use Rattle.sr_parse.proofs.Aliased.{next_is, image_used, name_used, keyword_missed, name_missed, alias_none, image_begins}
-use Rattle.sr_reader.proofs.Parts.{Seq, four, from, two_places, meant_both, then, cast}
-use Rattle.sr_reader.proofs.Starts.{standing, meant_word, word_read}
-use Rattle.sr_reader.proofs.Loops.{Filed, Goes-on, row_on}
+use Rattle.sr_parse_reader.proofs.Parts.{Seq, four, from, two_places, meant_both, then, cast}
+use Rattle.sr_parse_reader.proofs.Starts.{standing, meant_word, word_read}
+use Rattle.sr_parse_reader.proofs.Loops.{Filed, Goes-on, row_on}
 
 -- ---- a name that no alias has
 

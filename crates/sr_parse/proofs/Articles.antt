@@ -4,24 +4,24 @@ use Rattle.sr_ast.specs.declared.expr.Expr.{Expr}
 use Rattle.sr_ast.specs.declared.create.ArticleRule.{ArticleRule}
 use Rattle.sr_ast.specs.declared.create.CreatePublication.{CreatePublication}
 use Rattle.sr_ast.specs.declared.keyword.Keyword.TheVariants as key
-use Rattle.sr_grammar.specs.declared.symbol.Sign.TheVariants as mark
-use Rattle.sr_reader.specs.declared.reader.Broken.{Broken}
-use Rattle.sr_grammar.specs.Symbols.{Symbols, first, word, IsName, IsWord}
-use Rattle.sr_grammar.specs.Listing.{Listed, IsNames}
-use Rattle.sr_grammar.specs.Listing.Listed.{one}
-use Rattle.sr_grammar.specs.Expressions.{IsExpr}
-use Rattle.sr_grammar.specs.Writing.{IsCondition}
-use Rattle.sr_grammar.specs.Catalog.{IsSubscribed, IsArticle, IsPublication}
-use Rattle.sr_grammar.specs.Going.{Stop, Closes, is_open, expression_goes, condition_goes}
-use Rattle.sr_reader.specs.Reading.{Alike, Reading, Anywhere, BeforeSign, mapped}
-use Rattle.sr_reader.specs.Productions.{Word, Mark}
-use Rattle.sr_grammar.proofs.Steps.{Stop-begins}
-use Rattle.sr_grammar.proofs.Lists.{Closes-stop}
-use Rattle.sr_reader.proofs.Conditions.{Lacks, condition_sample, passed_by}
-use Rattle.sr_grammar.proofs.Selecting.{led_stops}
-use Rattle.sr_grammar.proofs.Cataloguing.{is_subscribe, subscribed_stops}
-use Rattle.sr_reader.proofs.Parts.{Seq, Sample, Leads, cast, cast_goes, goes_first}
-use Rattle.sr_reader.proofs.Starts.{standing, lacks, word_sample, sign_sample, name_sample}
+use Rattle.sr_parse_grammar.specs.declared.symbol.Sign.TheVariants as mark
+use Rattle.sr_parse_reader.specs.declared.reader.Broken.{Broken}
+use Rattle.sr_parse_grammar.specs.Symbols.{Symbols, first, word, IsName, IsWord}
+use Rattle.sr_parse_grammar.specs.Listing.{Listed, IsNames}
+use Rattle.sr_parse_grammar.specs.Listing.Listed.{one}
+use Rattle.sr_parse_grammar.specs.Expressions.{IsExpr}
+use Rattle.sr_parse_grammar.specs.Writing.{IsCondition}
+use Rattle.sr_parse_grammar.specs.Catalog.{IsSubscribed, IsArticle, IsPublication}
+use Rattle.sr_parse_grammar.specs.Inner.Going.{Stop, Closes, is_open, expression_goes, condition_goes}
+use Rattle.sr_parse_reader.specs.Inner.Reading.{Alike, Reading, Anywhere, BeforeSign, mapped}
+use Rattle.sr_parse_reader.specs.Inner.Productions.{Word, Mark}
+use Rattle.sr_parse_grammar.proofs.Steps.{Stop-begins}
+use Rattle.sr_parse_grammar.proofs.Lists.{Closes-stop}
+use Rattle.sr_parse_reader.proofs.Conditions.{Lacks, condition_sample, passed_by}
+use Rattle.sr_parse_grammar.proofs.Selecting.{led_stops}
+use Rattle.sr_parse_grammar.proofs.Cataloguing.{is_subscribe, subscribed_stops}
+use Rattle.sr_parse_reader.proofs.Parts.{Seq, Sample, Leads, cast, cast_goes, goes_first}
+use Rattle.sr_parse_reader.proofs.Starts.{standing, lacks, word_sample, sign_sample, name_sample}
 
 -- ---- what subscribes
 

@@ -6,14 +6,14 @@ use Rattle.sr_ast.specs.declared.expr.Expr.{Expr}
 use Rattle.sr_ast.specs.declared.action.Action.{Action}
 use Rattle.sr_ast.specs.declared.action.Action.TheVariants.{Set, Insert, If, IfElse}
 use Rattle.sr_ast.specs.declared.keyword.Keyword.TheVariants as key
-use Rattle.sr_grammar.specs.declared.symbol.Sign.TheVariants as mark
-use Rattle.sr_grammar.specs.Symbols.{Symbols, word, IsWord, IsSign}
-use Rattle.sr_grammar.specs.Expressions.{IsExpr}
-use Rattle.sr_grammar.specs.Triggers.{IsAssigned, IsInserted, Acts, IsActions}
-use Rattle.sr_grammar.specs.Triggers.Amount.{one, many}
-use Rattle.sr_grammar.specs.Triggers.Acts.{set, insert, when, choose}
-use Rattle.sr_grammar.specs.Going.{Stop, action_starts}
-use Rattle.sr_grammar.proofs.Steps.{Stop-at, Stop-begins}
+use Rattle.sr_parse_grammar.specs.declared.symbol.Sign.TheVariants as mark
+use Rattle.sr_parse_grammar.specs.Symbols.{Symbols, word, IsWord, IsSign}
+use Rattle.sr_parse_grammar.specs.Expressions.{IsExpr}
+use Rattle.sr_parse_grammar.specs.Triggers.{IsAssigned, IsInserted, Acts, IsActions}
+use Rattle.sr_parse_grammar.specs.Triggers.Amount.{one, many}
+use Rattle.sr_parse_grammar.specs.Triggers.Acts.{set, insert, when, choose}
+use Rattle.sr_parse_grammar.specs.Inner.Going.{Stop, action_starts}
+use Rattle.sr_parse_grammar.proofs.Steps.{Stop-at, Stop-begins}
 
 -- ---- actions, one behind the other
 

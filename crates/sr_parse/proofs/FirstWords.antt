@@ -7,23 +7,25 @@ use Rattle.sr_ast.specs.declared.form.Form.{Form}
 use Rattle.sr_ast.specs.declared.form.Form.TheVariants as forms
 use Rattle.sr_ast.specs.declared.keyword.Keyword.{Keyword}
 use Rattle.sr_ast.specs.declared.keyword.Keyword.TheVariants as key
-use Rattle.sr_grammar.specs.declared.symbol.Symbol.TheVariants as symbol
-use Rattle.sr_reader.specs.declared.reader.Broken.{Broken}
-use Rattle.sr_reader.specs.declared.reader.Broken.TheVariants.{Refused}
-use Rattle.sr_grammar.specs.Symbols.{Symbols, first, behind, word, IsWord}
-use Rattle.sr_grammar.specs.Forms.{word_in, form_behind, form_of, form_at, words, led, past}
-use Rattle.sr_grammar.specs.Scripts.{IsWork, Made, IsRest, IsStatement}
-use Rattle.sr_grammar.specs.Going.{Ends}
-use Rattle.sr_reader.specs.Reading.{Alike, Reading, Anywhere, mapped}
-use Rattle.sr_reader.specs.Reading.Reading.{read, refused, memory}
-use Rattle.sr_reader.specs.Productions.{Work}
-use Rattle.sr_grammar.proofs.Steps.{Stop-begins, two_parts}
-use Rattle.sr_grammar.proofs.Lists.{Ends-stop}
-use Rattle.sr_grammar.proofs.Statements.{is_work}
-use Rattle.sr_grammar.proofs.Forms.{told, as_form, led_same, opens, none_behind}
-use Rattle.sr_reader.proofs.Optionals.{Lacks, behind_word}
-use Rattle.sr_reader.proofs.Parts.{Sample, Casts, cast, from, handed, valued}
-use Rattle.sr_reader.proofs.Starts.{none_read, nothing_read, standing, lacks, word_read, meant_word}
+use Rattle.sr_parse_grammar.specs.declared.symbol.Symbol.TheVariants as symbol
+use Rattle.sr_parse_reader.specs.declared.reader.Broken.{Broken}
+use Rattle.sr_parse_reader.specs.declared.reader.Broken.TheVariants.{Refused}
+use Rattle.sr_parse_grammar.specs.Symbols.{Symbols, first, word, IsWord}
+use Rattle.sr_parse_grammar.specs.Inner.Symbols.{behind}
+use Rattle.sr_parse_grammar.specs.Forms.{words, led}
+use Rattle.sr_parse_grammar.specs.Inner.Forms.{word_in, form_behind, form_of, form_at, past}
+use Rattle.sr_parse_grammar.specs.Scripts.{IsWork, Made, IsRest, IsStatement}
+use Rattle.sr_parse_grammar.specs.Inner.Going.{Ends}
+use Rattle.sr_parse_reader.specs.Inner.Reading.{Alike, Reading, Anywhere, mapped}
+use Rattle.sr_parse_reader.specs.Inner.Reading.Reading.{read, refused, memory}
+use Rattle.sr_parse_reader.specs.Inner.Productions.{Work}
+use Rattle.sr_parse_grammar.proofs.Steps.{Stop-begins, two_parts}
+use Rattle.sr_parse_grammar.proofs.Lists.{Ends-stop}
+use Rattle.sr_parse_grammar.proofs.Statements.{is_work}
+use Rattle.sr_parse_grammar.proofs.Forms.{told, as_form, led_same, opens, none_behind}
+use Rattle.sr_parse_reader.proofs.Optionals.{Lacks, behind_word}
+use Rattle.sr_parse_reader.proofs.Parts.{Sample, Casts, cast, from, handed, valued}
+use Rattle.sr_parse_reader.proofs.Starts.{none_read, nothing_read, standing, lacks, word_read, meant_word}
 
 -- ---- [WORK]
 

@@ -5,27 +5,28 @@ use Rattle.sr_base.specs.declared.value.Value.TheVariants.{Int}
 use Rattle.sr_ast.specs.declared.create.SubscriptionRule.{SubscriptionRule}
 use Rattle.sr_ast.specs.declared.keyword.Keyword.TheVariants as key
 use Rattle.sr_ast.specs.declared.create.Grant.{Grant}
-use Rattle.sr_grammar.specs.declared.symbol.Sign.TheVariants as mark
-use Rattle.sr_grammar.specs.declared.symbol.Symbol.TheVariants as symbol
-use Rattle.sr_reader.specs.declared.reader.Broken.{Broken}
-use Rattle.sr_reader.specs.declared.reader.Broken.TheVariants.{Refused}
-use Rattle.sr_grammar.specs.Symbols.{Symbols, first, behind, word, IsName, IsWord, IsSign, IsTextAt}
-use Rattle.sr_grammar.specs.Parts.{IsBehind}
-use Rattle.sr_grammar.specs.Literals.{IsLiteral, IsNegative}
-use Rattle.sr_grammar.specs.Catalog.{IsSigned, IsGiven, IsSubscription, IsAddress, IsGrant}
-use Rattle.sr_grammar.specs.Going.{Stop, Ends, is_open}
-use Rattle.sr_reader.specs.Reading.{Alike, Reading, Anywhere, mapped}
-use Rattle.sr_reader.specs.Productions.{Word, Mark}
-use Rattle.sr_grammar.proofs.Steps.{Stop-begins}
-use Rattle.sr_grammar.proofs.Lists.{Ends-stop}
-use Rattle.sr_grammar.proofs.Expressing.{negative_once}
+use Rattle.sr_parse_grammar.specs.declared.symbol.Sign.TheVariants as mark
+use Rattle.sr_parse_grammar.specs.declared.symbol.Symbol.TheVariants as symbol
+use Rattle.sr_parse_reader.specs.declared.reader.Broken.{Broken}
+use Rattle.sr_parse_reader.specs.declared.reader.Broken.TheVariants.{Refused}
+use Rattle.sr_parse_grammar.specs.Symbols.{Symbols, first, word, IsName, IsWord, IsSign, IsTextAt}
+use Rattle.sr_parse_grammar.specs.Inner.Symbols.{behind}
+use Rattle.sr_parse_grammar.specs.Parts.{IsBehind}
+use Rattle.sr_parse_grammar.specs.Literals.{IsLiteral, IsNegative}
+use Rattle.sr_parse_grammar.specs.Catalog.{IsSigned, IsGiven, IsSubscription, IsAddress, IsGrant}
+use Rattle.sr_parse_grammar.specs.Inner.Going.{Stop, Ends, is_open}
+use Rattle.sr_parse_reader.specs.Inner.Reading.{Alike, Reading, Anywhere, mapped}
+use Rattle.sr_parse_reader.specs.Inner.Productions.{Word, Mark}
+use Rattle.sr_parse_grammar.proofs.Steps.{Stop-begins}
+use Rattle.sr_parse_grammar.proofs.Lists.{Ends-stop}
+use Rattle.sr_parse_grammar.proofs.Expressing.{negative_once}
 use Rattle.sr_parse.proofs.Granting.{signed_left}
-use Rattle.sr_grammar.proofs.Cataloguing.{literal_no_minus}
-use Rattle.sr_grammar.proofs.Granted.{is_type, grant_of, grant_proper}
-use Rattle.sr_reader.proofs.Parts.{Seq, Sample, cast, goes_first, recast, whole_read}
-use Rattle.sr_reader.proofs.Optionals.{led_read}
-use Rattle.sr_reader.proofs.Starts.{meant_one, standing, one_read, none_read, lacks, word_sample, name_sample}
-use Rattle.sr_reader.proofs.Conditions.{passed_by}
+use Rattle.sr_parse_grammar.proofs.Cataloguing.{literal_no_minus}
+use Rattle.sr_parse_grammar.proofs.Granted.{is_type, grant_of, grant_proper}
+use Rattle.sr_parse_reader.proofs.Parts.{Seq, Sample, cast, goes_first, recast, whole_read}
+use Rattle.sr_parse_reader.proofs.Optionals.{led_read}
+use Rattle.sr_parse_reader.proofs.Starts.{meant_one, standing, one_read, none_read, lacks, word_sample, name_sample}
+use Rattle.sr_parse_reader.proofs.Conditions.{passed_by}
 
 -- ---- literals with a sign
 

@@ -3,16 +3,16 @@ use Rattle.std.proofs.Common.{◌≡◌, ℕ, List, [], ◌∷◌, ◌++◌, ref
 use Rattle.std.proofs.lemmas.List.{append-nil}
 use Rattle.sr_ast.specs.declared.create.ColumnRule.{ColumnRule}
 use Rattle.sr_ast.specs.declared.keyword.Keyword.TheVariants as kw
-use Rattle.sr_grammar.specs.declared.symbol.Sign.TheVariants as mark
-use Rattle.sr_reader.specs.declared.reader.Broken.{Broken}
-use Rattle.sr_reader.specs.declared.reader.Broken.TheVariants.{Memory}
-use Rattle.sr_grammar.specs.Symbols.{Symbols, IsWord, IsSign}
-use Rattle.sr_grammar.specs.Tables.{IsColumns, IsColumnRule, IsKeyWords, IsKeyed}
-use Rattle.sr_grammar.specs.Tables.IsColumns.{one, more}
-use Rattle.sr_grammar.specs.Going.{Stop, rule_starts}
-use Rattle.sr_grammar.proofs.Steps.{Stop-at}
-use Rattle.sr_grammar.proofs.Expressing.{no_key_name}
-use Rattle.sr_grammar.proofs.Columns.{Keyed}
+use Rattle.sr_parse_grammar.specs.declared.symbol.Sign.TheVariants as mark
+use Rattle.sr_parse_reader.specs.declared.reader.Broken.{Broken}
+use Rattle.sr_parse_reader.specs.declared.reader.Broken.TheVariants.{Memory}
+use Rattle.sr_parse_grammar.specs.Symbols.{Symbols, IsWord, IsSign}
+use Rattle.sr_parse_grammar.specs.Tables.{IsColumns, IsColumnRule, IsKeyWords, IsKeyed}
+use Rattle.sr_parse_grammar.specs.Tables.IsColumns.{one, more}
+use Rattle.sr_parse_grammar.specs.Inner.Going.{Stop, rule_starts}
+use Rattle.sr_parse_grammar.proofs.Steps.{Stop-at}
+use Rattle.sr_parse_grammar.proofs.Expressing.{no_key_name}
+use Rattle.sr_parse_grammar.proofs.Columns.{Keyed}
 
 -- the columns behind those that were read, where they name a key, and the key at the end
 pub data Onward : Symbols → List (List ℕ) → List ColumnRule → List (List ℕ) → Symbols → Type 0 where

@@ -3,28 +3,29 @@ use Rattle.std.proofs.Common.{◌≡◌, ℕ, ◌||◌, List, [], ◌∷◌, ◌
 use Rattle.std.proofs.lemmas.Map.Lookups.{exact_bytes}
 use Rattle.std.proofs.lemmas.Map.Views.{btree_set_contains_iff}
 use Rattle.std.specs.BTreeSet.{BTreeSet, contains}
-use Rattle.sr_base.specs.Order.{name_cmp, name_cmp_total}
+use Rattle.sr_base.specs.Order.{name_cmp}
+use Rattle.sr_base.specs.Inner.Order.{name_cmp_total}
 use Rattle.sr_ast.specs.declared.create.ColumnRule.{ColumnRule}
 use Rattle.sr_ast.specs.declared.create.CreateTable.{CreateTable}
 use Rattle.sr_ast.specs.declared.keyword.Keyword.TheVariants as key
-use Rattle.sr_grammar.specs.declared.symbol.Sign.TheVariants as mark
-use Rattle.sr_reader.specs.declared.reader.Broken.{Broken}
-use Rattle.sr_reader.specs.declared.reader.Broken.TheVariants.{Memory, Refused}
-use Rattle.sr_grammar.specs.Symbols.{Symbols, first, word, sign, IsName, IsWord, IsSign}
-use Rattle.sr_parse.specs.Keys.{IsSetOf}
-use Rattle.sr_grammar.specs.Tables.{IsColumns, IsColumnRule, IsKeyWords, IsKeyed, AreNormal, IsTable}
-use Rattle.sr_grammar.specs.Going.{Stop, rule_starts}
-use Rattle.sr_reader.specs.Reading.{Alike, WasRead, Reading, Anywhere, BeforeSign}
-use Rattle.sr_reader.specs.Reading.Reading.{read, refused, memory}
-use Rattle.sr_reader.specs.Productions.{Word, Mark, Keyed, Ruled}
-use Rattle.sr_reader.proofs.Conditions.{Lacks}
+use Rattle.sr_parse_grammar.specs.declared.symbol.Sign.TheVariants as mark
+use Rattle.sr_parse_reader.specs.declared.reader.Broken.{Broken}
+use Rattle.sr_parse_reader.specs.declared.reader.Broken.TheVariants.{Memory, Refused}
+use Rattle.sr_parse_grammar.specs.Symbols.{Symbols, first, word, sign, IsName, IsWord, IsSign}
+use Rattle.sr_parse.specs.Inner.Keys.{IsSetOf}
+use Rattle.sr_parse_grammar.specs.Tables.{IsColumns, IsColumnRule, IsKeyWords, IsKeyed, AreNormal, IsTable}
+use Rattle.sr_parse_grammar.specs.Inner.Going.{Stop, rule_starts}
+use Rattle.sr_parse_reader.specs.Inner.Reading.{Alike, WasRead, Reading, Anywhere, BeforeSign}
+use Rattle.sr_parse_reader.specs.Inner.Reading.Reading.{read, refused, memory}
+use Rattle.sr_parse_reader.specs.Inner.Productions.{Word, Mark, Keyed, Ruled}
+use Rattle.sr_parse_reader.proofs.Conditions.{Lacks}
 use Rattle.sr_parse.proofs.Normals.{IsNormal-marked}
-use Rattle.sr_grammar.proofs.Columns.{normals_once}
+use Rattle.sr_parse_grammar.proofs.Columns.{normals_once}
 use Rattle.sr_parse.proofs.Tabling.{IsColumns-one, IsColumns-more}
 use Rattle.sr_parse.proofs.Keying.{Keying, FindsColumn, Keying-begun, Keying-unread, Keying-on, Keying-missed, Keying-done, Keying-listed}
-use Rattle.sr_reader.proofs.Parts.{Seq, Sample, Leads, from, alike_from, two_places, cast_goes, goes_first}
-use Rattle.sr_reader.proofs.Starts.{standing, lacks, sign_sample, name_sample}
-use Rattle.sr_reader.proofs.Names.{NameParts, names_closed_sample}
+use Rattle.sr_parse_reader.proofs.Parts.{Seq, Sample, Leads, from, alike_from, two_places, cast_goes, goes_first}
+use Rattle.sr_parse_reader.proofs.Starts.{standing, lacks, sign_sample, name_sample}
+use Rattle.sr_parse_reader.proofs.Names.{NameParts, names_closed_sample}
 use Rattle.sr_parse.proofs.Rulings.{free, is_free, column_of, column_to, ColumnParts, typed_sample}
 
 -- ---- PRIMARY KEY and the names

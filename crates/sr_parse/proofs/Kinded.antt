@@ -3,8 +3,8 @@ use Rattle.std.proofs.Common.{◌≡◌, ℕ, refl, sym, subst, ◌∙◌, inl, 
 use Rattle.sr_base.specs.declared.value.Kind.{Kind}
 use Rattle.sr_base.specs.declared.value.Kind.TheVariants as kind
 use Rattle.sr_ast.specs.declared.keyword.Keyword.TheVariants as key
-use Rattle.sr_grammar.specs.Symbols.{Symbols, IsWord}
-use Rattle.sr_grammar.specs.Catalog.{IsKind, IsVarchar}
+use Rattle.sr_parse_grammar.specs.Symbols.{Symbols, IsWord}
+use Rattle.sr_parse_grammar.specs.Catalog.{IsKind, IsVarchar}
 
 -- where none of the other words stood, a kind is VARCHAR
 pub kind_varchar : {start after_integer after_int after_bigint here : Symbols} → after_integer ≡ start → after_int ≡ after_integer → after_bigint ≡ after_int → here ≡ after_bigint

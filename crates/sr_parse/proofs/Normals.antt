@@ -9,10 +9,11 @@ use Rattle.std.specs.Ordering.{is_eq}
 use Rattle.std.specs.List.{list_any}
 use Rattle.std.specs.BTreeMap.{is_at}
 use Rattle.std.specs.BTreeSet.{BTreeSet, contains, Updates}
-use Rattle.sr_base.specs.Order.{name_cmp, name_cmp_total}
+use Rattle.sr_base.specs.Order.{name_cmp}
+use Rattle.sr_base.specs.Inner.Order.{name_cmp_total}
 use Rattle.sr_ast.specs.declared.create.ColumnRule.{ColumnRule}
-use Rattle.sr_parse.specs.Keys.{IsSetOf}
-use Rattle.sr_grammar.specs.Tables.{IsNormal, AreNormal}
+use Rattle.sr_parse.specs.Inner.Keys.{IsSetOf}
+use Rattle.sr_parse_grammar.specs.Tables.{IsNormal, AreNormal}
 
 -- the columns behind those that are left have the normal form so far
 pub record NormalSoFar (key : List (List ℕ)) (all left columns : List ColumnRule) : Type 0 where

@@ -1,21 +1,23 @@
 -- Readers of scripts: what has been taken spells the statements read, and each script that goes on from it begins with them.
 use Rattle.std.proofs.Common.{◌≡◌, ◌<◌, List, [], ◌∷◌, ◌++◌, Result, Ok, Err, refl, sym, subst, ap, ◌∙◌, inl, inr, length, arith, append-nil, append_assoc}
 use Rattle.sr_ast.specs.declared.stmt.Stmt.{Stmt}
-use Rattle.sr_grammar.specs.declared.symbol.Sign.TheVariants as mark
-use Rattle.sr_reader.specs.declared.reader.Broken.{Broken}
-use Rattle.sr_reader.specs.declared.reader.Broken.TheVariants.{Memory, Refused}
-use Rattle.sr_grammar.specs.Symbols.{Symbols, first, behind, sign, IsSign}
-use Rattle.sr_grammar.specs.Scripts.{IsStatement, IsPiece, IsScript, Stage, Pieces}
-use Rattle.sr_grammar.specs.Scripts.Stage.{opened, closed}
-use Rattle.sr_grammar.specs.Scripts.Pieces.{again}
-use Rattle.sr_grammar.specs.Going.{Ends}
-use Rattle.sr_reader.specs.Reading.{Alike, Reading, AtEnd, mapped}
-use Rattle.sr_reader.specs.Reading.Reading.{read, refused, memory}
-use Rattle.sr_grammar.proofs.Statements.{Left, left_ends, from_left, no_statement}
-use Rattle.sr_grammar.proofs.Statements.Left.{over, parted, passed_over, said}
+use Rattle.sr_parse_grammar.specs.declared.symbol.Sign.TheVariants as mark
+use Rattle.sr_parse_reader.specs.declared.reader.Broken.{Broken}
+use Rattle.sr_parse_reader.specs.declared.reader.Broken.TheVariants.{Memory, Refused}
+use Rattle.sr_parse_grammar.specs.Symbols.{Symbols, first, sign, IsSign}
+use Rattle.sr_parse_grammar.specs.Inner.Symbols.{behind}
+use Rattle.sr_parse_grammar.specs.Scripts.{IsStatement, IsScript, Stage, Pieces}
+use Rattle.sr_parse_grammar.specs.Inner.Scripts.{IsPiece}
+use Rattle.sr_parse_grammar.specs.Scripts.Stage.{opened, closed}
+use Rattle.sr_parse_grammar.specs.Scripts.Pieces.{again}
+use Rattle.sr_parse_grammar.specs.Inner.Going.{Ends}
+use Rattle.sr_parse_reader.specs.Inner.Reading.{Alike, Reading, AtEnd, mapped}
+use Rattle.sr_parse_reader.specs.Inner.Reading.Reading.{read, refused, memory}
+use Rattle.sr_parse_grammar.proofs.Statements.{Left, left_ends, from_left, no_statement}
+use Rattle.sr_parse_grammar.proofs.Statements.Left.{over, parted, passed_over, said}
 use Rattle.sr_parse.proofs.Tabling.{Pieces-start, Pieces-piece}
-use Rattle.sr_reader.proofs.Parts.{from, alike_from, two_places, cast}
-use Rattle.sr_reader.proofs.Starts.{nothing_read, standing, lacks}
+use Rattle.sr_parse_reader.proofs.Parts.{from, alike_from, two_places, cast}
+use Rattle.sr_parse_reader.proofs.Starts.{nothing_read, standing, lacks}
 
 -- ---- the rest of a script
 

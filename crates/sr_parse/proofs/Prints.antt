@@ -2,13 +2,13 @@
 use Rattle.std.proofs.Common.{◌≡◌, ℕ, List, [], ◌∷◌, Option, Some, None, Ok, Err, IfSome, inl, inr, sym, subst, ap, ◌∙◌}
 use Rattle.sr_ast.specs.Layout.{printed}
 use Rattle.sr_ast.specs.declared.stmt.Stmt.{Stmt}
-use Rattle.sr_grammar.specs.Meanings.{IsWritten}
-use Rattle.sr_grammar.specs.Faults.{IsRead, Answers}
-use Rattle.sr_grammar.specs.declared.fault.ParseFault.{ParseFault}
-use Rattle.sr_grammar.specs.declared.fault.ParseFault.TheVariants.{Refused}
-use Rattle.sr_grammar.proofs.Stated.{printed-is_written}
-use Rattle.sr_grammar.proofs.Meaning.{written_once}
-use Rattle.sr_grammar.proofs.Closed.{written-normal}
+use Rattle.sr_parse_grammar.specs.Meanings.{IsWritten}
+use Rattle.sr_parse_grammar.specs.Inner.Faults.{IsRead, Answers}
+use Rattle.sr_parse_grammar.specs.declared.fault.ParseFault.{ParseFault}
+use Rattle.sr_parse_grammar.specs.declared.fault.ParseFault.TheVariants.{Refused}
+use Rattle.sr_parse_grammar.proofs.Stated.{printed-is_written}
+use Rattle.sr_parse_grammar.proofs.Meaning.{written_once}
+use Rattle.sr_parse_grammar.proofs.Closed.{written-normal}
 use Rattle.sr_parse.specs.Prints.{Prints}
 
 -- the text that a statement prints spells it

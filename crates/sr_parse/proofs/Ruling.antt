@@ -1,13 +1,13 @@
 -- Rules of a column as a reader goes through them: all rules from the start go on where the reader stands.
 use Rattle.std.proofs.Common.{◌≡◌, Bool, true, false, ◌∷◌, refl, subst, inl, inr, ◌⊎◌}
 use Rattle.sr_ast.specs.declared.keyword.Keyword.TheVariants as kw
-use Rattle.sr_reader.specs.declared.reader.Broken.{Broken}
-use Rattle.sr_reader.specs.declared.reader.Broken.TheVariants.{Memory}
-use Rattle.sr_grammar.specs.Symbols.{Symbols, word, IsWord}
-use Rattle.sr_grammar.specs.Tables.{IsRules}
-use Rattle.sr_grammar.specs.Tables.IsRules.{none, not_null, null, primary}
-use Rattle.sr_grammar.specs.Going.{Stop, rule_starts}
-use Rattle.sr_grammar.proofs.Steps.{Stop-begins}
+use Rattle.sr_parse_reader.specs.declared.reader.Broken.{Broken}
+use Rattle.sr_parse_reader.specs.declared.reader.Broken.TheVariants.{Memory}
+use Rattle.sr_parse_grammar.specs.Symbols.{Symbols, word, IsWord}
+use Rattle.sr_parse_grammar.specs.Tables.{IsRules}
+use Rattle.sr_parse_grammar.specs.Tables.IsRules.{none, not_null, null, primary}
+use Rattle.sr_parse_grammar.specs.Inner.Going.{Stop, rule_starts}
+use Rattle.sr_parse_grammar.proofs.Steps.{Stop-begins}
 
 -- the rules behind those that were read: which were there, and which are at the end
 pub data Left : Bool → Bool → Bool → Symbols → Bool → Bool → Bool → Symbols → Type 0 where

@@ -5,22 +5,22 @@ use Rattle.sr_base.specs.declared.value.Kind.TheVariants as kind
 use Rattle.sr_ast.specs.declared.create.ColumnRule.{ColumnRule}
 use Rattle.sr_ast.specs.declared.keyword.Keyword.{Keyword}
 use Rattle.sr_ast.specs.declared.keyword.Keyword.TheVariants as key
-use Rattle.sr_grammar.specs.declared.symbol.Symbol.{Symbol}
-use Rattle.sr_reader.specs.declared.reader.Broken.{Broken}
-use Rattle.sr_reader.specs.declared.reader.Broken.TheVariants.{Memory, Refused}
-use Rattle.sr_grammar.specs.Symbols.{Symbols, first, word, IsName, IsWord}
-use Rattle.sr_grammar.specs.Catalog.{IsKind}
-use Rattle.sr_grammar.specs.Tables.{IsRules}
-use Rattle.sr_grammar.specs.Tables.IsRules.{none}
-use Rattle.sr_grammar.specs.Going.{Stop, rule_starts}
-use Rattle.sr_reader.specs.Reading.{Alike, Reading, Anywhere, mapped}
-use Rattle.sr_reader.specs.Reading.Reading.{read, refused, memory}
-use Rattle.sr_reader.specs.Productions.{Word, Ruled, Rules}
-use Rattle.sr_reader.proofs.Conditions.{Lacks}
+use Rattle.sr_parse_grammar.specs.declared.symbol.Symbol.{Symbol}
+use Rattle.sr_parse_reader.specs.declared.reader.Broken.{Broken}
+use Rattle.sr_parse_reader.specs.declared.reader.Broken.TheVariants.{Memory, Refused}
+use Rattle.sr_parse_grammar.specs.Symbols.{Symbols, first, word, IsName, IsWord}
+use Rattle.sr_parse_grammar.specs.Catalog.{IsKind}
+use Rattle.sr_parse_grammar.specs.Tables.{IsRules}
+use Rattle.sr_parse_grammar.specs.Tables.IsRules.{none}
+use Rattle.sr_parse_grammar.specs.Inner.Going.{Stop, rule_starts}
+use Rattle.sr_parse_reader.specs.Inner.Reading.{Alike, Reading, Anywhere, mapped}
+use Rattle.sr_parse_reader.specs.Inner.Reading.Reading.{read, refused, memory}
+use Rattle.sr_parse_reader.specs.Inner.Productions.{Word, Ruled, Rules}
+use Rattle.sr_parse_reader.proofs.Conditions.{Lacks}
 use Rattle.sr_parse.proofs.Tabling.{IsRules-not_null, IsRules-null, IsRules-primary}
 use Rattle.sr_parse.proofs.Ruling.{Ruling, Ruling-start, Ruling-bars, Ruling-lets, Ruling-keys, Ruling-bars-missed, Ruling-keys-missed, Ruling-done}
-use Rattle.sr_reader.proofs.Parts.{Seq, Sample, from, two_places, recast, goes_first}
-use Rattle.sr_reader.proofs.Starts.{meant_word, lacks}
+use Rattle.sr_parse_reader.proofs.Parts.{Seq, Sample, from, two_places, recast, goes_first}
+use Rattle.sr_parse_reader.proofs.Starts.{meant_word, lacks}
 
 -- the word that is next was not read: memory ended
 pub ended : {A : Type 0} {X : Symbols → A → Symbols → Type 0} {P : Symbols → Type 0} {before here : Symbols} {e : Broken} → e ≡ Memory → Reading X P before here (Err e)

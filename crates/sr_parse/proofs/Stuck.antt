@@ -7,19 +7,19 @@ use Rattle.sr_lex.specs.declared.token.TokenKind.{TokenKind}
 use Rattle.sr_lex.specs.declared.token.TokenKind.TheVariants.{Word, Number, TopNumber, Str, Sign}
 use Rattle.sr_lex.specs.Tokens.{IsToken, IsTokens, Takes, is_sign, is_lone, is_dash, is_behind_less, begins}
 use Rattle.sr_lex.specs.Tokens.Skips.{none, blank}
-use Rattle.sr_grammar.specs.Symbols.{Symbols}
-use Rattle.sr_grammar.specs.Meanings.{IsSymbolOf, AreSymbols}
-use Rattle.sr_grammar.specs.Meant.{AreMeant}
-use Rattle.sr_grammar.specs.Places.{start_at, NoneGoesOn, IsStuck, IsRefusedAt}
-use Rattle.sr_grammar.specs.Scripts.{Pieces, IsScript}
-use Rattle.sr_grammar.specs.Scripts.Stage.{closed}
-use Rattle.sr_reader.specs.Reading.{WasRefused, Reading, Alike, AtEnd}
-use Rattle.sr_reader.specs.Reading.Reading.{refused}
-use Rattle.sr_reader.specs.declared.reader.Broken.{Broken}
-use Rattle.sr_reader.specs.declared.reader.Broken.TheVariants.{Memory, Refused}
-use Rattle.sr_reader.proofs.Parts.{spelled}
-use Rattle.sr_grammar.proofs.Lexemes.{Lexes, Skips-front, slice_middle, tokens_of}
-use Rattle.sr_grammar.proofs.Lexemes.Lexes.{done, token}
+use Rattle.sr_parse_grammar.specs.Symbols.{Symbols}
+use Rattle.sr_parse_grammar.specs.Meanings.{IsSymbolOf, AreSymbols}
+use Rattle.sr_parse_grammar.specs.Inner.Meant.{AreMeant}
+use Rattle.sr_parse_grammar.specs.Places.{start_at, NoneGoesOn, IsStuck, IsRefusedAt}
+use Rattle.sr_parse_grammar.specs.Scripts.{Pieces, IsScript}
+use Rattle.sr_parse_grammar.specs.Scripts.Stage.{closed}
+use Rattle.sr_parse_reader.specs.Inner.Reading.{WasRefused, Reading, Alike, AtEnd}
+use Rattle.sr_parse_reader.specs.Inner.Reading.Reading.{refused}
+use Rattle.sr_parse_reader.specs.declared.reader.Broken.{Broken}
+use Rattle.sr_parse_reader.specs.declared.reader.Broken.TheVariants.{Memory, Refused}
+use Rattle.sr_parse_reader.proofs.Parts.{spelled}
+use Rattle.sr_parse_grammar.proofs.Lexemes.{Lexes, Skips-prefix, slice_middle, tokens_of}
+use Rattle.sr_parse_grammar.proofs.Lexemes.Lexes.{done, token}
 
 -- ---- a token alone, and before a space
 
@@ -75,20 +75,20 @@ said_lexes (s ∷ symbols) m =
 
 -- ---- the symbols of the tokens of a text are meant by tokens
 
-meant_front : (xs ys : Symbols) → AreMeant (xs ++ ys) → AreMeant xs
-meant_front [] ys m = tt
-meant_front (x ∷ xs) ys m = (m.0, meant_front xs ys m.1)
+meant_prefix : (xs ys : Symbols) → AreMeant (xs ++ ys) → AreMeant xs
+meant_prefix [] ys m = tt
+meant_prefix (x ∷ xs) ys m = (m.0, meant_prefix xs ys m.1)
 
-meant_by : (text front bytes : List ℕ) (tokens : List Token) (symbols : Symbols) → text ≡ front ++ bytes → Takes (length front) bytes tokens [] → AreSymbols text tokens symbols → AreMeant symbols
-meant_by text front bytes [] [] e h m = tt
-meant_by text front bytes [] (s ∷ symbols) e h m = absurd m
-meant_by text front bytes (t ∷ tokens) [] e h m = absurd m
-meant_by text front bytes (t ∷ tokens) (s ∷ symbols) e (after, h, others) m =
-    let gap = Skips-front h.skips in
-    let begin = front ++ gap.0 in
-    let whole : text ≡ begin ++ (h.word ++ after) = e ∙ (ap (λ b. front ++ b) gap.1 ∙ sym (append_assoc front gap.0 (h.word ++ after))) in
+meant_by : (text prefix bytes : List ℕ) (tokens : List Token) (symbols : Symbols) → text ≡ prefix ++ bytes → Takes (length prefix) bytes tokens [] → AreSymbols text tokens symbols → AreMeant symbols
+meant_by text prefix bytes [] [] e h m = tt
+meant_by text prefix bytes [] (s ∷ symbols) e h m = absurd m
+meant_by text prefix bytes (t ∷ tokens) [] e h m = absurd m
+meant_by text prefix bytes (t ∷ tokens) (s ∷ symbols) e (after, h, others) m =
+    let gap = Skips-prefix h.skips in
+    let begin = prefix ++ gap.0 in
+    let whole : text ≡ begin ++ (h.word ++ after) = e ∙ (ap (λ b. prefix ++ b) gap.1 ∙ sym (append_assoc prefix gap.0 (h.word ++ after))) in
     let next : text ≡ (begin ++ h.word) ++ after = whole ∙ sym (append_assoc begin h.word after) in
-    let start : t.start ≡ length begin = let s = h.start in omega (arith, s, ap length gap.1, length-append gap.0 (h.word ++ after), length-append front gap.0) in
+    let start : t.start ≡ length begin = let s = h.start in omega (arith, s, ap length gap.1, length-append gap.0 (h.word ++ after), length-append prefix gap.0) in
     let end : t.end ≡ length (begin ++ h.word) = let s = h.end in omega (arith, s, start, length-append begin h.word) in
     let is = m.0 in
     let all = ap length next in
@@ -114,7 +114,7 @@ pub stuck_at : (text : List ℕ) (tokens : List Token) (symbols here : Symbols) 
     → IsStuck text tokens at
 stuck_at text tokens symbols here at count is mean r size place =
     let all = subst (λ (l : Symbols). AreSymbols text tokens l) r.parts mean in
-    let meant = meant_all r.taken r.goes.more (meant_front r.taken here (meant_by text [] text tokens (r.taken ++ here) refl is all)) r.goes.meant in
+    let meant = meant_all r.taken r.goes.more (meant_prefix r.taken here (meant_by text [] text tokens (r.taken ++ here) refl is all)) r.goes.meant in
     let t = tokens_of (said (r.taken ++ r.goes.more) meant) (r.taken ++ r.goes.more) (said_lexes (r.taken ++ r.goes.more) meant) in
     let parts = r.parts in
     let n : count ≡ length r.taken = omega (arith, size, ap length parts, length-append r.taken here) in

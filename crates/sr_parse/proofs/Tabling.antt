@@ -7,18 +7,19 @@ use Rattle.sr_ast.specs.declared.action.Action.TheVariants.{If, IfElse}
 use Rattle.sr_ast.specs.declared.create.ColumnRule.{ColumnRule}
 use Rattle.sr_ast.specs.declared.stmt.Stmt.{Stmt}
 use Rattle.sr_ast.specs.declared.keyword.Keyword.TheVariants as kw
-use Rattle.sr_grammar.specs.declared.symbol.Sign.TheVariants as mark
-use Rattle.sr_grammar.specs.Symbols.{Symbols, word, IsWord, IsSign}
-use Rattle.sr_grammar.specs.Expressions.{IsExpr}
-use Rattle.sr_grammar.specs.Tables.{IsRules, IsColumns, IsColumnRule}
-use Rattle.sr_grammar.specs.Tables.IsRules.{not_null, null, primary}
-use Rattle.sr_grammar.specs.Tables.IsColumns.{one, more}
-use Rattle.sr_grammar.specs.Triggers.{Acts, IsActions}
-use Rattle.sr_grammar.specs.Triggers.Amount.{one as single}
-use Rattle.sr_grammar.specs.Triggers.Acts.{when, choose}
-use Rattle.sr_grammar.specs.Scripts.{Pieces, IsPiece}
-use Rattle.sr_grammar.specs.Scripts.Stage.{opened, closed}
-use Rattle.sr_grammar.specs.Scripts.Pieces.{start, empty, stated}
+use Rattle.sr_parse_grammar.specs.declared.symbol.Sign.TheVariants as mark
+use Rattle.sr_parse_grammar.specs.Symbols.{Symbols, word, IsWord, IsSign}
+use Rattle.sr_parse_grammar.specs.Expressions.{IsExpr}
+use Rattle.sr_parse_grammar.specs.Tables.{IsRules, IsColumns, IsColumnRule}
+use Rattle.sr_parse_grammar.specs.Tables.IsRules.{not_null, null, primary}
+use Rattle.sr_parse_grammar.specs.Tables.IsColumns.{one, more}
+use Rattle.sr_parse_grammar.specs.Triggers.{Acts, IsActions}
+use Rattle.sr_parse_grammar.specs.Triggers.Amount.{one as single}
+use Rattle.sr_parse_grammar.specs.Triggers.Acts.{when, choose}
+use Rattle.sr_parse_grammar.specs.Scripts.{Pieces}
+use Rattle.sr_parse_grammar.specs.Inner.Scripts.{IsPiece}
+use Rattle.sr_parse_grammar.specs.Scripts.Stage.{opened, closed}
+use Rattle.sr_parse_grammar.specs.Scripts.Pieces.{start, empty, stated}
 
 pub IsColumns-one : {before after : Symbols} {ys : List ColumnRule} {c : ColumnRule} {held key : List (List ℕ)}
     → IsColumnRule before c held key after → held ≡ [] → ys ≡ c ∷ [] → IsColumns before ys key after

@@ -7,23 +7,23 @@ use Rattle.sr_ast.specs.declared.create.CreateTrigger.{CreateTrigger}
 use Rattle.sr_ast.specs.declared.create.Image.{Image}
 use Rattle.sr_ast.specs.declared.keyword.Keyword.{Keyword}
 use Rattle.sr_ast.specs.declared.keyword.Keyword.TheVariants as key
-use Rattle.sr_grammar.specs.declared.symbol.Sign.TheVariants as mark
-use Rattle.sr_grammar.specs.declared.symbol.Symbol.{Symbol}
-use Rattle.sr_grammar.specs.Symbols.{Symbols, first, word, IsName, IsWord}
-use Rattle.sr_grammar.specs.Listing.{Listed, Row}
-use Rattle.sr_grammar.specs.Listing.Row.{none as no_item}
-use Rattle.sr_grammar.specs.Catalog.{IsKind}
-use Rattle.sr_grammar.specs.Triggers.{IsOf, AreAliases, IsVariable, IsActions, IsTrigger}
-use Rattle.sr_grammar.specs.Triggers.Acts.{none as no_act}
-use Rattle.sr_grammar.specs.Going.{Stop, is_comma, is_image, is_declare, action_starts}
-use Rattle.sr_reader.specs.Reading.{Alike, Reading, Anywhere, BeforeWord}
-use Rattle.sr_reader.specs.Productions.{Word, TwoWords, Mark, EachRow}
-use Rattle.sr_grammar.proofs.Steps.{Stop-at, Stop-begins}
-use Rattle.sr_grammar.proofs.Triggering.{acts_no_declare}
+use Rattle.sr_parse_grammar.specs.declared.symbol.Sign.TheVariants as mark
+use Rattle.sr_parse_grammar.specs.declared.symbol.Symbol.{Symbol}
+use Rattle.sr_parse_grammar.specs.Symbols.{Symbols, first, word, IsName, IsWord}
+use Rattle.sr_parse_grammar.specs.Listing.{Listed, Row}
+use Rattle.sr_parse_grammar.specs.Listing.Row.{none as no_item}
+use Rattle.sr_parse_grammar.specs.Catalog.{IsKind}
+use Rattle.sr_parse_grammar.specs.Triggers.{IsOf, AreAliases, IsVariable, IsActions, IsTrigger}
+use Rattle.sr_parse_grammar.specs.Triggers.Acts.{none as no_act}
+use Rattle.sr_parse_grammar.specs.Inner.Going.{Stop, is_comma, is_image, is_declare, action_starts}
+use Rattle.sr_parse_reader.specs.Inner.Reading.{Alike, Reading, Anywhere, BeforeWord}
+use Rattle.sr_parse_reader.specs.Inner.Productions.{Word, TwoWords, Mark, EachRow}
+use Rattle.sr_parse_grammar.proofs.Steps.{Stop-at, Stop-begins}
+use Rattle.sr_parse_grammar.proofs.Triggering.{acts_no_declare}
 use Rattle.sr_parse.proofs.Rulings.{kind_sample}
-use Rattle.sr_reader.proofs.Loops.{Goes-on}
-use Rattle.sr_reader.proofs.Parts.{Seq, Leads, Sample, Casts, goes_first}
-use Rattle.sr_reader.proofs.Starts.{nothing_read, standing, lacks, meant_word, word_sample, sign_sample, name_sample}
+use Rattle.sr_parse_reader.proofs.Loops.{Goes-on}
+use Rattle.sr_parse_reader.proofs.Parts.{Seq, Leads, Sample, Casts, goes_first}
+use Rattle.sr_parse_reader.proofs.Starts.{nothing_read, standing, lacks, meant_word, word_sample, sign_sample, name_sample}
 
 -- ---- words
 

@@ -4,18 +4,19 @@ use Rattle.sr_base.specs.declared.value.Kind.{Kind}
 use Rattle.sr_base.specs.declared.value.Kind.TheVariants as kind
 use Rattle.sr_ast.specs.declared.keyword.Keyword.{Keyword}
 use Rattle.sr_ast.specs.declared.keyword.Keyword.TheVariants as key
-use Rattle.sr_grammar.specs.declared.symbol.Sign.TheVariants as mark
-use Rattle.sr_grammar.specs.declared.symbol.Symbol.TheVariants as symbol
-use Rattle.sr_reader.specs.declared.reader.Broken.{Broken}
-use Rattle.sr_reader.specs.declared.reader.Broken.TheVariants.{Refused}
-use Rattle.sr_grammar.specs.Symbols.{Symbols, first, behind, word, IsWord}
-use Rattle.sr_grammar.specs.Catalog.{IsLength, IsKind}
-use Rattle.sr_reader.specs.Reading.{Reading, Anywhere, mapped}
-use Rattle.sr_reader.specs.Productions.{Word, Mark}
-use Rattle.sr_grammar.proofs.Cataloguing.{kind_once}
+use Rattle.sr_parse_grammar.specs.declared.symbol.Sign.TheVariants as mark
+use Rattle.sr_parse_grammar.specs.declared.symbol.Symbol.TheVariants as symbol
+use Rattle.sr_parse_reader.specs.declared.reader.Broken.{Broken}
+use Rattle.sr_parse_reader.specs.declared.reader.Broken.TheVariants.{Refused}
+use Rattle.sr_parse_grammar.specs.Symbols.{Symbols, first, word, IsWord}
+use Rattle.sr_parse_grammar.specs.Inner.Symbols.{behind}
+use Rattle.sr_parse_grammar.specs.Catalog.{IsLength, IsKind}
+use Rattle.sr_parse_reader.specs.Inner.Reading.{Reading, Anywhere, mapped}
+use Rattle.sr_parse_reader.specs.Inner.Productions.{Word, Mark}
+use Rattle.sr_parse_grammar.proofs.Cataloguing.{kind_once}
 use Rattle.sr_parse.proofs.Kinded.{kind_varchar}
-use Rattle.sr_reader.proofs.Parts.{Seq, Sample, cast}
-use Rattle.sr_reader.proofs.Starts.{meant_one, standing, one_read, none_read, lacks}
+use Rattle.sr_parse_reader.proofs.Parts.{Seq, Sample, cast}
+use Rattle.sr_parse_reader.proofs.Starts.{meant_one, standing, one_read, none_read, lacks}
 
 -- the number 1
 pub length_sample : Sample IsLength

@@ -1,14 +1,14 @@
 ghost use Rattle.std.specs.Prelude.{◌<◌, ◌≤◌, length, OnOk, IsTrue, IsFalse};
-ghost use Rattle.sr_reader.specs.Reading.{Reading, Anywhere};
-ghost use Rattle.sr_reader.specs.Productions.{TwoWords, OneAction, Assigned, Inserted};
-ghost use Rattle.sr_grammar.specs.Going.{Stop, Begins, expression_goes, action_starts};
-ghost use Rattle.sr_grammar.specs.Triggers.{IsActions};
+ghost use Rattle.sr_parse_reader.specs.Inner.Reading.{Reading, Anywhere};
+ghost use Rattle.sr_parse_reader.specs.Inner.Productions.{TwoWords, OneAction, Assigned, Inserted};
+ghost use Rattle.sr_parse_grammar.specs.Inner.Going.{Stop, Begins, expression_goes, action_starts};
+ghost use Rattle.sr_parse_grammar.specs.Triggers.{IsActions};
 ghost use Rattle.sr_ast.specs.declared.keyword.Keyword.TheVariants as key;
 
 use sr_ast::{Action, Actions, Expr, Keyword};
 use sr_base::{Name, Seq};
-use sr_grammar::Sign;
-use sr_reader::{Broken, Reader, expr, row};
+use sr_parse_grammar::Sign;
+use sr_parse_reader::{Broken, Reader, expr, row};
 
 /// How many IFs may stand in one another.
 pub const IFS: usize = 200;

@@ -1,13 +1,13 @@
 ghost use Rattle.std.specs.Prelude.{◌≡◌, ◌<◌, ◌≤◌, length, OnOk, IsTrue, IfSome, ◌∷◌, [], ℕ, List, All, Any, IsFalse, ◌≢◌};
 ghost use Rattle.std.specs.Option.{option_copied};
 ghost use Rattle.sr_ast.specs.declared.create.Image.{Image};
-ghost use Rattle.sr_reader.specs.Reading.{Reading, Anywhere, BeforeWord, BeforeSign, mapped, Gives};
-ghost use Rattle.sr_reader.specs.Productions.{TwoWords, Keyed, Ruled, Rules, EachRow};
-ghost use Rattle.sr_grammar.specs.Symbols.{Symbols, word, IsName};
-ghost use Rattle.sr_grammar.specs.Going.{Stop, Ends, Closes, is_open, condition_goes, is_image, is_declare, rule_starts};
-ghost use Rattle.sr_grammar.specs.Listing.{Listed, Row};
-ghost use Rattle.sr_grammar.specs.Writing.{IsCondition};
-ghost use Rattle.sr_grammar.specs.Catalog.{
+ghost use Rattle.sr_parse_reader.specs.Inner.Reading.{Reading, Anywhere, BeforeWord, BeforeSign, mapped, Gives};
+ghost use Rattle.sr_parse_reader.specs.Inner.Productions.{TwoWords, Keyed, Ruled, Rules, EachRow};
+ghost use Rattle.sr_parse_grammar.specs.Symbols.{Symbols, word, IsName};
+ghost use Rattle.sr_parse_grammar.specs.Inner.Going.{Stop, Ends, Closes, is_open, condition_goes, is_image, is_declare, rule_starts};
+ghost use Rattle.sr_parse_grammar.specs.Listing.{Listed, Row};
+ghost use Rattle.sr_parse_grammar.specs.Writing.{IsCondition};
+ghost use Rattle.sr_parse_grammar.specs.Catalog.{
   IsKind,
   IsLength,
   IsArticle,
@@ -19,11 +19,11 @@ ghost use Rattle.sr_grammar.specs.Catalog.{
   IsGiven,
   IsSubscription,
 };
-ghost use Rattle.sr_grammar.specs.Tables.{IsTable, IsKeyWords};
-ghost use Rattle.sr_grammar.specs.Scripts.{IsBehind};
-ghost use Rattle.sr_grammar.specs.Triggers.{IsOf, AreAliases, IsVariable, IsTrigger, image_word};
+ghost use Rattle.sr_parse_grammar.specs.Tables.{IsTable, IsKeyWords};
+ghost use Rattle.sr_parse_grammar.specs.Scripts.{IsBehind};
+ghost use Rattle.sr_parse_grammar.specs.Triggers.{IsOf, AreAliases, IsVariable, IsTrigger, image_word};
 ghost use Rattle.sr_ast.specs.declared.keyword.Keyword.TheVariants as key;
-ghost use Rattle.sr_grammar.specs.declared.symbol.Sign.TheVariants as mark;
+ghost use Rattle.sr_parse_grammar.specs.declared.symbol.Sign.TheVariants as mark;
 
 use crate::acting::{IFS, actions};
 use crate::normal::normal;
@@ -32,8 +32,8 @@ use sr_ast::{
     Keyword, SubscriptionRule,
 };
 use sr_base::{Kind, Name, Seq, Text, Value};
-use sr_grammar::{Sign, Symbol};
-use sr_reader::{Broken, Reader, condition, expr, literal, negative};
+use sr_parse_grammar::{Sign, Symbol};
+use sr_parse_reader::{Broken, Reader, condition, expr, literal, negative};
 use std::alloc::Global;
 
 /// Behind GRANT, where REMOTE is not next.

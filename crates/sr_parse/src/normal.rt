@@ -2,13 +2,13 @@
 ghost use Rattle.std.specs.Prelude.{◌≡◌, ◌||◌};
 ghost use Rattle.std.specs.BTreeSet.{contains as has};
 ghost use Rattle.sr_base.specs.Order.{name_cmp};
-ghost use Rattle.sr_reader.specs.Reading.{Gives};
-ghost use Rattle.sr_grammar.specs.Tables.{AreNormal};
-ghost use Rattle.sr_parse.specs.Keys.{IsSetOf};
+ghost use Rattle.sr_parse_reader.specs.Inner.Reading.{Gives};
+ghost use Rattle.sr_parse_grammar.specs.Tables.{AreNormal};
+ghost use Rattle.sr_parse.specs.Inner.Keys.{IsSetOf};
 
 use sr_ast::ColumnRule;
 use sr_base::{Copied, Name};
-use sr_reader::Broken;
+use sr_parse_reader::Broken;
 use std::alloc::Global;
 use std::collections::BTreeSet;
 

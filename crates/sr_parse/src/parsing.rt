@@ -1,24 +1,26 @@
 ghost use Rattle.std.specs.Prelude.{◌≡◌, ◌<◌, ◌≤◌, length, OnOk, IfOk, ℕ, List, Ok, Err, Some};
 ghost use Rattle.sr_ast.specs.declared.stmt.Stmt.{Stmt as Statement};
-ghost use Rattle.sr_reader.specs.Reading.{Reading, AtEnd, mapped};
-ghost use Rattle.sr_reader.specs.Productions.{Work};
-ghost use Rattle.sr_grammar.specs.Scripts.Stage.{closed};
-ghost use Rattle.sr_grammar.specs.Going.{Ends};
-ghost use Rattle.sr_grammar.specs.Faults.{IsRead};
-ghost use Rattle.sr_grammar.specs.Places.{IsRefusedAt};
-ghost use Rattle.sr_grammar.specs.Meanings.{IsWritten};
-ghost use Rattle.sr_grammar.specs.Scripts.{Pieces, IsRest, IsStatement, IsPiece};
-ghost use Rattle.sr_grammar.specs.Symbols.{behind};
-ghost use Rattle.sr_grammar.specs.Forms.{form_at, words, past};
+ghost use Rattle.sr_parse_reader.specs.Inner.Reading.{Reading, AtEnd, mapped};
+ghost use Rattle.sr_parse_reader.specs.Inner.Productions.{Work};
+ghost use Rattle.sr_parse_grammar.specs.Scripts.Stage.{closed};
+ghost use Rattle.sr_parse_grammar.specs.Inner.Going.{Ends};
+ghost use Rattle.sr_parse_grammar.specs.Inner.Faults.{IsRead};
+ghost use Rattle.sr_parse_grammar.specs.Places.{IsRefusedAt};
+ghost use Rattle.sr_parse_grammar.specs.Meanings.{IsWritten};
+ghost use Rattle.sr_parse_grammar.specs.Scripts.{Pieces, IsRest, IsStatement};
+ghost use Rattle.sr_parse_grammar.specs.Inner.Scripts.{IsPiece};
+ghost use Rattle.sr_parse_grammar.specs.Inner.Symbols.{behind};
+ghost use Rattle.sr_parse_grammar.specs.Forms.{words};
+ghost use Rattle.sr_parse_grammar.specs.Inner.Forms.{form_at, past};
 
 use crate::creating::{
     consolidated, create_publication, create_table, create_trigger, granted, subscription,
 };
 use sr_ast::{Dml, Form, Keyword, Script, Stmt};
 use sr_base::{Seq, Text};
-use sr_grammar::{ParseFault, Sign};
 use sr_lex::LexFault;
-use sr_reader::{
+use sr_parse_grammar::{ParseFault, Sign};
+use sr_parse_reader::{
     Broken, Reader, delete, form_at, insert, passthrough, select, start_behind, symbols, update,
 };
 use std::alloc::{AllocError, AllocFailed, Global};

@@ -8,7 +8,7 @@ ghost use Rattle.sr_parse.specs.Prints.{Prints};
 use crate::parsing::parse;
 use sr_ast::{Stmt, print};
 use sr_base::{Copied, NoMemory, Text};
-use sr_grammar::ParseFault;
+use sr_parse_grammar::ParseFault;
 use std::alloc::{AllocError, Global};
 
 /// The statement in normal form whose printed text this is, and `None` where there is none: where the text is no script, is one of

@@ -8,7 +8,7 @@ use Rattle.sr_base.specs.Order.{value_cmp, worth_cmp}
 use Rattle.sr_base.specs.declared.value.Value.{Value as Cell}
 use Rattle.sr_base.specs.declared.value.Value.TheVariants.{Null, Int, Big, Str, Date}
 use Rattle.sr_eval.specs.Comparisons.{is_null}
-use Rattle.sr_publish.specs.Numbers.{widened}
+use Rattle.sr_publish.specs.Inner.Numbers.{widened}
 use Rattle.sr_publish.specs.Views.{equals}
 
 then_Equal : (o : Ordering) → is_eq o ≡ is_eq (ordering_then o Equal)

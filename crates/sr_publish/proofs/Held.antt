@@ -6,21 +6,21 @@ use Rattle.std.proofs.lemmas.Slice.Eq.{bytes_eq-Decides}
 use Rattle.sr_ast.specs.Exprs.{term_of}
 use Rattle.sr_ast.specs.declared.expr.Expr.{Expr}
 use Rattle.sr_base.specs.declared.value.Value.{Value as Cell}
-use Rattle.sr_ddl.specs.Subscriptions.{articles_of}
-use Rattle.sr_dml.specs.Statements.{table_named}
-use Rattle.sr_replay.specs.Scripts.{IsMade}
-use Rattle.sr_replay.proofs.ReplayCauses.{first_of-None}
-use Rattle.sr_replay.proofs.ReplayLists.{AllByRecursion-step}
-use Rattle.sr_schema.specs.Catalogs.{Lists}
-use Rattle.sr_schema.specs.Firsts.{first_of, first_among}
-use Rattle.sr_schema.specs.Members.{publication_name}
-use Rattle.sr_schema.specs.Names.{named}
-use Rattle.sr_schema.specs.declared.publication.Article.{Article}
-use Rattle.sr_schema.specs.declared.subscription.Subscription.{Subscription}
-use Rattle.sr_schema.specs.declared.table.Table.{Table}
-use Rattle.sr_fits.specs.Rows.{is_row}
-use Rattle.sr_publish.specs.Laws.{values_in, holds_by, holds, IsTheSource}
-use Rattle.sr_publish.specs.Shares.{is_live, article_in, source_in, source_of, value_in, share_by, share_in, share_of}
+use Rattle.sr_catalog_ddl.specs.Subscriptions.{articles_of}
+use Rattle.sr_exec_dml.specs.Statements.{table_named}
+use Rattle.sr_catalog_script_laws.specs.Inner.Scripts.{IsMade}
+use Rattle.sr_catalog_script_laws.proofs.ReplayCauses.{first_of-None}
+use Rattle.sr_catalog_script_laws.proofs.ReplayLists.{AllByRecursion-step}
+use Rattle.sr_catalog_schema.specs.Catalogs.{Lists}
+use Rattle.sr_catalog_schema.specs.Firsts.{first_of, first_among}
+use Rattle.sr_catalog_schema.specs.Members.{publication_name}
+use Rattle.sr_catalog_schema.specs.Names.{named}
+use Rattle.sr_catalog_schema.specs.declared.publication.Article.{Article}
+use Rattle.sr_catalog_schema.specs.declared.subscription.Subscription.{Subscription}
+use Rattle.sr_catalog_schema.specs.declared.table.Table.{Table}
+use Rattle.sr_exec_fits.specs.Rows.{is_row}
+use Rattle.sr_publish.specs.Inner.Laws.{values_in, holds_by, holds, IsTheSource}
+use Rattle.sr_publish.specs.SubscribedTables.{is_live, article_in, source_in, source_of, value_in, subscribed_table_by, subscribed_table_in, subscribed_table_of}
 use Rattle.sr_publish.specs.Views.{meets, by_value, equals, is_one_of, goes_to, is_in, shown, shown_in, seen}
 use Rattle.sr_publish.proofs.Sources.{source_parts, one_source}
 
@@ -183,16 +183,16 @@ module _ (c : Lists) (user table : List ℕ) (t : Table) (row : List Cell) where
         ∙ (pulled m counts goes c.subscriptions ∙ ap (λ b. m && b) (goes_by a.by)))
 
   by_source : (o : Option (List ℕ × Article)) → source_of c user table ≡ o → AllByRecursion (IsTheSource c user table) c.subscriptions
-      → is_some (shown_in (share_in c user (Some t) o) row) ≡ (is_row t.columns row && list_any (holds c user table t row) c.subscriptions)
+      → is_some (shown_in (subscribed_table_in c user (Some t) o) row) ≡ (is_row t.columns row && list_any (holds c user table t row) c.subscriptions)
   by_source None e the = sym (ap (λ b. is_row t.columns row && b) (none_holds e) ∙ and_false (is_row t.columns row))
   by_source (Some (p, a)) e the =
-      let s = share_by c user t (p, a) in
+      let s = subscribed_table_by c user t (p, a) in
       some_where (is_in s row) (shown s row) ∙ ap (λ b. is_row t.columns row && b) (held_so p a e the)
 
 seen_as_shared : (c : Lists) (user table : List ℕ) (t : Table) (row : List Cell) → table_named c table ≡ Some t
-    → seen c user table row ≡ shown_in (share_in c user (Some t) (source_of c user table)) row
-unfolding share_of
-seen_as_shared c user table t row e = ap (λ o. shown_in (share_in c user o (source_of c user table)) row) e
+    → seen c user table row ≡ shown_in (subscribed_table_in c user (Some t) (source_of c user table)) row
+unfolding subscribed_table_of
+seen_as_shared c user table t row e = ap (λ o. shown_in (subscribed_table_in c user o (source_of c user table)) row) e
 
 pub seen_so : (c : Lists) (user table : List ℕ) (t : Table) (row : List Cell) → IsMade c → table_named c table ≡ Some t
     → is_some (seen c user table row) ≡ (is_row t.columns row && list_any (holds c user table t row) c.subscriptions)

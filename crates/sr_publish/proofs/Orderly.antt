@@ -11,29 +11,29 @@ use Rattle.std.proofs.lemmas.Slice.Eq.{bytes_eq-Decides}
 use Rattle.sr_ast.specs.declared.create.ArticleRule.{ArticleRule}
 use Rattle.sr_ast.specs.declared.create.ColumnRule.{ColumnRule}
 use Rattle.sr_ast.specs.declared.stmt.Stmt.TheVariants as stmt
-use Rattle.sr_ddl.specs.Publications.{twice_in_articles, taken_or_twice, absent_in, absent_in_table, absent_column, key_lacking, key_outside_columns, key_outside, table_in, create_publication_causes, columns_of, article_of, publication_of}
-use Rattle.sr_ddl.specs.Subscriptions.{articles_of}
-use Rattle.sr_ddl.specs.Tables.{rule_name, column_of, table_of, create_table_causes}
-use Rattle.sr_dml.specs.Statements.{table_named}
+use Rattle.sr_catalog_ddl.specs.Publications.{twice_in_articles, taken_or_twice, absent_in, absent_in_table, absent_column, key_lacking, key_outside_columns, key_outside, table_in, create_publication_causes, columns_of, article_of, publication_of}
+use Rattle.sr_catalog_ddl.specs.Subscriptions.{articles_of}
+use Rattle.sr_catalog_ddl.specs.Tables.{rule_name, column_of, table_of, create_table_causes}
+use Rattle.sr_exec_dml.specs.Statements.{table_named}
 use Rattle.sr_logform.specs.Rules.{AreDistinct}
-use Rattle.sr_replay.specs.Scripts.{IsMade, column_rule, article_rule}
-use Rattle.sr_replay.proofs.ReplayCauses.{NoCause, no_cause_of, where_true-None, first_of-None, option_map-None}
-use Rattle.sr_replay.proofs.ReplayLists.{found_as_taken}
-use Rattle.sr_replay.proofs.ReplayNexts.{made_stands}
-use Rattle.sr_replay.proofs.ReplayTables.{columns_once, key_inside}
-use Rattle.sr_replay.proofs.Standing.{TableStands, table_rule, PublicationStands, publication_rule, only_tables}
-use Rattle.sr_schema.proofs.Places.{find-no_place, find-place}
-use Rattle.sr_schema.specs.Catalogs.{Lists, nothing_but}
-use Rattle.sr_schema.specs.Firsts.{first_of, first_among, where_true, has, first_again, first_twice, first_absent}
-use Rattle.sr_schema.specs.Members.{column_name, column_names, has_column, key_names, table_name, publication_name}
-use Rattle.sr_schema.specs.Names.{named, place_of}
-use Rattle.sr_schema.specs.declared.publication.Article.{Article}
-use Rattle.sr_schema.specs.declared.publication.Publication.{Publication}
-use Rattle.sr_schema.specs.declared.subscription.Subscription.{Subscription}
-use Rattle.sr_schema.specs.declared.table.Column.{Column}
-use Rattle.sr_schema.specs.declared.table.Table.{Table}
-use Rattle.sr_publish.specs.Laws.{AreAt, HasKey, IsInOrder}
-use Rattle.sr_publish.specs.Shares.{Share, is_live, article_in, source_in, source_of, share_by, share_in, share_of}
+use Rattle.sr_catalog_script_laws.specs.Inner.Scripts.{IsMade, column_rule, article_rule}
+use Rattle.sr_catalog_script_laws.proofs.ReplayCauses.{NoCause, no_cause_of, where_true-None, first_of-None, option_map-None}
+use Rattle.sr_catalog_script_laws.proofs.ReplayLists.{found_as_taken}
+use Rattle.sr_catalog_script_laws.proofs.ReplayNexts.{made_stands}
+use Rattle.sr_catalog_script_laws.proofs.ReplayTables.{columns_once, key_inside}
+use Rattle.sr_catalog_script_laws.proofs.Standing.{TableStands, table_rule, PublicationStands, publication_rule, only_tables}
+use Rattle.sr_catalog_schema.proofs.Places.{find-no_place, find-place}
+use Rattle.sr_catalog_schema.specs.Catalogs.{Lists, nothing_but}
+use Rattle.sr_catalog_schema.specs.Firsts.{first_of, first_among, where_true, has, first_again, first_twice, first_absent}
+use Rattle.sr_catalog_schema.specs.Members.{column_name, column_names, has_column, key_names, table_name, publication_name}
+use Rattle.sr_catalog_schema.specs.Names.{named, place_of}
+use Rattle.sr_catalog_schema.specs.declared.publication.Article.{Article}
+use Rattle.sr_catalog_schema.specs.declared.publication.Publication.{Publication}
+use Rattle.sr_catalog_schema.specs.declared.subscription.Subscription.{Subscription}
+use Rattle.sr_catalog_schema.specs.declared.table.Column.{Column}
+use Rattle.sr_catalog_schema.specs.declared.table.Table.{Table}
+use Rattle.sr_publish.specs.Inner.Laws.{AreAt, HasKey, IsInOrder}
+use Rattle.sr_publish.specs.SubscribedTables.{SubscribedTable, is_live, article_in, source_in, source_of, subscribed_table_by, subscribed_table_in, subscribed_table_of}
 use Rattle.sr_publish.proofs.Sources.{source_parts}
 
 some_is : {A : Type 0} {x y : A} → Some x ≡ Some y → x ≡ y
@@ -331,7 +331,7 @@ keys_among t a stands facts = go (nat_eq (length a.columns) 0) refl facts.key fa
   go true e key makes = of_table (key_names t) (absent_none (has_column t) (key_names t) (key_inside t stands)) makes
   go false e key makes = absent_none (has a.columns) (key_names t) (option_map-None (λ (n : List ℕ). (a.table, n)) (first_absent (has a.columns) (key_names t)) key)
 
-in_order : (c : Lists) (user : List ℕ) (t : Table) (p : List ℕ) (a : Article) → TableStands t → ArticleFacts t a → IsInOrder (share_by c user t (p, a))
+in_order : (c : Lists) (user : List ℕ) (t : Table) (p : List ℕ) (a : Article) → TableStands t → ArticleFacts t a → IsInOrder (subscribed_table_by c user t (p, a))
 in_order c user t p a stands facts =
     let there = absent_none (has_column t) a.columns facts.there in
     let names : map column_name (columns t a.columns) ≡ a.columns = names_again t a.columns there in
@@ -381,10 +381,10 @@ stands_found c table s a t made e is_named = go (named publication_name s.public
       (found_in (PublicationStands c.tables) (λ (x : Publication). bytes_eq s.publication (publication_name x)) c.publications p (made_stands c made).each_publication f)
       (ap (λ (x : Option Publication). find (λ (y : Article). bytes_eq table y.table) (articles_of x)) (sym f) ∙ e) is_named
 
-pub share_in_order : (c : Lists) (user table : List ℕ) (s : Share) → IsMade c → share_of c user table ≡ Some s → IsInOrder s
-unfolding share_of
-share_in_order c user table s made e = go (table_named c table) refl (source_of c user table) refl e where
-  go : (o : Option Table) → table_named c table ≡ o → (q : Option (List ℕ × Article)) → source_of c user table ≡ q → share_in c user o q ≡ Some s → IsInOrder s
+pub subscribed_table_in_order : (c : Lists) (user table : List ℕ) (s : SubscribedTable) → IsMade c → subscribed_table_of c user table ≡ Some s → IsInOrder s
+unfolding subscribed_table_of
+subscribed_table_in_order c user table s made e = go (table_named c table) refl (source_of c user table) refl e where
+  go : (o : Option Table) → table_named c table ≡ o → (q : Option (List ℕ × Article)) → source_of c user table ≡ q → subscribed_table_in c user o q ≡ Some s → IsInOrder s
   go None n q f h = cc
   go (Some t) n None f h = cc
   go (Some t) n (Some (p, a)) f h =

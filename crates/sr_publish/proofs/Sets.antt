@@ -4,10 +4,11 @@ use Rattle.std.specs.BTreeSet.{BTreeSet, contains, Updates}
 use Rattle.std.specs.Cmp.{eq_by_cmp_equiv}
 use Rattle.std.specs.List.{list_any}
 use Rattle.std.specs.Ordering.{eq_by_cmp}
-use Rattle.sr_base.specs.Order.{value_cmp, value_cmp_total}
+use Rattle.sr_base.specs.Order.{value_cmp}
+use Rattle.sr_base.specs.Inner.Order.{value_cmp_total}
 use Rattle.sr_base.specs.declared.value.Value.{Value as Cell}
-use Rattle.sr_publish.specs.Numbers.{widened}
-use Rattle.sr_publish.specs.Subscribed.{IsSetOf}
+use Rattle.sr_publish.specs.Inner.Numbers.{widened}
+use Rattle.sr_publish.specs.Inner.Subscribed.{IsSetOf}
 
 -- whether a value is one of a list, each INTEGER taken as a BIGINT
 abbrev among : Cell → List Cell → Bool

@@ -7,25 +7,25 @@ use Rattle.sr_ast.specs.Exprs.{term_of}
 use Rattle.sr_ast.specs.declared.expr.Expr.{Expr}
 use Rattle.sr_ast.specs.declared.stmt.Stmt.TheVariants.{DropTable}
 use Rattle.sr_base.specs.declared.value.Value.{Value as Cell}
-use Rattle.sr_change.specs.Changes.{publication_names, is_used, drop_table_causes, refusal}
-use Rattle.sr_ddl.specs.Subscriptions.{articles_of, has_article}
-use Rattle.sr_dml.specs.Statements.{table_named}
-use Rattle.sr_replay.specs.Scripts.{IsMade, subscription_rule}
-use Rattle.sr_replay.proofs.ReplayCauses.{where_true-None, no_cause_of}
-use Rattle.sr_replay.proofs.ReplayLists.{AllByRecursion-step, AllByRecursion-both, found_as_taken}
-use Rattle.sr_replay.proofs.ReplayNexts.{made_stands}
-use Rattle.sr_replay.proofs.Standing.{Clash, IsFree, Stands}
-use Rattle.sr_schema.specs.Catalogs.{Lists}
-use Rattle.sr_schema.specs.Firsts.{first_of, first_among}
-use Rattle.sr_schema.specs.Members.{publication_name}
-use Rattle.sr_schema.specs.Names.{named}
-use Rattle.sr_schema.specs.declared.publication.Article.{Article}
-use Rattle.sr_schema.specs.declared.publication.Publication.{Publication}
-use Rattle.sr_schema.specs.declared.subscription.Subscription.{Subscription}
-use Rattle.sr_schema.specs.declared.table.Table.{Table}
-use Rattle.sr_fits.specs.Rows.{is_row}
-use Rattle.sr_publish.specs.Laws.{values_in, holds_by, holds, IsTheSource}
-use Rattle.sr_publish.specs.Shares.{Share, is_live, article_in, source_in, source_of, value_in, share_by, share_in, share_of}
+use Rattle.sr_catalog_change.specs.Changes.{publication_names, is_used, drop_table_causes, refusal}
+use Rattle.sr_catalog_ddl.specs.Subscriptions.{articles_of, has_article}
+use Rattle.sr_exec_dml.specs.Statements.{table_named}
+use Rattle.sr_catalog_script_laws.specs.Inner.Scripts.{IsMade, subscription_rule}
+use Rattle.sr_catalog_script_laws.proofs.ReplayCauses.{where_true-None, no_cause_of}
+use Rattle.sr_catalog_script_laws.proofs.ReplayLists.{AllByRecursion-step, AllByRecursion-both, found_as_taken}
+use Rattle.sr_catalog_script_laws.proofs.ReplayNexts.{made_stands}
+use Rattle.sr_catalog_script_laws.proofs.Standing.{Clash, IsFree, Stands}
+use Rattle.sr_catalog_schema.specs.Catalogs.{Lists}
+use Rattle.sr_catalog_schema.specs.Firsts.{first_of, first_among}
+use Rattle.sr_catalog_schema.specs.Members.{publication_name}
+use Rattle.sr_catalog_schema.specs.Names.{named}
+use Rattle.sr_catalog_schema.specs.declared.publication.Article.{Article}
+use Rattle.sr_catalog_schema.specs.declared.publication.Publication.{Publication}
+use Rattle.sr_catalog_schema.specs.declared.subscription.Subscription.{Subscription}
+use Rattle.sr_catalog_schema.specs.declared.table.Table.{Table}
+use Rattle.sr_exec_fits.specs.Rows.{is_row}
+use Rattle.sr_publish.specs.Inner.Laws.{values_in, holds_by, holds, IsTheSource}
+use Rattle.sr_publish.specs.SubscribedTables.{SubscribedTable, is_live, article_in, source_in, source_of, value_in, subscribed_table_by, subscribed_table_in, subscribed_table_of}
 use Rattle.sr_publish.specs.Views.{meets, by_value, equals, is_one_of, goes_to, is_in, shown_in, seen}
 
 some_is : {A : Type 0} {x y : A} → Some x ≡ Some y → x ≡ y
@@ -163,16 +163,16 @@ or_left_false : (a b : Bool) → (a || b) ≡ false → a ≡ false
 or_left_false true b e = cc
 or_left_false false b e = refl
 
-in_none : (c : Lists) (user : List ℕ) (t : Option Table) (source : Option (List ℕ × Article)) → source ≡ None → share_in c user t source ≡ None
+in_none : (c : Lists) (user : List ℕ) (t : Option Table) (source : Option (List ℕ × Article)) → source ≡ None → subscribed_table_in c user t source ≡ None
 in_none c user None source e = refl
-in_none c user (Some t) source e = ap (λ o. option_map (share_by c user t) o) e
+in_none c user (Some t) source e = ap (λ o. option_map (subscribed_table_by c user t) o) e
 
 unused : (c : Lists) (table : List ℕ) → (drop_table_causes c table).in_use ≡ None → list_any (publication_names table) c.publications ≡ false
 unfolding drop_table_causes
 unused c table e = or_left_false (list_any (publication_names table) c.publications) _ (where_true-None (is_used c table) table e)
 
-pub dropped_share : (c : Lists) (user table : List ℕ) → refusal c (DropTable table) ≡ None → share_of c user table ≡ None
-unfolding share_of
-dropped_share c user table accepted =
+pub dropped_subscribed_table : (c : Lists) (user table : List ℕ) → refusal c (DropTable table) ≡ None → subscribed_table_of c user table ≡ None
+unfolding subscribed_table_of
+dropped_subscribed_table c user table accepted =
     let none = unused c table (no_cause_of c (DropTable table) accepted).in_use in
     in_none c user (table_named c table) (source_of c user table) (no_source c user table c.subscriptions none)

@@ -1,5 +1,3 @@
-pub mod Laws
-pub mod Numbers
-pub mod Shares
-pub mod Subscribed
+pub mod SubscribedTables
 pub mod Views
+pub mod Inner

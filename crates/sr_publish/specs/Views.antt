@@ -10,13 +10,13 @@ use Rattle.sr_ast.specs.Terms.{Term}
 use Rattle.sr_ast.specs.Terms.Term.{literal, column, unary, binary}
 use Rattle.sr_ast.specs.declared.expr.Expr.{Expr}
 use Rattle.sr_eval.specs.Meanings.{meaning, is_true, found_at}
-use Rattle.sr_dml.specs.Statements.{key_of}
+use Rattle.sr_exec_dml.specs.Statements.{key_of}
 use Rattle.sr_rows.specs.Marks.{RowMap, rows_of_table}
-use Rattle.sr_schema.specs.Catalogs.{Lists}
-use Rattle.sr_schema.specs.Members.{scope_of}
-use Rattle.sr_schema.specs.declared.table.Table.{Table}
-use Rattle.sr_fits.specs.Rows.{is_row}
-use Rattle.sr_publish.specs.Shares.{Share, share_of}
+use Rattle.sr_catalog_schema.specs.Catalogs.{Lists}
+use Rattle.sr_catalog_schema.specs.Members.{scope_of}
+use Rattle.sr_catalog_schema.specs.declared.table.Table.{Table}
+use Rattle.sr_exec_fits.specs.Rows.{is_row}
+use Rattle.sr_publish.specs.SubscribedTables.{SubscribedTable, subscribed_table_of}
 
 -- whether a row meets a WHERE: false and unknown do not; each row meets one that is not there
 abbrev pub meets : Table → Option Expr → List Cell → Bool
@@ -48,28 +48,28 @@ abbrev pub goes_to : Table → Option Expr → List Cell → List Cell → Bool
 goes_to t None values row = true
 goes_to t (Some e) values row = is_one_of values (by_value t row (term_of e))
 
--- whether a row that stands in the share's table is in the share: it fits the table, and WHERE and SUBSCRIBE BY let it through
-abbrev pub is_in : Share → List Cell → Bool
+-- whether a row that stands in the subscribed table's table is in the subscribed table: it fits the table, and WHERE and SUBSCRIBE BY let it through
+abbrev pub is_in : SubscribedTable → List Cell → Bool
 is_in s row = is_row s.table.columns row && (meets s.table s.condition row && goes_to s.table s.by s.values row)
 
 -- the values of the article's columns, in article order
-abbrev pub shown : Share → List Cell → List Cell
+abbrev pub shown : SubscribedTable → List Cell → List Cell
 shown s row = key_of s.places row
 
--- what a share shows of a row: nothing where it lacks it
-abbrev pub shown_in : Option Share → List Cell → Option (List Cell)
+-- what a subscribed table shows of a row: nothing where it lacks it
+abbrev pub shown_in : Option SubscribedTable → List Cell → Option (List Cell)
 shown_in None row = None
 shown_in (Some s) row = cond (is_in s row) (Some (shown s row)) None
 
 -- what a user sees of a row of a table
 abbrev pub seen : Lists → List ℕ → List ℕ → List Cell → Option (List Cell)
-seen c user table row = shown_in (share_of c user table) row
+seen c user table row = shown_in (subscribed_table_of c user table) row
 
 -- the same of a row that may not be there
-abbrev pub shown_row : Option Share → Option (List Cell) → Option (List Cell)
+abbrev pub shown_row : Option SubscribedTable → Option (List Cell) → Option (List Cell)
 shown_row s None = None
 shown_row s (Some row) = shown_in s row
 
 -- the view of a user: what he sees of the row under a key of a table, as a look-up
 abbrev pub view : Lists → RowMap → List ℕ → List ℕ → List Cell → Option (List Cell)
-view c rows user table key = shown_row (share_of c user table) (rows_of_table rows table key)
+view c rows user table key = shown_row (subscribed_table_of c user table) (rows_of_table rows table key)

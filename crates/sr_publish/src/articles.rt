@@ -2,13 +2,13 @@
 
 ghost use Rattle.std.specs.Prelude.{◌≡◌, ◌&&◌, ◌++◌, ◌∷◌, [], IfOk, OnOk, bytes_eq, filter_map, find, option_map};
 ghost use Rattle.std.specs.Option.{option_copied};
-ghost use Rattle.sr_schema.specs.Members.{column_name};
-ghost use Rattle.sr_schema.specs.Names.{named, place_of};
-ghost use Rattle.sr_publish.specs.Shares.{is_live, article_in, source_of};
+ghost use Rattle.sr_catalog_schema.specs.Members.{column_name};
+ghost use Rattle.sr_catalog_schema.specs.Names.{named, place_of};
+ghost use Rattle.sr_publish.specs.SubscribedTables.{is_live, article_in, source_of};
 
 use sr_base::{Copied, Name, NoMemory, Seq};
 use sr_catalog::Catalog;
-use sr_schema::{Article, Column, Subscription, Table, item_named};
+use sr_catalog_schema::{Article, Column, Subscription, Table, item_named};
 use std::alloc::Global;
 
 /// Whether a subscription is a started one of a user.

@@ -4,14 +4,14 @@ ghost use Rattle.std.specs.Prelude.{◌≡◌, ◌&&◌, ℕ, List, Some, None, 
 ghost use Rattle.std.specs.List.{list_any, AllByRecursion};
 ghost use Rattle.sr_ast.specs.declared.stmt.Stmt.TheVariants.{DropTable};
 ghost use Rattle.sr_base.specs.declared.value.Value.{Value as Cell};
-ghost use Rattle.sr_change.specs.Changes.{refusal};
-ghost use Rattle.sr_dml.specs.Statements.{table_named};
-ghost use Rattle.sr_replay.specs.Scripts.{IsMade};
-ghost use Rattle.sr_schema.specs.Catalogs.{Lists};
-ghost use Rattle.sr_schema.specs.declared.table.Table.{Table as ATable};
-ghost use Rattle.sr_fits.specs.Rows.{is_row};
-ghost use Rattle.sr_publish.specs.Laws.{holds, IsTheSource, HasKey, IsInOrder};
-ghost use Rattle.sr_publish.specs.Shares.{Share, share_of};
+ghost use Rattle.sr_catalog_change.specs.Changes.{refusal};
+ghost use Rattle.sr_exec_dml.specs.Statements.{table_named};
+ghost use Rattle.sr_catalog_script_laws.specs.Inner.Scripts.{IsMade};
+ghost use Rattle.sr_catalog_schema.specs.Catalogs.{Lists};
+ghost use Rattle.sr_catalog_schema.specs.declared.table.Table.{Table as ATable};
+ghost use Rattle.sr_exec_fits.specs.Rows.{is_row};
+ghost use Rattle.sr_publish.specs.Inner.Laws.{holds, IsTheSource, HasKey, IsInOrder};
+ghost use Rattle.sr_publish.specs.SubscribedTables.{SubscribedTable, subscribed_table_of};
 ghost use Rattle.sr_publish.specs.Views.{seen};
 
 /// START takes no second publication of a table for one user: so whichever of his started subscriptions has the table, he has it by that one's
@@ -29,12 +29,12 @@ pub fn seen_where_held()
 
 /// A table that may be dropped is in no publication, so nobody has it.
 pub fn nobody_has_a_dropped_table()
-    ensures none { (c : Lists) (user table : List ℕ) → refusal c (DropTable table) ≡ None → share_of c user table ≡ None }
+    ensures none { (c : Lists) (user table : List ℕ) → refusal c (DropTable table) ≡ None → subscribed_table_of c user table ≡ None }
 {}
 
 /// What every catalog keeps: a table has a key, whose columns are among its own, none twice; and of what a user has of a table the columns are the
 /// table's, none twice, with those of its key among them.
 pub fn catalogs_are_in_order()
     ensures tables { (c : Lists) (name : List ℕ) (t : ATable) → IsMade c → table_named c name ≡ Some t → HasKey t }
-    ensures shares { (c : Lists) (user table : List ℕ) (s : Share) → IsMade c → share_of c user table ≡ Some s → IsInOrder s }
+    ensures subscribed_tables { (c : Lists) (user table : List ℕ) (s : SubscribedTable) → IsMade c → subscribed_table_of c user table ≡ Some s → IsInOrder s }
 {}

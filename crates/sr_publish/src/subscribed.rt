@@ -3,14 +3,14 @@
 ghost use Rattle.std.specs.Prelude.{◌≡◌, ◌++◌, ◌∷◌, [], IfOk, OnOk, filter_map};
 ghost use Rattle.std.specs.Option.{option_copied};
 ghost use Rattle.std.specs.List.{list_any};
-ghost use Rattle.sr_publish.specs.Numbers.{widened};
-ghost use Rattle.sr_publish.specs.Shares.{value_in};
-ghost use Rattle.sr_publish.specs.Subscribed.{IsSetOf};
+ghost use Rattle.sr_publish.specs.Inner.Numbers.{widened};
+ghost use Rattle.sr_publish.specs.SubscribedTables.{value_in};
+ghost use Rattle.sr_publish.specs.Inner.Subscribed.{IsSetOf};
 ghost use Rattle.sr_publish.specs.Views.{equals};
 
 use crate::articles::is_live;
 use sr_base::{Copied, Name, NoMemory, Seq, Value};
-use sr_schema::Subscription;
+use sr_catalog_schema::Subscription;
 use std::alloc::Global;
 use std::collections::BTreeSet;
 use std::marker::Model;
@@ -30,7 +30,7 @@ impl Model for Subscribed {
 
     ghost view = { λ s. s.values };
 
-    ghost use Rattle.sr_publish.specs.Subscribed.{IsSetOf};
+    ghost use Rattle.sr_publish.specs.Inner.Subscribed.{IsSetOf};
 
     ghost invariant = { λ s. IsSetOf s.set s.values };
 }

@@ -4,11 +4,11 @@ ghost use Rattle.std.specs.Prelude.{◌≡◌, true, Some, IfOk, filter_map};
 ghost use Rattle.std.specs.Option.{option_copied};
 ghost use Rattle.sr_ast.specs.Exprs.{term_of};
 ghost use Rattle.sr_eval.specs.Meanings.{found_at};
-ghost use Rattle.sr_fits.specs.Rows.{IsRow, is_row};
-ghost use Rattle.sr_publish.specs.Shares.{share_of, share_by};
+ghost use Rattle.sr_exec_fits.specs.Rows.{IsRow, is_row};
+ghost use Rattle.sr_publish.specs.SubscribedTables.{subscribed_table_of, subscribed_table_by};
 ghost use Rattle.sr_publish.specs.Views.{meets, by_value, goes_to, is_in, shown_in};
-ghost use Rattle.sr_schema.specs.Members.{column_name, scope_of};
-ghost use Rattle.sr_schema.specs.Names.{named, place_of};
+ghost use Rattle.sr_catalog_schema.specs.Members.{column_name, scope_of};
+ghost use Rattle.sr_catalog_schema.specs.Names.{named, place_of};
 
 use crate::articles::{columns_of, places_of, source_of};
 use crate::subscribed::Subscribed;
@@ -16,14 +16,14 @@ use crate::values::values_at;
 use sr_ast::{Expr, Scope, is_meant};
 use sr_base::{Copied, Name, NoMemory, Row, Seq, Value};
 use sr_catalog::Catalog;
+use sr_catalog_schema::{Article, Column, Table, scope_of};
 use sr_eval::{Bound, holds_plain};
-use sr_fits::is_row;
-use sr_schema::{Article, Column, Table, scope_of};
+use sr_exec_fits::is_row;
 use std::alloc::Global;
 use std::marker::Model;
 
 /// What a user has of a table: the article of the publication that he subscribes to, and the values of his subscriptions. Contracts
-/// see it as a share.
+/// see it as a subscribed table.
 ///
 /// It is made for a catalog, and serves as long as that stays. What it tells of a row costs by the row, and not by the subscriptions.
 #[derive(Drop)]
@@ -39,10 +39,10 @@ pub struct TableView {
 
 impl Model for TableView {
     ghost use Rattle.std.specs.Coded.{codes};
-    ghost use Rattle.sr_ast.specs.Terms.{term_code};
-    ghost use Rattle.sr_publish.specs.Shares.{Share};
+    ghost use Rattle.sr_ast.specs.Inner.Terms.{term_code};
+    ghost use Rattle.sr_publish.specs.SubscribedTables.{SubscribedTable};
 
-    ghost Value = { Share };
+    ghost Value = { SubscribedTable };
 
     ghost coded = { Prim.hlevel (codes, term_code) };
 
@@ -56,7 +56,7 @@ impl Model for TableView {
     } };
 
     ghost use Rattle.std.specs.Prelude.{◌≡◌};
-    ghost use Rattle.sr_schema.specs.Members.{scope_of};
+    ghost use Rattle.sr_catalog_schema.specs.Members.{scope_of};
 
     ghost invariant = { λ v. v.scope ≡ scope_of v.table };
 }
@@ -65,14 +65,14 @@ impl TableView {
     /// What a user has of the table of a name: `None` where there is no such table, or no started subscription of his has it.
     ///
     /// It takes a pass or two over the subscriptions of the catalog.
-    #[tactic(auto, unfolding(crate::specs::Shares::share_of))]
+    #[tactic(auto, unfolding(crate::specs::SubscribedTables::subscribed_table_of))]
     pub fn of(
         alloc: Global,
         catalog: &Catalog,
         user: &Name,
         table: &Name,
     ) -> Result<Option<TableView>, NoMemory>
-        ensures share { IfOk result (λ found. found ≡ share_of catalog.now user.now table.now) }
+        ensures subscribed_table { IfOk result (λ found. found ≡ subscribed_table_of catalog.now user.now table.now) }
     {
         let Some(table_there) = catalog.table(table) else {
             return Ok(None);
@@ -94,7 +94,7 @@ impl TableView {
         publication: &Name,
         article: &Article,
     ) -> Result<TableView, NoMemory>
-        ensures share { IfOk result (λ view. view ≡ share_by catalog.now user.now table.now (publication.now, article.now)) }
+        ensures subscribed_table { IfOk result (λ view. view ≡ subscribed_table_by catalog.now user.now table.now (publication.now, article.now)) }
     {
         let values = Subscribed::of(alloc, user, publication, catalog.subscriptions())?;
         match parts_of(alloc, table, article) {

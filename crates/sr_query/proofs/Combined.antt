@@ -2,19 +2,20 @@
 use Rattle.std.proofs.Common.{◌≡◌, ℕ, reverse, List, [], ◌∷◌, ◌++◌, map, length, take, Option, None, Some, Result, Ok, Err, refl, sym, ap, subst, ◌∙◌}
 use Rattle.std.proofs.lemmas.List.{append-nil, append_assoc, reverse-append}
 use Rattle.sr_base.specs.declared.value.Value.{Value as Cell}
-use Rattle.sr_eval.specs.Bounds.{IsRowOf, AreRows, columns_of, values_of}
+use Rattle.sr_eval.specs.Bounds.{IsRowOf}
+use Rattle.sr_eval.specs.Inner.Bounds.{AreRows, columns_of, values_of}
 use Rattle.sr_eval.specs.declared.bound.Bound.{Bound}
 use Rattle.sr_rows.specs.Marks.{RowMap, rows_of_table}
 use Rattle.sr_rows.specs.Walks.{Entry, table_rows}
 use Rattle.sr_ast.specs.declared.expr.Expr.{Expr}
-use Rattle.sr_schema.specs.declared.fault.DmlFault.{DmlFault}
-use Rattle.sr_dml.specs.Edits.{prefixed}
-use Rattle.sr_dml.specs.Sequences.{front}
-use Rattle.sr_fits.proofs.Rows.{row_of}
+use Rattle.sr_catalog_schema.specs.declared.fault.DmlFault.{DmlFault}
+use Rattle.sr_exec_dml.specs.Inner.Edits.{prefixed}
+use Rattle.sr_exec_dml.specs.Sequences.{front}
+use Rattle.sr_exec_fits.proofs.Rows.{row_of}
 use Rattle.sr_query.specs.Combinations.{combinations, kept, over_each}
 use Rattle.sr_query.specs.Sources.{Origin, rows_by_key}
-use Rattle.sr_dml.specs.Checks.{Scope}
-use Rattle.sr_query.specs.Walks.{IsJoined, AreJoined, seen}
+use Rattle.sr_exec_dml.specs.Checks.{Scope}
+use Rattle.sr_query.specs.Inner.Walks.{IsJoined, AreJoined, seen}
 use Rattle.sr_query.specs.declared.joined.Joined.{Joined}
 
 -- one more source

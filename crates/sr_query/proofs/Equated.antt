@@ -9,7 +9,7 @@ use Rattle.std.specs.Cmp.Lexicographic.{slice_cmp}
 use Rattle.std.specs.FinMap.{int_cmp-IsAntisymmetric}
 use Rattle.std.proofs.lemmas.Bool.{eqb-true}
 use Rattle.std.proofs.lemmas.Map.Lookups.{exact_bytes}
-use Rattle.sr_dates.specs.Fitting.{fitted}
+use Rattle.sr_base_dates.specs.Fitting.{fitted}
 use Rattle.sr_base.specs.Order.{compared}
 use Rattle.sr_base.specs.declared.value.Kind.{Kind}
 use Rattle.sr_base.specs.declared.value.Value.{Value}
@@ -24,23 +24,23 @@ use Rattle.sr_ast.specs.declared.operator.Binary.{Binary}
 use Rattle.sr_ast.specs.declared.operator.Binary.TheVariants as op
 use Rattle.sr_eval.specs.Bounds.{IsRowOf}
 use Rattle.sr_eval.specs.Comparisons.{tested}
-use Rattle.sr_eval.specs.Laws.{AndIsBoth}
+use Rattle.sr_eval.specs.Inner.Laws.{AndIsBoth}
 use Rattle.sr_eval.specs.Meanings.{Meaning, meaning, binary_meaning, of_both, is_true}
 use Rattle.sr_eval.specs.Meanings.Meaning.{value, truth}
-use Rattle.sr_eval.specs.Resolutions.{Resolution, meaning_at, at_place as at_resolution}
-use Rattle.sr_eval.specs.Resolutions.Resolution.{literal, place, unary, binary}
+use Rattle.sr_eval.specs.Inner.Resolutions.{Resolution, meaning_at, at_place as at_resolution}
+use Rattle.sr_eval.specs.Inner.Resolutions.Resolution.{literal, place, unary, binary}
 use Rattle.sr_ast.specs.Uses.{is_plain}
-use Rattle.sr_ast.specs.Classes.{place_of}
+use Rattle.sr_ast.specs.Inner.Classes.{place_of}
 use Rattle.sr_eval.proofs.Plain.{plain_have_values}
 use Rattle.sr_eval.proofs.Places.{resolved_meaning}
-use Rattle.sr_schema.specs.declared.fault.DmlFault.{DmlFault}
-use Rattle.sr_dml.specs.Checks.{Scope}
-use Rattle.sr_dml.specs.Fixing.{with_value}
-use Rattle.sr_dml.specs.Sequences.{or_else}
-use Rattle.sr_dml.specs.Statements.{key_of, tested as tested_meaning}
+use Rattle.sr_catalog_schema.specs.declared.fault.DmlFault.{DmlFault}
+use Rattle.sr_exec_dml.specs.Checks.{Scope}
+use Rattle.sr_exec_dml.specs.Inner.Fixing.{with_value}
+use Rattle.sr_exec_dml.specs.Sequences.{or_else}
+use Rattle.sr_exec_dml.specs.Statements.{key_of, tested as tested_meaning}
 use Rattle.sr_query.specs.Combinations.{meets, and_then}
-use Rattle.sr_query.specs.Equations.{Equation, of_column, of_sides, side_in, equations_binary, equations_in, equations}
-use Rattle.sr_query.specs.Lookups.{held_as, known_value, equated_one, equated, fixed_value, fixed_key}
+use Rattle.sr_query.specs.Inner.Equations.{Equation, of_column, of_sides, side_in, equations_binary, equations_in, equations}
+use Rattle.sr_query.specs.Inner.Lookups.{held_as, known_value, equated_one, equated, fixed_value, fixed_key}
 
 abbrev Key : Type 0
 Key = List Value

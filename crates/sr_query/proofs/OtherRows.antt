@@ -8,24 +8,26 @@ use Rattle.std.specs.Ordering.{is_eq}
 use Rattle.sr_base.specs.Order.{key_cmp}
 use Rattle.sr_base.specs.declared.value.Value.{Value as Cell}
 use Rattle.sr_ast.specs.declared.expr.Expr.{Expr}
-use Rattle.sr_eval.specs.Bounds.{values_of}
+use Rattle.sr_eval.specs.Inner.Bounds.{values_of}
 use Rattle.sr_eval.specs.declared.bound.Bound.{Bound}
-use Rattle.sr_eval.specs.Laws.{AndIsBoth}
+use Rattle.sr_eval.specs.Inner.Laws.{AndIsBoth}
 use Rattle.sr_rows.specs.Marks.{RowMap, rows_of_table}
-use Rattle.sr_rows.specs.Walks.{Entry, table_rows, Rises}
+use Rattle.sr_rows.specs.Walks.{Entry, table_rows}
+use Rattle.sr_rows.specs.Inner.Walks.{Rises}
 use Rattle.sr_rows.proofs.Listing.{each_found, get-table_rows, table_rows-rise}
-use Rattle.sr_schema.specs.declared.fault.DmlFault.{DmlFault}
-use Rattle.sr_schema.specs.declared.fault.DmlFault.TheVariants.{Memory}
-use Rattle.sr_dml.specs.Checks.{Scope}
-use Rattle.sr_dml.specs.Edits.{prefixed}
-use Rattle.sr_dml.specs.Holding.{under, one_of}
-use Rattle.sr_dml.proofs.Folding.{itself}
-use Rattle.sr_dml.proofs.Outcomes.{above_same, row_under}
-use Rattle.sr_query.specs.Combinations.{combinations, kept, meets, over_each, with_kept, Keeps}
-use Rattle.sr_query.specs.Equations.{equations}
-use Rattle.sr_query.specs.Lookups.{fixed_key, over_one}
+use Rattle.sr_catalog_schema.specs.declared.fault.DmlFault.{DmlFault}
+use Rattle.sr_catalog_schema.specs.declared.fault.DmlFault.TheVariants.{Memory}
+use Rattle.sr_exec_dml.specs.Checks.{Scope}
+use Rattle.sr_exec_dml.specs.Inner.Edits.{prefixed}
+use Rattle.sr_exec_dml.specs.Holding.{under, one_of}
+use Rattle.sr_exec_dml.proofs.Folding.{itself}
+use Rattle.sr_exec_dml.proofs.Outcomes.{above_same, row_under}
+use Rattle.sr_query.specs.Combinations.{combinations, kept, meets, over_each, with_kept}
+use Rattle.sr_query.specs.Inner.Combinations.{Keeps}
+use Rattle.sr_query.specs.Inner.Equations.{equations}
+use Rattle.sr_query.specs.Inner.Lookups.{fixed_key, over_one}
 use Rattle.sr_query.specs.Sources.{Origin}
-use Rattle.sr_query.specs.Walks.{IsJoined, seen}
+use Rattle.sr_query.specs.Inner.Walks.{IsJoined, seen}
 use Rattle.sr_query.specs.declared.joined.Joined.{Joined}
 use Rattle.sr_query.proofs.Combined.{row_of_source}
 use Rattle.sr_query.proofs.Equated.{key_is}

@@ -5,13 +5,14 @@ use Rattle.std.proofs.lemmas.List.{length-append}
 use Rattle.sr_base.specs.declared.value.Value.{Value}
 use Rattle.sr_base.specs.declared.value.Value.TheVariants.{Null}
 use Rattle.sr_ast.specs.declared.query.OrderBy.{OrderBy}
-use Rattle.sr_ast.specs.Classes.{place_of}
-use Rattle.sr_eval.specs.Bounds.{values_of}
+use Rattle.sr_ast.specs.Inner.Classes.{place_of}
+use Rattle.sr_eval.specs.Inner.Bounds.{values_of}
 use Rattle.sr_eval.specs.declared.bound.Bound.{Bound}
 use Rattle.sr_eval.specs.Meanings.{value_at}
 use Rattle.sr_eval.proofs.Places.{found_at-place, value_found}
-use Rattle.sr_dml.specs.Checks.{Scope}
-use Rattle.sr_query.specs.Orders.{rank_of, ranks_of, at_place, placed_in, ranks_at}
+use Rattle.sr_exec_dml.specs.Checks.{Scope}
+use Rattle.sr_query.specs.Orders.{rank_of, ranks_of}
+use Rattle.sr_query.specs.Inner.Orders.{at_place, placed_in, ranks_at}
 
 abbrev Key : Type 0
 Key = List Value

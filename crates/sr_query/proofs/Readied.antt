@@ -11,17 +11,18 @@ use Rattle.sr_ast.specs.declared.query.Items.TheVariants as items
 use Rattle.sr_ast.specs.declared.query.OrderBy.{OrderBy}
 use Rattle.sr_eval.proofs.Places.{resolved_meaning}
 use Rattle.sr_eval.specs.Meanings.{meaning}
-use Rattle.sr_eval.specs.Resolutions.{Resolution, resolved}
-use Rattle.sr_eval.specs.Resolving.{resolution_of}
+use Rattle.sr_eval.specs.Inner.Resolutions.{Resolution, resolved}
+use Rattle.sr_eval.specs.Inner.Resolving.{resolution_of}
 use Rattle.sr_eval.specs.declared.resolved.Resolved.{Resolved}
-use Rattle.sr_dml.specs.Checks.{Scope}
-use Rattle.sr_dml.specs.Sequences.{front, each}
-use Rattle.sr_dml.specs.Statements.{tested}
+use Rattle.sr_exec_dml.specs.Checks.{Scope}
+use Rattle.sr_exec_dml.specs.Sequences.{front, each}
+use Rattle.sr_exec_dml.specs.Statements.{tested}
 use Rattle.sr_query.specs.Combinations.{meets, and_then}
-use Rattle.sr_query.specs.Equations.{equation_of, equations}
-use Rattle.sr_query.specs.Lookups.{fixed_key}
-use Rattle.sr_query.specs.Orders.{ranks_of, placed_in}
-use Rattle.sr_query.specs.Preparing.{resolved_in, IsPrepared, meets_at, value_by, resolved_item, resolved_items, row_by, placed_row}
+use Rattle.sr_query.specs.Inner.Equations.{equation_of, equations}
+use Rattle.sr_query.specs.Inner.Lookups.{fixed_key}
+use Rattle.sr_query.specs.Orders.{ranks_of}
+use Rattle.sr_query.specs.Inner.Orders.{placed_in}
+use Rattle.sr_query.specs.Inner.Preparing.{resolved_in, IsPrepared, meets_at, value_by, resolved_item, resolved_items, row_by, placed_row}
 use Rattle.sr_query.specs.Rows.{valued, value_in, item_value, row_of, with_ranks, listed_row}
 use Rattle.sr_query.specs.Sources.{conditions_of}
 use Rattle.sr_query.specs.declared.placing.Placed.{Placed}

@@ -4,22 +4,22 @@ use Rattle.std.proofs.lemmas.List.{append-nil}
 use Rattle.sr_base.specs.declared.value.Value.{Value as Cell}
 use Rattle.sr_ast.specs.declared.expr.Expr.{Expr}
 use Rattle.sr_ast.specs.declared.query.Select.{Select}
-use Rattle.sr_eval.specs.Bounds.{values_of}
+use Rattle.sr_eval.specs.Inner.Bounds.{values_of}
 use Rattle.sr_eval.specs.declared.bound.Bound.{Bound}
 use Rattle.sr_rows.specs.Marks.{RowMap}
-use Rattle.sr_schema.specs.Catalogs.{Lists}
-use Rattle.sr_schema.specs.declared.fault.DmlFault.{DmlFault}
-use Rattle.sr_dml.specs.Checks.{Scope}
-use Rattle.sr_dml.specs.Edits.{prefixed}
-use Rattle.sr_dml.specs.Sequences.{followed}
-use Rattle.sr_dml.specs.Statements.{in_order}
-use Rattle.sr_dml.proofs.Fitted.{prefixed-none}
+use Rattle.sr_catalog_schema.specs.Catalogs.{Lists}
+use Rattle.sr_catalog_schema.specs.declared.fault.DmlFault.{DmlFault}
+use Rattle.sr_exec_dml.specs.Checks.{Scope}
+use Rattle.sr_exec_dml.specs.Inner.Edits.{prefixed}
+use Rattle.sr_exec_dml.specs.Sequences.{followed}
+use Rattle.sr_exec_dml.specs.Statements.{in_order}
+use Rattle.sr_exec_dml.proofs.Fitted.{prefixed-none}
 use Rattle.sr_query.specs.Checks.{unknown_in_select}
 use Rattle.sr_query.specs.Combinations.{combinations, kept}
 use Rattle.sr_query.specs.Rows.{listed}
 use Rattle.sr_query.specs.Selecting.{selected, selected_from, bad_in_select}
 use Rattle.sr_query.specs.Sources.{Origin, sources_of, conditions_of, origins_of, scope_of}
-use Rattle.sr_query.specs.Walks.{columns_left, found, seen}
+use Rattle.sr_query.specs.Inner.Walks.{columns_left, found, seen}
 use Rattle.sr_query.specs.declared.joined.Joined.{Joined}
 use Rattle.sr_query.specs.declared.joined.Combination.{Combination}
 

@@ -17,8 +17,8 @@ use Rattle.sr_ast.specs.declared.query.Join.{Join}
 use Rattle.sr_ast.specs.declared.query.OrderBy.{OrderBy}
 use Rattle.sr_ast.specs.declared.query.Select.{Select}
 use Rattle.sr_ast.specs.Uses.{gives_value, gives_truth}
-use Rattle.sr_dml.specs.Checks.{Scope, unknown_in, is_among}
-use Rattle.sr_dml.specs.Sequences.{or_else, first_in}
+use Rattle.sr_exec_dml.specs.Checks.{Scope, unknown_in, is_among}
+use Rattle.sr_exec_dml.specs.Sequences.{or_else, first_in}
 use Rattle.sr_query.specs.Sources.{sources_of, conditions_of, alias_of}
 
 -- the leftmost unknown column of an item

@@ -1,15 +1,13 @@
 -- The combinations of rows of several sources, and those that meet the conditions.
-use Rattle.std.specs.Prelude.{◌≡◌, ◌≢◌, Bool, true, false, List, [], ◌∷◌, ◌++◌, Result, Ok, Err, MatchResult}
+use Rattle.std.specs.Prelude.{Bool, true, false, List, [], ◌∷◌, ◌++◌, Result, Ok, Err}
 use Rattle.sr_base.specs.declared.value.Value.{Value as Cell}
 use Rattle.sr_ast.specs.Exprs.{term_of}
 use Rattle.sr_ast.specs.declared.expr.Expr.{Expr}
 use Rattle.sr_eval.specs.Meanings.{meaning}
-use Rattle.sr_schema.specs.declared.fault.DmlFault.{DmlFault}
-use Rattle.sr_schema.specs.declared.fault.DmlFault.TheVariants.{Memory}
-use Rattle.sr_dml.specs.Checks.{Scope}
-use Rattle.sr_dml.specs.Edits.{prefixed}
-use Rattle.sr_dml.specs.Sequences.{front}
-use Rattle.sr_dml.specs.Statements.{tested}
+use Rattle.sr_catalog_schema.specs.declared.fault.DmlFault.{DmlFault}
+use Rattle.sr_exec_dml.specs.Checks.{Scope}
+use Rattle.sr_exec_dml.specs.Sequences.{front}
+use Rattle.sr_exec_dml.specs.Statements.{tested}
 use Rattle.sr_query.specs.Sources.{Origin}
 
 -- what each item of a list gives, one after the other
@@ -43,10 +41,3 @@ with_kept values (Ok false) rest = rest
 abbrev pub kept : Scope → List Expr → List (List Cell) → Result (List (List Cell)) DmlFault
 kept scope conditions [] = Ok []
 kept scope conditions (c ∷ combinations) = with_kept c (meets scope conditions c) (kept scope conditions combinations)
-
--- on the way: from those that were kept to those that are, over some combinations, whatever comes behind them
-abbrev pub Keeps : Result (Unit {0}) DmlFault → Scope → List Expr → List (List Cell) → List (List Cell) → List (List Cell) → Type 0
-Keeps result scope conditions before combinations after =
-    (rest : List (List Cell)) → MatchResult result
-    (λ _. prefixed before (kept scope conditions (combinations ++ rest)) ≡ prefixed after (kept scope conditions rest))
-    (λ fault. fault ≢ Memory → prefixed before (kept scope conditions (combinations ++ rest)) ≡ Err fault)

@@ -1,11 +1,7 @@
 pub mod Checks
 pub mod Combinations
-pub mod Equations
-pub mod Held
-pub mod Lookups
 pub mod Orders
-pub mod Preparing
 pub mod Rows
 pub mod Selecting
 pub mod Sources
-pub mod Walks
+pub mod Inner

@@ -1,19 +1,15 @@
 -- The order of a SELECT's rows.
-use Rattle.std.specs.Prelude.{ℕ, Bool, cond, List, map, Option, unwrap_or, slice_get, IsPermutation, IsSorted}
-use Rattle.std.specs.Option.{option_and_then}
+use Rattle.std.specs.Prelude.{Bool, cond, List, map, IsPermutation, IsSorted}
 use Rattle.std.specs.declared.cmp.Ordering.{Ordering}
 use Rattle.std.specs.Ordering.{on, then_cmp, flip_args}
-use Rattle.std.specs.Cmp.{IsTotalOrder, then_total, on_total, back_total}
-use Rattle.std.specs.Cmp.Lexicographic.{slice_cmp, lists_total}
+use Rattle.std.specs.Cmp.Lexicographic.{slice_cmp}
 use Rattle.std.specs.List.Sorted.{IsStable}
 use Rattle.sr_base.specs.declared.value.Value.{Value as Cell}
 use Rattle.sr_base.specs.declared.value.Value.TheVariants.{Null}
-use Rattle.sr_base.specs.Order.{value_cmp, value_cmp_total}
+use Rattle.sr_base.specs.Order.{value_cmp}
 use Rattle.sr_ast.specs.declared.query.OrderBy.{OrderBy}
-use Rattle.sr_ast.specs.Classes.{place_of}
 use Rattle.sr_eval.specs.Meanings.{value_at}
-use Rattle.sr_dml.specs.Checks.{Scope}
-use Rattle.sr_query.specs.declared.placing.Placed.{Placed}
+use Rattle.sr_exec_dml.specs.Checks.{Scope}
 use Rattle.sr_query.specs.declared.rank.Rank.{Rank}
 use Rattle.sr_query.specs.declared.rank.Listed.{Listed}
 
@@ -32,16 +28,6 @@ falling r = cond r.descending r.value Null
 abbrev pub ranks_of : Scope → List OrderBy → List Cell → List Rank
 ranks_of scope order values = map (λ (o : OrderBy). rank_of o.descending (value_at scope values o.table o.column)) order
 
--- the same by places: a column of ORDER BY has one among all columns, and there its value stands, or else it is NULL
-abbrev pub placed_in : Scope → OrderBy → Placed
-placed_in scope o = record { descending = o.descending; place = place_of scope o.table o.column }
-
-abbrev pub at_place : List Cell → Option ℕ → Cell
-at_place values place = unwrap_or (option_and_then (slice_get values) place) Null
-
-abbrev pub ranks_at : List Placed → List Cell → List Rank
-ranks_at places values = map (λ (p : Placed). rank_of p.descending (at_place values p.place)) places
-
 -- ascending by value, NULL first; descending the other way round, NULL last
 abbrev pub rank_cmp : Rank → Rank → Ordering
 rank_cmp = then_cmp (on rising value_cmp) (on falling (flip_args value_cmp))
@@ -49,12 +35,6 @@ rank_cmp = then_cmp (on rising value_cmp) (on falling (flip_args value_cmp))
 -- rows by the first rank of each, then the next
 abbrev pub listed_cmp : Listed → Listed → Ordering
 listed_cmp = on (λ (l : Listed). l.ranks) (slice_cmp rank_cmp)
-
-pub rank_cmp_total : IsTotalOrder rank_cmp
-rank_cmp_total = then_total (on_total rising value_cmp_total) (on_total falling (back_total value_cmp_total))
-
-pub listed_cmp_total : IsTotalOrder listed_cmp
-listed_cmp_total = on_total (λ (l : Listed). l.ranks) (lists_total rank_cmp_total)
 
 -- the same rows in the order of their ranks, of equal ranks those of the earlier combinations first
 pub record IsOrdered (listed ordered : List Listed) : Type 0 where

@@ -1,5 +1,5 @@
 -- The rows that a SELECT answers: the items of each combination, or the aggregates over all of them.
-use Rattle.std.specs.Prelude.{ℕ, ◌*◌, ◌^◌, ◌+ℤ◌, ◌≤ℤ◌, ℤ, pos, neg_ℤ, Bool, true, false, cond, List, [], ◌∷◌, length, Option, Some, None, Result, Ok}
+use Rattle.std.specs.Prelude.{◌+ℤ◌, ℤ, pos, Bool, true, false, cond, List, [], ◌∷◌, length, Option, Some, None, Result, Ok}
 use Rattle.std.specs.Prelude.{Err}
 use Rattle.std.specs.List.{list_any}
 use Rattle.std.specs.Ordering.{is_lt}
@@ -15,10 +15,10 @@ use Rattle.sr_ast.specs.declared.query.Items.TheVariants as items
 use Rattle.sr_ast.specs.declared.query.OrderBy.{OrderBy}
 use Rattle.sr_eval.specs.Meanings.{Meaning, meaning, cell_of}
 use Rattle.sr_eval.specs.Numbers.{big_of}
-use Rattle.sr_schema.specs.declared.fault.DmlFault.{DmlFault}
-use Rattle.sr_schema.specs.declared.fault.DmlFault.TheVariants.{Overflow}
-use Rattle.sr_dml.specs.Checks.{Scope}
-use Rattle.sr_dml.specs.Sequences.{each, followed}
+use Rattle.sr_catalog_schema.specs.declared.fault.DmlFault.{DmlFault}
+use Rattle.sr_catalog_schema.specs.declared.fault.DmlFault.TheVariants.{Overflow}
+use Rattle.sr_exec_dml.specs.Checks.{Scope}
+use Rattle.sr_exec_dml.specs.Sequences.{each, followed}
 use Rattle.sr_query.specs.Checks.{is_aggregate}
 use Rattle.sr_query.specs.Orders.{ranks_of}
 use Rattle.sr_query.specs.declared.rank.Rank.{Rank}
@@ -125,8 +125,3 @@ listed_items false scope list order kept = each (listed_row scope (items.Each li
 abbrev pub listed : Scope → Items → List OrderBy → List (List Cell) → Result (List Listed) DmlFault
 listed scope items.All order kept = each (listed_row scope items.All order) kept
 listed scope (items.Each list) order kept = listed_items (list_any is_aggregate list) scope list order kept
-
--- a sum of so many numbers of 64 bits
-abbrev pub IsBounded : ℕ → Option ℤ → Type 0
-IsBounded count None = Unit {0}
-IsBounded count (Some n) = (neg_ℤ (pos (count * 2 ^ 63)) ≤ℤ n) × (n ≤ℤ pos (count * 2 ^ 63))

@@ -3,11 +3,11 @@ use Rattle.std.specs.Prelude.{◌≡◌, ℕ, cond, List, [], map, Option, Some,
 use Rattle.sr_base.specs.declared.value.Value.{Value as Cell}
 use Rattle.sr_ast.specs.declared.query.Select.{Select}
 use Rattle.sr_rows.specs.Marks.{RowMap}
-use Rattle.sr_schema.specs.Catalogs.{Lists}
-use Rattle.sr_schema.specs.declared.fault.DmlFault.{DmlFault}
-use Rattle.sr_dml.specs.Checks.{Scope}
-use Rattle.sr_dml.specs.Sequences.{followed}
-use Rattle.sr_dml.specs.Statements.{in_order}
+use Rattle.sr_catalog_schema.specs.Catalogs.{Lists}
+use Rattle.sr_catalog_schema.specs.declared.fault.DmlFault.{DmlFault}
+use Rattle.sr_exec_dml.specs.Checks.{Scope}
+use Rattle.sr_exec_dml.specs.Sequences.{followed}
+use Rattle.sr_exec_dml.specs.Statements.{in_order}
 use Rattle.sr_query.specs.Checks.{unknown_in_select, is_good}
 use Rattle.sr_query.specs.Combinations.{combinations, kept}
 use Rattle.sr_query.specs.Orders.{IsOrdered}

@@ -7,13 +7,13 @@ use Rattle.sr_ast.specs.declared.query.Select.{Select}
 use Rattle.sr_ast.specs.declared.query.Source.{Source}
 use Rattle.sr_rows.specs.Marks.{RowMap}
 use Rattle.sr_rows.specs.Walks.{table_rows}
-use Rattle.sr_schema.specs.Catalogs.{Lists}
-use Rattle.sr_schema.specs.declared.table.Table.{Table}
-use Rattle.sr_schema.specs.declared.fault.DmlFault.{DmlFault}
-use Rattle.sr_schema.specs.declared.fault.DmlFault.TheVariants.{NoTable}
-use Rattle.sr_dml.specs.Checks.{Scope}
-use Rattle.sr_dml.specs.Sequences.{each}
-use Rattle.sr_dml.specs.Statements.{table_named}
+use Rattle.sr_catalog_schema.specs.Catalogs.{Lists}
+use Rattle.sr_catalog_schema.specs.declared.table.Table.{Table}
+use Rattle.sr_catalog_schema.specs.declared.fault.DmlFault.{DmlFault}
+use Rattle.sr_catalog_schema.specs.declared.fault.DmlFault.TheVariants.{NoTable}
+use Rattle.sr_exec_dml.specs.Checks.{Scope}
+use Rattle.sr_exec_dml.specs.Sequences.{each}
+use Rattle.sr_exec_dml.specs.Statements.{table_named}
 
 -- the sources in FROM order
 abbrev pub sources_of : Select → List Source

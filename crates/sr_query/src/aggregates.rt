@@ -1,12 +1,13 @@
 ghost use Rattle.std.specs.Prelude.{◌≡◌, ◌≢◌, ◌+◌, None, Ok, Err, pos, length, IfOk, MatchResult};
 ghost use Rattle.sr_base.specs.declared.value.Value.TheVariants.{Null};
-ghost use Rattle.sr_eval.specs.Resolving.{resolution_of};
-ghost use Rattle.sr_dml.specs.Conditions.{Answers};
-ghost use Rattle.sr_dml.specs.Sequences.{each};
-ghost use Rattle.sr_query.specs.Preparing.{value_by};
+ghost use Rattle.sr_eval.specs.Inner.Resolving.{resolution_of};
+ghost use Rattle.sr_exec_dml.specs.Inner.Conditions.{Answers};
+ghost use Rattle.sr_exec_dml.specs.Sequences.{each};
+ghost use Rattle.sr_query.specs.Inner.Preparing.{value_by};
 ghost use Rattle.sr_query.specs.Rows.{value_in, aggregate, listed, as_big, as_sum, sum_from, plus, number_in, is_better, best_from};
-ghost use Rattle.sr_query.specs.Rows.{is_less, is_greater, IsBounded};
-ghost use Rattle.sr_query.specs.Walks.{found};
+ghost use Rattle.sr_query.specs.Rows.{is_less, is_greater};
+ghost use Rattle.sr_query.specs.Inner.Rows.{IsBounded};
+ghost use Rattle.sr_query.specs.Inner.Walks.{found};
 
 use crate::checks::has_aggregate;
 use crate::items::{listed_rows, value_by};

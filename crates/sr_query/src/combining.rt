@@ -1,14 +1,16 @@
 ghost use Rattle.std.specs.Prelude.{◌≡◌, ◌++◌, ◌∷◌, [], map, OnOk};
-ghost use Rattle.sr_eval.specs.Bounds.{IsRowOf, AreRows, columns_of, values_of};
-ghost use Rattle.sr_eval.specs.Resolutions.{meaning_at};
-ghost use Rattle.sr_eval.specs.Resolving.{resolution_of};
-ghost use Rattle.sr_dml.specs.Conditions.{Answers};
-ghost use Rattle.sr_dml.specs.Statements.{tested};
-ghost use Rattle.sr_query.specs.Combinations.{combinations, meets, over_each, Keeps};
-ghost use Rattle.sr_query.specs.Lookups.{over_one};
-ghost use Rattle.sr_query.specs.Preparing.{IsPrepared, meets_at};
+ghost use Rattle.sr_eval.specs.Bounds.{IsRowOf};
+ghost use Rattle.sr_eval.specs.Inner.Bounds.{AreRows, columns_of, values_of};
+ghost use Rattle.sr_eval.specs.Inner.Resolutions.{meaning_at};
+ghost use Rattle.sr_eval.specs.Inner.Resolving.{resolution_of};
+ghost use Rattle.sr_exec_dml.specs.Inner.Conditions.{Answers};
+ghost use Rattle.sr_exec_dml.specs.Statements.{tested};
+ghost use Rattle.sr_query.specs.Combinations.{combinations, meets, over_each};
+ghost use Rattle.sr_query.specs.Inner.Combinations.{Keeps};
+ghost use Rattle.sr_query.specs.Inner.Lookups.{over_one};
+ghost use Rattle.sr_query.specs.Inner.Preparing.{IsPrepared, meets_at};
 ghost use Rattle.sr_query.specs.Sources.{conditions_of, rows_by_key};
-ghost use Rattle.sr_query.specs.Walks.{IsJoined, AreJoined, columns_left, found, seen};
+ghost use Rattle.sr_query.specs.Inner.Walks.{IsJoined, AreJoined, columns_left, found, seen};
 ghost use Rattle.sr_rows.specs.Marks.{rows_of_table};
 
 use crate::fixing::fixed_key;

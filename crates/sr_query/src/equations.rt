@@ -3,7 +3,7 @@
 ghost use Rattle.std.specs.Prelude.{◌≡◌, ◌++◌, map, IfOk, OnOk};
 ghost use Rattle.std.specs.Option.{option_map};
 ghost use Rattle.sr_ast.specs.Exprs.{term_of};
-ghost use Rattle.sr_query.specs.Equations.{equation_of, equations, equations_in, of_column, of_sides, side_in, side_of};
+ghost use Rattle.sr_query.specs.Inner.Equations.{equation_of, equations, equations_in, of_column, of_sides, side_in, side_of};
 ghost use Rattle.sr_query.specs.Sources.{conditions_of};
 
 use crate::lists::push;

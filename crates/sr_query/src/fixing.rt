@@ -1,9 +1,9 @@
 ghost use Rattle.std.specs.Prelude.{◌≡◌, ◌+◌, IfOk, length, map, nat_eq, slice_get};
 ghost use Rattle.std.specs.Option.{option_copied};
-ghost use Rattle.sr_eval.specs.Bounds.{values_of};
-ghost use Rattle.sr_query.specs.Equations.{equation_of, equations, side_of};
-ghost use Rattle.sr_query.specs.Lookups.{equated, equated_one, fixed_key, fixed_value, held_as, known_value};
-ghost use Rattle.sr_query.specs.Preparing.{IsPrepared};
+ghost use Rattle.sr_eval.specs.Inner.Bounds.{values_of};
+ghost use Rattle.sr_query.specs.Inner.Equations.{equation_of, equations, side_of};
+ghost use Rattle.sr_query.specs.Inner.Lookups.{equated, equated_one, fixed_key, fixed_value, held_as, known_value};
+ghost use Rattle.sr_query.specs.Inner.Preparing.{IsPrepared};
 ghost use Rattle.sr_query.specs.Sources.{conditions_of};
 
 use crate::equations::{Equation, Side};
@@ -12,7 +12,7 @@ use crate::lists::push;
 use crate::prepared::Prepared;
 use sr_ast::Scope;
 use sr_base::{Copied, Key, Kind, NoMemory, Seq, Value};
-use sr_dates::fit;
+use sr_base_dates::fit;
 use sr_eval::{Bound, value_at_place};
 use std::alloc::Global;
 

@@ -1,12 +1,13 @@
 ghost use Rattle.std.specs.Prelude.{◌≡◌, ◌≢◌, ◌++◌, map, Ok, Err, IfOk, OnOk, MatchResult};
-ghost use Rattle.sr_eval.specs.Bounds.{values_of};
-ghost use Rattle.sr_eval.specs.Resolving.{resolution_of};
-ghost use Rattle.sr_dml.specs.Conditions.{Answers};
-ghost use Rattle.sr_dml.specs.Sequences.{each};
-ghost use Rattle.sr_query.specs.Orders.{rank_of, at_place, ranks_at};
-ghost use Rattle.sr_query.specs.Preparing.{placed_row, resolutions_of, row_by, value_by};
+ghost use Rattle.sr_eval.specs.Inner.Bounds.{values_of};
+ghost use Rattle.sr_eval.specs.Inner.Resolving.{resolution_of};
+ghost use Rattle.sr_exec_dml.specs.Inner.Conditions.{Answers};
+ghost use Rattle.sr_exec_dml.specs.Sequences.{each};
+ghost use Rattle.sr_query.specs.Orders.{rank_of};
+ghost use Rattle.sr_query.specs.Inner.Orders.{at_place, ranks_at};
+ghost use Rattle.sr_query.specs.Inner.Preparing.{placed_row, resolutions_of, row_by, value_by};
 ghost use Rattle.sr_query.specs.Rows.{listed_row};
-ghost use Rattle.sr_query.specs.Walks.{bounds_of, found};
+ghost use Rattle.sr_query.specs.Inner.Walks.{bounds_of, found};
 
 use crate::joined::Combination;
 use crate::lists::push;

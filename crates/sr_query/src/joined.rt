@@ -1,5 +1,5 @@
 ghost use Rattle.std.specs.Prelude.{◌≡◌, IfOk};
-ghost use Rattle.sr_query.specs.Walks.{bounds_of};
+ghost use Rattle.sr_query.specs.Inner.Walks.{bounds_of};
 
 use sr_ast::Scope;
 use sr_base::NoMemory;

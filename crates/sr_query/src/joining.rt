@@ -1,7 +1,7 @@
 ghost use Rattle.std.specs.Prelude.{◌≡◌, ◌≢◌, ◌++◌, map, Ok, Err, List, IfOk, OnOk, MatchResult};
-ghost use Rattle.sr_dml.specs.Conditions.{Answers, RowsFit};
+ghost use Rattle.sr_exec_dml.specs.Inner.Conditions.{Answers, RowsFit};
 ghost use Rattle.sr_query.specs.Sources.{scope_under, alias_of, sources_of, origins_of, table_of, as_origin};
-ghost use Rattle.sr_query.specs.Walks.{AreJoined, IsJoined, columns_left, seen};
+ghost use Rattle.sr_query.specs.Inner.Walks.{AreJoined, IsJoined, columns_left, seen};
 
 use crate::joined::Joined;
 use crate::lists::push;

@@ -1,6 +1,6 @@
 //! SELECT: the rows that it answers, and exactly when it is refused.
 //!
-//! It stands on sr_catalog, sr_eval and sr_rows, and on sr_dml for what rows of a table are. The contract that matters most is that
+//! It stands on sr_catalog, sr_eval and sr_rows, and on sr_exec_dml for what rows of a table are. The contract that matters most is that
 //! of `select`: a filter of all combinations of rows, in order.
 #![tactic(auto)]
 

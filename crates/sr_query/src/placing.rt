@@ -1,5 +1,5 @@
 ghost use Rattle.std.specs.Prelude.{◌≡◌, map, IfOk};
-ghost use Rattle.sr_query.specs.Orders.{placed_in};
+ghost use Rattle.sr_query.specs.Inner.Orders.{placed_in};
 
 use crate::lists::push;
 use sr_ast::{OrderBy, Places, Scope};

@@ -1,8 +1,8 @@
 //! The conditions of a statement, made ready once: over combinations of rows no name is looked for.
 
 ghost use Rattle.std.specs.Prelude.{◌≡◌, map, IfOk};
-ghost use Rattle.sr_eval.specs.Resolving.{resolution_of};
-ghost use Rattle.sr_query.specs.Preparing.{resolved_in};
+ghost use Rattle.sr_eval.specs.Inner.Resolving.{resolution_of};
+ghost use Rattle.sr_query.specs.Inner.Preparing.{resolved_in};
 ghost use Rattle.sr_query.specs.Sources.{conditions_of};
 
 use crate::equations::Equation;

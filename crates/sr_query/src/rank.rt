@@ -4,7 +4,8 @@ ghost use Rattle.std.specs.Cmp.{po, eq_by_cmp_equiv, partial_equiv_from_equiv};
 ghost use Rattle.std.specs.Cmp.Rules.{comparing};
 ghost use Rattle.std.specs.Ordering.{eq_by_cmp, as_partial_cmp};
 ghost use Rattle.std.specs.Cmp.Lexicographic.{slice_cmp};
-ghost use Rattle.sr_query.specs.Orders.{rank_cmp, rank_cmp_total, listed_cmp, listed_cmp_total};
+ghost use Rattle.sr_query.specs.Orders.{rank_cmp, listed_cmp};
+ghost use Rattle.sr_query.specs.Inner.Orders.{rank_cmp_total, listed_cmp_total};
 
 use sr_base::{Row, Seq, Value};
 use std::cmp::Ordering;
@@ -37,7 +38,7 @@ enum Held {
 impl Model for Ranks {
     ghost use Rattle.std.specs.Prelude.{List};
     ghost use Rattle.sr_query.specs.declared.rank.Rank.{Rank as OneRank};
-    ghost use Rattle.sr_query.specs.Held.{held_ranks};
+    ghost use Rattle.sr_query.specs.Inner.Held.{held_ranks};
 
     ghost Value = { List OneRank };
 

@@ -1,12 +1,12 @@
 ghost use Rattle.std.specs.Prelude.{◌≡◌, ◌≢◌, [], map, None, Ok, Err, MatchResult};
-ghost use Rattle.sr_dml.specs.Conditions.{RowsFit};
-ghost use Rattle.sr_dml.specs.Sequences.{first_in};
+ghost use Rattle.sr_exec_dml.specs.Inner.Conditions.{RowsFit};
+ghost use Rattle.sr_exec_dml.specs.Sequences.{first_in};
 ghost use Rattle.sr_query.specs.Checks.{is_good, unknown_in_order, unknown_in_select};
 ghost use Rattle.sr_query.specs.Combinations.{combinations, kept};
 ghost use Rattle.sr_query.specs.Rows.{listed};
 ghost use Rattle.sr_query.specs.Selecting.{selected, Answered};
 ghost use Rattle.sr_query.specs.Sources.{conditions_of};
-ghost use Rattle.sr_query.specs.Walks.{AreJoined, columns_left, found, seen};
+ghost use Rattle.sr_query.specs.Inner.Walks.{AreJoined, columns_left, found, seen};
 
 use crate::aggregates::listed;
 use crate::checks::is_good;

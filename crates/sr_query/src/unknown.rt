@@ -1,7 +1,7 @@
 ghost use Rattle.std.specs.Prelude.{◌≡◌, ◌++◌, map, IfOk};
 ghost use Rattle.std.specs.Option.{option_copied};
-ghost use Rattle.sr_dml.specs.Checks.{unknown_in};
-ghost use Rattle.sr_dml.specs.Sequences.{first_in};
+ghost use Rattle.sr_exec_dml.specs.Checks.{unknown_in};
+ghost use Rattle.sr_exec_dml.specs.Sequences.{first_in};
 ghost use Rattle.sr_query.specs.Checks.{unknown_in_item, unknown_in_items, unknown_in_order, unknown_in_select};
 ghost use Rattle.sr_query.specs.Sources.{conditions_of};
 

@@ -5,14 +5,17 @@ use Rattle.std.proofs.lemmas.Bool.{cases_order}
 use Rattle.std.proofs.lemmas.List.{append-nil}
 use Rattle.sr_base.specs.declared.offset.Offset.{Offset}
 use Rattle.sr_book.specs.Entries.{Name}
-use Rattle.sr_database.specs.Causes.{CommitCause, IsBegun, IsSame, IsTooFar, IsTooLong}
-use Rattle.sr_database.specs.Commits.{CanCommit, HasRoom, framed_size}
+use Rattle.sr_database.specs.Causes.{IsTooFar, IsTooLong}
+use Rattle.sr_database.specs.Inner.Causes.{CommitCause, IsBegun, IsSame}
+use Rattle.sr_database.specs.Commits.{HasRoom}
+use Rattle.sr_database.specs.Inner.Commits.{CanCommit}
 use Rattle.sr_database.specs.Databases.{IsOf, IsDatabase}
 use Rattle.sr_database.specs.Views.{View}
-use Rattle.sr_files.specs.declared.fault.DatabaseFault.{DatabaseFault}
-use Rattle.sr_files.specs.declared.fault.DatabaseFault.TheVariants as store
-use Rattle.sr_history.specs.Folds.{end_of}
-use Rattle.sr_history.specs.Recorded.{Recorded, entry_of}
+use Rattle.sr_database.proofs.Rooms.{room_at}
+use Rattle.sr_database_files.specs.declared.fault.DatabaseFault.{DatabaseFault}
+use Rattle.sr_database_files.specs.declared.fault.DatabaseFault.TheVariants as store
+use Rattle.sr_database_history.specs.Folds.{end_of}
+use Rattle.sr_database_history.specs.Recorded.{Recorded, entry_of}
 use Rattle.sr_logfile.specs.Log.{Log}
 use Rattle.sr_logform.specs.Entries.{entry_spelling}
 use Rattle.sr_logform.specs.Limits.{farthest_end, longest_body}
@@ -20,29 +23,30 @@ use Rattle.sr_logform.specs.declared.entry.Entry.{Entry}
 use Rattle.sr_site.specs.Causes.{Stays, DiskStays}
 use Rattle.sr_site.specs.Images.{IsSettled}
 use Rattle.sr_site.specs.Seen.{Seen}
-use Rattle.sr_standing.specs.Items.{commit}
-use Rattle.sr_standing.specs.Standing.{StandsAs}
-use Rattle.sr_standing.specs.Trails.{Went}
-use Rattle.sr_standing.proofs.Going.{nothing}
-use Rattle.sr_receive.specs.Entering.{IsReady, HasRoomAt, Reached, CommitStop, entered_as}
-use Rattle.sr_gather.specs.Faults.{fault_of_store}
+use Rattle.sr_database_meaning.specs.Events.{commit}
+use Rattle.sr_database_meaning.specs.Standing.{StandsAs}
+use Rattle.sr_database_meaning.specs.Traces.{Went}
+use Rattle.sr_database_meaning.proofs.Going.{nothing}
+use Rattle.sr_receive.specs.Entering.{IsReady, Reached}
+use Rattle.sr_receive.specs.Inner.Entering.{CommitStop, entered_as}
+use Rattle.sr_receive_gather.specs.Inner.Faults.{fault_of_store}
 
 -- what `commit` says
 pub record CommitSays (old new : View) (before now : Seen) (entry : Entry) (result : Result Offset DatabaseFault) : Type 0 where
   pub ready : OnOk result ((new.log.usable ≡ true) × (new.pending ≡ []))
   pub value : (publisher : Name) (es : List Recorded) (r : Recorded) → IsOf old publisher es → CanCommit old entry r → OnOk result (IsOf new publisher (es ++ r ∷ []))
-  pub database : IsTrue before.told → (publisher : Name) (es : List Recorded) (r : Recorded) → IsDatabase old publisher es before → CanCommit old entry r → OnOk result (IsDatabase new publisher (es ++ r ∷ []) now)
-  pub went : IsTrue before.told → (publisher : Name) (es : List Recorded) (r : Recorded) → IsDatabase old publisher es before → CanCommit old entry r → IsBegun result → Went before now publisher es (commit r ∷ [])
+  pub database : IsTrue before.observable → (publisher : Name) (es : List Recorded) (r : Recorded) → IsDatabase old publisher es before → CanCommit old entry r → OnOk result (IsDatabase new publisher (es ++ r ∷ []) now)
+  pub went : IsTrue before.observable → (publisher : Name) (es : List Recorded) (r : Recorded) → IsDatabase old publisher es before → CanCommit old entry r → IsBegun result → Went before now publisher es (commit r ∷ [])
   pub room : OnOk result (HasRoom old.log entry)
   pub stays : DiskStays before now
   pub steady : OnOk result (now.disk_faults ≡ before.disk_faults)
   pub cause : IfErr result (CommitCause old new entry before now)
 
 of_disk : (before now : Seen) → DiskStays before now → Stays before now
-of_disk before now stays = record { told = stays.told; first = stays.first; grows = stays.grows; disk = stays.later; mail = omega (arith, stays.mail_faults) }
+of_disk before now stays = record { observable = stays.observable; first = stays.first; grows = stays.grows; disk = stays.later; mail = omega (arith, stays.mail_faults) }
 
 still : (seen : Seen) → Stays seen seen
-still seen = record { told = refl; first = refl; grows = λ moment there. there; disk = omega arith; mail = omega arith }
+still seen = record { observable = refl; first = refl; grows = λ moment there. there; disk = omega arith; mail = omega arith }
 
 -- a database's files stand for its history
 pub settled_as : (view : View) (publisher : Name) (es : List Recorded) (seen : Seen) → IsDatabase view publisher es seen → IsSettled (StandsAs publisher es) seen
@@ -66,21 +70,6 @@ reached_same old new before now ready same =
 
 true_not_false : (b : Bool) → b ≡ false → b ≡ true → ⊥
 true_not_false b one two = let no : true ≡ false = sym two ∙ one in cc
-
--- what has room behind a log has it behind its end
-not_more : (m n : ℕ) → ¬ (n < m) → m ≤ n
-not_more m n none = elim (cases_order m n) [ inl same ↦ omega (arith, same) | inr other ↦ elim other [ inl less ↦ omega (arith, less) | inr more ↦ absurd (none more) ] ]
-
-room_here : (log : Log) (entry : Entry) → HasRoom log entry → HasRoomAt log.base log.end entry
-room_here log entry has = record {
-  short = not_more (length (entry_spelling entry)) (longest_body entry) has.short;
-  file = not_more (17 + (log.end - log.base) + framed_size entry) (farthest_end entry) (λ more. has.room (inl (omega (arith, more))));
-  offset = not_more (log.end + framed_size entry) (2 ^ 62) (λ more. has.room (inr more));
-}
-
-room_at : (log : Log) (entry : Entry) (r : Recorded) (place : ℕ) → entry_of r ≡ entry → log.end ≡ place → HasRoom log entry → HasRoomAt log.base place (entry_of r)
-room_at log entry r place is at has =
-    subst (λ (e : Entry). HasRoomAt log.base place e) (sym is) (subst (λ (n : ℕ). HasRoomAt log.base n entry) at (room_here log entry has))
 
 -- the entry was committed
 pub entered : (old new : View) (before now : Seen) (entry : Entry) (r : Recorded) (result : Result Offset DatabaseFault) → CanCommit old entry r → CommitSays old new before now entry result
@@ -131,7 +120,7 @@ ready_then old new before now entries ready reached = record {
   idle = reached.idle;
   some = record { publisher = ready.some.publisher; es = ready.some.es ++ entries; is = reached.value reached.state.0 ready.some.publisher ready.some.es ready.some.is };
   stands = λ told.
-      let then = subst (λ (b : Bool). IsTrue b) reached.stays.told told in
+      let then = subst (λ (b : Bool). IsTrue b) reached.stays.observable told in
       let had = ready.stands then in
       record { publisher = had.publisher; es = had.es ++ entries; is = reached.database then reached.state.0 had.publisher had.es had.is };
 }

@@ -3,18 +3,21 @@ use Rattle.std.proofs.Common.{◌≡◌, ◌⊎◌, ℕ, List, [], ◌∷◌, Op
 use Rattle.std.specs.Prelude.{IfErr, OnOk}
 use Rattle.sr_book.specs.Entries.{Name}
 use Rattle.sr_database.specs.Views.{View}
-use Rattle.sr_history.specs.Recorded.{Recorded, taken}
+use Rattle.sr_database_history.specs.Recorded.{Recorded, taken}
 use Rattle.sr_logform.specs.declared.op.Transaction.{Transaction}
 use Rattle.sr_mail.specs.declared.piece.Piece.{Piece}
 use Rattle.sr_site.specs.Causes.{DiskStays, Rose}
 use Rattle.sr_site.specs.Seen.{Seen}
-use Rattle.sr_gather.specs.Fetches.{Pairs, FetchStop, FoundAll}
-use Rattle.sr_receive.specs.Entering.{Reached, CommitStop, NotesStop}
-use Rattle.sr_receive.specs.Passes.{AreSteady, IsDeviceFault}
-use Rattle.sr_receive.specs.Takings.{Entered, NotEntered}
-use Rattle.sr_gather.specs.declared.fault.ReceiveFault.{ReceiveFault}
-use Rattle.sr_gather.specs.declared.fault.ReceiveFault.TheVariants.{Disk, Mail, Full, Long, Memory}
-use Rattle.sr_gather.specs.declared.report.Report.{Report}
+use Rattle.sr_receive_gather.specs.Fetches.{Pairs, FetchStop}
+use Rattle.sr_receive_gather.specs.Inner.Fetches.{FoundAll}
+use Rattle.sr_receive.specs.Entering.{Reached}
+use Rattle.sr_receive.specs.Inner.Entering.{CommitStop, NotesStop}
+use Rattle.sr_receive.specs.Passes.{AreSteady}
+use Rattle.sr_receive.specs.Inner.Passes.{IsDeviceFault}
+use Rattle.sr_receive.specs.Inner.Takings.{Entered, NotEntered}
+use Rattle.sr_receive_gather.specs.declared.fault.ReceiveFault.{ReceiveFault}
+use Rattle.sr_receive_gather.specs.declared.fault.ReceiveFault.TheVariants.{Disk, Mail, Full, Long, Memory}
+use Rattle.sr_receive_gather.specs.declared.report.Report.{Report}
 
 pub steady_same : (seen : Seen) → AreSteady seen seen
 steady_same seen = record { disk = refl; mail = refl }
@@ -83,12 +86,12 @@ not_entered_why old new before now user t Memory stop stays = stop.state.1
 -- ---- fetches
 
 pub found_steady : (publisher user : Name) (pieces : List Piece) (before now : Seen) (found : Option Pairs) → FoundAll publisher user pieces before now found → AreSteady before now
-found_steady publisher user pieces before now None lost = record { disk = lost.stays.disk_faults; mail = lost.steady }
+found_steady publisher user pieces before now None dropped_windows = record { disk = dropped_windows.stays.disk_faults; mail = dropped_windows.steady }
 found_steady publisher user pieces before now (Some pairs) all = record { disk = all.stays.disk_faults; mail = all.steady }
 
-pub fetch_why : (publisher : Name) (before now : Seen) (fault : ReceiveFault) → FetchStop publisher before now fault → IsDeviceFault before now fault
-fetch_why publisher before now Disk stop = absurd stop.why
-fetch_why publisher before now Mail stop = (stop.why, stop.stays.disk_faults)
-fetch_why publisher before now (Full end need) stop = absurd stop.why
-fetch_why publisher before now (Long size limit) stop = absurd stop.why
-fetch_why publisher before now Memory stop = stop.stays.disk_faults
+pub fetch_why : (publisher user : Name) (pieces : List Piece) (before now : Seen) (fault : ReceiveFault) → FetchStop publisher user pieces before now fault → IsDeviceFault before now fault
+fetch_why publisher user pieces before now Disk stop = absurd stop.why
+fetch_why publisher user pieces before now Mail stop = (stop.why, stop.stays.disk_faults)
+fetch_why publisher user pieces before now (Full end need) stop = absurd stop.why
+fetch_why publisher user pieces before now (Long size limit) stop = absurd stop.why
+fetch_why publisher user pieces before now Memory stop = stop.stays.disk_faults

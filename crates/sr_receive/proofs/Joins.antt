@@ -4,24 +4,27 @@ use Rattle.std.specs.Prelude.{IsTrue, IsSome, OnOk, Result, Ok, Err, map}
 use Rattle.std.proofs.lemmas.List.{append-nil, map-append}
 use Rattle.sr_book.specs.Entries.{Name}
 use Rattle.sr_database.specs.Databases.{IsOf, IsHeld, IsDatabase}
+use Rattle.sr_database.specs.Rooms.{HaveRoom}
 use Rattle.sr_database.specs.Views.{View, committed}
-use Rattle.sr_history.specs.Fitting.{Knows}
-use Rattle.sr_history.specs.Folds.{State, fresh, next, state_from, state_of, size, end_from, end_of}
-use Rattle.sr_history.specs.Recorded.{Recorded}
-use Rattle.sr_history.proofs.Granted.{stays_known}
-use Rattle.sr_history.proofs.Joined.{state_from-append, end_from-append}
-use Rattle.sr_schema.specs.Members.{user_name}
-use Rattle.sr_schema.specs.Names.{named}
+use Rattle.sr_database.proofs.Rooms.{rooms_on}
+use Rattle.sr_database_history.specs.Fitting.{Knows}
+use Rattle.sr_database_history.specs.Folds.{State, fresh, next, state_from, state_of, size, end_from, end_of}
+use Rattle.sr_database_history.specs.Recorded.{Recorded}
+use Rattle.sr_database_history.proofs.Granted.{stays_known}
+use Rattle.sr_database_history.proofs.Joined.{state_from-append, end_from-append}
+use Rattle.sr_catalog_schema.specs.Members.{user_name}
+use Rattle.sr_catalog_schema.specs.Names.{named}
 use Rattle.sr_site.specs.Causes.{Stays, MailStays, Rose}
 use Rattle.sr_site.specs.Files.{Files}
-use Rattle.sr_site.specs.Growing.{stays_on}
+use Rattle.sr_site.specs.Inner.Growing.{stays_on}
 use Rattle.sr_site.specs.Happenings.{Happening}
 use Rattle.sr_site.specs.Seen.{Seen}
-use Rattle.sr_standing.specs.Items.{Item, commit, commits, AreQuiet}
-use Rattle.sr_standing.specs.Trails.{Went}
-use Rattle.sr_standing.proofs.Going.{quiet, quiet_before}
-use Rattle.sr_standing.proofs.Joining.{joined}
-use Rattle.sr_receive.specs.Entering.{IsReady, IsBroken, HaveRoom, Reached}
+use Rattle.sr_database_meaning.specs.Events.{Event, commit, commits}
+use Rattle.sr_database_meaning.specs.Inner.Events.{AreQuiet}
+use Rattle.sr_database_meaning.specs.Traces.{Went}
+use Rattle.sr_database_meaning.proofs.Going.{quiet, quiet_before}
+use Rattle.sr_database_meaning.proofs.Joining.{joined}
+use Rattle.sr_receive.specs.Entering.{IsReady, IsBroken, Reached}
 use Rattle.sr_receive.proofs.Committing.{ready_then, settled_as}
 
 -- ---- one behind the other
@@ -35,11 +38,11 @@ broken_on [] new before middle now same is = (is.0, is.1 ∙ same)
 broken_on (r ∷ []) new before middle now same is = (is.0, subst (λ (n : ℕ). Rose n now.disk_faults) same is.1)
 broken_on (r ∷ other ∷ rs) new before middle now same is = is
 
-pub told_on : (before now : Seen) → Stays before now → IsTrue before.told → IsTrue now.told
-told_on before now stays told = subst (λ (b : Bool). IsTrue b) (sym stays.told) told
+pub told_on : (before now : Seen) → Stays before now → IsTrue before.observable → IsTrue now.observable
+told_on before now stays told = subst (λ (b : Bool). IsTrue b) (sym stays.observable) told
 
-trail_on : (first more : List Recorded) → map commit (first ++ []) ++ map commit more ≡ map commit (first ++ more)
-trail_on first more =
+trace_on : (first more : List Recorded) → map commit (first ++ []) ++ map commit more ≡ map commit (first ++ more)
+trace_on first more =
     ap (λ (l : List Recorded). map commit l ++ map commit more) (append-nil first)
     ∙ sym (map-append commit first more)
 
@@ -47,12 +50,8 @@ went_on : (before middle now : Seen) (publisher : Name) (es first more : List Re
     → Went before now publisher es (map commit (first ++ more))
 went_on before middle now publisher es first more one two =
     let same : es ++ first ≡ es ++ commits (map commit (first ++ [])) = ap (λ (l : List Recorded). es ++ l) (sym (commits_map (first ++ []) ∙ append-nil first)) in
-    subst (λ (l : List Item). Went before now publisher es l) (trail_on first more)
+    subst (λ (l : List Event). Went before now publisher es l) (trace_on first more)
     (joined before middle now publisher es (map commit (first ++ [])) (map commit more) one (subst (λ (l : List Recorded). Went middle now publisher l (map commit more)) same two))
-
-rooms_on : (base base' place : ℕ) (first more : List Recorded) → base' ≡ base → HaveRoom base place first → HaveRoom base' (end_from place first) more → HaveRoom base place (first ++ more)
-rooms_on base base' place [] more same one two = subst (λ (b : ℕ). HaveRoom b place more) same two
-rooms_on base base' place (r ∷ first) more same one two = (one.0, rooms_on base base' (place + (size r + 5)) first more same one.1 two)
 
 pub reached_on : (old db new : View) (before middle now : Seen) (first more broken : List Recorded) → Reached old db before middle first [] → Reached db new middle now more broken → Reached old new before now (first ++ more) broken
 reached_on old db new before middle now first more broken one two = record {
@@ -87,7 +86,7 @@ pub record HasQuiet (before now : List Happening) : Type 0 where
   pub quiet : AreQuiet more
 
 of_mail : (before now : Seen) → MailStays before now → Stays before now
-of_mail before now stays = record { told = stays.told; first = stays.first; grows = stays.grows; disk = omega (arith, stays.disk_faults); mail = stays.later }
+of_mail before now stays = record { observable = stays.observable; first = stays.first; grows = stays.grows; disk = omega (arith, stays.disk_faults); mail = stays.later }
 
 quiet_database : (view : View) (before now : Seen) (publisher : Name) (es : List Recorded) → MailStays before now → HasQuiet before.happened now.happened → IsDatabase view publisher es before → IsDatabase view publisher es now
 quiet_database view before now publisher es stays had database = record {
@@ -96,7 +95,7 @@ quiet_database view before now publisher es stays had database = record {
   settled = λ image there. database.settled image (quiet_before before now had.more image stays.first had.is had.quiet there);
 }
 
-pub reached_quiet : (view : View) (before now : Seen) → view.log.usable ≡ true → view.pending ≡ [] → MailStays before now → (IsTrue before.told → HasQuiet before.happened now.happened) → Reached view view before now [] []
+pub reached_quiet : (view : View) (before now : Seen) → view.log.usable ≡ true → view.pending ≡ [] → MailStays before now → (IsTrue before.observable → HasQuiet before.happened now.happened) → Reached view view before now [] []
 reached_quiet view before now usable idle stays had = record {
   state = (usable, stays.disk_faults);
   idle = idle;
@@ -104,11 +103,11 @@ reached_quiet view before now usable idle stays had = record {
   value = λ yes publisher es is. subst (λ (l : List Recorded). IsOf view publisher l) (sym (append-nil es)) is;
   database = λ told yes publisher es is.
       subst (λ (l : List Recorded). IsDatabase view publisher l now) (sym (append-nil es)) (quiet_database view before now publisher es stays (had told) is);
-  went = λ told publisher es is. quiet before now publisher es (had told).more (settled_as view publisher es before is) stays.told stays.first (had told).is (had told).quiet;
+  went = λ told publisher es is. quiet before now publisher es (had told).more (settled_as view publisher es before is) stays.observable stays.first (had told).is (had told).quiet;
   stays = of_mail before now stays;
 }
 
-pub ready_quiet : (view : View) (before now : Seen) → IsReady view before → MailStays before now → (IsTrue before.told → HasQuiet before.happened now.happened) → IsReady view now
+pub ready_quiet : (view : View) (before now : Seen) → IsReady view before → MailStays before now → (IsTrue before.observable → HasQuiet before.happened now.happened) → IsReady view now
 ready_quiet view before now ready stays had = ready_then view view before now [] ready (reached_quiet view before now ready.usable ready.idle stays had)
 
 -- ---- the state behind entries

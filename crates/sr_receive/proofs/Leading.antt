@@ -1,53 +1,55 @@
--- The window that is to be tried, in the inbox and among letters.
+-- The window that is to be tried, in the inbox and among message files.
 use Rattle.std.proofs.Common.{◌≡◌, ℕ, ◌<◌, Bool, true, false, ◌||◌, cond, if◌then◌else◌, List, [], ◌∷◌, ◌++◌, get_or, Option, Some, None, Result, Ok, Err, refl, sym, ap, subst, ◌∙◌, arith}
 use Rattle.std.specs.Prelude.{IfNone, IfOk, map}
 use Rattle.std.specs.List.{AllByRecursion, Contains}
 use Rattle.std.proofs.lemmas.List.{ext_get_or}
 use Rattle.sr_base.specs.declared.offset.Offset.{Offset}
-use Rattle.sr_cut.specs.Bodies.{IsBody, RisesPast, last_at, last_offset}
+use Rattle.sr_mail_cut.specs.Bodies.{IsBody, RisesPast, last_at, last_offset}
 use Rattle.sr_logform.specs.declared.op.Transaction.{Transaction}
-use Rattle.sr_mail.specs.Assembled.{AreOfOneWindow, CanAssemble, IsAssembled, total_of}
-use Rattle.sr_mail.specs.Inboxes.{Gathered, IsNext, IsWhole, is_dropped, is_seen, is_some, pieces_of}
+use Rattle.sr_mail.specs.Assembled.{CanAssemble, IsAssembled, total_of}
+use Rattle.sr_mail.specs.Inner.Assembled.{AreOfOneWindow}
+use Rattle.sr_mail.specs.Inboxes.{Gathered, is_dropped, pieces_of}
+use Rattle.sr_mail.specs.Inner.Inboxes.{IsNext, IsWholeWindow, is_seen, is_some}
 use Rattle.sr_mail.specs.Reaching.{Leads}
 use Rattle.sr_mail.specs.Seen.{Cover, same_window, window_of}
 use Rattle.sr_mail.specs.declared.piece.Piece.{Piece}
 use Rattle.sr_mail.specs.declared.window.Window.{Window}
 use Rattle.sr_mail.proofs.Order.{same-is}
 use Rattle.sr_receive.specs.Acts.{IsReadAs}
-use Rattle.sr_gather.specs.Fetches.{Pairs}
-use Rattle.sr_gather.specs.Bags.{Holds}
-use Rattle.sr_gather.specs.Letters.{Letter}
-use Rattle.sr_gather.specs.Windows.{AreOf, IsDue, IsWholeOf, NoneLeads, Spell, is_lost}
+use Rattle.sr_receive_gather.specs.Fetches.{Pairs}
+use Rattle.sr_receive_gather.specs.Bags.{Holds}
+use Rattle.sr_receive_gather.specs.MessageFiles.{MessageFile}
+use Rattle.sr_receive_gather.specs.Windows.{AreOf, IsDue, IsWholeOf, NoneLeads, Spell, is_dropped_window}
 
 -- ---- whole windows
 
-whole_of : (letters : List Letter) (lost : List Window) (inbox : List Gathered) (w : Window) → Holds letters lost inbox → IsWhole inbox w → IsWholeOf letters lost w
-whole_of letters lost inbox w holds whole = record {
+whole_of : (message_files : List MessageFile) (dropped_windows : List Window) (inbox : List Gathered) (w : Window) → Holds message_files dropped_windows inbox → IsWholeWindow inbox w → IsWholeOf message_files dropped_windows w
+whole_of message_files dropped_windows inbox w holds whole = record {
   seen = λ none. whole.seen (holds.pieces w ∙ none);
   covered = subst (λ (l : List Piece). Cover l w.total) (holds.pieces w) whole.covered;
   kept = sym (holds.dropped w) ∙ whole.kept;
 }
 
-of_whole : (letters : List Letter) (lost : List Window) (inbox : List Gathered) (w : Window) → Holds letters lost inbox → IsWholeOf letters lost w → IsWhole inbox w
-of_whole letters lost inbox w holds whole = record {
+of_whole : (message_files : List MessageFile) (dropped_windows : List Window) (inbox : List Gathered) (w : Window) → Holds message_files dropped_windows inbox → IsWholeOf message_files dropped_windows w → IsWholeWindow inbox w
+of_whole message_files dropped_windows inbox w holds whole = record {
   seen = λ none. whole.seen (sym (holds.pieces w) ∙ none);
   covered = subst (λ (l : List Piece). Cover l w.total) (sym (holds.pieces w)) whole.covered;
   kept = holds.dropped w ∙ whole.kept;
 }
 
 -- the next of the inbox is due
-pub due_of : (letters : List Letter) (lost : List Window) (inbox : List Gathered) (received : ℕ) (pieces : List Piece) → Holds letters lost inbox → (next : IsNext inbox received pieces) → IsDue letters lost received next.window pieces
-due_of letters lost inbox received pieces holds next = record {
-  whole = whole_of letters lost inbox next.window holds next.whole;
+pub due_of : (message_files : List MessageFile) (dropped_windows : List Window) (inbox : List Gathered) (received : ℕ) (pieces : List Piece) → Holds message_files dropped_windows inbox → (next : IsNext inbox received pieces) → IsDue message_files dropped_windows received next.window pieces
+due_of message_files dropped_windows inbox received pieces holds next = record {
+  whole = whole_of message_files dropped_windows inbox next.window holds next.whole;
   leads = next.leads;
-  least = λ other whole leads. next.least other (of_whole letters lost inbox other holds whole) leads;
+  least = λ other whole leads. next.least other (of_whole message_files dropped_windows inbox other holds whole) leads;
   own = subst (λ (l : List Piece). AllByRecursion (λ p. (window_of p ≡ next.window) × Contains l p) pieces) (holds.pieces next.window) next.own;
   filled = next.filled;
   covered = next.covered;
 }
 
-pub none_leads : (letters : List Letter) (lost : List Window) (inbox : List Gathered) (received : ℕ) → Holds letters lost inbox → ((w : Window) → IsWhole inbox w → ¬ (Leads w received)) → NoneLeads letters lost received
-none_leads letters lost inbox received holds none w whole = none w (of_whole letters lost inbox w holds whole)
+pub none_leads : (message_files : List MessageFile) (dropped_windows : List Window) (inbox : List Gathered) (received : ℕ) → Holds message_files dropped_windows inbox → ((w : Window) → IsWholeWindow inbox w → ¬ (Leads w received)) → NoneLeads message_files dropped_windows received
+none_leads message_files dropped_windows inbox received holds none w whole = none w (of_whole message_files dropped_windows inbox w holds whole)
 
 -- ---- pieces of one window
 
@@ -83,46 +85,46 @@ some_there : (pieces : List Piece) → ¬ (pieces ≡ []) → is_some pieces ≡
 some_there [] some = absurd (some refl)
 some_there (p ∷ pieces) some = refl
 
-lost_by : (b : Bool) (letters : List Letter) (lost : List Window) (inbox : List Gathered) (w v : Window) → same_window w v ≡ b → Holds letters lost inbox → IsWholeOf letters lost w
-    → cond b (is_seen inbox v) (is_dropped inbox v) ≡ (b || is_lost lost v)
-lost_by true letters lost inbox w v same holds whole =
+dropped_windows_by : (b : Bool) (message_files : List MessageFile) (dropped_windows : List Window) (inbox : List Gathered) (w v : Window) → same_window w v ≡ b → Holds message_files dropped_windows inbox → IsWholeOf message_files dropped_windows w
+    → cond b (is_seen inbox v) (is_dropped inbox v) ≡ (b || is_dropped_window dropped_windows v)
+dropped_windows_by true message_files dropped_windows inbox w v same holds whole =
     let there : ¬ (pieces_of inbox v ≡ []) = λ none. whole.seen (sym (holds.pieces w) ∙ ap (pieces_of inbox) (same-is w v same) ∙ none) in
     some_there (pieces_of inbox v) there
-lost_by false letters lost inbox w v same holds whole = holds.dropped v
+dropped_windows_by false message_files dropped_windows inbox w v same holds whole = holds.dropped v
 
-pub holds_lost : (letters : List Letter) (lost : List Window) (inbox inbox' : List Gathered) (w : Window) → Holds letters lost inbox → IsWholeOf letters lost w → ((v : Window) → pieces_of inbox' v ≡ pieces_of inbox v)
-    → ((v : Window) → is_dropped inbox' v ≡ (if same_window w v then is_seen inbox v else is_dropped inbox v)) → Holds letters (w ∷ lost) inbox'
-holds_lost letters lost inbox inbox' w holds whole pieces drops = record {
+pub holds_dropped_windows : (message_files : List MessageFile) (dropped_windows : List Window) (inbox inbox' : List Gathered) (w : Window) → Holds message_files dropped_windows inbox → IsWholeOf message_files dropped_windows w → ((v : Window) → pieces_of inbox' v ≡ pieces_of inbox v)
+    → ((v : Window) → is_dropped inbox' v ≡ (if same_window w v then is_seen inbox v else is_dropped inbox v)) → Holds message_files (w ∷ dropped_windows) inbox'
+holds_dropped_windows message_files dropped_windows inbox inbox' w holds whole pieces drops = record {
   pieces = λ v. pieces v ∙ holds.pieces v;
-  dropped = λ v. drops v ∙ lost_by (same_window w v) letters lost inbox w v refl holds whole;
+  dropped = λ v. drops v ∙ dropped_windows_by (same_window w v) message_files dropped_windows inbox w v refl holds whole;
 }
 
 -- ---- transactions of a window
 
-last_of : (front : List Transaction) (offset : Offset) (t : Transaction) → last_at offset (front ++ t ∷ []) ≡ t.at
+last_of : (prefix : List Transaction) (offset : Offset) (t : Transaction) → last_at offset (prefix ++ t ∷ []) ≡ t.at
 last_of [] offset t = refl
-last_of (f ∷ front) offset t = last_of front f.at t
+last_of (f ∷ prefix) offset t = last_of prefix f.at t
 
-last_there : (front : List Transaction) (t : Transaction) → last_offset (front ++ t ∷ []) ≡ Some t.at
+last_there : (prefix : List Transaction) (t : Transaction) → last_offset (prefix ++ t ∷ []) ≡ Some t.at
 last_there [] t = refl
-last_there (f ∷ front) t = ap (λ (o : Offset). Some o) (last_of front f.at t)
+last_there (f ∷ prefix) t = ap (λ (o : Offset). Some o) (last_of prefix f.at t)
 
 some_same : (a b : Offset) → Some a ≡ Some b → a ≡ b
 some_same a b e = cc
 
-pub of_window : (w : Window) (txs rest front : List Transaction) (first last : Transaction) → txs ≡ first ∷ rest → txs ≡ front ++ last ∷ [] → IsBody txs → w.prev < first.at.0 → last.at.0 ≡ w.upto → AreOf w txs
-of_window w txs rest front first last begins ends body lies upto =
+pub of_window : (w : Window) (txs rest prefix : List Transaction) (first last : Transaction) → txs ≡ first ∷ rest → txs ≡ prefix ++ last ∷ [] → IsBody txs → w.prev < first.at.0 → last.at.0 ≡ w.upto → AreOf w txs
+of_window w txs rest prefix first last begins ends body lies upto =
     let rising = (subst (λ (l : List Transaction). IsBody l) begins body).rising in
     record {
       body = body;
       past = subst (λ (l : List Transaction). RisesPast w.prev l) (sym begins) (lies, rising);
-      ends = (last.at, ap last_offset ends ∙ last_there front last, upto);
+      ends = (last.at, ap last_offset ends ∙ last_there prefix last, upto);
     }
 
-pub window_of_them : (w : Window) (txs rest front : List Transaction) (first last : Transaction) → txs ≡ first ∷ rest → txs ≡ front ++ last ∷ [] → AreOf w txs → (w.prev < first.at.0) × (last.at.0 ≡ w.upto)
-window_of_them w txs rest front first last begins ends are =
+pub window_of_them : (w : Window) (txs rest prefix : List Transaction) (first last : Transaction) → txs ≡ first ∷ rest → txs ≡ prefix ++ last ∷ [] → AreOf w txs → (w.prev < first.at.0) × (last.at.0 ≡ w.upto)
+window_of_them w txs rest prefix first last begins ends are =
     let lies = (subst (λ (l : List Transaction). RisesPast w.prev l) begins are.past).0 in
-    let same : are.ends.0 ≡ last.at = some_same are.ends.0 last.at (sym are.ends.1 ∙ ap last_offset ends ∙ last_there front last) in
+    let same : are.ends.0 ≡ last.at = some_same are.ends.0 last.at (sym are.ends.1 ∙ ap last_offset ends ∙ last_there prefix last) in
     (lies, ap (λ (o : Offset). o.0) (sym same) ∙ are.ends.2)
 
 pub none_of_window : (w : Window) (txs : List Transaction) → txs ≡ [] → ¬ (AreOf w txs)

@@ -9,14 +9,14 @@ use Rattle.sr_database.specs.Views.{View}
 use Rattle.sr_logform.specs.declared.op.Transaction.{Transaction}
 use Rattle.sr_site.specs.Causes.{DiskStays}
 use Rattle.sr_site.specs.Seen.{Seen}
-use Rattle.sr_receive.specs.Acts.{Act, took, Stand, stand_of, rest_of}
+use Rattle.sr_receive.specs.Acts.{ReceiveAct, took, PassState, stand_of, rest_of}
 use Rattle.sr_receive.specs.Entering.{IsReady}
-use Rattle.sr_gather.specs.Letters.{Letter}
-use Rattle.sr_receive.specs.Takings.{Entered, HasTold, StandsThere, GoesOn, StopsTaking}
-use Rattle.sr_gather.specs.Windows.{past}
-use Rattle.sr_gather.specs.declared.fault.ReceiveFault.{ReceiveFault}
-use Rattle.sr_gather.specs.declared.fault.ReceiveFault.TheVariants.{Memory}
-use Rattle.sr_gather.specs.declared.report.Report.{Report}
+use Rattle.sr_receive_gather.specs.MessageFiles.{MessageFile}
+use Rattle.sr_receive.specs.Inner.Takings.{Entered, HasTold, StandsThere, GoesOn, StopsTaking}
+use Rattle.sr_receive_gather.specs.Windows.{past}
+use Rattle.sr_receive_gather.specs.declared.fault.ReceiveFault.{ReceiveFault}
+use Rattle.sr_receive_gather.specs.declared.fault.ReceiveFault.TheVariants.{Memory}
+use Rattle.sr_receive_gather.specs.declared.report.Report.{Report}
 use Rattle.sr_receive.specs.declared.taking.Progress.{Progress}
 use Rattle.sr_receive.proofs.Stands.{stands_took}
 use Rattle.sr_receive.proofs.Stopped.{stops_at_reports}
@@ -39,63 +39,63 @@ past_left received t rest lies = past_by false received t rest (le-ltb received 
 
 -- ---- acts that came
 
-pub goes_nowhere : (old db : View) (before now : Seen) (user : Name) (letters : List Letter) (first : Stand) (acts : List Act) (progress : Progress) (reports all : List Report) (left : List Transaction)
-    → StandsThere old db before now user letters first acts progress reports all → (stand_of first acts).left ≡ left → GoesOn old db before now user letters first acts progress reports all left
-goes_nowhere old db before now user letters first acts progress reports all left stands is = record { more = []; stands = stands; left_are = is; lost_are = refl }
+pub goes_nowhere : (old db : View) (before now : Seen) (user : Name) (message_files : List MessageFile) (first : PassState) (acts : List ReceiveAct) (progress : Progress) (reports all : List Report) (left : List Transaction)
+    → StandsThere old db before now user message_files first acts progress reports all → (stand_of first acts).left ≡ left → GoesOn old db before now user message_files first acts progress reports all left
+goes_nowhere old db before now user message_files first acts progress reports all left stands is = record { more = []; stands = stands; left_are = is; dropped_windows_are = refl }
 
-pub goes_further : (old db new : View) (before middle now : Seen) (user : Name) (letters : List Letter) (first : Stand) (acts : List Act) (progress progress' : Progress) (reports all all' : List Report) (left left' : List Transaction)
-    → (one : GoesOn old db before middle user letters first acts progress reports all left) → GoesOn old new before now user letters first (one.more ++ acts) progress' reports all' left' → GoesOn old new before now user letters first acts progress' reports all' left'
-goes_further old db new before middle now user letters first acts progress progress' reports all all' left left' one two =
+pub goes_further : (old db new : View) (before middle now : Seen) (user : Name) (message_files : List MessageFile) (first : PassState) (acts : List ReceiveAct) (progress progress' : Progress) (reports all all' : List Report) (left left' : List Transaction)
+    → (one : GoesOn old db before middle user message_files first acts progress reports all left) → GoesOn old new before now user message_files first (one.more ++ acts) progress' reports all' left' → GoesOn old new before now user message_files first acts progress' reports all' left'
+goes_further old db new before middle now user message_files first acts progress progress' reports all all' left left' one two =
     let same : (two.more ++ one.more) ++ acts ≡ two.more ++ (one.more ++ acts) = append_assoc two.more one.more acts in
     record {
       more = two.more ++ one.more;
-      stands = subst (λ (l : List Act). StandsThere old new before now user letters first l progress' reports all') (sym same) two.stands;
-      left_are = ap (λ (l : List Act). (stand_of first l).left) same ∙ two.left_are;
-      lost_are = ap (λ (l : List Act). (stand_of first l).lost) same ∙ two.lost_are ∙ one.lost_are;
+      stands = subst (λ (l : List ReceiveAct). StandsThere old new before now user message_files first l progress' reports all') (sym same) two.stands;
+      left_are = ap (λ (l : List ReceiveAct). (stand_of first l).left) same ∙ two.left_are;
+      dropped_windows_are = ap (λ (l : List ReceiveAct). (stand_of first l).dropped_windows) same ∙ two.dropped_windows_are ∙ one.dropped_windows_are;
     }
 
-pub goes_and_stops : (old db new : View) (before middle now : Seen) (user : Name) (letters : List Letter) (first : Stand) (acts : List Act) (progress : Progress) (reports all all' : List Report) (left : List Transaction) (fault : ReceiveFault)
-    → (one : GoesOn old db before middle user letters first acts progress reports all left) → StopsTaking old new before now user letters first (one.more ++ acts) reports all' fault → StopsTaking old new before now user letters first acts reports all' fault
-goes_and_stops old db new before middle now user letters first acts progress reports all all' left fault one two = record { stops = two.stops; lost_are = two.lost_are ∙ one.lost_are }
+pub goes_and_stops : (old db new : View) (before middle now : Seen) (user : Name) (message_files : List MessageFile) (first : PassState) (acts : List ReceiveAct) (progress : Progress) (reports all all' : List Report) (left : List Transaction) (fault : ReceiveFault)
+    → (one : GoesOn old db before middle user message_files first acts progress reports all left) → StopsTaking old new before now user message_files first (one.more ++ acts) reports all' fault → StopsTaking old new before now user message_files first acts reports all' fault
+goes_and_stops old db new before middle now user message_files first acts progress reports all all' left fault one two = record { stops = two.stops; dropped_windows_are = two.dropped_windows_are ∙ one.dropped_windows_are }
 
-pub goes_took : (old db new : View) (before middle now : Seen) (user : Name) (letters : List Letter) (first : Stand) (acts : List Act) (progress progress' : Progress) (reports all all' made : List Report) (t : Transaction) (rest : List Transaction)
-    → IsReady db middle → StandsThere old db before middle user letters first acts progress reports all → (stand_of first acts).left ≡ t ∷ rest → Entered db new middle now user t made → DiskStays middle now
+pub goes_took : (old db new : View) (before middle now : Seen) (user : Name) (message_files : List MessageFile) (first : PassState) (acts : List ReceiveAct) (progress progress' : Progress) (reports all all' made : List Report) (t : Transaction) (rest : List Transaction)
+    → IsReady db middle → StandsThere old db before middle user message_files first acts progress reports all → (stand_of first acts).left ≡ t ∷ rest → Entered db new middle now user t made → DiskStays middle now
     → progress'.received ≡ t.at → (progress.took < 2 ^ 64 - 1 → progress'.took ≡ progress.took + 1) → progress'.told ≡ progress.told + length made → all' ≡ take progress.told all ++ (made ++ drop progress.told all)
-    → GoesOn old new before now user letters first acts progress' reports all' rest
-goes_took old db new before middle now user letters first acts progress progress' reports all all' made t rest ready stands left entered stays at count told shown = record {
+    → GoesOn old new before now user message_files first acts progress' reports all' rest
+goes_took old db new before middle now user message_files first acts progress progress' reports all all' made t rest ready stands left entered stays at count told shown = record {
   more = took t entered.dones ∷ [];
-  stands = stands_took old db new before middle now user letters first acts progress progress' reports all all' made t rest ready stands left entered stays at count told shown;
+  stands = stands_took old db new before middle now user message_files first acts progress progress' reports all all' made t rest ready stands left entered stays at count told shown;
   left_are = ap rest_of left;
-  lost_are = refl;
+  dropped_windows_are = refl;
 }
 
 -- ---- answers
 
-module _ (old db new : View) (before middle now : Seen) (user : Name) (letters : List Letter) (first : Stand) (acts : List Act) (progress : Progress) (reports all made : List Report) (t : Transaction) (rest : List Transaction) (stands : StandsThere old db before middle user letters first acts progress reports all)
+module _ (old db new : View) (before middle now : Seen) (user : Name) (message_files : List MessageFile) (first : PassState) (acts : List ReceiveAct) (progress : Progress) (reports all made : List Report) (t : Transaction) (rest : List Transaction) (stands : StandsThere old db before middle user message_files first acts progress reports all)
     (left : (stand_of first acts).left ≡ t ∷ rest) (entered : Entered db new middle now user t made) (stays : DiskStays middle now) where
-  told_answer_in : (progress' : Progress) (all' : List Report) (result : Result (Unit {0}) ReceiveFault) → IsReady db middle → OnOk result (HasTold t.at progress progress' made all all') → OnOk result (GoesOn old new before now user letters first acts progress' reports all' rest)
+  told_answer_in : (progress' : Progress) (all' : List Report) (result : Result (Unit {0}) ReceiveFault) → IsReady db middle → OnOk result (HasTold t.at progress progress' made all all') → OnOk result (GoesOn old new before now user message_files first acts progress' reports all' rest)
   told_answer_in progress' all' (Ok x) ready told =
-      goes_took old db new before middle now user letters first acts progress progress' reports all all' made t rest ready stands left entered stays told.received told.took told.told told.reports_are
+      goes_took old db new before middle now user message_files first acts progress progress' reports all all' made t rest ready stands left entered stays told.received told.took told.told told.reports_are
   told_answer_in progress' all' (Err fault) ready told = tt
 
   untold_answer_in : (all' some behind : List Report) (result : Result (Unit {0}) ReceiveFault) → IfErr result (λ f. f ≡ Memory) → made ≡ some ++ behind → all' ≡ take progress.told all ++ (some ++ drop progress.told all)
-      → IfErr result (StopsTaking old new before now user letters first acts reports all')
+      → IfErr result (StopsTaking old new before now user message_files first acts reports all')
   untold_answer_in all' some behind (Ok x) memory parts shown = tt
   untold_answer_in all' some behind (Err fault) memory parts shown =
-      subst (λ (f : ReceiveFault). StopsTaking old new before now user letters first acts reports all' f) (sym memory)
-      (stops_at_reports old db new before middle now user letters first acts progress reports all all' made some behind t rest stands stays left entered parts shown)
+      subst (λ (f : ReceiveFault). StopsTaking old new before now user message_files first acts reports all' f) (sym memory)
+      (stops_at_reports old db new before middle now user message_files first acts progress reports all all' made some behind t rest stands stays left entered parts shown)
 
-pub told_answer : (old db new : View) (before middle now : Seen) (user : Name) (letters : List Letter) (first : Stand) (acts : List Act) (progress progress' : Progress) (reports all all' made : List Report) (t : Transaction) (rest : List Transaction) (result : Result (Unit {0}) ReceiveFault)
-    → IsReady db middle → StandsThere old db before middle user letters first acts progress reports all → (stand_of first acts).left ≡ t ∷ rest → Entered db new middle now user t made → DiskStays middle now → OnOk result (HasTold t.at progress progress' made all all')
-    → OnOk result (GoesOn old new before now user letters first acts progress' reports all' rest)
-told_answer old db new before middle now user letters first acts progress progress' reports all all' made t rest result ready stands left entered stays told =
-    told_answer_in old db new before middle now user letters first acts progress reports all made t rest stands left entered stays progress' all' result ready told
+pub told_answer : (old db new : View) (before middle now : Seen) (user : Name) (message_files : List MessageFile) (first : PassState) (acts : List ReceiveAct) (progress progress' : Progress) (reports all all' made : List Report) (t : Transaction) (rest : List Transaction) (result : Result (Unit {0}) ReceiveFault)
+    → IsReady db middle → StandsThere old db before middle user message_files first acts progress reports all → (stand_of first acts).left ≡ t ∷ rest → Entered db new middle now user t made → DiskStays middle now → OnOk result (HasTold t.at progress progress' made all all')
+    → OnOk result (GoesOn old new before now user message_files first acts progress' reports all' rest)
+told_answer old db new before middle now user message_files first acts progress progress' reports all all' made t rest result ready stands left entered stays told =
+    told_answer_in old db new before middle now user message_files first acts progress reports all made t rest stands left entered stays progress' all' result ready told
 
-pub untold_answer : (old db new : View) (before middle now : Seen) (user : Name) (letters : List Letter) (first : Stand) (acts : List Act) (progress : Progress) (reports all all' made some behind : List Report) (t : Transaction) (rest : List Transaction) (result : Result (Unit {0}) ReceiveFault)
-    → StandsThere old db before middle user letters first acts progress reports all → (stand_of first acts).left ≡ t ∷ rest → Entered db new middle now user t made → DiskStays middle now → IfErr result (λ f. f ≡ Memory) → made ≡ some ++ behind
-    → all' ≡ take progress.told all ++ (some ++ drop progress.told all) → IfErr result (StopsTaking old new before now user letters first acts reports all')
-untold_answer old db new before middle now user letters first acts progress reports all all' made some behind t rest result stands left entered stays memory parts shown =
-    untold_answer_in old db new before middle now user letters first acts progress reports all made t rest stands left entered stays all' some behind result memory parts shown
+pub untold_answer : (old db new : View) (before middle now : Seen) (user : Name) (message_files : List MessageFile) (first : PassState) (acts : List ReceiveAct) (progress : Progress) (reports all all' made some behind : List Report) (t : Transaction) (rest : List Transaction) (result : Result (Unit {0}) ReceiveFault)
+    → StandsThere old db before middle user message_files first acts progress reports all → (stand_of first acts).left ≡ t ∷ rest → Entered db new middle now user t made → DiskStays middle now → IfErr result (λ f. f ≡ Memory) → made ≡ some ++ behind
+    → all' ≡ take progress.told all ++ (some ++ drop progress.told all) → IfErr result (StopsTaking old new before now user message_files first acts reports all')
+untold_answer old db new before middle now user message_files first acts progress reports all all' made some behind t rest result stands left entered stays memory parts shown =
+    untold_answer_in old db new before middle now user message_files first acts progress reports all made t rest stands left entered stays all' some behind result memory parts shown
 
 pub within_answer : (at : Offset) (progress progress' : Progress) (made all all' : List Report) (result : Result (Unit {0}) ReceiveFault) → OnOk result (HasTold at progress progress' made all all') → OnOk result (progress'.told ≤ length all')
 within_answer at progress progress' made all all' (Ok x) told = told.within

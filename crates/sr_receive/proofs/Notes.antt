@@ -3,15 +3,15 @@ use Rattle.std.proofs.Common.{◌≡◌, [], refl, sym, subst, arith}
 use Rattle.std.specs.Prelude.{IsSome}
 use Rattle.sr_book.specs.Entries.{Name}
 use Rattle.sr_book.specs.declared.note.Note.{Note}
-use Rattle.sr_database.specs.Commits.{CanCommit, CanCommitSome}
+use Rattle.sr_database.specs.Inner.Commits.{CanCommit, CanCommitSome}
 use Rattle.sr_database.specs.Views.{View}
-use Rattle.sr_history.specs.Fitting.{FitsState}
-use Rattle.sr_history.specs.Recorded.{note}
-use Rattle.sr_logform.specs.Entries.{IsShortEntry}
+use Rattle.sr_database_history.specs.Fitting.{FitsState}
+use Rattle.sr_database_history.specs.Recorded.{note}
+use Rattle.sr_logform.specs.Inner.Entries.{IsShortEntry}
 use Rattle.sr_logform.specs.declared.entry.Entry.{Entry}
 use Rattle.sr_logform.specs.declared.entry.Entry.TheVariants.{Note as note_entry}
-use Rattle.sr_schema.specs.Members.{user_name}
-use Rattle.sr_schema.specs.Names.{named}
+use Rattle.sr_catalog_schema.specs.Members.{user_name}
+use Rattle.sr_catalog_schema.specs.Names.{named}
 use Rattle.sr_site.specs.Causes.{DiskStays}
 use Rattle.sr_site.specs.Seen.{Seen}
 use Rattle.sr_receive.specs.Entering.{IsReady, Reached}
@@ -37,4 +37,4 @@ pub nothing_reached : (view : View) (seen : Seen) → IsReady view seen → Reac
 nothing_reached view seen ready = reached_none view seen ready.usable ready.idle
 
 pub nothing_moved : (seen : Seen) → DiskStays seen seen
-nothing_moved seen = record { told = refl; first = refl; grows = λ moment there. there; mail = refl; mail_faults = refl; later = omega arith }
+nothing_moved seen = record { observable = refl; first = refl; grows = λ moment there. there; mail = refl; mail_faults = refl; later = omega arith }

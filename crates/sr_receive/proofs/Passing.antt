@@ -9,27 +9,29 @@ use Rattle.sr_book.specs.declared.book.Book.{Book}
 use Rattle.sr_book.specs.declared.note.Note.{Note}
 use Rattle.sr_database.specs.Books.{book_in}
 use Rattle.sr_database.specs.Views.{View, committed}
-use Rattle.sr_history.specs.Folds.{State, next, state_from}
-use Rattle.sr_history.specs.Recorded.{Recorded, note}
-use Rattle.sr_history.proofs.Joined.{state_from-append}
+use Rattle.sr_database_history.specs.Folds.{State, next, state_from}
+use Rattle.sr_database_history.specs.Recorded.{Recorded, note}
+use Rattle.sr_database_history.proofs.Joined.{state_from-append}
 use Rattle.sr_mail.specs.declared.window.Window.{Window}
-use Rattle.sr_schema.specs.declared.user.User.{User}
+use Rattle.sr_catalog_schema.specs.declared.user.User.{User}
 use Rattle.sr_site.specs.Causes.{DiskStays}
 use Rattle.sr_site.specs.Happenings.{Happening, mail_in}
 use Rattle.sr_site.specs.Seen.{Seen}
-use Rattle.sr_receive.specs.Acts.{Act, Stand, stand_of, AreActs, entries_of, mail_after}
-use Rattle.sr_gather.specs.Bags.{filed_of, Holds, IsShare}
-use Rattle.sr_receive.specs.Entering.{IsReady, Reached, CommitStop, NotesStop}
-use Rattle.sr_gather.specs.Greatest.{asks, confirms, has_gap, raises}
-use Rattle.sr_gather.specs.Letters.{Letter}
-use Rattle.sr_receive.specs.Passes.{HasRaised, IsDeviceFault, IsMailAt, IsStart, PassedBehind, PassedFrom, PassedShare, StoppedAtEnd, StoppedAtNotes, StoppedAtWindows, StoppedBehind, StoppedFrom, StoppedShare, StopsAmong, act_reports, begun_by, first_notes, first_of, gap_report, note_entries}
-use Rattle.sr_receive.specs.Takings.{StandsThere, StopsWith, TriedAll}
-use Rattle.sr_gather.specs.declared.bag.Filed.{Filed}
-use Rattle.sr_gather.specs.declared.bag.Share.{Share}
-use Rattle.sr_gather.specs.declared.fault.ReceiveFault.{ReceiveFault}
-use Rattle.sr_gather.specs.declared.fault.ReceiveFault.TheVariants.{Disk, Mail, Full, Long, Memory}
+use Rattle.sr_receive.specs.Acts.{ReceiveAct, PassState, stand_of, AreActs, entries_of, mail_after}
+use Rattle.sr_receive_gather.specs.Bags.{filed_of, Holds, IsPartnerMail}
+use Rattle.sr_receive.specs.Entering.{IsReady, Reached}
+use Rattle.sr_receive.specs.Inner.Entering.{CommitStop, NotesStop}
+use Rattle.sr_receive_gather.specs.Greatest.{asks, confirms, has_gap, raises}
+use Rattle.sr_receive_gather.specs.MessageFiles.{MessageFile}
+use Rattle.sr_receive.specs.Passes.{HasRaised, IsMailAt, IsStart, StoppedAtEnd, StoppedAtNotes, StoppedAtWindows, StoppedBehind, StoppedFrom, StopsAmong, act_reports, begun_by, first_notes, first_of, gap_report, note_entries}
+use Rattle.sr_receive.specs.Inner.Passes.{IsDeviceFault, PassedBehind, PassedFrom, PassedPartnerMail, StoppedPartnerMail}
+use Rattle.sr_receive.specs.Inner.Takings.{StandsThere, StopsWith, TriedAll}
+use Rattle.sr_receive_gather.specs.declared.bag.Filed.{Filed}
+use Rattle.sr_receive_gather.specs.declared.bag.PartnerMail.{PartnerMail}
+use Rattle.sr_receive_gather.specs.declared.fault.ReceiveFault.{ReceiveFault}
+use Rattle.sr_receive_gather.specs.declared.fault.ReceiveFault.TheVariants.{Disk, Mail, Full, Long, Memory}
 use Rattle.sr_receive.specs.declared.receiving.Received.{Received}
-use Rattle.sr_gather.specs.declared.report.Report.{Report}
+use Rattle.sr_receive_gather.specs.declared.report.Report.{Report}
 use Rattle.sr_receive.specs.declared.taking.Progress.{Progress}
 use Rattle.sr_receive.proofs.Committing.{reached_none}
 use Rattle.sr_receive.proofs.Faulting.{fault_on, reached_steady}
@@ -51,8 +53,8 @@ pub notes_among : (old new : View) (before now : Seen) (whole : List Recorded) (
 notes_among old new before now [] fault stop = subst (λ (f : ReceiveFault). StopsAmong old new before now [] f) (sym stop.0) (among_whole old new before now [] stop.1)
 notes_among old new before now (r ∷ rs) fault stop = stopped_at old new before now r rs fault stop
 
-among_front : (old new : View) (before now : Seen) (whole more : List Recorded) (fault : ReceiveFault) → StopsAmong old new before now whole fault → StopsAmong old new before now (whole ++ more) fault
-among_front old new before now whole more fault stops = record {
+among_prefix : (old new : View) (before now : Seen) (whole more : List Recorded) (fault : ReceiveFault) → StopsAmong old new before now whole fault → StopsAmong old new before now (whole ++ more) fault
+among_prefix old new before now whole more fault stops = record {
   entries = stops.entries;
   refused = stops.refused;
   rest = stops.rest ++ more;
@@ -73,7 +75,7 @@ among_behind old db new before middle now done whole fault reached stops = recor
 
 -- the first note stopped
 pub first_stopped : (old new : View) (before now : Seen) (one two : List Recorded) (fault : ReceiveFault) → NotesStop old new before now one fault → StopsAmong old new before now (one ++ two) fault
-first_stopped old new before now one two fault stop = among_front old new before now one two fault (notes_among old new before now one fault stop)
+first_stopped old new before now one two fault stop = among_prefix old new before now one two fault (notes_among old new before now one fault stop)
 
 -- the second did, or not
 pub both_noted : (old db new : View) (before middle now : Seen) (one two : List Recorded) (result : Result (Unit {0}) ReceiveFault) → Reached old db before middle one [] → OnOk result (Reached db new middle now two []) → OnOk result (Reached old new before now (one ++ two) [])
@@ -93,9 +95,9 @@ raise_among old new before now whole fault (inr short) = subst (λ (f : ReceiveF
 -- ---- the windows
 
 -- where they begin
-pub stands_first : (db : View) (seen : Seen) (user : Name) (letters : List Letter) (received : ℕ) (lost : List Window) (first : Stand) (progress : Progress) (reports : List Report) → IsReady db seen → IsStart db received lost first
-    → progress.received.0 ≡ received → progress.took ≡ 0 → progress.told ≡ length reports → StandsThere db db seen seen user letters first [] progress reports reports
-stands_first db seen user letters received lost first progress reports ready start at none told = let zero : length reports ≡ length reports + 0 = omega arith in record {
+pub stands_first : (db : View) (seen : Seen) (user : Name) (message_files : List MessageFile) (received : ℕ) (dropped_windows : List Window) (first : PassState) (progress : Progress) (reports : List Report) → IsReady db seen → IsStart db received dropped_windows first
+    → progress.received.0 ≡ received → progress.took ≡ 0 → progress.told ≡ length reports → StandsThere db db seen seen user message_files first [] progress reports reports
+stands_first db seen user message_files received dropped_windows first progress reports ready start at none told = let zero : length reports ≡ length reports + 0 = omega arith in record {
   some = ready.some;
   publisher = refl;
   are = tt;
@@ -109,44 +111,44 @@ stands_first db seen user letters received lost first progress reports ready sta
   steady = refl;
 }
 
-pub holds_first : (db : View) (received : ℕ) (letters : List Letter) (lost : List Window) (first : Stand) (share : Share) → IsShare letters lost share → IsStart db received lost first → Holds letters first.lost share.inbox
-holds_first db received letters lost first share is start = subst (λ (l : List Window). Holds letters l share.inbox) (sym start.lost_are) is.inbox
+pub holds_first : (db : View) (received : ℕ) (message_files : List MessageFile) (dropped_windows : List Window) (first : PassState) (partner_mail : PartnerMail) → IsPartnerMail message_files dropped_windows partner_mail → IsStart db received dropped_windows first → Holds message_files first.dropped_windows partner_mail.inbox
+holds_first db received message_files dropped_windows first partner_mail is start = subst (λ (l : List Window). Holds message_files l partner_mail.inbox) (sym start.dropped_windows_are) is.inbox
 
 -- a window may be under way no more
-pub windows_stopped : (db new : View) (before now : Seen) (user : Name) (letters : List Letter) (first : Stand) (share share' : Share) (reports reports' : List Report) (fault : ReceiveFault) → share'.files.items ≡ map filed_of letters
-    → StopsWith db new before now user letters first share'.inbox reports reports' fault → StoppedBehind db new before now user letters first share' reports reports' fault
-windows_stopped db new before now user letters first share share' reports reports' fault files stops =
+pub windows_stopped : (db new : View) (before now : Seen) (user : Name) (message_files : List MessageFile) (first : PassState) (partner_mail partner_mail' : PartnerMail) (reports reports' : List Report) (fault : ReceiveFault) → partner_mail'.files.items ≡ map filed_of message_files
+    → StopsWith db new before now user message_files first partner_mail'.inbox reports reports' fault → StoppedBehind db new before now user message_files first partner_mail' reports reports' fault
+windows_stopped db new before now user message_files first partner_mail partner_mail' reports reports' fault files stops =
     let s = stops.stops in
     record {
-      lost' = (stand_of first s.acts).lost;
-      share_is = record { files = files; inbox = stops.holds };
+      dropped_windows' = (stand_of first s.acts).dropped_windows;
+      partner_mail_is = record { files = files; inbox = stops.holds };
       stopped = record {
         acts = s.acts;
         are = s.are;
-        lost_are = refl;
+        dropped_windows_are = refl;
         stopped = inl (record { refused = s.refused; is = s.is; next = s.next; reached = s.reached; mail = s.mail; shown = s.shown });
       };
     }
 
 -- all was tried, and what was to be raised is
-raised_then : (old db new : View) (before middle now : Seen) (user : Name) (letters : List Letter) (first : Stand) (progress : Progress) (files : List Filed) (share' : Share) (reports all all' : List Report) (answer : Received) → files ≡ map filed_of letters
-    → share'.files.items ≡ files → TriedAll old db before middle user letters first share'.inbox progress reports all → HasRaised user progress files all all' answer → Reached db new middle now (note_entries user (raises progress.received.0 files)) []
-    → DiskStays middle now → PassedBehind old new before now user letters first share' reports all' answer
-raised_then old db new before middle now user letters first progress files share' reports all all' answer are same tried raised noted stays =
+raised_then : (old db new : View) (before middle now : Seen) (user : Name) (message_files : List MessageFile) (first : PassState) (progress : Progress) (files : List Filed) (partner_mail' : PartnerMail) (reports all all' : List Report) (answer : Received) → files ≡ map filed_of message_files
+    → partner_mail'.files.items ≡ files → TriedAll old db before middle user message_files first partner_mail'.inbox progress reports all → HasRaised user progress files all all' answer → Reached db new middle now (note_entries user (raises progress.received.0 files)) []
+    → DiskStays middle now → PassedBehind old new before now user message_files first partner_mail' reports all' answer
+raised_then old db new before middle now user message_files first progress files partner_mail' reports all all' answer are same tried raised noted stays =
     let end : answer.end.0 ≡ progress.received.0 = ap (λ (o : Offset). o.0) raised.end in
     let acts = tried.acts in
-    let notes : note_entries user (raises progress.received.0 files) ≡ note_entries user (raises answer.end.0 (map filed_of letters)) = λ i. note_entries user (raises (sym end i) (are i)) in
-    let gaps : gap_report user progress.received.0 files ≡ gap_report user answer.end.0 (map filed_of letters) = λ i. gap_report user (sym end i) (are i) in
-    let asked : has_gap progress.received.0 files ≡ has_gap answer.end.0 (map filed_of letters) = λ i. has_gap (sym end i) (are i) in
+    let notes : note_entries user (raises progress.received.0 files) ≡ note_entries user (raises answer.end.0 (map filed_of message_files)) = λ i. note_entries user (raises (sym end i) (are i)) in
+    let gaps : gap_report user progress.received.0 files ≡ gap_report user answer.end.0 (map filed_of message_files) = λ i. gap_report user (sym end i) (are i) in
+    let asked : has_gap progress.received.0 files ≡ has_gap answer.end.0 (map filed_of message_files) = λ i. has_gap (sym end i) (are i) in
     let shown : (reports ++ act_reports user acts) ++ gap_report user progress.received.0 files ≡ reports ++ (act_reports user acts ++ gap_report user progress.received.0 files) = append_assoc reports (act_reports user acts) (gap_report user progress.received.0 files) in
     record {
-      lost' = (stand_of first acts).lost;
-      share_is = record { files = same ∙ are; inbox = tried.holds };
+      dropped_windows' = (stand_of first acts).dropped_windows;
+      partner_mail_is = record { files = same ∙ are; inbox = tried.holds };
       passed = record {
         acts = acts;
         are = tried.stands.are;
         rest = tried.rest;
-        lost_are = refl;
+        dropped_windows_are = refl;
         reached = subst (λ (l : List Recorded). Reached old new before now (entries_of user acts ++ l) []) notes
             (reached_on old db new before middle now (entries_of user acts) (note_entries user (raises progress.received.0 files)) [] tried.stands.reached noted);
         mail = λ told. stays.mail ∙ tried.stands.mail told;
@@ -159,19 +161,19 @@ raised_then old db new before middle now user letters first progress files share
       };
     }
 
-stopped_then : (old db new : View) (before middle now : Seen) (user : Name) (letters : List Letter) (first : Stand) (progress : Progress) (files : List Filed) (share' : Share) (reports all all' : List Report) (fault : ReceiveFault) → files ≡ map filed_of letters
-    → share'.files.items ≡ files → TriedAll old db before middle user letters first share'.inbox progress reports all → all' ≡ all → StopsAmong db new middle now (note_entries user (raises progress.received.0 files)) fault
-    → DiskStays middle now → StoppedBehind old new before now user letters first share' reports all' fault
-stopped_then old db new before middle now user letters first progress files share' reports all all' fault are same tried told stops stays =
+stopped_then : (old db new : View) (before middle now : Seen) (user : Name) (message_files : List MessageFile) (first : PassState) (progress : Progress) (files : List Filed) (partner_mail' : PartnerMail) (reports all all' : List Report) (fault : ReceiveFault) → files ≡ map filed_of message_files
+    → partner_mail'.files.items ≡ files → TriedAll old db before middle user message_files first partner_mail'.inbox progress reports all → all' ≡ all → StopsAmong db new middle now (note_entries user (raises progress.received.0 files)) fault
+    → DiskStays middle now → StoppedBehind old new before now user message_files first partner_mail' reports all' fault
+stopped_then old db new before middle now user message_files first progress files partner_mail' reports all all' fault are same tried told stops stays =
     let acts = tried.acts in
-    let notes : note_entries user (raises (stand_of first acts).received (map filed_of letters)) ≡ note_entries user (raises progress.received.0 files) = λ i. note_entries user (raises (sym tried.stands.received i) (sym are i)) in
+    let notes : note_entries user (raises (stand_of first acts).received (map filed_of message_files)) ≡ note_entries user (raises progress.received.0 files) = λ i. note_entries user (raises (sym tried.stands.received i) (sym are i)) in
     record {
-      lost' = (stand_of first acts).lost;
-      share_is = record { files = same ∙ are; inbox = tried.holds };
+      dropped_windows' = (stand_of first acts).dropped_windows;
+      partner_mail_is = record { files = same ∙ are; inbox = tried.holds };
       stopped = record {
         acts = acts;
         are = tried.stands.are;
-        lost_are = refl;
+        dropped_windows_are = refl;
         stopped = inr (record {
           at_rest = tried.rest;
           raised = stops.entries;
@@ -186,19 +188,19 @@ stopped_then old db new before middle now user letters first progress files shar
       };
     }
 
-pub raised_answer : (old db new : View) (before middle now : Seen) (user : Name) (letters : List Letter) (first : Stand) (progress : Progress) (files : List Filed) (share' : Share) (reports all all' : List Report) (result : Result Received ReceiveFault)
-    → files ≡ map filed_of letters → share'.files.items ≡ files → TriedAll old db before middle user letters first share'.inbox progress reports all → IfOk result (HasRaised user progress files all all')
-    → OnOk result (Reached db new middle now (note_entries user (raises progress.received.0 files)) []) → DiskStays middle now → IfOk result (PassedBehind old new before now user letters first share' reports all')
-raised_answer old db new before middle now user letters first progress files share' reports all all' (Ok answer) are same tried raised noted stays =
-    raised_then old db new before middle now user letters first progress files share' reports all all' answer are same tried raised noted stays
-raised_answer old db new before middle now user letters first progress files share' reports all all' (Err fault) are same tried raised noted stays = tt
+pub raised_answer : (old db new : View) (before middle now : Seen) (user : Name) (message_files : List MessageFile) (first : PassState) (progress : Progress) (files : List Filed) (partner_mail' : PartnerMail) (reports all all' : List Report) (result : Result Received ReceiveFault)
+    → files ≡ map filed_of message_files → partner_mail'.files.items ≡ files → TriedAll old db before middle user message_files first partner_mail'.inbox progress reports all → IfOk result (HasRaised user progress files all all')
+    → OnOk result (Reached db new middle now (note_entries user (raises progress.received.0 files)) []) → DiskStays middle now → IfOk result (PassedBehind old new before now user message_files first partner_mail' reports all')
+raised_answer old db new before middle now user message_files first progress files partner_mail' reports all all' (Ok answer) are same tried raised noted stays =
+    raised_then old db new before middle now user message_files first progress files partner_mail' reports all all' answer are same tried raised noted stays
+raised_answer old db new before middle now user message_files first progress files partner_mail' reports all all' (Err fault) are same tried raised noted stays = tt
 
-pub stopped_answer : (old db new : View) (before middle now : Seen) (user : Name) (letters : List Letter) (first : Stand) (progress : Progress) (files : List Filed) (share' : Share) (reports all all' : List Report) (result : Result Received ReceiveFault)
-    → files ≡ map filed_of letters → share'.files.items ≡ files → TriedAll old db before middle user letters first share'.inbox progress reports all → OnErr result (all' ≡ all)
-    → IfErr result (StopsAmong db new middle now (note_entries user (raises progress.received.0 files))) → DiskStays middle now → IfErr result (StoppedBehind old new before now user letters first share' reports all')
-stopped_answer old db new before middle now user letters first progress files share' reports all all' (Ok answer) are same tried told stops stays = tt
-stopped_answer old db new before middle now user letters first progress files share' reports all all' (Err fault) are same tried told stops stays =
-    stopped_then old db new before middle now user letters first progress files share' reports all all' fault are same tried told stops stays
+pub stopped_answer : (old db new : View) (before middle now : Seen) (user : Name) (message_files : List MessageFile) (first : PassState) (progress : Progress) (files : List Filed) (partner_mail' : PartnerMail) (reports all all' : List Report) (result : Result Received ReceiveFault)
+    → files ≡ map filed_of message_files → partner_mail'.files.items ≡ files → TriedAll old db before middle user message_files first partner_mail'.inbox progress reports all → OnErr result (all' ≡ all)
+    → IfErr result (StopsAmong db new middle now (note_entries user (raises progress.received.0 files))) → DiskStays middle now → IfErr result (StoppedBehind old new before now user message_files first partner_mail' reports all')
+stopped_answer old db new before middle now user message_files first progress files partner_mail' reports all all' (Ok answer) are same tried told stops stays = tt
+stopped_answer old db new before middle now user message_files first progress files partner_mail' reports all all' (Err fault) are same tried told stops stays =
+    stopped_then old db new before middle now user message_files first progress files partner_mail' reports all all' fault are same tried told stops stays
 
 -- ---- behind the notes
 
@@ -229,20 +231,20 @@ module _ (old db new : View) (before middle now : Seen) (user : Name) (book : Bo
   same_publisher : db.catalog.publisher ≡ old.catalog.publisher
   same_publisher = ap (λ (s : State). s.catalog.publisher) (noted_state old db before middle user book files ready noted)
 
-  start_behind : (lost : List Window) → IsStart db book.log_received lost (first_of old book lost)
-  start_behind lost = record { state = sym (noted_state old db before middle user book files ready noted); received_is = refl; lost_are = refl; left = refl }
+  start_behind : (dropped_windows : List Window) → IsStart db book.log_received dropped_windows (first_of old book dropped_windows)
+  start_behind dropped_windows = record { state = sym (noted_state old db before middle user book files ready noted); received_is = refl; dropped_windows_are = refl; left = refl }
 
-  mail_from : (acts : List Act) → mail_after db.catalog.publisher acts (mail_in middle.happened) ≡ mail_after old.catalog.publisher acts (mail_in before.happened)
+  mail_from : (acts : List ReceiveAct) → mail_after db.catalog.publisher acts (mail_in middle.happened) ≡ mail_after old.catalog.publisher acts (mail_in before.happened)
   mail_from acts = λ i. mail_after (same_publisher i) acts (stays.mail i)
 
-  passed_from : (letters : List Letter) (first : Stand) (lost' : List Window) (reports reports' : List Report) (answer : Received) → PassedFrom db new middle now user letters [] first lost' reports reports' answer
-      → PassedFrom old new before now user letters (first_notes user book files) first lost' reports reports' answer
-  passed_from letters first lost' reports reports' answer passed = record {
+  passed_from : (message_files : List MessageFile) (first : PassState) (dropped_windows' : List Window) (reports reports' : List Report) (answer : Received) → PassedFrom db new middle now user message_files [] first dropped_windows' reports reports' answer
+      → PassedFrom old new before now user message_files (first_notes user book files) first dropped_windows' reports reports' answer
+  passed_from message_files first dropped_windows' reports reports' answer passed = record {
     acts = passed.acts;
-    are = subst (λ (n : Name). AreActs n user letters first passed.acts) same_publisher passed.are;
+    are = subst (λ (n : Name). AreActs n user message_files first passed.acts) same_publisher passed.are;
     rest = passed.rest;
-    lost_are = passed.lost_are;
-    reached = reached_on old db new before middle now (first_notes user book files) (entries_of user passed.acts ++ note_entries user (raises answer.end.0 (map filed_of letters))) [] noted passed.reached;
+    dropped_windows_are = passed.dropped_windows_are;
+    reached = reached_on old db new before middle now (first_notes user book files) (entries_of user passed.acts ++ note_entries user (raises answer.end.0 (map filed_of message_files))) [] noted passed.reached;
     mail = λ told. passed.mail (told_on before middle noted.stays told) ∙ mail_from passed.acts;
     steady = passed.steady ∙ stays.mail_faults;
     reports_are = passed.reports_are;
@@ -251,24 +253,24 @@ module _ (old db new : View) (before middle now : Seen) (user : Name) (book : Bo
     ask = passed.ask;
   }
 
-  mail_at : (fault : ReceiveFault) (acts : List Act) → IsMailAt fault db.catalog.publisher (mail_after db.catalog.publisher acts (mail_in middle.happened)) (mail_in now.happened)
-      → IsMailAt fault old.catalog.publisher (mail_after old.catalog.publisher acts (mail_in before.happened)) (mail_in now.happened)
-  mail_at fault acts at =
-      subst (λ (l : List Happening). IsMailAt fault old.catalog.publisher l (mail_in now.happened)) (mail_from acts)
-      (subst (λ (n : Name). IsMailAt fault n (mail_after db.catalog.publisher acts (mail_in middle.happened)) (mail_in now.happened)) same_publisher at)
+  mail_at : (message_files : List MessageFile) (s : PassState) (fault : ReceiveFault) (acts : List ReceiveAct) → IsMailAt fault db.catalog.publisher user message_files s (mail_after db.catalog.publisher acts (mail_in middle.happened)) (mail_in now.happened)
+      → IsMailAt fault old.catalog.publisher user message_files s (mail_after old.catalog.publisher acts (mail_in before.happened)) (mail_in now.happened)
+  mail_at message_files s fault acts at =
+      subst (λ (l : List Happening). IsMailAt fault old.catalog.publisher user message_files s l (mail_in now.happened)) (mail_from acts)
+      (subst (λ (n : Name). IsMailAt fault n user message_files s (mail_after db.catalog.publisher acts (mail_in middle.happened)) (mail_in now.happened)) same_publisher at)
 
-  stopped_within : (letters : List Letter) (first : Stand) (acts : List Act) (reports reports' : List Report) (fault : ReceiveFault)
-      → StoppedAtWindows db new middle now user [] first acts reports reports' fault ⊎ StoppedAtEnd db new middle now user letters [] first acts reports reports' fault
-      → StoppedAtWindows old new before now user (first_notes user book files) first acts reports reports' fault ⊎ StoppedAtEnd old new before now user letters (first_notes user book files) first acts reports reports' fault
-  stopped_within letters first acts reports reports' fault (inl at) = inl (record {
+  stopped_within : (message_files : List MessageFile) (first : PassState) (acts : List ReceiveAct) (reports reports' : List Report) (fault : ReceiveFault)
+      → StoppedAtWindows db new middle now user message_files [] first acts reports reports' fault ⊎ StoppedAtEnd db new middle now user message_files [] first acts reports reports' fault
+      → StoppedAtWindows old new before now user message_files (first_notes user book files) first acts reports reports' fault ⊎ StoppedAtEnd old new before now user message_files (first_notes user book files) first acts reports reports' fault
+  stopped_within message_files first acts reports reports' fault (inl at) = inl (record {
     refused = at.refused;
     is = at.is;
     next = at.next;
     reached = reached_on old db new before middle now (first_notes user book files) (entries_of user acts) (begun_by fault at.refused) noted at.reached;
-    mail = λ told. mail_at fault acts (at.mail (told_on before middle noted.stays told));
+    mail = λ told. mail_at message_files (stand_of first acts) fault acts (at.mail (told_on before middle noted.stays told));
     shown = at.shown;
   })
-  stopped_within letters first acts reports reports' fault (inr at) = inr (record {
+  stopped_within message_files first acts reports reports' fault (inr at) = inr (record {
     at_rest = at.at_rest;
     raised = at.raised;
     refused = at.refused;
@@ -280,77 +282,77 @@ module _ (old db new : View) (before middle now : Seen) (user : Name) (book : Bo
     reports_are = at.reports_are;
   })
 
-  stopped_from : (letters : List Letter) (first : Stand) (lost' : List Window) (reports reports' : List Report) (fault : ReceiveFault) → StoppedFrom db new middle now user letters [] first lost' reports reports' fault
-      → StoppedFrom old new before now user letters (first_notes user book files) first lost' reports reports' fault
-  stopped_from letters first lost' reports reports' fault stopped = record {
+  stopped_from : (message_files : List MessageFile) (first : PassState) (dropped_windows' : List Window) (reports reports' : List Report) (fault : ReceiveFault) → StoppedFrom db new middle now user message_files [] first dropped_windows' reports reports' fault
+      → StoppedFrom old new before now user message_files (first_notes user book files) first dropped_windows' reports reports' fault
+  stopped_from message_files first dropped_windows' reports reports' fault stopped = record {
     acts = stopped.acts;
-    are = subst (λ (n : Name). AreActs n user letters first stopped.acts) same_publisher stopped.are;
-    lost_are = stopped.lost_are;
-    stopped = stopped_within letters first stopped.acts reports reports' fault stopped.stopped;
+    are = subst (λ (n : Name). AreActs n user message_files first stopped.acts) same_publisher stopped.are;
+    dropped_windows_are = stopped.dropped_windows_are;
+    stopped = stopped_within message_files first stopped.acts reports reports' fault stopped.stopped;
   }
 
-  -- what a share says
-  share_passed : (share share' : Share) (reports reports' : List Report) (answer : Received) → book ≡ book_in old.books user → files ≡ share.files.items
-      → ((letters : List Letter) (lost : List Window) (first : Stand) → IsShare letters lost share → IsStart db book.log_received lost first → PassedBehind db new middle now user letters first share' reports reports' answer)
-      → PassedShare old new before now user share share' reports reports' answer
-  share_passed share share' reports reports' answer book_same files_same behind = record {
-    passed = λ letters lost is.
-        let b = behind letters lost (first_of old book lost) is (start_behind lost) in
-        let passed = passed_from letters (first_of old book lost) b.lost' reports reports' answer b.passed in
-        let P : Book → List Filed → Type 0 = λ k f. PassedFrom old new before now user letters (first_notes user k f) (first_of old k lost) b.lost' reports reports' answer in
-        (b.lost', b.share_is, subst (λ (k : Book). P k (map filed_of letters)) book_same (subst (λ (f : List Filed). P book f) (files_same ∙ is.files) passed));
+  -- what a partner mail says
+  partner_mail_passed : (partner_mail partner_mail' : PartnerMail) (reports reports' : List Report) (answer : Received) → book ≡ book_in old.books user → files ≡ partner_mail.files.items
+      → ((message_files : List MessageFile) (dropped_windows : List Window) (first : PassState) → IsPartnerMail message_files dropped_windows partner_mail → IsStart db book.log_received dropped_windows first → PassedBehind db new middle now user message_files first partner_mail' reports reports' answer)
+      → PassedPartnerMail old new before now user partner_mail partner_mail' reports reports' answer
+  partner_mail_passed partner_mail partner_mail' reports reports' answer book_same files_same behind = record {
+    passed = λ message_files dropped_windows is.
+        let b = behind message_files dropped_windows (first_of old book dropped_windows) is (start_behind dropped_windows) in
+        let passed = passed_from message_files (first_of old book dropped_windows) b.dropped_windows' reports reports' answer b.passed in
+        let P : Book → List Filed → Type 0 = λ k f. PassedFrom old new before now user message_files (first_notes user k f) (first_of old k dropped_windows) b.dropped_windows' reports reports' answer in
+        (b.dropped_windows', b.partner_mail_is, subst (λ (k : Book). P k (map filed_of message_files)) book_same (subst (λ (f : List Filed). P book f) (files_same ∙ is.files) passed));
   }
 
-  share_stopped : (share share' : Share) (reports reports' : List Report) (fault : ReceiveFault) → book ≡ book_in old.books user → files ≡ share.files.items → IsDeviceFault middle now fault
-      → ((letters : List Letter) (lost : List Window) (first : Stand) → IsShare letters lost share → IsStart db book.log_received lost first → StoppedBehind db new middle now user letters first share' reports reports' fault)
-      → StoppedShare old new before now user share share' reports reports' fault
-  share_stopped share share' reports reports' fault book_same files_same why behind = record {
+  partner_mail_stopped : (partner_mail partner_mail' : PartnerMail) (reports reports' : List Report) (fault : ReceiveFault) → book ≡ book_in old.books user → files ≡ partner_mail.files.items → IsDeviceFault middle now fault
+      → ((message_files : List MessageFile) (dropped_windows : List Window) (first : PassState) → IsPartnerMail message_files dropped_windows partner_mail → IsStart db book.log_received dropped_windows first → StoppedBehind db new middle now user message_files first partner_mail' reports reports' fault)
+      → StoppedPartnerMail old new before now user partner_mail partner_mail' reports reports' fault
+  partner_mail_stopped partner_mail partner_mail' reports reports' fault book_same files_same why behind = record {
     why = fault_on before middle now fault (reached_steady old db before middle (first_notes user book files) noted stays) why;
-    passed = λ letters lost is.
-        let b = behind letters lost (first_of old book lost) is (start_behind lost) in
-        let stopped = stopped_from letters (first_of old book lost) b.lost' reports reports' fault b.stopped in
-        let P : Book → List Filed → Type 0 = λ k f. StoppedFrom old new before now user letters (first_notes user k f) (first_of old k lost) b.lost' reports reports' fault in
-        (b.lost', b.share_is, inr (subst (λ (k : Book). P k (map filed_of letters)) book_same (subst (λ (f : List Filed). P book f) (files_same ∙ is.files) stopped)));
+    passed = λ message_files dropped_windows is.
+        let b = behind message_files dropped_windows (first_of old book dropped_windows) is (start_behind dropped_windows) in
+        let stopped = stopped_from message_files (first_of old book dropped_windows) b.dropped_windows' reports reports' fault b.stopped in
+        let P : Book → List Filed → Type 0 = λ k f. StoppedFrom old new before now user message_files (first_notes user k f) (first_of old k dropped_windows) b.dropped_windows' reports reports' fault in
+        (b.dropped_windows', b.partner_mail_is, inr (subst (λ (k : Book). P k (map filed_of message_files)) book_same (subst (λ (f : List Filed). P book f) (files_same ∙ is.files) stopped)));
   }
 
-pub share_passed_answer : (old db new : View) (before middle now : Seen) (user : Name) (book : Book) (files : List Filed) (share share' : Share) (reports reports' : List Report) (result : Result Received ReceiveFault) → IsReady old before
-    → Reached old db before middle (first_notes user book files) [] → DiskStays before middle → book ≡ book_in old.books user → files ≡ share.files.items
-    → ((letters : List Letter) (lost : List Window) (first : Stand) → IsShare letters lost share → IsStart db book.log_received lost first → IfOk result (PassedBehind db new middle now user letters first share' reports reports'))
-    → IfOk result (PassedShare old new before now user share share' reports reports')
-share_passed_answer old db new before middle now user book files share share' reports reports' (Ok answer) ready noted stays book_same files_same behind =
-    share_passed old db new before middle now user book files ready noted stays share share' reports reports' answer book_same files_same behind
-share_passed_answer old db new before middle now user book files share share' reports reports' (Err fault) ready noted stays book_same files_same behind = tt
+pub partner_mail_passed_answer : (old db new : View) (before middle now : Seen) (user : Name) (book : Book) (files : List Filed) (partner_mail partner_mail' : PartnerMail) (reports reports' : List Report) (result : Result Received ReceiveFault) → IsReady old before
+    → Reached old db before middle (first_notes user book files) [] → DiskStays before middle → book ≡ book_in old.books user → files ≡ partner_mail.files.items
+    → ((message_files : List MessageFile) (dropped_windows : List Window) (first : PassState) → IsPartnerMail message_files dropped_windows partner_mail → IsStart db book.log_received dropped_windows first → IfOk result (PassedBehind db new middle now user message_files first partner_mail' reports reports'))
+    → IfOk result (PassedPartnerMail old new before now user partner_mail partner_mail' reports reports')
+partner_mail_passed_answer old db new before middle now user book files partner_mail partner_mail' reports reports' (Ok answer) ready noted stays book_same files_same behind =
+    partner_mail_passed old db new before middle now user book files ready noted stays partner_mail partner_mail' reports reports' answer book_same files_same behind
+partner_mail_passed_answer old db new before middle now user book files partner_mail partner_mail' reports reports' (Err fault) ready noted stays book_same files_same behind = tt
 
-pub share_stopped_answer : (old db new : View) (before middle now : Seen) (user : Name) (book : Book) (files : List Filed) (share share' : Share) (reports reports' : List Report) (result : Result Received ReceiveFault) → IsReady old before
-    → Reached old db before middle (first_notes user book files) [] → DiskStays before middle → book ≡ book_in old.books user → files ≡ share.files.items → IfErr result (IsDeviceFault middle now)
-    → ((letters : List Letter) (lost : List Window) (first : Stand) → IsShare letters lost share → IsStart db book.log_received lost first → IfErr result (StoppedBehind db new middle now user letters first share' reports reports'))
-    → IfErr result (StoppedShare old new before now user share share' reports reports')
-share_stopped_answer old db new before middle now user book files share share' reports reports' (Ok answer) ready noted stays book_same files_same why behind = tt
-share_stopped_answer old db new before middle now user book files share share' reports reports' (Err fault) ready noted stays book_same files_same why behind =
-    share_stopped old db new before middle now user book files ready noted stays share share' reports reports' fault book_same files_same why behind
+pub partner_mail_stopped_answer : (old db new : View) (before middle now : Seen) (user : Name) (book : Book) (files : List Filed) (partner_mail partner_mail' : PartnerMail) (reports reports' : List Report) (result : Result Received ReceiveFault) → IsReady old before
+    → Reached old db before middle (first_notes user book files) [] → DiskStays before middle → book ≡ book_in old.books user → files ≡ partner_mail.files.items → IfErr result (IsDeviceFault middle now)
+    → ((message_files : List MessageFile) (dropped_windows : List Window) (first : PassState) → IsPartnerMail message_files dropped_windows partner_mail → IsStart db book.log_received dropped_windows first → IfErr result (StoppedBehind db new middle now user message_files first partner_mail' reports reports'))
+    → IfErr result (StoppedPartnerMail old new before now user partner_mail partner_mail' reports reports')
+partner_mail_stopped_answer old db new before middle now user book files partner_mail partner_mail' reports reports' (Ok answer) ready noted stays book_same files_same why behind = tt
+partner_mail_stopped_answer old db new before middle now user book files partner_mail partner_mail' reports reports' (Err fault) ready noted stays book_same files_same why behind =
+    partner_mail_stopped old db new before middle now user book files ready noted stays partner_mail partner_mail' reports reports' fault book_same files_same why behind
 
 -- the notes stopped
-pub notes_stopped : (old new : View) (before now : Seen) (user : Name) (book : Book) (files : List Filed) (share : Share) (reports : List Report) (fault : ReceiveFault) → DiskStays before now → book ≡ book_in old.books user → files ≡ share.files.items
-    → IsDeviceFault before now fault → StopsAmong old new before now (first_notes user book files) fault → StoppedShare old new before now user share share reports reports fault
-notes_stopped old new before now user book files share reports fault stays book_same files_same why stops = record {
+pub notes_stopped : (old new : View) (before now : Seen) (user : Name) (book : Book) (files : List Filed) (partner_mail : PartnerMail) (reports : List Report) (fault : ReceiveFault) → DiskStays before now → book ≡ book_in old.books user → files ≡ partner_mail.files.items
+    → IsDeviceFault before now fault → StopsAmong old new before now (first_notes user book files) fault → StoppedPartnerMail old new before now user partner_mail partner_mail reports reports fault
+notes_stopped old new before now user book files partner_mail reports fault stays book_same files_same why stops = record {
   why = why;
-  passed = λ letters lost is.
-      let P : Book → List Filed → Type 0 = λ k f. StoppedAtNotes old new before now (first_notes user k f) lost lost reports reports fault in
-      let at : P book files = record { stops = stops; lost_are = refl; mail = λ _. stays.mail; reports_are = refl } in
-      (lost, is, inl (subst (λ (k : Book). P k (map filed_of letters)) book_same (subst (λ (f : List Filed). P book f) (files_same ∙ is.files) at)));
+  passed = λ message_files dropped_windows is.
+      let P : Book → List Filed → Type 0 = λ k f. StoppedAtNotes old new before now (first_notes user k f) dropped_windows dropped_windows reports reports fault in
+      let at : P book files = record { stops = stops; dropped_windows_are = refl; mail = λ _. stays.mail; reports_are = refl } in
+      (dropped_windows, is, inl (subst (λ (k : Book). P k (map filed_of message_files)) book_same (subst (λ (f : List Filed). P book f) (files_same ∙ is.files) at)));
 }
 
 -- for want of memory, before anything was done
-pub nothing_received : (old : View) (seen : Seen) (user : Name) (share : Share) (reports : List Report) → IsReady old seen → StoppedShare old old seen seen user share share reports reports Memory
-nothing_received old seen user share reports ready = record {
+pub nothing_received : (old : View) (seen : Seen) (user : Name) (partner_mail : PartnerMail) (reports : List Report) → IsReady old seen → StoppedPartnerMail old old seen seen user partner_mail partner_mail reports reports Memory
+nothing_received old seen user partner_mail reports ready = record {
   why = refl;
-  passed = λ letters lost is.
-      let notes = first_notes user (book_in old.books user) (map filed_of letters) in (
-        lost,
+  passed = λ message_files dropped_windows is.
+      let notes = first_notes user (book_in old.books user) (map filed_of message_files) in (
+        dropped_windows,
         is,
         inl (record {
           stops = record { entries = []; refused = []; rest = notes; parts = refl; is = tt; reached = reached_none old seen ready.usable ready.idle };
-          lost_are = refl;
+          dropped_windows_are = refl;
           mail = λ _. refl;
           reports_are = refl;
         }),

@@ -1,194 +1,196 @@
--- The share of a user in a bag, after a pass.
+-- The partner mail of a user in a bag, after a pass.
 use Rattle.std.proofs.Common.{◌≡◌, inl, inr, ℕ, Bool, true, false, cond, List, [], ◌∷◌, ◌++◌, length, get_or, set, Option, Some, None, Result, Ok, Err, refl, sym, ap, subst, ◌∙◌}
 use Rattle.std.specs.Prelude.{IfErr, IfOk, bytes_eq, map}
 use Rattle.std.specs.List.{AllByRecursion}
 use Rattle.sr_book.specs.Entries.{Name}
 use Rattle.sr_database.specs.Books.{book_in}
 use Rattle.sr_database.specs.Views.{View}
-use Rattle.sr_dml.proofs.Fixed.{same_name}
+use Rattle.sr_exec_dml.proofs.Fixed.{same_name}
 use Rattle.sr_mail.specs.declared.window.Window.{Window}
 use Rattle.sr_site.specs.Seen.{Seen}
-use Rattle.sr_receive.specs.Acts.{Act, dropped, torn, begun, took, Stand, stand_of, AreActs, IsAct}
-use Rattle.sr_gather.specs.Bags.{filed_of, Has, IsPlaceOf, IsShare, IsShareWhere, OthersStay, share_of}
+use Rattle.sr_receive.specs.Acts.{ReceiveAct, dropped, torn, begun, took, PassState, stand_of, AreActs, IsAct}
+use Rattle.sr_receive_gather.specs.Bags.{filed_of, Has, IsPlaceOf, IsPartnerMail, IsPartnerMailWhere, partner_mail_of}
+use Rattle.sr_receive_gather.specs.Inner.Bags.{OthersStay}
 use Rattle.sr_receive.specs.Entering.{IsReady}
-use Rattle.sr_gather.specs.Letters.{Letter}
-use Rattle.sr_receive.specs.Passes.{HasReceived, Passed, PassedInPart, PassedShare, ReceiveCause, StoppedShare, first_notes, first_of}
-use Rattle.sr_gather.specs.declared.bag.Share.{Share}
-use Rattle.sr_gather.specs.declared.fault.ReceiveFault.{ReceiveFault}
-use Rattle.sr_gather.specs.declared.fault.ReceiveFault.TheVariants.{Memory}
+use Rattle.sr_receive_gather.specs.MessageFiles.{MessageFile}
+use Rattle.sr_receive.specs.Passes.{PassedInPart, first_notes, first_of}
+use Rattle.sr_receive.specs.Inner.Passes.{HasReceived, Passed, PassedPartnerMail, ReceiveCause, StoppedPartnerMail}
+use Rattle.sr_receive_gather.specs.declared.bag.PartnerMail.{PartnerMail}
+use Rattle.sr_receive_gather.specs.declared.fault.ReceiveFault.{ReceiveFault}
+use Rattle.sr_receive_gather.specs.declared.fault.ReceiveFault.TheVariants.{Memory}
 use Rattle.sr_receive.specs.declared.receiving.Received.{Received}
-use Rattle.sr_gather.specs.declared.report.Report.{Report}
+use Rattle.sr_receive_gather.specs.declared.report.Report.{Report}
 use Rattle.sr_receive.proofs.Committing.{reached_none}
 
 -- ---- shares by their users
 
-share_there : (front behind : List Share) (s : Share) (user : Name) → AllByRecursion (λ x. bytes_eq x.user user ≡ false) front → bytes_eq s.user user ≡ true → share_of (front ++ s ∷ behind) user ≡ Some s
-share_there [] behind s user others his = ap (λ (b : Bool). cond b (Some s) (share_of behind user)) his
-share_there (f ∷ front) behind s user others his =
-    ap (λ (b : Bool). cond b (Some f) (share_of (front ++ s ∷ behind) user)) others.0 ∙ share_there front behind s user others.1 his
+partner_mail_there : (prefix behind : List PartnerMail) (s : PartnerMail) (user : Name) → AllByRecursion (λ x. bytes_eq x.user user ≡ false) prefix → bytes_eq s.user user ≡ true → partner_mail_of (prefix ++ s ∷ behind) user ≡ Some s
+partner_mail_there [] behind s user others his = ap (λ (b : Bool). cond b (Some s) (partner_mail_of behind user)) his
+partner_mail_there (f ∷ prefix) behind s user others his =
+    ap (λ (b : Bool). cond b (Some f) (partner_mail_of (prefix ++ s ∷ behind) user)) others.0 ∙ partner_mail_there prefix behind s user others.1 his
 
-share_beside : (front behind : List Share) (s s' : Share) (other : Name) → bytes_eq s.user other ≡ false → bytes_eq s'.user other ≡ false → share_of (front ++ s' ∷ behind) other ≡ share_of (front ++ s ∷ behind) other
-share_beside [] behind s s' other one two =
-    ap (λ (b : Bool). cond b (Some s') (share_of behind other)) two ∙ sym (ap (λ (b : Bool). cond b (Some s) (share_of behind other)) one)
-share_beside (f ∷ front) behind s s' other one two = ap (λ (o : Option Share). cond (bytes_eq f.user other) (Some f) o) (share_beside front behind s s' other one two)
+partner_mail_beside : (prefix behind : List PartnerMail) (s s' : PartnerMail) (other : Name) → bytes_eq s.user other ≡ false → bytes_eq s'.user other ≡ false → partner_mail_of (prefix ++ s' ∷ behind) other ≡ partner_mail_of (prefix ++ s ∷ behind) other
+partner_mail_beside [] behind s s' other one two =
+    ap (λ (b : Bool). cond b (Some s') (partner_mail_of behind other)) two ∙ sym (ap (λ (b : Bool). cond b (Some s) (partner_mail_of behind other)) one)
+partner_mail_beside (f ∷ prefix) behind s s' other one two = ap (λ (o : Option PartnerMail). cond (bytes_eq f.user other) (Some f) o) (partner_mail_beside prefix behind s s' other one two)
 
-set_there : (front behind : List Share) (s s' : Share) → set (front ++ s ∷ behind) (length front) s' ≡ front ++ s' ∷ behind
+set_there : (prefix behind : List PartnerMail) (s s' : PartnerMail) → set (prefix ++ s ∷ behind) (length prefix) s' ≡ prefix ++ s' ∷ behind
 set_there [] behind s s' = refl
-set_there (f ∷ front) behind s s' = ap (λ (l : List Share). f ∷ l) (set_there front behind s s')
+set_there (f ∷ prefix) behind s s' = ap (λ (l : List PartnerMail). f ∷ l) (set_there prefix behind s s')
 
--- ---- a share that is there
+-- ---- a partner mail that is there
 
-module _ (bag bag' : List Share) (user : Name) (at : ℕ) (share share' : Share) (place : IsPlaceOf bag user at) (is : place.share ≡ share) (same : share'.user ≡ share.user) (made : bag' ≡ set bag at share') where
-  bag_is : bag' ≡ place.front ++ share' ∷ place.behind
+module _ (bag bag' : List PartnerMail) (user : Name) (at : ℕ) (partner_mail partner_mail' : PartnerMail) (place : IsPlaceOf bag user at) (is : place.partner_mail ≡ partner_mail) (same : partner_mail'.user ≡ partner_mail.user) (made : bag' ≡ set bag at partner_mail') where
+  bag_is : bag' ≡ place.prefix ++ partner_mail' ∷ place.behind
   bag_is =
-      let e : set bag at share' ≡ set (place.front ++ place.share ∷ place.behind) (length place.front) share' = λ i. set (place.parts i) (place.at_is i) share' in
-      made ∙ e ∙ set_there place.front place.behind place.share share'
+      let e : set bag at partner_mail' ≡ set (place.prefix ++ place.partner_mail ∷ place.behind) (length place.prefix) partner_mail' = λ i. set (place.parts i) (place.at_is i) partner_mail' in
+      made ∙ e ∙ set_there place.prefix place.behind place.partner_mail partner_mail'
 
-  his : bytes_eq share.user user ≡ true
-  his = subst (λ (s : Share). bytes_eq s.user user ≡ true) is place.his
+  his : bytes_eq partner_mail.user user ≡ true
+  his = subst (λ (s : PartnerMail). bytes_eq s.user user ≡ true) is place.his
 
-  share_was : share_of bag user ≡ Some share
-  share_was = ap (λ (l : List Share). share_of l user) place.parts ∙ share_there place.front place.behind place.share user place.others place.his ∙ ap (λ (s : Share). Some s) is
+  partner_mail_was : partner_mail_of bag user ≡ Some partner_mail
+  partner_mail_was = ap (λ (l : List PartnerMail). partner_mail_of l user) place.parts ∙ partner_mail_there place.prefix place.behind place.partner_mail user place.others place.his ∙ ap (λ (s : PartnerMail). Some s) is
 
-  share_is : share_of bag' user ≡ Some share'
-  share_is =
-      ap (λ (l : List Share). share_of l user) bag_is
-      ∙ share_there place.front place.behind share' user place.others (subst (λ (n : Name). bytes_eq n user ≡ true) (sym same) his)
+  partner_mail_is : partner_mail_of bag' user ≡ Some partner_mail'
+  partner_mail_is =
+      ap (λ (l : List PartnerMail). partner_mail_of l user) bag_is
+      ∙ partner_mail_there place.prefix place.behind partner_mail' user place.others (subst (λ (n : Name). bytes_eq n user ≡ true) (sym same) his)
 
-  named : share.user ≡ user
-  named = same_name share.user user his
+  named : partner_mail.user ≡ user
+  named = same_name partner_mail.user user his
 
   pub others_stay : OthersStay bag bag' user
   others_stay other differs =
-      let one : bytes_eq share.user other ≡ false = subst (λ (n : Name). bytes_eq n other ≡ false) (sym named) differs in
-      let two : bytes_eq share'.user other ≡ false = subst (λ (n : Name). bytes_eq n other ≡ false) (sym same) one in
-      ap (λ (l : List Share). share_of l other) bag_is
-      ∙ share_beside place.front place.behind place.share share' other (subst (λ (s : Share). bytes_eq s.user other ≡ false) (sym is) one) two
-      ∙ sym (ap (λ (l : List Share). share_of l other) place.parts)
+      let one : bytes_eq partner_mail.user other ≡ false = subst (λ (n : Name). bytes_eq n other ≡ false) (sym named) differs in
+      let two : bytes_eq partner_mail'.user other ≡ false = subst (λ (n : Name). bytes_eq n other ≡ false) (sym same) one in
+      ap (λ (l : List PartnerMail). partner_mail_of l other) bag_is
+      ∙ partner_mail_beside place.prefix place.behind place.partner_mail partner_mail' other (subst (λ (s : PartnerMail). bytes_eq s.user other ≡ false) (sym is) one) two
+      ∙ sym (ap (λ (l : List PartnerMail). partner_mail_of l other) place.parts)
 
-  had : (letters : List Letter) (lost : List Window) → Has bag user letters lost → IsShare letters lost share
-  had letters lost has = subst (λ (o : Option Share). IsShareWhere letters lost o) share_was has
+  had : (message_files : List MessageFile) (dropped_windows : List Window) → Has bag user message_files dropped_windows → IsPartnerMail message_files dropped_windows partner_mail
+  had message_files dropped_windows has = subst (λ (o : Option PartnerMail). IsPartnerMailWhere message_files dropped_windows o) partner_mail_was has
 
-  has_then : (letters : List Letter) (lost : List Window) → IsShare letters lost share' → Has bag' user letters lost
-  has_then letters lost now = subst (λ (o : Option Share). IsShareWhere letters lost o) (sym share_is) now
+  has_then : (message_files : List MessageFile) (dropped_windows : List Window) → IsPartnerMail message_files dropped_windows partner_mail' → Has bag' user message_files dropped_windows
+  has_then message_files dropped_windows now = subst (λ (o : Option PartnerMail). IsPartnerMailWhere message_files dropped_windows o) (sym partner_mail_is) now
 
-  received_there : (old new : View) (before now : Seen) (reports reports' : List Report) (answer : Received) → PassedShare old new before now user share share' reports reports' answer → HasReceived old new before now user bag bag' reports reports' answer
+  received_there : (old new : View) (before now : Seen) (reports reports' : List Report) (answer : Received) → PassedPartnerMail old new before now user partner_mail partner_mail' reports reports' answer → HasReceived old new before now user bag bag' reports reports' answer
   received_there old new before now reports reports' answer says = record {
     others = others_stay;
-    passed = λ letters lost has. let p = says.passed letters lost (had letters lost has) in (p.0, has_then letters p.0 p.1, p.2);
+    passed = λ message_files dropped_windows has. let p = says.passed message_files dropped_windows (had message_files dropped_windows has) in (p.0, has_then message_files p.0 p.1, p.2);
   }
 
-  stopped_there : (old new : View) (before now : Seen) (reports reports' : List Report) (fault : ReceiveFault) → StoppedShare old new before now user share share' reports reports' fault → ReceiveCause old new before now user bag bag' reports reports' fault
+  stopped_there : (old new : View) (before now : Seen) (reports reports' : List Report) (fault : ReceiveFault) → StoppedPartnerMail old new before now user partner_mail partner_mail' reports reports' fault → ReceiveCause old new before now user bag bag' reports reports' fault
   stopped_there old new before now reports reports' fault says = record {
     why = says.why;
     others = others_stay;
-    passed = λ letters lost has. let p = says.passed letters lost (had letters lost has) in (p.0, has_then letters p.0 p.1, p.2);
+    passed = λ message_files dropped_windows has. let p = says.passed message_files dropped_windows (had message_files dropped_windows has) in (p.0, has_then message_files p.0 p.1, p.2);
   }
 
-pub received_answer : (old new : View) (before now : Seen) (user : Name) (bag bag' : List Share) (at : ℕ) (share share' : Share) (reports reports' : List Report) (result : Result Received ReceiveFault) → (place : IsPlaceOf bag user at) → place.share ≡ share → share'.user ≡ share.user
-    → bag' ≡ set bag at share' → IfOk result (PassedShare old new before now user share share' reports reports') → IfOk result (HasReceived old new before now user bag bag' reports reports')
-received_answer old new before now user bag bag' at share share' reports reports' (Ok answer) place is same made says = received_there bag bag' user at share share' place is same made old new before now reports reports' answer says
-received_answer old new before now user bag bag' at share share' reports reports' (Err fault) place is same made says = tt
+pub received_answer : (old new : View) (before now : Seen) (user : Name) (bag bag' : List PartnerMail) (at : ℕ) (partner_mail partner_mail' : PartnerMail) (reports reports' : List Report) (result : Result Received ReceiveFault) → (place : IsPlaceOf bag user at) → place.partner_mail ≡ partner_mail → partner_mail'.user ≡ partner_mail.user
+    → bag' ≡ set bag at partner_mail' → IfOk result (PassedPartnerMail old new before now user partner_mail partner_mail' reports reports') → IfOk result (HasReceived old new before now user bag bag' reports reports')
+received_answer old new before now user bag bag' at partner_mail partner_mail' reports reports' (Ok answer) place is same made says = received_there bag bag' user at partner_mail partner_mail' place is same made old new before now reports reports' answer says
+received_answer old new before now user bag bag' at partner_mail partner_mail' reports reports' (Err fault) place is same made says = tt
 
-pub cause_answer : (old new : View) (before now : Seen) (user : Name) (bag bag' : List Share) (at : ℕ) (share share' : Share) (reports reports' : List Report) (result : Result Received ReceiveFault) → (place : IsPlaceOf bag user at) → place.share ≡ share → share'.user ≡ share.user
-    → bag' ≡ set bag at share' → IfErr result (StoppedShare old new before now user share share' reports reports') → IfErr result (ReceiveCause old new before now user bag bag' reports reports')
-cause_answer old new before now user bag bag' at share share' reports reports' (Ok answer) place is same made says = tt
-cause_answer old new before now user bag bag' at share share' reports reports' (Err fault) place is same made says = stopped_there bag bag' user at share share' place is same made old new before now reports reports' fault says
+pub cause_answer : (old new : View) (before now : Seen) (user : Name) (bag bag' : List PartnerMail) (at : ℕ) (partner_mail partner_mail' : PartnerMail) (reports reports' : List Report) (result : Result Received ReceiveFault) → (place : IsPlaceOf bag user at) → place.partner_mail ≡ partner_mail → partner_mail'.user ≡ partner_mail.user
+    → bag' ≡ set bag at partner_mail' → IfErr result (StoppedPartnerMail old new before now user partner_mail partner_mail' reports reports') → IfErr result (ReceiveCause old new before now user bag bag' reports reports')
+cause_answer old new before now user bag bag' at partner_mail partner_mail' reports reports' (Ok answer) place is same made says = tt
+cause_answer old new before now user bag bag' at partner_mail partner_mail' reports reports' (Err fault) place is same made says = stopped_there bag bag' user at partner_mail partner_mail' place is same made old new before now reports reports' fault says
 
-get_front : (front behind : List Share) (s other : Share) → get_or (front ++ s ∷ behind) (length front) other ≡ s
-get_front [] behind s other = refl
-get_front (f ∷ front) behind s other = get_front front behind s other
+get_prefix : (prefix behind : List PartnerMail) (s other : PartnerMail) → get_or (prefix ++ s ∷ behind) (length prefix) other ≡ s
+get_prefix [] behind s other = refl
+get_prefix (f ∷ prefix) behind s other = get_prefix prefix behind s other
 
-there : (items : List Share) (user : Name) (at : ℕ) (share : Share) (place : IsPlaceOf items user at) → share ≡ get_or items at share → place.share ≡ share
-there items user at share place got =
-    let e : get_or items at share ≡ get_or (place.front ++ place.share ∷ place.behind) (length place.front) share = λ i. get_or (place.parts i) (place.at_is i) share in
-    sym (got ∙ e ∙ get_front place.front place.behind place.share share)
+there : (items : List PartnerMail) (user : Name) (at : ℕ) (partner_mail : PartnerMail) (place : IsPlaceOf items user at) → partner_mail ≡ get_or items at partner_mail → place.partner_mail ≡ partner_mail
+there items user at partner_mail place got =
+    let e : get_or items at partner_mail ≡ get_or (place.prefix ++ place.partner_mail ∷ place.behind) (length place.prefix) partner_mail = λ i. get_or (place.parts i) (place.at_is i) partner_mail in
+    sym (got ∙ e ∙ get_prefix place.prefix place.behind place.partner_mail partner_mail)
 
-pub received_at : (old new : View) (before now : Seen) (user : Name) (bag : List Share) (at : ℕ) (share share' : Share) (reports reports' : List Report) (result : Result Received ReceiveFault) → IsPlaceOf bag user at → share ≡ get_or bag at share → share'.user ≡ share.user
-    → IfOk result (PassedShare old new before now user share share' reports reports') → IfOk result (HasReceived old new before now user bag (set bag at share') reports reports')
-received_at old new before now user bag at share share' reports reports' result place got same says =
-    received_answer old new before now user bag (set bag at share') at share share' reports reports' result place (there bag user at share place got) same refl says
+pub received_at : (old new : View) (before now : Seen) (user : Name) (bag : List PartnerMail) (at : ℕ) (partner_mail partner_mail' : PartnerMail) (reports reports' : List Report) (result : Result Received ReceiveFault) → IsPlaceOf bag user at → partner_mail ≡ get_or bag at partner_mail → partner_mail'.user ≡ partner_mail.user
+    → IfOk result (PassedPartnerMail old new before now user partner_mail partner_mail' reports reports') → IfOk result (HasReceived old new before now user bag (set bag at partner_mail') reports reports')
+received_at old new before now user bag at partner_mail partner_mail' reports reports' result place got same says =
+    received_answer old new before now user bag (set bag at partner_mail') at partner_mail partner_mail' reports reports' result place (there bag user at partner_mail place got) same refl says
 
-pub stopped_at : (old new : View) (before now : Seen) (user : Name) (bag : List Share) (at : ℕ) (share share' : Share) (reports reports' : List Report) (result : Result Received ReceiveFault) → IsPlaceOf bag user at → share ≡ get_or bag at share → share'.user ≡ share.user
-    → IfErr result (StoppedShare old new before now user share share' reports reports') → IfErr result (ReceiveCause old new before now user bag (set bag at share') reports reports')
-stopped_at old new before now user bag at share share' reports reports' result place got same says =
-    cause_answer old new before now user bag (set bag at share') at share share' reports reports' result place (there bag user at share place got) same refl says
+pub stopped_at : (old new : View) (before now : Seen) (user : Name) (bag : List PartnerMail) (at : ℕ) (partner_mail partner_mail' : PartnerMail) (reports reports' : List Report) (result : Result Received ReceiveFault) → IsPlaceOf bag user at → partner_mail ≡ get_or bag at partner_mail → partner_mail'.user ≡ partner_mail.user
+    → IfErr result (StoppedPartnerMail old new before now user partner_mail partner_mail' reports reports') → IfErr result (ReceiveCause old new before now user bag (set bag at partner_mail') reports reports')
+stopped_at old new before now user bag at partner_mail partner_mail' reports reports' result place got same says =
+    cause_answer old new before now user bag (set bag at partner_mail') at partner_mail partner_mail' reports reports' result place (there bag user at partner_mail place got) same refl says
 
--- ---- no share
+-- ---- no partner mail
 
-none_may : (publisher user : Name) (s : Stand) (act : Act) → s.left ≡ [] → ¬ (IsAct publisher user [] s act)
+none_may : (publisher user : Name) (s : PassState) (act : ReceiveAct) → s.left ≡ [] → ¬ (IsAct publisher user [] s act)
 none_may publisher user s (dropped w pairs piece found) left is = is.due.whole.seen refl
 none_may publisher user s (torn w pairs) left is = is.0.due.whole.seen refl
 none_may publisher user s (begun w pairs txs) left is = is.0.due.whole.seen refl
 none_may publisher user s (took t dones) left is = let e = sym left ∙ is.left_are in absurd cc
 
--- of no letters no act comes
-no_acts : (publisher user : Name) (first : Stand) (acts : List Act) → first.left ≡ [] → AreActs publisher user [] first acts → acts ≡ []
+-- of no message files no act comes
+no_acts : (publisher user : Name) (first : PassState) (acts : List ReceiveAct) → first.left ≡ [] → AreActs publisher user [] first acts → acts ≡ []
 no_acts publisher user first [] left are = refl
 no_acts publisher user first (act ∷ earlier) left are =
     let none = no_acts publisher user first earlier left are.0 in
-    absurd (none_may publisher user (stand_of first earlier) act (ap (λ (l : List Act). (stand_of first l).left) none ∙ left) are.1)
+    absurd (none_may publisher user (stand_of first earlier) act (ap (λ (l : List ReceiveAct). (stand_of first l).left) none ∙ left) are.1)
 
-none_had : (bag : List Share) (user : Name) (letters : List Letter) (lost : List Window) → share_of bag user ≡ None → Has bag user letters lost → (letters ≡ []) × (lost ≡ [])
-none_had bag user letters lost none has = subst (λ (o : Option Share). IsShareWhere letters lost o) none has
+none_had : (bag : List PartnerMail) (user : Name) (message_files : List MessageFile) (dropped_windows : List Window) → partner_mail_of bag user ≡ None → Has bag user message_files dropped_windows → (message_files ≡ []) × (dropped_windows ≡ [])
+none_had bag user message_files dropped_windows none has = subst (λ (o : Option PartnerMail). IsPartnerMailWhere message_files dropped_windows o) none has
 
-none_has : (bag : List Share) (user : Name) (letters : List Letter) (lost : List Window) → share_of bag user ≡ None → (letters ≡ []) × (lost ≡ []) → Has bag user letters lost
-none_has bag user letters lost none are = subst (λ (o : Option Share). IsShareWhere letters lost o) (sym none) are
+none_has : (bag : List PartnerMail) (user : Name) (message_files : List MessageFile) (dropped_windows : List Window) → partner_mail_of bag user ≡ None → (message_files ≡ []) × (dropped_windows ≡ []) → Has bag user message_files dropped_windows
+none_has bag user message_files dropped_windows none are = subst (λ (o : Option PartnerMail). IsPartnerMailWhere message_files dropped_windows o) (sym none) are
 
-received_none : (old new : View) (before now : Seen) (user : Name) (bag : List Share) (share share' : Share) (reports reports' : List Report) (answer : Received) → share_of bag user ≡ None → IsShare [] [] share
-    → PassedShare old new before now user share share' reports reports' answer → HasReceived old new before now user bag bag reports reports' answer
-received_none old new before now user bag share share' reports reports' answer none empty says = record {
+received_none : (old new : View) (before now : Seen) (user : Name) (bag : List PartnerMail) (partner_mail partner_mail' : PartnerMail) (reports reports' : List Report) (answer : Received) → partner_mail_of bag user ≡ None → IsPartnerMail [] [] partner_mail
+    → PassedPartnerMail old new before now user partner_mail partner_mail' reports reports' answer → HasReceived old new before now user bag bag reports reports' answer
+received_none old new before now user bag partner_mail partner_mail' reports reports' answer none empty says = record {
   others = λ other differs. refl;
-  passed = λ letters lost has.
-      let are = none_had bag user letters lost none has in
+  passed = λ message_files dropped_windows has.
+      let are = none_had bag user message_files dropped_windows none has in
       let p = says.passed [] [] empty in
       let first = first_of old (book_in old.books user) [] in
-      let lost_none : p.0 ≡ [] = p.2.lost_are ∙ ap (λ (l : List Act). (stand_of first l).lost) (no_acts old.catalog.publisher user first p.2.acts refl p.2.are) in
-      let P : List Letter → List Window → Type 0 = λ ls ws. Passed old new before now user ls ws p.0 reports reports' answer in
-      (p.0, none_has bag user letters p.0 none (are.0, lost_none), subst (λ (ls : List Letter). P ls lost) (sym are.0) (subst (λ (ws : List Window). P [] ws) (sym are.1) p.2));
+      let dropped_windows_none : p.0 ≡ [] = p.2.dropped_windows_are ∙ ap (λ (l : List ReceiveAct). (stand_of first l).dropped_windows) (no_acts old.catalog.publisher user first p.2.acts refl p.2.are) in
+      let P : List MessageFile → List Window → Type 0 = λ ls ws. Passed old new before now user ls ws p.0 reports reports' answer in
+      (p.0, none_has bag user message_files p.0 none (are.0, dropped_windows_none), subst (λ (ls : List MessageFile). P ls dropped_windows) (sym are.0) (subst (λ (ws : List Window). P [] ws) (sym are.1) p.2));
 }
 
-part_lost : (old new : View) (before now : Seen) (user : Name) (lost' : List Window) (reports reports' : List Report) (fault : ReceiveFault) → PassedInPart old new before now user [] [] lost' reports reports' fault → lost' ≡ []
-part_lost old new before now user lost' reports reports' fault (inl at) = at.lost_are
-part_lost old new before now user lost' reports reports' fault (inr stopped) =
+part_dropped_windows : (old new : View) (before now : Seen) (user : Name) (dropped_windows' : List Window) (reports reports' : List Report) (fault : ReceiveFault) → PassedInPart old new before now user [] [] dropped_windows' reports reports' fault → dropped_windows' ≡ []
+part_dropped_windows old new before now user dropped_windows' reports reports' fault (inl at) = at.dropped_windows_are
+part_dropped_windows old new before now user dropped_windows' reports reports' fault (inr stopped) =
     let first = first_of old (book_in old.books user) [] in
-    stopped.lost_are ∙ ap (λ (l : List Act). (stand_of first l).lost) (no_acts old.catalog.publisher user first stopped.acts refl stopped.are)
+    stopped.dropped_windows_are ∙ ap (λ (l : List ReceiveAct). (stand_of first l).dropped_windows) (no_acts old.catalog.publisher user first stopped.acts refl stopped.are)
 
-stopped_none : (old new : View) (before now : Seen) (user : Name) (bag : List Share) (share share' : Share) (reports reports' : List Report) (fault : ReceiveFault) → share_of bag user ≡ None → IsShare [] [] share
-    → StoppedShare old new before now user share share' reports reports' fault → ReceiveCause old new before now user bag bag reports reports' fault
-stopped_none old new before now user bag share share' reports reports' fault none empty says = record {
+stopped_none : (old new : View) (before now : Seen) (user : Name) (bag : List PartnerMail) (partner_mail partner_mail' : PartnerMail) (reports reports' : List Report) (fault : ReceiveFault) → partner_mail_of bag user ≡ None → IsPartnerMail [] [] partner_mail
+    → StoppedPartnerMail old new before now user partner_mail partner_mail' reports reports' fault → ReceiveCause old new before now user bag bag reports reports' fault
+stopped_none old new before now user bag partner_mail partner_mail' reports reports' fault none empty says = record {
   why = says.why;
   others = λ other differs. refl;
-  passed = λ letters lost has.
-      let are = none_had bag user letters lost none has in
+  passed = λ message_files dropped_windows has.
+      let are = none_had bag user message_files dropped_windows none has in
       let p = says.passed [] [] empty in
-      let lost_none = part_lost old new before now user p.0 reports reports' fault p.2 in
-      let P : List Letter → List Window → Type 0 = λ ls ws. PassedInPart old new before now user ls ws p.0 reports reports' fault in
-      (p.0, none_has bag user letters p.0 none (are.0, lost_none), subst (λ (ls : List Letter). P ls lost) (sym are.0) (subst (λ (ws : List Window). P [] ws) (sym are.1) p.2));
+      let dropped_windows_none = part_dropped_windows old new before now user p.0 reports reports' fault p.2 in
+      let P : List MessageFile → List Window → Type 0 = λ ls ws. PassedInPart old new before now user ls ws p.0 reports reports' fault in
+      (p.0, none_has bag user message_files p.0 none (are.0, dropped_windows_none), subst (λ (ls : List MessageFile). P ls dropped_windows) (sym are.0) (subst (λ (ws : List Window). P [] ws) (sym are.1) p.2));
 }
 
-pub received_none_answer : (old new : View) (before now : Seen) (user : Name) (bag : List Share) (share share' : Share) (reports reports' : List Report) (result : Result Received ReceiveFault) → share_of bag user ≡ None → IsShare [] [] share
-    → IfOk result (PassedShare old new before now user share share' reports reports') → IfOk result (HasReceived old new before now user bag bag reports reports')
-received_none_answer old new before now user bag share share' reports reports' (Ok answer) none empty says = received_none old new before now user bag share share' reports reports' answer none empty says
-received_none_answer old new before now user bag share share' reports reports' (Err fault) none empty says = tt
+pub received_none_answer : (old new : View) (before now : Seen) (user : Name) (bag : List PartnerMail) (partner_mail partner_mail' : PartnerMail) (reports reports' : List Report) (result : Result Received ReceiveFault) → partner_mail_of bag user ≡ None → IsPartnerMail [] [] partner_mail
+    → IfOk result (PassedPartnerMail old new before now user partner_mail partner_mail' reports reports') → IfOk result (HasReceived old new before now user bag bag reports reports')
+received_none_answer old new before now user bag partner_mail partner_mail' reports reports' (Ok answer) none empty says = received_none old new before now user bag partner_mail partner_mail' reports reports' answer none empty says
+received_none_answer old new before now user bag partner_mail partner_mail' reports reports' (Err fault) none empty says = tt
 
-pub cause_none_answer : (old new : View) (before now : Seen) (user : Name) (bag : List Share) (share share' : Share) (reports reports' : List Report) (result : Result Received ReceiveFault) → share_of bag user ≡ None → IsShare [] [] share
-    → IfErr result (StoppedShare old new before now user share share' reports reports') → IfErr result (ReceiveCause old new before now user bag bag reports reports')
-cause_none_answer old new before now user bag share share' reports reports' (Ok answer) none empty says = tt
-cause_none_answer old new before now user bag share share' reports reports' (Err fault) none empty says = stopped_none old new before now user bag share share' reports reports' fault none empty says
+pub cause_none_answer : (old new : View) (before now : Seen) (user : Name) (bag : List PartnerMail) (partner_mail partner_mail' : PartnerMail) (reports reports' : List Report) (result : Result Received ReceiveFault) → partner_mail_of bag user ≡ None → IsPartnerMail [] [] partner_mail
+    → IfErr result (StoppedPartnerMail old new before now user partner_mail partner_mail' reports reports') → IfErr result (ReceiveCause old new before now user bag bag reports reports')
+cause_none_answer old new before now user bag partner_mail partner_mail' reports reports' (Ok answer) none empty says = tt
+cause_none_answer old new before now user bag partner_mail partner_mail' reports reports' (Err fault) none empty says = stopped_none old new before now user bag partner_mail partner_mail' reports reports' fault none empty says
 
--- for want of memory, before a share was made
-pub no_share : (old : View) (seen : Seen) (user : Name) (bag : List Share) (reports : List Report) → IsReady old seen → ReceiveCause old old seen seen user bag bag reports reports Memory
-no_share old seen user bag reports ready = record {
+-- for want of memory, before a partner mail was made
+pub no_partner_mail : (old : View) (seen : Seen) (user : Name) (bag : List PartnerMail) (reports : List Report) → IsReady old seen → ReceiveCause old old seen seen user bag bag reports reports Memory
+no_partner_mail old seen user bag reports ready = record {
   why = refl;
   others = λ other differs. refl;
-  passed = λ letters lost has.
-      let notes = first_notes user (book_in old.books user) (map filed_of letters) in (
-        lost,
+  passed = λ message_files dropped_windows has.
+      let notes = first_notes user (book_in old.books user) (map filed_of message_files) in (
+        dropped_windows,
         has,
         inl (record {
           stops = record { entries = []; refused = []; rest = notes; parts = refl; is = tt; reached = reached_none old seen ready.usable ready.idle };
-          lost_are = refl;
+          dropped_windows_are = refl;
           mail = λ _. refl;
           reports_are = refl;
         }),

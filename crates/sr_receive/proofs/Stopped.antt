@@ -1,36 +1,39 @@
 -- Where a pass stops at its windows.
-use Rattle.std.proofs.Common.{◌≡◌, List, [], ◌∷◌, ◌++◌, take, drop, refl, sym, ap, subst, ◌∙◌, arith}
+use Rattle.std.proofs.Common.{◌≡◌, List, [], ◌∷◌, ◌++◌, take, drop, refl, sym, ap, subst, ◌∙◌, arith, inl, inr}
 use Rattle.std.specs.Prelude.{IsTrue}
 use Rattle.std.proofs.lemmas.List.{append-nil}
 use Rattle.sr_book.specs.Entries.{Name}
 use Rattle.sr_database.specs.Views.{View, committed}
-use Rattle.sr_history.specs.Folds.{State}
-use Rattle.sr_history.specs.Recorded.{taken}
+use Rattle.sr_database_history.specs.Folds.{State}
+use Rattle.sr_database_history.specs.Recorded.{taken}
 use Rattle.sr_logform.specs.declared.op.Transaction.{Transaction}
 use Rattle.sr_mail.specs.Inboxes.{Gathered}
+use Rattle.sr_mail.specs.declared.piece.Piece.{Piece}
 use Rattle.sr_mail.specs.declared.window.Window.{Window}
 use Rattle.sr_resolve.specs.Taking.{is_above}
 use Rattle.sr_site.specs.Causes.{DiskStays, MailStays}
 use Rattle.sr_site.specs.Happenings.{Happening, mail_in}
 use Rattle.sr_site.specs.Seen.{Seen}
-use Rattle.sr_receive.specs.Acts.{Act, took, torn, Stand, stand_of, entries_of, op_reports, torn_reports, mail_after}
-use Rattle.sr_gather.specs.Fetches.{Pairs, FetchStop}
-use Rattle.sr_gather.specs.Bags.{Holds}
-use Rattle.sr_taken.specs.Judged.{AreDone}
-use Rattle.sr_gather.specs.Letters.{Letter}
+use Rattle.sr_receive.specs.Acts.{ReceiveAct, took, torn, PassState, stand_of, entries_of, op_reports, torn_reports, mail_after}
+use Rattle.sr_receive_gather.specs.Fetches.{Pairs, FetchStop, RefetchedInPart}
+use Rattle.sr_receive_gather.specs.Bags.{Holds}
+use Rattle.sr_receive_judged.specs.Judged.{AreDone}
+use Rattle.sr_receive_gather.specs.MessageFiles.{MessageFile}
+use Rattle.sr_receive_gather.specs.Windows.{IsDue}
+use Rattle.sr_receive.specs.Entering.{Reached}
 use Rattle.sr_receive.specs.Passes.{AreShownInPart, HasFetched, IsNextEntry, act_reports}
-use Rattle.sr_receive.specs.Takings.{Entered, EntryRefused, NotEntered, StandsThere, StopsThere, StopsTaking, StopsWith}
-use Rattle.sr_gather.specs.declared.fault.ReceiveFault.{ReceiveFault}
-use Rattle.sr_gather.specs.declared.fault.ReceiveFault.TheVariants.{Disk, Mail, Full, Long, Memory}
-use Rattle.sr_gather.specs.declared.report.Report.{Report}
+use Rattle.sr_receive.specs.Inner.Takings.{Entered, EntryRefused, IsIdle, NotEntered, StandsThere, StopsThere, StopsTaking, StopsWith}
+use Rattle.sr_receive_gather.specs.declared.fault.ReceiveFault.{ReceiveFault}
+use Rattle.sr_receive_gather.specs.declared.fault.ReceiveFault.TheVariants.{Disk, Mail, Full, Long, Memory}
+use Rattle.sr_receive_gather.specs.declared.report.Report.{Report}
 use Rattle.sr_receive.specs.declared.taking.Progress.{Progress}
-use Rattle.sr_receive.proofs.Acted.{OnlyFetches, fetches_quiet, fetches_mail}
+use Rattle.sr_receive.proofs.Acted.{part_mail, part_quiet}
 use Rattle.sr_receive.proofs.Joins.{HasQuiet, reached_on, reached_still, reached_quiet, told_on}
 use Rattle.sr_receive.proofs.Stands.{inserted_reports}
 
 -- ---- all reports are there, or some of the last act's are not
 
-pub shown_all : (user : Name) (acts : List Act) (reports all : List Report) → all ≡ reports ++ act_reports user acts → AreShownInPart user acts reports all
+pub shown_all : (user : Name) (acts : List ReceiveAct) (reports all : List Report) → all ≡ reports ++ act_reports user acts → AreShownInPart user acts reports all
 shown_all user acts reports all are = record {
   newest = [];
   shown = acts;
@@ -42,85 +45,97 @@ shown_all user acts reports all are = record {
   reports_are = are;
 }
 
--- ---- fetches that came to nothing
+-- ---- fetches of a window that was not tried to its end
 
-pub mail_none : (mail : List Happening) (address : Name) → HasFetched address mail mail
-mail_none mail address = record { more = []; is = refl; fetches = tt }
+-- what they leave: no entry more
+reached_fetching : (old db : View) (before middle now : Seen) (user : Name) (message_files : List MessageFile) (first : PassState) (acts : List ReceiveAct) (progress : Progress) (reports all : List Report) (pieces : List Piece)
+    → StandsThere old db before middle user message_files first acts progress reports all → MailStays middle now → (IsTrue middle.observable → RefetchedInPart old.catalog.publisher user pieces middle.happened now.happened)
+    → Reached old db before now (entries_of user acts) []
+reached_fetching old db before middle now user message_files first acts progress reports all pieces stands stays part =
+    let quiet : IsTrue middle.observable → HasQuiet middle.happened now.happened = λ told. part_quiet old.catalog.publisher user pieces middle.happened now.happened (part told) in
+    reached_still old db db before middle now (entries_of user acts) [] stands.reached (reached_quiet db middle now stands.reached.state.0 stands.reached.idle stays quiet)
 
-pub mail_more : (address : Name) (before now mail : List Happening) → OnlyFetches address before now → before ≡ mail → HasFetched address mail now
-mail_more address before now mail only same = record { more = only.more; is = only.is ∙ ap (λ (l : List Happening). only.more ++ l) same; fetches = only.fetches }
+-- and what happened to the mail
+mail_fetching : (old db : View) (before middle now : Seen) (user : Name) (message_files : List MessageFile) (first : PassState) (acts : List ReceiveAct) (progress : Progress) (reports all : List Report) (w : Window) (pieces : List Piece)
+    → StandsThere old db before middle user message_files first acts progress reports all → IsIdle (stand_of first acts) → IsDue message_files (stand_of first acts).dropped_windows (stand_of first acts).received w pieces
+    → (IsTrue middle.observable → RefetchedInPart old.catalog.publisher user pieces middle.happened now.happened) → IsTrue before.observable
+    → HasFetched old.catalog.publisher user message_files (stand_of first acts) (mail_after old.catalog.publisher acts (mail_in before.happened)) (mail_in now.happened)
+mail_fetching old db before middle now user message_files first acts progress reports all w pieces stands idle due part told = record {
+  window = w;
+  pieces = pieces;
+  idle = idle;
+  due = due;
+  part = subst (λ (l : List Happening). RefetchedInPart old.catalog.publisher user pieces l (mail_in now.happened)) (stands.mail told)
+      (part_mail old.catalog.publisher user pieces middle.happened now.happened (part (told_on before middle stands.reached.stays told)));
+}
 
--- for want of memory, behind fetches of a window that was not tried to its end
-unfoldable pub stops_short : (old db : View) (before middle now : Seen) (user : Name) (letters : List Letter) (first : Stand) (acts : List Act) (progress : Progress) (reports all : List Report)
-    → StandsThere old db before middle user letters first acts progress reports all → MailStays middle now → (IsTrue middle.told → OnlyFetches old.catalog.publisher middle.happened now.happened)
-    → StopsThere old db before now user letters first reports all Memory
-stops_short old db before middle now user letters first acts progress reports all stands stays only =
-    let quiet : IsTrue middle.told → HasQuiet middle.happened now.happened = λ told. fetches_quiet old.catalog.publisher middle.happened now.happened (only told) in
-    let reached = reached_still old db db before middle now (entries_of user acts) [] stands.reached (reached_quiet db middle now stands.reached.state.0 stands.reached.idle stays quiet) in
-    record {
-      acts = acts;
-      are = stands.are;
-      refused = [];
-      is = tt;
-      next = tt;
-      reached = reached;
-      mail = λ told. mail_more old.catalog.publisher (mail_in middle.happened) (mail_in now.happened) _ (fetches_mail old.catalog.publisher middle.happened now.happened (only (told_on before middle stands.reached.stays told))) (stands.mail told);
-      shown = shown_all user acts reports all stands.reports_are;
-    }
+-- for want of memory
+pub stops_short : (old db : View) (before middle now : Seen) (user : Name) (message_files : List MessageFile) (first : PassState) (acts : List ReceiveAct) (progress : Progress) (reports all : List Report) (w : Window) (pieces : List Piece)
+    (inbox : List Gathered) → StandsThere old db before middle user message_files first acts progress reports all → IsIdle (stand_of first acts) → Holds message_files (stand_of first acts).dropped_windows inbox
+    → IsDue message_files (stand_of first acts).dropped_windows (stand_of first acts).received w pieces → MailStays middle now → (IsTrue middle.observable → RefetchedInPart old.catalog.publisher user pieces middle.happened now.happened)
+    → StopsWith old db before now user message_files first inbox reports all Memory
+stops_short old db before middle now user message_files first acts progress reports all w pieces inbox stands idle holds due stays part = record {
+  stops = record {
+    acts = acts;
+    are = stands.are;
+    refused = [];
+    is = tt;
+    next = tt;
+    reached = reached_fetching old db before middle now user message_files first acts progress reports all pieces stands stays part;
+    mail = λ told. inr (mail_fetching old db before middle now user message_files first acts progress reports all w pieces stands idle due part told);
+    shown = shown_all user acts reports all stands.reports_are;
+  };
+  holds = holds;
+}
+
+-- the mail refused
+stops_refused : (old db : View) (before middle now : Seen) (user : Name) (message_files : List MessageFile) (first : PassState) (acts : List ReceiveAct) (progress : Progress) (reports all : List Report) (w : Window) (pieces : List Piece)
+    (inbox : List Gathered) → StandsThere old db before middle user message_files first acts progress reports all → IsIdle (stand_of first acts) → Holds message_files (stand_of first acts).dropped_windows inbox
+    → IsDue message_files (stand_of first acts).dropped_windows (stand_of first acts).received w pieces → MailStays middle now → (IsTrue middle.observable → RefetchedInPart old.catalog.publisher user pieces middle.happened now.happened)
+    → StopsWith old db before now user message_files first inbox reports all Mail
+stops_refused old db before middle now user message_files first acts progress reports all w pieces inbox stands idle holds due stays part = record {
+  stops = record {
+    acts = acts;
+    are = stands.are;
+    refused = [];
+    is = tt;
+    next = tt;
+    reached = reached_fetching old db before middle now user message_files first acts progress reports all pieces stands stays part;
+    mail = mail_fetching old db before middle now user message_files first acts progress reports all w pieces stands idle due part;
+    shown = stands.reports_are;
+  };
+  holds = holds;
+}
+
+pub stops_fetching : (old db : View) (before middle now : Seen) (user : Name) (message_files : List MessageFile) (first : PassState) (acts : List ReceiveAct) (progress : Progress) (reports all : List Report) (w : Window) (pieces : List Piece)
+    (inbox : List Gathered) (fault : ReceiveFault) → StandsThere old db before middle user message_files first acts progress reports all → IsIdle (stand_of first acts) → Holds message_files (stand_of first acts).dropped_windows inbox
+    → IsDue message_files (stand_of first acts).dropped_windows (stand_of first acts).received w pieces → FetchStop old.catalog.publisher user pieces middle now fault → StopsWith old db before now user message_files first inbox reports all fault
+stops_fetching old db before middle now user message_files first acts progress reports all w pieces inbox Disk stands idle holds due stop = absurd stop.why
+stops_fetching old db before middle now user message_files first acts progress reports all w pieces inbox (Full end need) stands idle holds due stop = absurd stop.why
+stops_fetching old db before middle now user message_files first acts progress reports all w pieces inbox (Long size limit) stands idle holds due stop = absurd stop.why
+stops_fetching old db before middle now user message_files first acts progress reports all w pieces inbox Memory stands idle holds due stop =
+    stops_short old db before middle now user message_files first acts progress reports all w pieces inbox stands idle holds due stop.stays stop.happened
+stops_fetching old db before middle now user message_files first acts progress reports all w pieces inbox Mail stands idle holds due stop =
+    stops_refused old db before middle now user message_files first acts progress reports all w pieces inbox stands idle holds due stop.stays stop.happened
 
 -- for want of memory, where nothing was done
-unfoldable pub stops_here : (old db : View) (before now : Seen) (user : Name) (letters : List Letter) (first : Stand) (acts : List Act) (progress : Progress) (reports all : List Report)
-    → StandsThere old db before now user letters first acts progress reports all → StopsThere old db before now user letters first reports all Memory
-stops_here old db before now user letters first acts progress reports all stands = record {
+unfoldable pub stops_here : (old db : View) (before now : Seen) (user : Name) (message_files : List MessageFile) (first : PassState) (acts : List ReceiveAct) (progress : Progress) (reports all : List Report)
+    → StandsThere old db before now user message_files first acts progress reports all → StopsThere old db before now user message_files first reports all Memory
+stops_here old db before now user message_files first acts progress reports all stands = record {
   acts = acts;
   are = stands.are;
   refused = [];
   is = tt;
   next = tt;
   reached = stands.reached;
-  mail = λ told. record { more = []; is = stands.mail told; fetches = tt };
+  mail = λ told. inl (stands.mail told);
   shown = shown_all user acts reports all stands.reports_are;
 }
-
--- at a fetch
-unfoldable fetch_stops : (old db : View) (before middle now : Seen) (user : Name) (letters : List Letter) (first : Stand) (acts : List Act) (progress : Progress) (reports all : List Report) (fault : ReceiveFault)
-    → StandsThere old db before middle user letters first acts progress reports all → FetchStop old.catalog.publisher middle now fault → StopsThere old db before now user letters first reports all fault
-unfolding stops_short
-fetch_stops old db before middle now user letters first acts progress reports all Disk stands stop = absurd stop.why
-fetch_stops old db before middle now user letters first acts progress reports all (Full end need) stands stop = absurd stop.why
-fetch_stops old db before middle now user letters first acts progress reports all (Long size limit) stands stop = absurd stop.why
-fetch_stops old db before middle now user letters first acts progress reports all Memory stands stop =
-    stops_short old db before middle now user letters first acts progress reports all stands stop.stays (λ told. record { more = stop.more; is = stop.happened told; fetches = stop.fetches })
-fetch_stops old db before middle now user letters first acts progress reports all Mail stands stop =
-    let only : IsTrue middle.told → OnlyFetches old.catalog.publisher middle.happened now.happened = λ told. record { more = stop.more; is = stop.happened told; fetches = stop.fetches } in
-    let short = stops_short old db before middle now user letters first acts progress reports all stands stop.stays only in
-    record {
-      acts = acts;
-      are = stands.are;
-      refused = [];
-      is = tt;
-      next = tt;
-      reached = short.reached;
-      mail = short.mail;
-      shown = stands.reports_are;
-    }
-
-pub stops_fetching : (old db : View) (before middle now : Seen) (user : Name) (letters : List Letter) (first : Stand) (acts : List Act) (progress : Progress) (reports all : List Report) (inbox : List Gathered) (fault : ReceiveFault)
-    → StandsThere old db before middle user letters first acts progress reports all → Holds letters (stand_of first acts).lost inbox → FetchStop old.catalog.publisher middle now fault
-    → StopsWith old db before now user letters first inbox reports all fault
-unfolding stops_short fetch_stops
-stops_fetching old db before middle now user letters first acts progress reports all inbox Disk stands holds stop = absurd stop.why
-stops_fetching old db before middle now user letters first acts progress reports all inbox (Full end need) stands holds stop = absurd stop.why
-stops_fetching old db before middle now user letters first acts progress reports all inbox (Long size limit) stands holds stop = absurd stop.why
-stops_fetching old db before middle now user letters first acts progress reports all inbox Memory stands holds stop =
-    record { stops = fetch_stops old db before middle now user letters first acts progress reports all Memory stands stop; holds = holds }
-stops_fetching old db before middle now user letters first acts progress reports all inbox Mail stands holds stop =
-    record { stops = fetch_stops old db before middle now user letters first acts progress reports all Mail stands stop; holds = holds }
 
 -- ---- at the commit of a transaction
 
 -- the entry is the next
-next_entry : (old new : View) (middle now : Seen) (user : Name) (s : Stand) (t : Transaction) (rest : List Transaction) (fault : ReceiveFault) → s.left ≡ t ∷ rest → committed old ≡ s.state → (refused : EntryRefused old new middle now user t fault)
+next_entry : (old new : View) (middle now : Seen) (user : Name) (s : PassState) (t : Transaction) (rest : List Transaction) (fault : ReceiveFault) → s.left ≡ t ∷ rest → committed old ≡ s.state → (refused : EntryRefused old new middle now user t fault)
     → IsNextEntry user s (taken user t.at refused.dones)
 next_entry old new middle now user s t rest fault left state refused = record {
   t = t;
@@ -129,11 +144,11 @@ next_entry old new middle now user s t rest fault left state refused = record {
   next = record { rest = rest; left_are = left; done = subst (λ (x : State). AreDone x (is_above x user) t.ops refused.dones) state refused.done };
 }
 
-module _ (old db new : View) (before middle now : Seen) (user : Name) (letters : List Letter) (first : Stand) (acts : List Act) (progress : Progress) (reports all : List Report) (stands : StandsThere old db before middle user letters first acts progress reports all) (stays : DiskStays middle now) where
-  mail_still : IsTrue before.told → mail_in now.happened ≡ mail_after old.catalog.publisher acts (mail_in before.happened)
+module _ (old db new : View) (before middle now : Seen) (user : Name) (message_files : List MessageFile) (first : PassState) (acts : List ReceiveAct) (progress : Progress) (reports all : List Report) (stands : StandsThere old db before middle user message_files first acts progress reports all) (stays : DiskStays middle now) where
+  mail_still : IsTrue before.observable → mail_in now.happened ≡ mail_after old.catalog.publisher acts (mail_in before.happened)
   mail_still told = stays.mail ∙ stands.mail told
 
-  entry_stops : (t : Transaction) (rest : List Transaction) (fault : ReceiveFault) → (stand_of first acts).left ≡ t ∷ rest → NotEntered db new middle now user t fault → StopsTaking old new before now user letters first acts reports all fault
+  entry_stops : (t : Transaction) (rest : List Transaction) (fault : ReceiveFault) → (stand_of first acts).left ≡ t ∷ rest → NotEntered db new middle now user t fault → StopsTaking old new before now user message_files first acts reports all fault
   entry_stops t rest Disk left stop =
       let reached = reached_still old db new before middle now (entries_of user acts) (taken user t.at stop.dones ∷ []) stands.reached stop.stop in
       record {
@@ -147,7 +162,7 @@ module _ (old db new : View) (before middle now : Seen) (user : Name) (letters :
           mail = mail_still;
           shown = stands.reports_are;
         };
-        lost_are = refl;
+        dropped_windows_are = refl;
       }
   entry_stops t rest Mail left stop = absurd stop
   entry_stops t rest (Full end need) left stop =
@@ -163,7 +178,7 @@ module _ (old db new : View) (before middle now : Seen) (user : Name) (letters :
           mail = mail_still;
           shown = stands.reports_are;
         };
-        lost_are = refl;
+        dropped_windows_are = refl;
       }
   entry_stops t rest (Long size limit) left stop =
       let reached = reached_still old db new before middle now (entries_of user acts) [] stands.reached stop.stop.1 in
@@ -178,7 +193,7 @@ module _ (old db new : View) (before middle now : Seen) (user : Name) (letters :
           mail = mail_still;
           shown = stands.reports_are;
         };
-        lost_are = refl;
+        dropped_windows_are = refl;
       }
   entry_stops t rest Memory left stop =
       let reached = reached_still old db new before middle now (entries_of user acts) [] stands.reached stop in
@@ -190,24 +205,24 @@ module _ (old db new : View) (before middle now : Seen) (user : Name) (letters :
           is = tt;
           next = tt;
           reached = reached;
-          mail = λ told. record { more = []; is = mail_still told; fetches = tt };
+          mail = λ told. inl (mail_still told);
           shown = shown_all user acts reports all stands.reports_are;
         };
-        lost_are = refl;
+        dropped_windows_are = refl;
       }
 
-pub stops_at_entry : (old db new : View) (before middle now : Seen) (user : Name) (letters : List Letter) (first : Stand) (acts : List Act) (progress : Progress) (reports all : List Report) (t : Transaction) (rest : List Transaction) (fault : ReceiveFault)
-    → StandsThere old db before middle user letters first acts progress reports all → DiskStays middle now → (stand_of first acts).left ≡ t ∷ rest → NotEntered db new middle now user t fault
-    → StopsTaking old new before now user letters first acts reports all fault
-stops_at_entry old db new before middle now user letters first acts progress reports all t rest fault stands stays left stop =
-    entry_stops old db new before middle now user letters first acts progress reports all stands stays t rest fault left stop
+pub stops_at_entry : (old db new : View) (before middle now : Seen) (user : Name) (message_files : List MessageFile) (first : PassState) (acts : List ReceiveAct) (progress : Progress) (reports all : List Report) (t : Transaction) (rest : List Transaction) (fault : ReceiveFault)
+    → StandsThere old db before middle user message_files first acts progress reports all → DiskStays middle now → (stand_of first acts).left ≡ t ∷ rest → NotEntered db new middle now user t fault
+    → StopsTaking old new before now user message_files first acts reports all fault
+stops_at_entry old db new before middle now user message_files first acts progress reports all t rest fault stands stays left stop =
+    entry_stops old db new before middle now user message_files first acts progress reports all stands stays t rest fault left stop
 
 -- ---- at the reports of a transaction that was taken
 
-pub stops_at_reports : (old db new : View) (before middle now : Seen) (user : Name) (letters : List Letter) (first : Stand) (acts : List Act) (progress : Progress) (reports all all' made some left : List Report) (t : Transaction) (rest : List Transaction)
-    → StandsThere old db before middle user letters first acts progress reports all → DiskStays middle now → (stand_of first acts).left ≡ t ∷ rest → Entered db new middle now user t made → made ≡ some ++ left
-    → all' ≡ take progress.told all ++ (some ++ drop progress.told all) → StopsTaking old new before now user letters first acts reports all' Memory
-stops_at_reports old db new before middle now user letters first acts progress reports all all' made some left t rest stands stays next entered parts shown =
+pub stops_at_reports : (old db new : View) (before middle now : Seen) (user : Name) (message_files : List MessageFile) (first : PassState) (acts : List ReceiveAct) (progress : Progress) (reports all all' made some left : List Report) (t : Transaction) (rest : List Transaction)
+    → StandsThere old db before middle user message_files first acts progress reports all → DiskStays middle now → (stand_of first acts).left ≡ t ∷ rest → Entered db new middle now user t made → made ≡ some ++ left
+    → all' ≡ take progress.told all ++ (some ++ drop progress.told all) → StopsTaking old new before now user message_files first acts reports all' Memory
+stops_at_reports old db new before middle now user message_files first acts progress reports all all' made some left t rest stands stays next entered parts shown =
     let reached = reached_on old db new before middle now (entries_of user acts) (taken user t.at entered.dones ∷ []) [] stands.reached entered.reached in
     record {
       stops = record {
@@ -217,7 +232,7 @@ stops_at_reports old db new before middle now user letters first acts progress r
         is = tt;
         next = tt;
         reached = reached;
-        mail = λ told. record { more = []; is = stays.mail ∙ stands.mail told; fetches = tt };
+        mail = λ told. inl (stays.mail ∙ stands.mail told);
         shown = record {
           newest = took t entered.dones ∷ [];
           shown = acts;
@@ -229,21 +244,21 @@ stops_at_reports old db new before middle now user letters first acts progress r
           reports_are = inserted_reports progress.told reports all all' (op_reports user acts) some (torn_reports user acts) stands.told stands.reports_are shown;
         };
       };
-      lost_are = refl;
+      dropped_windows_are = refl;
     }
 
 -- ---- at the report of a torn window
 
-unfoldable pub stops_at_torn : (old db : View) (before now : Seen) (user : Name) (letters : List Letter) (first : Stand) (acts : List Act) (progress : Progress) (reports all all' : List Report) (w : Window) (pairs : Pairs)
-    → StandsThere old db before now user letters first (torn w pairs ∷ acts) progress reports all' → all ≡ reports ++ act_reports user acts → StopsThere old db before now user letters first reports all Memory
-stops_at_torn old db before now user letters first acts progress reports all all' w pairs stands shown = record {
+unfoldable pub stops_at_torn : (old db : View) (before now : Seen) (user : Name) (message_files : List MessageFile) (first : PassState) (acts : List ReceiveAct) (progress : Progress) (reports all all' : List Report) (w : Window) (pairs : Pairs)
+    → StandsThere old db before now user message_files first (torn w pairs ∷ acts) progress reports all' → all ≡ reports ++ act_reports user acts → StopsThere old db before now user message_files first reports all Memory
+stops_at_torn old db before now user message_files first acts progress reports all all' w pairs stands shown = record {
   acts = torn w pairs ∷ acts;
   are = stands.are;
   refused = [];
   is = tt;
   next = tt;
   reached = stands.reached;
-  mail = λ told. record { more = []; is = stands.mail told; fetches = tt };
+  mail = λ told. inl (stands.mail told);
   shown = record {
     newest = torn w pairs ∷ [];
     shown = acts;

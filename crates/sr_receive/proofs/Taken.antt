@@ -3,32 +3,35 @@ use Rattle.std.proofs.Common.{◌≡◌, true, List, [], ◌∷◌, Result, Ok, 
 use Rattle.std.specs.Prelude.{IsSome, IfErr, IfOk, OnOk}
 use Rattle.std.proofs.lemmas.List.{append-nil}
 use Rattle.sr_book.specs.Entries.{Name}
-use Rattle.sr_database.specs.Commits.{CanCommit, CanCommitSome}
+use Rattle.sr_database.specs.Inner.Commits.{CanCommit, CanCommitSome}
 use Rattle.sr_database.specs.Databases.{IsOf, IsHeld, IsDatabase}
 use Rattle.sr_database.specs.Views.{View, committed}
-use Rattle.sr_history.specs.Fitting.{DonesFit, FitsState}
-use Rattle.sr_history.specs.Folds.{State}
-use Rattle.sr_history.specs.Recorded.{Recorded, Done, taken}
+use Rattle.sr_database_history.specs.Fitting.{DonesFit, FitsState}
+use Rattle.sr_database_history.specs.Folds.{State}
+use Rattle.sr_database_history.specs.Recorded.{Recorded, Done, taken}
 use Rattle.sr_logfile.specs.Log.{Log}
-use Rattle.sr_logform.specs.Entries.{IsShortEntry}
+use Rattle.sr_logform.specs.Inner.Entries.{IsShortEntry}
 use Rattle.sr_logform.specs.declared.entry.Entry.{Entry}
 use Rattle.sr_logform.specs.declared.entry.Entry.TheVariants.{From}
 use Rattle.sr_logform.specs.declared.op.Op.{Op}
 use Rattle.sr_logform.specs.declared.op.Transaction.{Transaction}
 use Rattle.sr_logform.specs.declared.outcome.Outcome.{Outcome}
-use Rattle.sr_schema.specs.Members.{user_name}
-use Rattle.sr_schema.specs.Names.{named}
+use Rattle.sr_catalog_schema.specs.Members.{user_name}
+use Rattle.sr_catalog_schema.specs.Names.{named}
 use Rattle.sr_site.specs.Causes.{Stays}
 use Rattle.sr_site.specs.Files.{Files}
 use Rattle.sr_site.specs.Seen.{Seen}
-use Rattle.sr_standing.proofs.Going.{nothing}
-use Rattle.sr_receive.specs.Entering.{IsReady, Reached, CommitStop}
-use Rattle.sr_taken.specs.Judged.{IsAlike, IsEntryOf}
-use Rattle.sr_receive.specs.Reports.{entry_reports, outcome_reports}
-use Rattle.sr_receive.specs.Takings.{Entered, NotEntered}
-use Rattle.sr_gather.specs.declared.fault.ReceiveFault.{ReceiveFault}
-use Rattle.sr_gather.specs.declared.fault.ReceiveFault.TheVariants.{Disk, Mail, Full, Long, Memory}
-use Rattle.sr_gather.specs.declared.report.Report.{Report}
+use Rattle.sr_database_meaning.proofs.Going.{nothing}
+use Rattle.sr_receive.specs.Entering.{IsReady, Reached}
+use Rattle.sr_receive.specs.Inner.Entering.{CommitStop}
+use Rattle.sr_receive_judged.specs.Judged.{IsEntryOf}
+use Rattle.sr_receive_judged.specs.Inner.Judged.{IsAlike}
+use Rattle.sr_receive.specs.Reports.{outcome_reports}
+use Rattle.sr_receive.specs.Inner.Reports.{entry_reports}
+use Rattle.sr_receive.specs.Inner.Takings.{Entered, NotEntered}
+use Rattle.sr_receive_gather.specs.declared.fault.ReceiveFault.{ReceiveFault}
+use Rattle.sr_receive_gather.specs.declared.fault.ReceiveFault.TheVariants.{Disk, Mail, Full, Long, Memory}
+use Rattle.sr_receive_gather.specs.declared.report.Report.{Report}
 use Rattle.sr_receive.proofs.Committing.{ready_then, settled_as}
 use Rattle.sr_receive.proofs.Joins.{committed_is, reached_on}
 
@@ -46,7 +49,7 @@ database_alike old new publisher es seen alike database = record {
 }
 
 still : (seen : Seen) → Stays seen seen
-still seen = record { told = refl; first = refl; grows = λ moment there. there; disk = omega arith; mail = omega arith }
+still seen = record { observable = refl; first = refl; grows = λ moment there. there; disk = omega arith; mail = omega arith }
 
 reached_alike : (old new : View) (seen : Seen) → IsReady old seen → IsAlike old new → Reached old new seen seen [] []
 reached_alike old new seen ready alike = record {

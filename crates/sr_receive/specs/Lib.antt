@@ -1,5 +1,5 @@
 pub mod Acts
 pub mod Entering
 pub mod Reports
-pub mod Takings
 pub mod Passes
+pub mod Inner

@@ -2,13 +2,11 @@
 use Rattle.std.specs.Prelude.{ℕ, ◌+◌, List, [], ◌∷◌, ◌++◌}
 use Rattle.sr_base.specs.declared.offset.Offset.{Offset}
 use Rattle.sr_book.specs.Entries.{Name}
-use Rattle.sr_logform.specs.declared.entry.Entry.{Entry}
-use Rattle.sr_logform.specs.declared.entry.Entry.TheVariants.{Own, From, Ddl, Sync, Pass, Note}
 use Rattle.sr_logform.specs.declared.op.Op.{Op}
 use Rattle.sr_logform.specs.declared.outcome.Outcome.{Outcome}
 use Rattle.sr_logform.specs.declared.outcome.Outcome.TheVariants as outcomes
-use Rattle.sr_gather.specs.declared.report.Report.{Report}
-use Rattle.sr_gather.specs.declared.report.Report.TheVariants.{Conflict, Clash}
+use Rattle.sr_receive_gather.specs.declared.report.Report.{Report}
+use Rattle.sr_receive_gather.specs.declared.report.Report.TheVariants.{Conflict, Clash}
 
 -- what is reported of an op, by its outcome
 abbrev pub outcome_report : Name → Offset → ℕ → Outcome → List Report
@@ -20,12 +18,3 @@ outcome_report user at number (outcomes.Clash why) = Clash user at number why �
 abbrev pub outcome_reports : Name → Offset → ℕ → List (Op × Outcome) → List Report
 outcome_reports user at number [] = []
 outcome_reports user at number (p ∷ ops) = outcome_report user at number p.1 ++ outcome_reports user at (number + 1) ops
-
--- what is reported of an entry
-abbrev pub entry_reports : Name → Entry → List Report
-entry_reports user (Own changes) = []
-entry_reports user (From other at ops) = outcome_reports user at 1 ops
-entry_reports user (Ddl text) = []
-entry_reports user (Sync other tables) = []
-entry_reports user (Pass users only text changes) = []
-entry_reports user (Note other what) = []

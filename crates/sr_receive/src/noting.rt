@@ -1,21 +1,22 @@
 //! Notes in a user's book, and entries committed.
 
 ghost use Rattle.std.specs.Prelude.{◌≡◌, ◌∷◌, [], IsSome, IfOk, IfErr, OnOk};
-ghost use Rattle.sr_database.specs.Commits.{CanCommit, CanCommitSome};
-ghost use Rattle.sr_history.specs.Recorded.{Recorded, note as noted_of};
+ghost use Rattle.sr_database.specs.Inner.Commits.{CanCommit, CanCommitSome};
+ghost use Rattle.sr_database_history.specs.Recorded.{Recorded, note as noted_of};
 ghost use Rattle.sr_logform.specs.declared.entry.Entry.TheVariants.{Note as note_entry};
-ghost use Rattle.sr_schema.specs.Members.{user_name};
-ghost use Rattle.sr_schema.specs.Names.{named};
+ghost use Rattle.sr_catalog_schema.specs.Members.{user_name};
+ghost use Rattle.sr_catalog_schema.specs.Names.{named};
 ghost use Rattle.sr_site.specs.Causes.{DiskStays};
-ghost use Rattle.sr_gather.specs.OneNote.{at_most_one};
-ghost use Rattle.sr_receive.specs.Entering.{IsReady, Reached, CommitStop, NotesStop, entered_as};
+ghost use Rattle.sr_receive_gather.specs.Inner.OneNote.{at_most_one};
+ghost use Rattle.sr_receive.specs.Entering.{IsReady, Reached};
+ghost use Rattle.sr_receive.specs.Inner.Entering.{CommitStop, NotesStop, entered_as};
 ghost use Rattle.sr_receive.specs.Passes.{note_entries};
 
 use sr_base::{Copied, Name, NoMemory, Offset};
 use sr_book::Note;
 use sr_database::{Database, DatabaseFault};
-use sr_gather::{ReceiveFault, store_fault};
 use sr_logform::Entry;
+use sr_receive_gather::{ReceiveFault, store_fault};
 use sr_site::Site;
 use std::alloc::Global;
 

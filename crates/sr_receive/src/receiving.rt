@@ -1,18 +1,20 @@
-//! The pass over a user's letters.
+//! The pass over a user's message files.
 
 ghost use Rattle.std.specs.Prelude.{◌≡◌, ◌⊎◌, ◌++◌, [], List, None, IsSome, IfErr, IfOk, OnErr, OnOk};
-ghost use Rattle.sr_schema.specs.Members.{user_name};
-ghost use Rattle.sr_schema.specs.Names.{named};
+ghost use Rattle.sr_catalog_schema.specs.Members.{user_name};
+ghost use Rattle.sr_catalog_schema.specs.Names.{named};
 ghost use Rattle.sr_site.specs.Causes.{DiskStays};
-ghost use Rattle.sr_receive.specs.Entering.{IsReady, NotesStop, Reached};
-ghost use Rattle.sr_gather.specs.Greatest.{asks, confirms, has_gap, raises};
+ghost use Rattle.sr_receive.specs.Entering.{IsReady, Reached};
+ghost use Rattle.sr_receive.specs.Inner.Entering.{NotesStop};
+ghost use Rattle.sr_receive_gather.specs.Greatest.{asks, confirms, has_gap, raises};
 ghost use Rattle.sr_mail.specs.declared.window.Window.{Window as AWindow};
-ghost use Rattle.sr_receive.specs.Acts.{Stand};
-ghost use Rattle.sr_gather.specs.Bags.{IsShare, share_of};
-ghost use Rattle.sr_gather.specs.declared.bag.Share.{Share as AShare};
-ghost use Rattle.sr_gather.specs.Letters.{Letter as ALetter};
-ghost use Rattle.sr_receive.specs.Passes.{HasRaised, HasReceived, IsDeviceFault, IsStart, PassedBehind, PassedShare, ReceiveCause, StoppedBehind, StoppedShare, StopsAmong, first_notes, gap_report, note_entries};
-ghost use Rattle.sr_gather.specs.declared.fault.ReceiveFault.TheVariants.{Memory as memory};
+ghost use Rattle.sr_receive.specs.Acts.{PassState};
+ghost use Rattle.sr_receive_gather.specs.Bags.{IsPartnerMail, partner_mail_of};
+ghost use Rattle.sr_receive_gather.specs.declared.bag.PartnerMail.{PartnerMail as APartnerMail};
+ghost use Rattle.sr_receive_gather.specs.MessageFiles.{MessageFile as AMessageFile};
+ghost use Rattle.sr_receive.specs.Passes.{HasRaised, IsStart, StoppedBehind, StopsAmong, first_notes, gap_report, note_entries};
+ghost use Rattle.sr_receive.specs.Inner.Passes.{HasReceived, IsDeviceFault, PassedBehind, PassedPartnerMail, ReceiveCause, StoppedPartnerMail};
+ghost use Rattle.sr_receive_gather.specs.declared.fault.ReceiveFault.TheVariants.{Memory as memory};
 
 use crate::noting::note_where;
 use crate::taking::Progress;
@@ -20,8 +22,8 @@ use crate::trying::try_all;
 use sr_base::{Name, Offset};
 use sr_book::Book;
 use sr_database::Database;
-use sr_gather::{
-    Bag, Filed, ReceiveFault, Report, Share, due_ask, due_confirm, due_raise, greatest_upto,
+use sr_receive_gather::{
+    Bag, Filed, PartnerMail, ReceiveFault, Report, due_ask, due_confirm, due_raise, greatest_upto,
     report_gap,
 };
 use sr_site::Site;
@@ -62,7 +64,7 @@ pub fn receive<S: Site>(
     ensures cause { IfErr result (ReceiveCause db.old db.new (S.seen site.old) (S.seen site.new) user.now bag.old bag.new reports.old.items reports.new.items) }
 {
     match bag.place(user) {
-        Some(at) => receive_share(alloc, db, site, user, bag.share_mut(at), reports),
+        Some(at) => receive_partner_mail(alloc, db, site, user, bag.partner_mail_mut(at), reports),
         None => receive_none(alloc, db, site, user, reports),
     }
 }
@@ -77,12 +79,12 @@ fn receive_none<S: Site>(
 ) -> Result<Received, ReceiveFault>
     requires ready { IsReady db.old (S.seen site.old) }
     requires user { IsSome (named user_name user.now db.old.catalog.users) }
-    ensures received { (bag : List AShare) → share_of bag user.now ≡ None → IfOk result (HasReceived db.old db.new (S.seen site.old) (S.seen site.new) user.now bag bag reports.old.items reports.new.items) }
-    ensures cause { (bag : List AShare) → share_of bag user.now ≡ None → IfErr result (ReceiveCause db.old db.new (S.seen site.old) (S.seen site.new) user.now bag bag reports.old.items reports.new.items) }
+    ensures received { (bag : List APartnerMail) → partner_mail_of bag user.now ≡ None → IfOk result (HasReceived db.old db.new (S.seen site.old) (S.seen site.new) user.now bag bag reports.old.items reports.new.items) }
+    ensures cause { (bag : List APartnerMail) → partner_mail_of bag user.now ≡ None → IfErr result (ReceiveCause db.old db.new (S.seen site.old) (S.seen site.new) user.now bag bag reports.old.items reports.new.items) }
 {
-    match Share::of(alloc, user) {
+    match PartnerMail::of(alloc, user) {
         Ok(mut none) => {
-            let outcome = receive_share(alloc, db, site, user, &mut none, reports);
+            let outcome = receive_partner_mail(alloc, db, site, user, &mut none, reports);
             drop(none);
             outcome
         }
@@ -90,34 +92,34 @@ fn receive_none<S: Site>(
     }
 }
 
-/// Takes what a share has.
-fn receive_share<S: Site>(
+/// Takes what a partner mail has.
+fn receive_partner_mail<S: Site>(
     alloc: Global,
     db: &mut Database,
     site: &mut S,
     user: &Name,
-    share: &mut Share,
+    partner_mail: &mut PartnerMail,
     reports: &mut Vec<Report>,
 ) -> Result<Received, ReceiveFault>
     requires ready { IsReady db.old (S.seen site.old) }
     requires user { IsSome (named user_name user.now db.old.catalog.users) }
-    ensures user { share.new.user ≡ share.old.user }
-    ensures received { IfOk result (PassedShare db.old db.new (S.seen site.old) (S.seen site.new) user.now share.old share.new reports.old.items reports.new.items) }
-    ensures cause { IfErr result (StoppedShare db.old db.new (S.seen site.old) (S.seen site.new) user.now share.old share.new reports.old.items reports.new.items) }
+    ensures user { partner_mail.new.user ≡ partner_mail.old.user }
+    ensures received { IfOk result (PassedPartnerMail db.old db.new (S.seen site.old) (S.seen site.new) user.now partner_mail.old partner_mail.new reports.old.items reports.new.items) }
+    ensures cause { IfErr result (StoppedPartnerMail db.old db.new (S.seen site.old) (S.seen site.new) user.now partner_mail.old partner_mail.new reports.old.items reports.new.items) }
 {
     let Some(book) = db.book(user) else {
         return Err(ReceiveFault::Memory);
     };
-    match note_first(alloc, db, site, user, &book, share.files.as_slice()) {
+    match note_first(alloc, db, site, user, &book, partner_mail.files.as_slice()) {
         Ok(()) => {
             let received = Offset(book.log_received);
-            receive_behind(alloc, db, site, user, received, share, reports)
+            receive_behind(alloc, db, site, user, received, partner_mail, reports)
         }
         Err(fault) => Err(fault),
     }
 }
 
-/// Notes what letters confirm, and then what they ask for.
+/// Notes what message files confirm, and then what they ask for.
 fn note_first<S: Site>(
     alloc: Global,
     db: &mut Database,
@@ -148,27 +150,27 @@ fn receive_behind<S: Site>(
     site: &mut S,
     user: &Name,
     received: Offset,
-    share: &mut Share,
+    partner_mail: &mut PartnerMail,
     reports: &mut Vec<Report>,
 ) -> Result<Received, ReceiveFault>
     requires ready { IsReady db.old (S.seen site.old) }
     requires user { IsSome (named user_name user.now db.old.catalog.users) }
-    ensures user { share.new.user ≡ share.old.user }
+    ensures user { partner_mail.new.user ≡ partner_mail.old.user }
     ensures why { IfErr result (IsDeviceFault (S.seen site.old) (S.seen site.new)) }
-    ensures received { (letters : List ALetter) (lost : List AWindow) (first : Stand) → IsShare letters lost share.old → IsStart db.old received.0 lost first
-        → IfOk result (PassedBehind db.old db.new (S.seen site.old) (S.seen site.new) user.now letters first share.new reports.old.items reports.new.items) }
-    ensures cause { (letters : List ALetter) (lost : List AWindow) (first : Stand) → IsShare letters lost share.old → IsStart db.old received.0 lost first
-        → IfErr result (StoppedBehind db.old db.new (S.seen site.old) (S.seen site.new) user.now letters first share.new reports.old.items reports.new.items) }
+    ensures received { (message_files : List AMessageFile) (dropped_windows : List AWindow) (first : PassState) → IsPartnerMail message_files dropped_windows partner_mail.old → IsStart db.old received.0 dropped_windows first
+        → IfOk result (PassedBehind db.old db.new (S.seen site.old) (S.seen site.new) user.now message_files first partner_mail.new reports.old.items reports.new.items) }
+    ensures cause { (message_files : List AMessageFile) (dropped_windows : List AWindow) (first : PassState) → IsPartnerMail message_files dropped_windows partner_mail.old → IsStart db.old received.0 dropped_windows first
+        → IfErr result (StoppedBehind db.old db.new (S.seen site.old) (S.seen site.new) user.now message_files first partner_mail.new reports.old.items reports.new.items) }
 {
     let mut progress = Progress {
         received,
         took: 0,
         told: reports.as_slice().len(),
     };
-    let inbox = &mut share.inbox;
+    let inbox = &mut partner_mail.inbox;
     match try_all(alloc, db, site, user, inbox, &mut progress, reports) {
         Ok(()) => {
-            let files = share.files.as_slice();
+            let files = partner_mail.files.as_slice();
             raise_behind(alloc, db, site, user, progress, files, reports)
         }
         Err(fault) => Err(fault),

@@ -2,11 +2,11 @@
 
 ghost use Rattle.std.specs.Prelude.{◌≡◌, ◌+◌, ◌++◌, ◌≤◌, List, take, drop, length, IfOk, OnOk};
 ghost use Rattle.sr_receive.specs.Reports.{outcome_report, outcome_reports};
-ghost use Rattle.sr_gather.specs.declared.report.Report.{Report as AReport};
+ghost use Rattle.sr_receive_gather.specs.declared.report.Report.{Report as AReport};
 
 use sr_base::{Copied, Name, NoMemory, Offset};
-use sr_gather::Report;
 use sr_logform::{Op, Outcome};
+use sr_receive_gather::Report;
 use std::alloc::{AllocError, Global};
 
 /// The reports of a transaction's ops, numbered from 1.

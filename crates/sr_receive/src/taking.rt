@@ -2,33 +2,35 @@
 
 ghost use Rattle.std.specs.Prelude.{◌≡◌, ◌+◌, ◌-◌, ◌^◌, ◌<◌, ◌≤◌, ◌∷◌, ◌++◌, [], List, length, take, drop, IsSome, IfErr, IfOk, OnOk};
 ghost use Rattle.std.specs.List.{AllByRecursion};
-ghost use Rattle.sr_database.specs.Commits.{CanCommit, CanCommitSome};
+ghost use Rattle.sr_database.specs.Inner.Commits.{CanCommit, CanCommitSome};
 ghost use Rattle.sr_database.specs.Views.{View as AView};
-ghost use Rattle.sr_history.specs.Recorded.{Recorded};
-ghost use Rattle.sr_logform.specs.Ops.{IsShortTransaction};
-ghost use Rattle.sr_schema.specs.Members.{user_name};
-ghost use Rattle.sr_schema.specs.Names.{named};
+ghost use Rattle.sr_database_history.specs.Recorded.{Recorded};
+ghost use Rattle.sr_logform.specs.Inner.Ops.{IsShortTransaction};
+ghost use Rattle.sr_catalog_schema.specs.Members.{user_name};
+ghost use Rattle.sr_catalog_schema.specs.Names.{named};
 ghost use Rattle.sr_site.specs.Causes.{DiskStays};
 ghost use Rattle.sr_site.specs.Seen.{Seen as SiteSeen};
-ghost use Rattle.sr_receive.specs.Acts.{Act, Stand, stand_of};
-ghost use Rattle.sr_receive.specs.Entering.{IsReady, Reached, CommitStop};
-ghost use Rattle.sr_receive.specs.Reports.{entry_reports};
-ghost use Rattle.sr_gather.specs.Letters.{Letter as ALetter};
-ghost use Rattle.sr_receive.specs.Passes.{AreSteady, IsDeviceFault};
-ghost use Rattle.sr_receive.specs.Takings.{Entered, HasTold, NotEntered, StandsThere, GoesOn, StopsTaking};
-ghost use Rattle.sr_gather.specs.Windows.{past};
-ghost use Rattle.sr_gather.specs.declared.report.Report.{Report as AReport};
+ghost use Rattle.sr_receive.specs.Acts.{ReceiveAct, PassState, stand_of};
+ghost use Rattle.sr_receive.specs.Entering.{IsReady, Reached};
+ghost use Rattle.sr_receive.specs.Inner.Entering.{CommitStop};
+ghost use Rattle.sr_receive.specs.Inner.Reports.{entry_reports};
+ghost use Rattle.sr_receive_gather.specs.MessageFiles.{MessageFile as AMessageFile};
+ghost use Rattle.sr_receive.specs.Passes.{AreSteady};
+ghost use Rattle.sr_receive.specs.Inner.Passes.{IsDeviceFault};
+ghost use Rattle.sr_receive.specs.Inner.Takings.{Entered, HasTold, NotEntered, StandsThere, GoesOn, StopsTaking};
+ghost use Rattle.sr_receive_gather.specs.Windows.{past};
+ghost use Rattle.sr_receive_gather.specs.declared.report.Report.{Report as AReport};
 ghost use Rattle.sr_logform.specs.declared.op.Transaction.{Transaction as ATransaction};
-ghost use Rattle.sr_gather.specs.declared.fault.ReceiveFault.TheVariants.{Memory as memory};
+ghost use Rattle.sr_receive_gather.specs.declared.fault.ReceiveFault.TheVariants.{Memory as memory};
 
 use crate::noting::enter;
 use crate::reporting::{insert_all, reports_of};
 use sr_base::{Name, Offset};
 use sr_database::Database;
-use sr_gather::{ReceiveFault, Report};
 use sr_logform::{Entry, Transaction};
+use sr_receive_gather::{ReceiveFault, Report};
+use sr_receive_judged::entry_of;
 use sr_site::Site;
-use sr_taken::entry_of;
 use std::alloc::Global;
 
 /// How far a pass has come: what was received, how many transactions were taken, and where in the list of reports those of ops end.
@@ -58,14 +60,14 @@ pub(crate) fn take_all<S: Site>(
     ensures ready { OnOk result (IsReady db.new (S.seen site.new)) }
     ensures told { OnOk result (progress.new.told ≤ length reports.new.items) }
     ensures users { OnOk result (IsSome (named user_name user.now db.new.catalog.users)) }
-    ensures taken { (from : AView) (before : SiteSeen) (letters : List ALetter) (first : Stand) (acts : List Act) (all : List AReport)
-        → StandsThere from db.old before (S.seen site.old) user.now letters first acts progress.old all reports.old.items
+    ensures taken { (from : AView) (before : SiteSeen) (message_files : List AMessageFile) (first : PassState) (acts : List ReceiveAct) (all : List AReport)
+        → StandsThere from db.old before (S.seen site.old) user.now message_files first acts progress.old all reports.old.items
         → (stand_of first acts).left ≡ past progress.old.received.0 transactions.now
-        → OnOk result (GoesOn from db.new before (S.seen site.new) user.now letters first acts progress.new all reports.new.items []) }
-    ensures cause { (from : AView) (before : SiteSeen) (letters : List ALetter) (first : Stand) (acts : List Act) (all : List AReport)
-        → StandsThere from db.old before (S.seen site.old) user.now letters first acts progress.old all reports.old.items
+        → OnOk result (GoesOn from db.new before (S.seen site.new) user.now message_files first acts progress.new all reports.new.items []) }
+    ensures cause { (from : AView) (before : SiteSeen) (message_files : List AMessageFile) (first : PassState) (acts : List ReceiveAct) (all : List AReport)
+        → StandsThere from db.old before (S.seen site.old) user.now message_files first acts progress.old all reports.old.items
         → (stand_of first acts).left ≡ past progress.old.received.0 transactions.now
-        → IfErr result (StopsTaking from db.new before (S.seen site.new) user.now letters first acts all reports.new.items) }
+        → IfErr result (StopsTaking from db.new before (S.seen site.new) user.now message_files first acts all reports.new.items) }
 {
     let received = progress.received.0;
     let mut left = transactions;
@@ -105,14 +107,14 @@ fn take_past<S: Site>(
     ensures ready { OnOk result (IsReady db.new (S.seen site.new)) }
     ensures told { OnOk result (progress.new.told ≤ length reports.new.items) }
     ensures users { OnOk result (IsSome (named user_name user.now db.new.catalog.users)) }
-    ensures taken { (from : AView) (before : SiteSeen) (letters : List ALetter) (first : Stand) (acts : List Act) (all : List AReport) (rest : List ATransaction)
-        → StandsThere from db.old before (S.seen site.old) user.now letters first acts progress.old all reports.old.items
+    ensures taken { (from : AView) (before : SiteSeen) (message_files : List AMessageFile) (first : PassState) (acts : List ReceiveAct) (all : List AReport) (rest : List ATransaction)
+        → StandsThere from db.old before (S.seen site.old) user.now message_files first acts progress.old all reports.old.items
         → (stand_of first acts).left ≡ past received (transaction.now ∷ rest)
-        → OnOk result (GoesOn from db.new before (S.seen site.new) user.now letters first acts progress.new all reports.new.items (past received rest)) }
-    ensures cause { (from : AView) (before : SiteSeen) (letters : List ALetter) (first : Stand) (acts : List Act) (all : List AReport) (rest : List ATransaction)
-        → StandsThere from db.old before (S.seen site.old) user.now letters first acts progress.old all reports.old.items
+        → OnOk result (GoesOn from db.new before (S.seen site.new) user.now message_files first acts progress.new all reports.new.items (past received rest)) }
+    ensures cause { (from : AView) (before : SiteSeen) (message_files : List AMessageFile) (first : PassState) (acts : List ReceiveAct) (all : List AReport) (rest : List ATransaction)
+        → StandsThere from db.old before (S.seen site.old) user.now message_files first acts progress.old all reports.old.items
         → (stand_of first acts).left ≡ past received (transaction.now ∷ rest)
-        → IfErr result (StopsTaking from db.new before (S.seen site.new) user.now letters first acts all reports.new.items) }
+        → IfErr result (StopsTaking from db.new before (S.seen site.new) user.now message_files first acts all reports.new.items) }
 {
     if received < transaction.at.0 {
         return take_one(alloc, db, site, user, progress, reports, transaction);
@@ -139,14 +141,14 @@ fn take_one<S: Site>(
     ensures ready { OnOk result (IsReady db.new (S.seen site.new)) }
     ensures told { OnOk result (progress.new.told ≤ length reports.new.items) }
     ensures users { OnOk result (IsSome (named user_name user.now db.new.catalog.users)) }
-    ensures taken { (from : AView) (before : SiteSeen) (letters : List ALetter) (first : Stand) (acts : List Act) (all : List AReport) (rest : List ATransaction)
-        → StandsThere from db.old before (S.seen site.old) user.now letters first acts progress.old all reports.old.items
+    ensures taken { (from : AView) (before : SiteSeen) (message_files : List AMessageFile) (first : PassState) (acts : List ReceiveAct) (all : List AReport) (rest : List ATransaction)
+        → StandsThere from db.old before (S.seen site.old) user.now message_files first acts progress.old all reports.old.items
         → (stand_of first acts).left ≡ transaction.now ∷ rest
-        → OnOk result (GoesOn from db.new before (S.seen site.new) user.now letters first acts progress.new all reports.new.items rest) }
-    ensures cause { (from : AView) (before : SiteSeen) (letters : List ALetter) (first : Stand) (acts : List Act) (all : List AReport) (rest : List ATransaction)
-        → StandsThere from db.old before (S.seen site.old) user.now letters first acts progress.old all reports.old.items
+        → OnOk result (GoesOn from db.new before (S.seen site.new) user.now message_files first acts progress.new all reports.new.items rest) }
+    ensures cause { (from : AView) (before : SiteSeen) (message_files : List AMessageFile) (first : PassState) (acts : List ReceiveAct) (all : List AReport) (rest : List ATransaction)
+        → StandsThere from db.old before (S.seen site.old) user.now message_files first acts progress.old all reports.old.items
         → (stand_of first acts).left ≡ transaction.now ∷ rest
-        → IfErr result (StopsTaking from db.new before (S.seen site.new) user.now letters first acts all reports.new.items) }
+        → IfErr result (StopsTaking from db.new before (S.seen site.new) user.now message_files first acts all reports.new.items) }
 {
     match take_entry(alloc, db, site, user, transaction) {
         Ok(made) => tell(progress, reports, transaction.at, made),

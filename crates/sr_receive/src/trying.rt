@@ -1,40 +1,42 @@
-//! The windows of a user's letters, tried one after the other.
+//! The windows of a user's message files, tried one after the other.
 
 ghost use Rattle.std.specs.Prelude.{◌≡◌, ◌≤◌, ◌↔◌, ◌∷◌, ◌++◌, [], List, length, IsSome, IsTrue, IfErr, IfNone, IfOk, IfSome, OnErr, OnOk, Some, option_map, if◌then◌else◌};
 ghost use Rattle.std.specs.List.{AllByRecursion};
 ghost use Rattle.sr_base.specs.Values.{offset_from};
-ghost use Rattle.sr_cut.specs.Bodies.{IsBody};
+ghost use Rattle.sr_mail_cut.specs.Bodies.{IsBody};
 ghost use Rattle.sr_database.specs.Views.{View as AView};
-ghost use Rattle.sr_logform.specs.Ops.{IsShortTransaction};
+ghost use Rattle.sr_logform.specs.Inner.Ops.{IsShortTransaction};
 ghost use Rattle.sr_logform.specs.declared.op.Transaction.{Transaction as ATransaction};
-ghost use Rattle.sr_mail.specs.Assembled.{AreOfOneWindow};
-ghost use Rattle.sr_mail.specs.Inboxes.{pieces_of, is_dropped, is_seen};
+ghost use Rattle.sr_mail.specs.Inner.Assembled.{AreOfOneWindow};
+ghost use Rattle.sr_mail.specs.Inboxes.{pieces_of, is_dropped};
+ghost use Rattle.sr_mail.specs.Inner.Inboxes.{is_seen};
 ghost use Rattle.sr_mail.specs.Seen.{same_window, window_of};
 ghost use Rattle.sr_mail.specs.declared.piece.Piece.{Piece as APiece};
 ghost use Rattle.sr_mail.specs.declared.window.Window.{Window as AWindow};
-ghost use Rattle.sr_schema.specs.Members.{user_name};
-ghost use Rattle.sr_schema.specs.Names.{named};
+ghost use Rattle.sr_catalog_schema.specs.Members.{user_name};
+ghost use Rattle.sr_catalog_schema.specs.Names.{named};
 ghost use Rattle.sr_site.specs.Seen.{Seen as SiteSeen};
-ghost use Rattle.sr_receive.specs.Acts.{Act, Stand, stand_of, IsReadAs};
-ghost use Rattle.sr_gather.specs.Fetches.{Pairs};
-ghost use Rattle.sr_gather.specs.Bags.{Holds};
+ghost use Rattle.sr_receive.specs.Acts.{ReceiveAct, PassState, stand_of, IsReadAs};
+ghost use Rattle.sr_receive_gather.specs.Fetches.{Pairs};
+ghost use Rattle.sr_receive_gather.specs.Bags.{Holds};
 ghost use Rattle.sr_receive.specs.Entering.{IsReady};
-ghost use Rattle.sr_gather.specs.Letters.{Letter as ALetter};
-ghost use Rattle.sr_receive.specs.Passes.{AreSteady, IsDeviceFault};
-ghost use Rattle.sr_receive.specs.Takings.{IsIdle, IsOnTrial, IsUnderTrial, StandsThere, StopsWith, TriedAll, TriedOne};
-ghost use Rattle.sr_gather.specs.Windows.{AreOf, IsDue, Spell};
-ghost use Rattle.sr_gather.specs.declared.fault.ReceiveFault.TheVariants.{Memory as memory};
-ghost use Rattle.sr_gather.specs.declared.report.Report.{Report as AReport};
-ghost use Rattle.sr_gather.specs.declared.report.Report.TheVariants.{Torn as torn_report};
+ghost use Rattle.sr_receive_gather.specs.MessageFiles.{MessageFile as AMessageFile};
+ghost use Rattle.sr_receive.specs.Passes.{AreSteady};
+ghost use Rattle.sr_receive.specs.Inner.Passes.{IsDeviceFault};
+ghost use Rattle.sr_receive.specs.Inner.Takings.{IsIdle, IsOnTrial, IsUnderTrial, StandsThere, StopsWith, TriedAll, TriedOne};
+ghost use Rattle.sr_receive_gather.specs.Windows.{AreOf, IsDue, Spell};
+ghost use Rattle.sr_receive_gather.specs.declared.fault.ReceiveFault.TheVariants.{Memory as memory};
+ghost use Rattle.sr_receive_gather.specs.declared.report.Report.{Report as AReport};
+ghost use Rattle.sr_receive_gather.specs.declared.report.Report.TheVariants.{Torn as torn_report};
 
 use crate::taking::{Progress, take_all};
 use sr_base::{Copied, Name, NoMemory, Offset};
-use sr_cut::read_body;
 use sr_database::Database;
-use sr_gather::{ReceiveFault, Report, fetch_all};
 use sr_logform::Transaction;
 use sr_mail::{Inbox, Piece, Window, assemble};
+use sr_mail_cut::read_body;
 use sr_msgform::Message;
+use sr_receive_gather::{ReceiveFault, Report, fetch_all};
 use sr_site::Site;
 use std::alloc::Global;
 
@@ -55,12 +57,12 @@ pub(crate) fn try_all<S: Site>(
     ensures why { IfErr result (IsDeviceFault (S.seen site.old) (S.seen site.new)) }
     ensures ready { OnOk result (IsReady db.new (S.seen site.new)) }
     ensures users { OnOk result (IsSome (named user_name user.now db.new.catalog.users)) }
-    ensures tried { (from : AView) (before : SiteSeen) (letters : List ALetter) (first : Stand) (acts : List Act) (all : List AReport)
-        → StandsThere from db.old before (S.seen site.old) user.now letters first acts progress.old all reports.old.items → IsIdle (stand_of first acts) → Holds letters (stand_of first acts).lost inbox.old
-        → OnOk result (TriedAll from db.new before (S.seen site.new) user.now letters first inbox.new progress.new all reports.new.items) }
-    ensures cause { (from : AView) (before : SiteSeen) (letters : List ALetter) (first : Stand) (acts : List Act) (all : List AReport)
-        → StandsThere from db.old before (S.seen site.old) user.now letters first acts progress.old all reports.old.items → IsIdle (stand_of first acts) → Holds letters (stand_of first acts).lost inbox.old
-        → IfErr result (StopsWith from db.new before (S.seen site.new) user.now letters first inbox.new all reports.new.items) }
+    ensures tried { (from : AView) (before : SiteSeen) (message_files : List AMessageFile) (first : PassState) (acts : List ReceiveAct) (all : List AReport)
+        → StandsThere from db.old before (S.seen site.old) user.now message_files first acts progress.old all reports.old.items → IsIdle (stand_of first acts) → Holds message_files (stand_of first acts).dropped_windows inbox.old
+        → OnOk result (TriedAll from db.new before (S.seen site.new) user.now message_files first inbox.new progress.new all reports.new.items) }
+    ensures cause { (from : AView) (before : SiteSeen) (message_files : List AMessageFile) (first : PassState) (acts : List ReceiveAct) (all : List AReport)
+        → StandsThere from db.old before (S.seen site.old) user.now message_files first acts progress.old all reports.old.items → IsIdle (stand_of first acts) → Holds message_files (stand_of first acts).dropped_windows inbox.old
+        → IfErr result (StopsWith from db.new before (S.seen site.new) user.now message_files first inbox.new all reports.new.items) }
 {
     'windows: for _ in 0..u64::MAX {
         let Some(pieces) = inbox.next(alloc, progress.received)? else {
@@ -92,12 +94,12 @@ fn try_one<S: Site>(
     ensures ready { OnOk result (IsReady db.new (S.seen site.new)) }
     ensures told { OnOk result (progress.new.told ≤ length reports.new.items) }
     ensures users { OnOk result (IsSome (named user_name user.now db.new.catalog.users)) }
-    ensures tried { (w : AWindow) (from : AView) (before : SiteSeen) (letters : List ALetter) (first : Stand) (acts : List Act) (all : List AReport)
-        → StandsThere from db.old before (S.seen site.old) user.now letters first acts progress.old all reports.old.items → IsIdle (stand_of first acts) → Holds letters (stand_of first acts).lost inbox.old
-        → IsDue letters (stand_of first acts).lost progress.old.received.0 w pieces.items → OnOk result (TriedOne from db.new before (S.seen site.new) user.now letters first acts inbox.new progress.new all reports.new.items) }
-    ensures cause { (w : AWindow) (from : AView) (before : SiteSeen) (letters : List ALetter) (first : Stand) (acts : List Act) (all : List AReport)
-        → StandsThere from db.old before (S.seen site.old) user.now letters first acts progress.old all reports.old.items → IsIdle (stand_of first acts) → Holds letters (stand_of first acts).lost inbox.old
-        → IsDue letters (stand_of first acts).lost progress.old.received.0 w pieces.items → IfErr result (StopsWith from db.new before (S.seen site.new) user.now letters first inbox.new all reports.new.items) }
+    ensures tried { (w : AWindow) (from : AView) (before : SiteSeen) (message_files : List AMessageFile) (first : PassState) (acts : List ReceiveAct) (all : List AReport)
+        → StandsThere from db.old before (S.seen site.old) user.now message_files first acts progress.old all reports.old.items → IsIdle (stand_of first acts) → Holds message_files (stand_of first acts).dropped_windows inbox.old
+        → IsDue message_files (stand_of first acts).dropped_windows progress.old.received.0 w pieces.items → OnOk result (TriedOne from db.new before (S.seen site.new) user.now message_files first acts inbox.new progress.new all reports.new.items) }
+    ensures cause { (w : AWindow) (from : AView) (before : SiteSeen) (message_files : List AMessageFile) (first : PassState) (acts : List ReceiveAct) (all : List AReport)
+        → StandsThere from db.old before (S.seen site.old) user.now message_files first acts progress.old all reports.old.items → IsIdle (stand_of first acts) → Holds message_files (stand_of first acts).dropped_windows inbox.old
+        → IsDue message_files (stand_of first acts).dropped_windows progress.old.received.0 w pieces.items → IfErr result (StopsWith from db.new before (S.seen site.new) user.now message_files first inbox.new all reports.new.items) }
 {
     let Some(window) = window_of(pieces.as_slice()) else {
         drop(pieces);
@@ -131,12 +133,12 @@ fn try_found<S: Site>(
     ensures ready { OnOk result (IsReady db.new (S.seen site.new)) }
     ensures told { OnOk result (progress.new.told ≤ length reports.new.items) }
     ensures users { OnOk result (IsSome (named user_name user.now db.new.catalog.users)) }
-    ensures tried { (pieces : List APiece) (middle : SiteSeen) (from : AView) (before : SiteSeen) (letters : List ALetter) (first : Stand) (acts : List Act) (all : List AReport)
-        → StandsThere from db.old before middle user.now letters first acts progress.old all reports.old.items → IsIdle (stand_of first acts) → Holds letters (stand_of first acts).lost inbox.old
-        → IsOnTrial from.catalog.publisher user.now letters (stand_of first acts) window pieces (option_map (λ pairs. pairs.items) found) middle (S.seen site.old) → OnOk result (TriedOne from db.new before (S.seen site.new) user.now letters first acts inbox.new progress.new all reports.new.items) }
-    ensures cause { (pieces : List APiece) (middle : SiteSeen) (from : AView) (before : SiteSeen) (letters : List ALetter) (first : Stand) (acts : List Act) (all : List AReport)
-        → StandsThere from db.old before middle user.now letters first acts progress.old all reports.old.items → IsIdle (stand_of first acts) → Holds letters (stand_of first acts).lost inbox.old
-        → IsOnTrial from.catalog.publisher user.now letters (stand_of first acts) window pieces (option_map (λ pairs. pairs.items) found) middle (S.seen site.old) → IfErr result (StopsWith from db.new before (S.seen site.new) user.now letters first inbox.new all reports.new.items) }
+    ensures tried { (pieces : List APiece) (middle : SiteSeen) (from : AView) (before : SiteSeen) (message_files : List AMessageFile) (first : PassState) (acts : List ReceiveAct) (all : List AReport)
+        → StandsThere from db.old before middle user.now message_files first acts progress.old all reports.old.items → IsIdle (stand_of first acts) → Holds message_files (stand_of first acts).dropped_windows inbox.old
+        → IsOnTrial from.catalog.publisher user.now message_files (stand_of first acts) window pieces (option_map (λ pairs. pairs.items) found) middle (S.seen site.old) → OnOk result (TriedOne from db.new before (S.seen site.new) user.now message_files first acts inbox.new progress.new all reports.new.items) }
+    ensures cause { (pieces : List APiece) (middle : SiteSeen) (from : AView) (before : SiteSeen) (message_files : List AMessageFile) (first : PassState) (acts : List ReceiveAct) (all : List AReport)
+        → StandsThere from db.old before middle user.now message_files first acts progress.old all reports.old.items → IsIdle (stand_of first acts) → Holds message_files (stand_of first acts).dropped_windows inbox.old
+        → IsOnTrial from.catalog.publisher user.now message_files (stand_of first acts) window pieces (option_map (λ pairs. pairs.items) found) middle (S.seen site.old) → IfErr result (StopsWith from db.new before (S.seen site.new) user.now message_files first inbox.new all reports.new.items) }
 {
     match found {
         None => {
@@ -177,12 +179,12 @@ fn take_read<S: Site>(
     ensures ready { OnOk result (IsReady db.new (S.seen site.new)) }
     ensures told { OnOk result (progress.new.told ≤ length reports.new.items) }
     ensures users { OnOk result (IsSome (named user_name user.now db.new.catalog.users)) }
-    ensures tried { (pairs : Pairs) (middle : SiteSeen) (from : AView) (before : SiteSeen) (letters : List ALetter) (first : Stand) (acts : List Act) (all : List AReport)
-        → StandsThere from db.old before middle user.now letters first acts progress.old all reports.old.items → IsIdle (stand_of first acts) → Holds letters (stand_of first acts).lost inbox.old
-        → IsUnderTrial from.catalog.publisher user.now letters (stand_of first acts) window pairs (option_map (λ txs. txs.items) read) middle (S.seen site.old) → OnOk result (TriedOne from db.new before (S.seen site.new) user.now letters first acts inbox.new progress.new all reports.new.items) }
-    ensures cause { (pairs : Pairs) (middle : SiteSeen) (from : AView) (before : SiteSeen) (letters : List ALetter) (first : Stand) (acts : List Act) (all : List AReport)
-        → StandsThere from db.old before middle user.now letters first acts progress.old all reports.old.items → IsIdle (stand_of first acts) → Holds letters (stand_of first acts).lost inbox.old
-        → IsUnderTrial from.catalog.publisher user.now letters (stand_of first acts) window pairs (option_map (λ txs. txs.items) read) middle (S.seen site.old) → IfErr result (StopsWith from db.new before (S.seen site.new) user.now letters first inbox.new all reports.new.items) }
+    ensures tried { (pairs : Pairs) (middle : SiteSeen) (from : AView) (before : SiteSeen) (message_files : List AMessageFile) (first : PassState) (acts : List ReceiveAct) (all : List AReport)
+        → StandsThere from db.old before middle user.now message_files first acts progress.old all reports.old.items → IsIdle (stand_of first acts) → Holds message_files (stand_of first acts).dropped_windows inbox.old
+        → IsUnderTrial from.catalog.publisher user.now message_files (stand_of first acts) window pairs (option_map (λ txs. txs.items) read) middle (S.seen site.old) → OnOk result (TriedOne from db.new before (S.seen site.new) user.now message_files first acts inbox.new progress.new all reports.new.items) }
+    ensures cause { (pairs : Pairs) (middle : SiteSeen) (from : AView) (before : SiteSeen) (message_files : List AMessageFile) (first : PassState) (acts : List ReceiveAct) (all : List AReport)
+        → StandsThere from db.old before middle user.now message_files first acts progress.old all reports.old.items → IsIdle (stand_of first acts) → Holds message_files (stand_of first acts).dropped_windows inbox.old
+        → IsUnderTrial from.catalog.publisher user.now message_files (stand_of first acts) window pairs (option_map (λ txs. txs.items) read) middle (S.seen site.old) → IfErr result (StopsWith from db.new before (S.seen site.new) user.now message_files first inbox.new all reports.new.items) }
 {
     match read {
         None => {

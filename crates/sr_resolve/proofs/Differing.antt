@@ -4,25 +4,25 @@ use Rattle.std.specs.List.{AllByRecursion}
 use Rattle.sr_base.specs.declared.value.Value.{Value as Cell}
 use Rattle.sr_ast.specs.declared.query.Dml.{Dml}
 use Rattle.sr_ast.specs.declared.query.Dml.TheVariants as dml
-use Rattle.sr_dml.specs.Checks.{unknown_condition, bad_condition}
-use Rattle.sr_schema.specs.Members.{scope_of}
-use Rattle.sr_dml.specs.Holding.{is_same_row, held}
-use Rattle.sr_dml.specs.Laws.{IsDifference}
-use Rattle.sr_dml.specs.Sequences.{followed}
-use Rattle.sr_dml.specs.Statements.{entry_of, counted, unknown_in_insert, bad_in_insert, inserted_rows}
-use Rattle.sr_dml.specs.Statements.{inserted, staying, becoming, selections, moved, fates_of}
-use Rattle.sr_dml.specs.Statements.{unknown_in_update, bad_in_update, updated, deleted, on_table, table_named, done}
-use Rattle.sr_dml.specs.declared.changes.Changes.{Changes}
-use Rattle.sr_dml.proofs.Applied.{in_order-Ok, followed-Ok}
-use Rattle.sr_dml.proofs.Differing.{changes_differ}
-use Rattle.sr_dml.proofs.Folding.{itself}
+use Rattle.sr_exec_dml.specs.Checks.{unknown_condition, bad_condition}
+use Rattle.sr_catalog_schema.specs.Members.{scope_of}
+use Rattle.sr_exec_dml.specs.Holding.{is_same_row, held}
+use Rattle.sr_exec_dml.specs.Inner.Laws.{IsDifference}
+use Rattle.sr_exec_dml.specs.Sequences.{followed}
+use Rattle.sr_exec_dml.specs.Statements.{entry_of, counted, unknown_in_insert, bad_in_insert, inserted_rows}
+use Rattle.sr_exec_dml.specs.Statements.{inserted, staying, becoming, selections, moved, effects_of}
+use Rattle.sr_exec_dml.specs.Statements.{unknown_in_update, bad_in_update, updated, deleted, on_table, table_named, done}
+use Rattle.sr_exec_dml.specs.declared.changes.Changes.{Changes}
+use Rattle.sr_exec_dml.proofs.Applied.{in_order-Ok, followed-Ok}
+use Rattle.sr_exec_dml.proofs.Differing.{changes_differ}
+use Rattle.sr_exec_dml.proofs.Folding.{itself}
 use Rattle.sr_logform.specs.declared.change.Change.{Change}
 use Rattle.sr_rows.specs.Marks.{RowMap}
 use Rattle.sr_rows.specs.Walks.{Entry, table_rows}
-use Rattle.sr_schema.specs.Catalogs.{Lists}
-use Rattle.sr_schema.specs.declared.fault.DmlFault.{DmlFault}
-use Rattle.sr_schema.specs.declared.table.Table.{Table}
-use Rattle.sr_resolve.specs.Laws.{IsDifferent}
+use Rattle.sr_catalog_schema.specs.Catalogs.{Lists}
+use Rattle.sr_catalog_schema.specs.declared.fault.DmlFault.{DmlFault}
+use Rattle.sr_catalog_schema.specs.declared.table.Table.{Table}
+use Rattle.sr_resolve.specs.Inner.Laws.{IsDifferent}
 
 same_itself : (o : Option (List Cell)) → is_same_row o o ≡ true
 same_itself None = refl
@@ -69,14 +69,14 @@ statements_differ catalog rows (dml.Insert i) changes h =
 statements_differ catalog rows (dml.Update u) changes h =
     on_two u.table (table_named catalog u.table) (λ table. updated table u (table_rows rows table.name)) changes (λ table k.
     let before = table_rows rows table.name in
-    let found = followed-Ok (fates_of table (Some u.sets) u.condition before) (moved table before) changes
-    (in_order-Ok (unknown_in_update table u) (bad_in_update table u) (followed (fates_of table (Some u.sets) u.condition before)
+    let found = followed-Ok (effects_of table (Some u.sets) u.condition before) (moved table before) changes
+    (in_order-Ok (unknown_in_update table u) (bad_in_update table u) (followed (effects_of table (Some u.sets) u.condition before)
     (moved table before)) changes k) in
     held_two table.name before (staying before found.0 ++ map (entry_of table) (becoming found.0)) (selections found.0) changes found.2) h
 statements_differ catalog rows (dml.Delete d) changes h =
     on_two d.table (table_named catalog d.table) (λ table. deleted table d (table_rows rows table.name)) changes (λ table k.
     let before = table_rows rows table.name in
-    let found = followed-Ok (fates_of table None d.condition before) (moved table before) changes
+    let found = followed-Ok (effects_of table None d.condition before) (moved table before) changes
     (in_order-Ok (unknown_condition (scope_of table) d.condition) (bad_condition (scope_of table) table.name d.condition)
-    (followed (fates_of table None d.condition before) (moved table before)) changes k) in
+    (followed (effects_of table None d.condition before) (moved table before)) changes k) in
     held_two table.name before (staying before found.0 ++ map (entry_of table) (becoming found.0)) (selections found.0) changes found.2) h

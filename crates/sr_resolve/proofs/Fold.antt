@@ -4,14 +4,15 @@ use Rattle.std.specs.Prelude.{◌↔◌}
 use Rattle.std.specs.List.{AllByRecursion}
 use Rattle.sr_base.specs.declared.offset.Offset.{Offset}
 use Rattle.sr_book.specs.Entries.{Name}
-use Rattle.sr_dml.specs.Conditions.{RowsFit}
-use Rattle.sr_dml.proofs.Applied.{fitting_changes_keep}
-use Rattle.sr_history.specs.Fitting.{Knows, DoneFits, DonesFit, FitsState}
-use Rattle.sr_history.specs.Folds.{State, with_changes, with_statement, done_changes, after_done, after_dones, next}
-use Rattle.sr_history.specs.Recorded.{Done, plain, ran, conflict, clash, taken, IsDone, IsRecorded}
-use Rattle.sr_history.proofs.Tables.{statement_keeps}
+use Rattle.sr_exec_dml.specs.Inner.Conditions.{RowsFit}
+use Rattle.sr_exec_dml.proofs.Applied.{fitting_changes_keep}
+use Rattle.sr_database_history.specs.Fitting.{Knows, DoneFits, DonesFit, FitsState}
+use Rattle.sr_database_history.specs.Folds.{State, with_changes, with_statement, done_changes, after_done, after_dones, next}
+use Rattle.sr_database_history.specs.Recorded.{Done, plain, ran, conflict, clash, taken, IsLawfulDone, IsRecorded}
+use Rattle.sr_database_history.proofs.Tables.{statement_keeps}
 use Rattle.sr_logform.specs.declared.op.Op.{Op}
-use Rattle.sr_resolve.specs.Taking.{Asked, IsAsked, op_of, done_judged, judged_all, after_judged, IsDoneJudged, AreJudged, is_above}
+use Rattle.sr_resolve.specs.Taking.{op_of, done_judged, IsDoneJudged, AreJudged, is_above}
+use Rattle.sr_resolve.specs.Inner.Taking.{Asked, IsAsked, judged_all, after_judged}
 use Rattle.sr_resolve.proofs.Once.{one_statement}
 use Rattle.sr_resolve.proofs.Sound.{judged_fits, judged_meant, judged_stands}
 
@@ -42,7 +43,7 @@ all_fit s above (a ∷ asked) fits h =
     let one = judged_fits s above a.0 a.1 fits h.0 in
     (one, all_fit (after_done (done_judged s above a.0 a.1) s) above asked (rows_kept s (done_judged s above a.0 a.1) fits one) h.1)
 
-all_meant : (s : State) (above : Bool) (asked : List Asked) → AllByRecursion IsAsked asked → AllByRecursion IsDone (judged_all s above asked)
+all_meant : (s : State) (above : Bool) (asked : List Asked) → AllByRecursion IsAsked asked → AllByRecursion IsLawfulDone (judged_all s above asked)
 all_meant s above [] h = tt
 all_meant s above (a ∷ asked) h = (judged_meant s above a.0 a.1 h.0, all_meant (after_done (done_judged s above a.0 a.1) s) above asked h.1)
 

@@ -8,18 +8,18 @@ use Rattle.sr_base.specs.Order.{key_cmp}
 use Rattle.sr_base.specs.declared.value.Value.{Value as Cell}
 use Rattle.sr_book.specs.Entries.{Name}
 use Rattle.sr_eval.specs.Comparisons.{is_null}
-use Rattle.sr_dml.specs.Applying.{place_of, without_row, with_row, applied_in, applied}
-use Rattle.sr_dml.specs.Conditions.{TableFits, RowsFit}
-use Rattle.sr_dml.specs.Holding.{is_same_row}
-use Rattle.sr_dml.specs.Sequences.{or_else}
-use Rattle.sr_dml.specs.Statements.{key_of, table_named}
-use Rattle.sr_dml.proofs.Afterwards.{all_stand, changed_at, apart}
-use Rattle.sr_dml.proofs.Applied.{own_name, found_named}
-use Rattle.sr_dml.proofs.Fixed.{same_name}
-use Rattle.sr_dml.proofs.Folding.{same_key}
-use Rattle.sr_firing.specs.Actions.{insertion}
-use Rattle.sr_history.specs.Folds.{State, after_done}
-use Rattle.sr_history.specs.Recorded.{IsNoExec}
+use Rattle.sr_exec_dml.specs.Applying.{place_of, without_row, with_row, applied_in, applied}
+use Rattle.sr_exec_dml.specs.Inner.Conditions.{TableFits, RowsFit}
+use Rattle.sr_exec_dml.specs.Holding.{is_same_row}
+use Rattle.sr_exec_dml.specs.Sequences.{or_else}
+use Rattle.sr_exec_dml.specs.Statements.{key_of, table_named}
+use Rattle.sr_exec_dml.proofs.Afterwards.{all_stand, changed_at, apart}
+use Rattle.sr_exec_dml.proofs.Applied.{own_name, found_named}
+use Rattle.sr_exec_dml.proofs.Fixed.{same_name}
+use Rattle.sr_exec_dml.proofs.Folding.{same_key}
+use Rattle.sr_resolve_triggers.specs.Actions.{insertion}
+use Rattle.sr_database_history.specs.Folds.{State, after_done}
+use Rattle.sr_database_history.specs.Recorded.{IsNoExec}
 use Rattle.sr_logform.specs.declared.change.Change.{Change}
 use Rattle.sr_logform.specs.declared.op.Op.{Op}
 use Rattle.sr_logform.specs.declared.op.Op.TheVariants as op
@@ -27,12 +27,13 @@ use Rattle.sr_logform.specs.declared.outcome.Clash.{Clash as Why}
 use Rattle.sr_logform.specs.declared.outcome.Clash.TheVariants.{Duplicate, NoRow, NoTable, NoColumn, BadValue, Null}
 use Rattle.sr_logform.specs.declared.outcome.Outcome.{Outcome}
 use Rattle.sr_logform.specs.declared.outcome.Outcome.TheVariants.{Plain, Clash}
-use Rattle.sr_rows.specs.Marks.{RowMap, place_cmp, place_cmp_total, rows_of_table}
+use Rattle.sr_rows.specs.Marks.{RowMap, place_cmp, rows_of_table}
+use Rattle.sr_rows.specs.Inner.Marks.{place_cmp_total}
 use Rattle.sr_rows.specs.Walks.{Entry, table_rows}
 use Rattle.sr_rows.proofs.Listing.{get-table_rows}
-use Rattle.sr_schema.specs.declared.table.Table.{Table}
+use Rattle.sr_catalog_schema.specs.declared.table.Table.{Table}
 use Rattle.sr_resolve.specs.Judging.{clash_if, clash_unless, judged_insert, removal, judged_remove, judged_update, judged_set, judged_clear}
-use Rattle.sr_resolve.specs.Laws.{AreAlikeAt}
+use Rattle.sr_resolve.specs.Inner.Laws.{AreAlikeAt}
 use Rattle.sr_resolve.specs.Named.{Values, Updates, names_key, fitted_key, names_other, filled_row, has_null, is_no_target, new_values, sets_null, with_news}
 use Rattle.sr_resolve.specs.Taking.{done_by, done_judged}
 use Rattle.sr_resolve.proofs.Cases.{of_if, of_unless}

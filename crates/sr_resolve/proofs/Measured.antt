@@ -44,7 +44,7 @@ pub change_long : (c : Change) → length (change_spelling c)
     ≡ 1 + length c.table + length (option_spelling row_spelling c.before) + length (option_spelling row_spelling c.after)
 change_long c =
     let whole = length-append (c.table ++ option_spelling row_spelling c.before) (option_spelling row_spelling c.after) in
-    let front = length-append c.table (option_spelling row_spelling c.before) in
-    omega (arith, whole, front)
+    let prefix = length-append c.table (option_spelling row_spelling c.before) in
+    omega (arith, whole, prefix)
 
 pub ruleset measures = (items_more, list_long, value_long, change_long)

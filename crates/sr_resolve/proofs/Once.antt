@@ -6,7 +6,7 @@ use Rattle.sr_logform.specs.declared.op.Op.TheVariants as op
 use Rattle.sr_logform.specs.declared.outcome.Outcome.{Outcome}
 use Rattle.sr_parse.proofs.Prints.{prints_once}
 use Rattle.sr_rows.specs.Marks.{RowMap}
-use Rattle.sr_schema.specs.Catalogs.{Lists}
+use Rattle.sr_catalog_schema.specs.Catalogs.{Lists}
 use Rattle.sr_resolve.specs.Judging.{judged, IsPrintedBy, IsStatementOf, IsJudged}
 
 printed_once : (text : List ℕ) (a b : Option Stmt) → IsPrintedBy a text → IsPrintedBy b text → a ≡ b

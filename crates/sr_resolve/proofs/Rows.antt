@@ -7,23 +7,24 @@ use Rattle.std.specs.Prelude.{bytes_eq, filter_map, slice_get, unwrap_or}
 use Rattle.sr_base.specs.declared.value.Value.{Value as Cell}
 use Rattle.sr_base.specs.declared.value.Value.TheVariants.{Null}
 use Rattle.sr_book.specs.Entries.{Name}
-use Rattle.sr_dates.specs.Fitting.{fitted}
+use Rattle.sr_base_dates.specs.Fitting.{fitted}
 use Rattle.sr_eval.specs.Bounds.{IsRowOf}
 use Rattle.sr_eval.specs.Comparisons.{is_null}
-use Rattle.sr_fits.specs.Rows.{IsRow}
-use Rattle.sr_fits.proofs.Rows.{row_parts, row_made}
-use Rattle.sr_dml.specs.Statements.{key_of}
-use Rattle.sr_dml.proofs.Fixed.{same_name, bytes_itself}
-use Rattle.sr_dml.proofs.Keeping.{fitted_again}
-use Rattle.sr_firing.proofs.Leaving.{in_front_some, map_some, or_fails}
-use Rattle.sr_history.specs.Fitting.{fitted_in, all_there}
-use Rattle.sr_schema.specs.Firsts.{has}
-use Rattle.sr_schema.specs.Members.{column_name, key_names, has_column, scope_of}
-use Rattle.sr_schema.specs.Names.{named}
-use Rattle.sr_schema.specs.declared.table.Column.{Column}
-use Rattle.sr_schema.specs.declared.table.Table.{Table}
+use Rattle.sr_exec_fits.specs.Rows.{IsRow}
+use Rattle.sr_exec_fits.proofs.Rows.{row_parts, row_made}
+use Rattle.sr_exec_dml.specs.Statements.{key_of}
+use Rattle.sr_exec_dml.proofs.Fixed.{same_name, bytes_itself}
+use Rattle.sr_exec_dml.proofs.Keeping.{fitted_again}
+use Rattle.sr_resolve_triggers.proofs.Leaving.{in_front_some, map_some, or_fails}
+use Rattle.sr_database_history.specs.Fitting.{fitted_in, all_there}
+use Rattle.sr_catalog_schema.specs.Firsts.{has}
+use Rattle.sr_catalog_schema.specs.Members.{column_name, key_names, has_column, scope_of}
+use Rattle.sr_catalog_schema.specs.Names.{named}
+use Rattle.sr_catalog_schema.specs.declared.table.Column.{Column}
+use Rattle.sr_catalog_schema.specs.declared.table.Table.{Table}
 use Rattle.sr_resolve.specs.Named.{Values, Updates, fitted_at, filled, filled_row, has_null, is_no_target}
-use Rattle.sr_resolve.specs.Named.{update_of, new_value, new_values, is_new_null, sets_null, with_news, CanTake, old_value, old_row}
+use Rattle.sr_resolve.specs.Named.{update_of, new_value, new_values, is_new_null, sets_null, with_news, old_value, old_row}
+use Rattle.sr_resolve.specs.Inner.Named.{CanTake}
 
 -- ---- new values
 

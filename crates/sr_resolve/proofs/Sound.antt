@@ -15,28 +15,28 @@ use Rattle.sr_ast.specs.declared.query.Dml.{Dml}
 use Rattle.sr_ast.specs.declared.stmt.Stmt.{Stmt}
 use Rattle.sr_ast.specs.declared.stmt.Stmt.TheVariants as stmt
 use Rattle.sr_book.specs.Entries.{Name}
-use Rattle.sr_change.specs.Changes.{refusal}
+use Rattle.sr_catalog_change.specs.Changes.{refusal}
 use Rattle.sr_eval.specs.Comparisons.{is_null}
-use Rattle.sr_dml.specs.Applying.{place_of, applied_in, applied}
-use Rattle.sr_dml.specs.Conditions.{RowsFit}
-use Rattle.sr_fits.specs.Rows.{IsRow}
-use Rattle.sr_dml.specs.FittingChanges.{IsFitChange, ChangesFit}
-use Rattle.sr_dml.specs.Holding.{is_same_row}
-use Rattle.sr_dml.specs.Statements.{key_of, table_named, done}
-use Rattle.sr_dml.specs.declared.changes.Changes.{Changes}
-use Rattle.sr_dml.proofs.Applied.{own_name, found_named, statements_changes_fit}
-use Rattle.sr_dml.proofs.Afterwards.{all_stand, same_place}
-use Rattle.sr_dml.proofs.Fixed.{same_name}
-use Rattle.sr_dml.proofs.Folding.{turned}
-use Rattle.sr_firing.specs.Actions.{insertion}
-use Rattle.sr_firing.specs.Firing.{fired}
-use Rattle.sr_firing.specs.Laws.{IsInserted, IsLeft}
-use Rattle.sr_firing.specs.Scenes.{Ground}
-use Rattle.sr_firing.specs.declared.fired.Fired.{Fired}
-use Rattle.sr_firing.proofs.Leaving.{fit_more, leaves}
-use Rattle.sr_history.specs.Fitting.{IsInsertion, IsNamedKey, DoneFits, HasChanges, IsDone as IsDoneThere, IsAccepted}
-use Rattle.sr_history.specs.Folds.{State, row_change}
-use Rattle.sr_history.specs.Recorded.{done_of, IsDone, IsNoExec}
+use Rattle.sr_exec_dml.specs.Applying.{place_of, applied_in, applied}
+use Rattle.sr_exec_dml.specs.Inner.Conditions.{RowsFit}
+use Rattle.sr_exec_fits.specs.Rows.{IsRow}
+use Rattle.sr_exec_dml.specs.FittingChanges.{IsFitChange, ChangesFit}
+use Rattle.sr_exec_dml.specs.Holding.{is_same_row}
+use Rattle.sr_exec_dml.specs.Statements.{key_of, table_named, done}
+use Rattle.sr_exec_dml.specs.declared.changes.Changes.{Changes}
+use Rattle.sr_exec_dml.proofs.Applied.{own_name, found_named, statements_changes_fit}
+use Rattle.sr_exec_dml.proofs.Afterwards.{all_stand, same_place}
+use Rattle.sr_exec_dml.proofs.Fixed.{same_name}
+use Rattle.sr_exec_dml.proofs.Folding.{turned}
+use Rattle.sr_resolve_triggers.specs.Actions.{insertion}
+use Rattle.sr_resolve_triggers.specs.Firing.{fired}
+use Rattle.sr_resolve_triggers.specs.Inner.Laws.{IsInserted, IsLeft}
+use Rattle.sr_resolve_triggers.specs.Bindings.{UpdateConflict}
+use Rattle.sr_resolve_triggers.specs.declared.fired.Fired.{Fired}
+use Rattle.sr_resolve_triggers.proofs.Leaving.{fit_more, leaves}
+use Rattle.sr_database_history.specs.Fitting.{IsInsertion, IsNamedKey, DoneFits, HasChanges, RowsAllow as IsDoneThere, IsAccepted}
+use Rattle.sr_database_history.specs.Folds.{State, row_change}
+use Rattle.sr_database_history.specs.Recorded.{done_of, IsLawfulDone, IsNoExec}
 use Rattle.sr_logform.specs.declared.change.Change.{Change}
 use Rattle.sr_logform.specs.declared.op.Op.{Op}
 use Rattle.sr_logform.specs.declared.op.Op.TheVariants as op
@@ -45,18 +45,20 @@ use Rattle.sr_logform.specs.declared.outcome.Clash.TheVariants.{Duplicate, NoRow
 use Rattle.sr_logform.specs.declared.outcome.Outcome.{Outcome}
 use Rattle.sr_logform.specs.declared.outcome.Outcome.TheVariants.{Plain, Conflict, Clash}
 use Rattle.sr_parse.specs.Prints.{Prints}
-use Rattle.sr_rows.specs.Marks.{RowMap, place_cmp, place_cmp_total, rows_of_table}
-use Rattle.sr_rows.specs.Walks.{Entry, Rises, table_rows}
+use Rattle.sr_rows.specs.Marks.{RowMap, place_cmp, rows_of_table}
+use Rattle.sr_rows.specs.Inner.Marks.{place_cmp_total}
+use Rattle.sr_rows.specs.Walks.{Entry, table_rows}
+use Rattle.sr_rows.specs.Inner.Walks.{Rises}
 use Rattle.sr_rows.proofs.Listing.{get-table_rows, table_rows-rise, each_found}
-use Rattle.sr_schema.specs.Causes.{first_fault}
-use Rattle.sr_schema.specs.Catalogs.{Lists}
-use Rattle.sr_schema.specs.declared.fault.DdlFault.{DdlFault}
-use Rattle.sr_schema.specs.declared.fault.DmlFault.{DmlFault}
-use Rattle.sr_schema.specs.declared.table.Table.{Table}
+use Rattle.sr_catalog_schema.specs.Causes.{first_fault}
+use Rattle.sr_catalog_schema.specs.Catalogs.{Lists}
+use Rattle.sr_catalog_schema.specs.declared.fault.DdlFault.{DdlFault}
+use Rattle.sr_catalog_schema.specs.declared.fault.DmlFault.{DmlFault}
+use Rattle.sr_catalog_schema.specs.declared.table.Table.{Table}
 use Rattle.sr_resolve.specs.Judging.{clash_unless, judged_insert, removal, judged_remove}
 use Rattle.sr_resolve.specs.Judging.{ground_of, resolved, changed, judged_update, judged_set}
 use Rattle.sr_resolve.specs.Judging.{judged_clear, is_too_long, ran_dml, ran_ddl, ran_stmt, judged_exec, judged, IsPrintedBy, IsStatementOf}
-use Rattle.sr_resolve.specs.Laws.{IsDifferent, ChangesDiffer}
+use Rattle.sr_resolve.specs.Inner.Laws.{IsDifferent, ChangesDiffer}
 use Rattle.sr_resolve.specs.Named.{Values, Updates, names_key, fitted_key, names_other, filled_row}
 use Rattle.sr_resolve.specs.Named.{has_null, is_no_target, new_values, sets_null, with_news, differing, is_named}
 use Rattle.sr_resolve.specs.Taking.{done_by, done_judged}
@@ -67,7 +69,7 @@ use Rattle.sr_resolve.proofs.Rows.{news_fit, filled_fits, key_there, key_stays}
 -- what is to be shown of an outcome
 record IsSound (s : State) (o : Op) (statement : Option Stmt) (outcome : Outcome) : Type 0 where
   fits : RowsFit s.catalog s.rows → DoneFits s (done_by o statement outcome)
-  meant : IsDone (done_by o statement outcome)
+  meant : IsLawfulDone (done_by o statement outcome)
   stands : done_of (done_by o statement outcome) ≡ (o, outcome)
   differ : RowsFit s.catalog s.rows → ChangesDiffer outcome
 
@@ -173,7 +175,7 @@ module _ (s : State) (name : Name) (key : Values) (updates : Updates) (t : Table
   inserts_differ (c ∷ changes) h = (inserted_two c.before c.after h.0.0 h.0.1, inserts_differ changes h.1)
 
   module _ (f : Fired) (names : List Name) (is : fired (ground_of s.catalog s.rows updates t stored) names new ≡ Some f) where
-    abbrev base : Ground
+    abbrev base : UpdateConflict
     base = ground_of s.catalog s.rows updates t stored
 
     left_fits : RowsFit s.catalog s.rows → IsLeft base new f
@@ -379,7 +381,7 @@ pub judged_fits : (s : State) (above : Bool) (o : Op) (statement : Option Stmt) 
 unfolding done_judged
 judged_fits s above o statement fits carried = (sound s above o statement carried).fits fits
 
-pub judged_meant : (s : State) (above : Bool) (o : Op) (statement : Option Stmt) → IsStatementOf statement o → IsDone (done_judged s above o statement)
+pub judged_meant : (s : State) (above : Bool) (o : Op) (statement : Option Stmt) → IsStatementOf statement o → IsLawfulDone (done_judged s above o statement)
 unfolding done_judged
 judged_meant s above o statement carried = (sound s above o statement carried).meant
 

@@ -7,15 +7,15 @@ use Rattle.sr_ast.specs.declared.stmt.Stmt.TheVariants as stmt
 use Rattle.sr_base.specs.Fields.{list_spelling}
 use Rattle.sr_base.specs.declared.value.Value.{Value as Cell}
 use Rattle.sr_book.specs.Entries.{Name}
-use Rattle.sr_change.specs.Changes.{refusal}
+use Rattle.sr_catalog_change.specs.Changes.{refusal}
 use Rattle.sr_eval.specs.Comparisons.{is_null}
-use Rattle.sr_dml.specs.Holding.{with_change}
-use Rattle.sr_dml.specs.Statements.{key_of, table_named, done}
-use Rattle.sr_dml.specs.declared.changes.Changes.{Changes}
-use Rattle.sr_firing.specs.Actions.{insertion}
-use Rattle.sr_firing.specs.Firing.{fired}
-use Rattle.sr_firing.specs.Scenes.{Ground}
-use Rattle.sr_firing.specs.declared.fired.Fired.{Fired}
+use Rattle.sr_exec_dml.specs.Holding.{with_change}
+use Rattle.sr_exec_dml.specs.Statements.{key_of, table_named, done}
+use Rattle.sr_exec_dml.specs.declared.changes.Changes.{Changes}
+use Rattle.sr_resolve_triggers.specs.Actions.{insertion}
+use Rattle.sr_resolve_triggers.specs.Firing.{fired}
+use Rattle.sr_resolve_triggers.specs.Bindings.{UpdateConflict}
+use Rattle.sr_resolve_triggers.specs.declared.fired.Fired.{Fired}
 use Rattle.sr_logform.specs.Limits.{short_body}
 use Rattle.sr_logform.specs.Outcomes.{change_spelling}
 use Rattle.sr_logform.specs.declared.change.Change.{Change}
@@ -28,10 +28,10 @@ use Rattle.sr_logform.specs.declared.outcome.Outcome.TheVariants.{Plain, Conflic
 use Rattle.sr_parse.specs.Prints.{Prints}
 use Rattle.sr_rows.specs.Marks.{RowMap, rows_of_table}
 use Rattle.sr_rows.specs.Walks.{Entry, table_rows}
-use Rattle.sr_schema.specs.Catalogs.{Lists}
-use Rattle.sr_schema.specs.declared.fault.DdlFault.{DdlFault}
-use Rattle.sr_schema.specs.declared.fault.DmlFault.{DmlFault}
-use Rattle.sr_schema.specs.declared.table.Table.{Table}
+use Rattle.sr_catalog_schema.specs.Catalogs.{Lists}
+use Rattle.sr_catalog_schema.specs.declared.fault.DdlFault.{DdlFault}
+use Rattle.sr_catalog_schema.specs.declared.fault.DmlFault.{DmlFault}
+use Rattle.sr_catalog_schema.specs.declared.table.Table.{Table}
 use Rattle.sr_resolve.specs.Named.{Values, Updates, names_key, fitted_key, names_other, filled_row, has_null}
 use Rattle.sr_resolve.specs.Named.{is_no_target, new_values, sets_null, with_news, differing, old_row}
 
@@ -82,7 +82,7 @@ judged_remove rows key table =
 -- ---- Set: the row of the key gets the new values
 
 -- what is before a conflict is resolved
-abbrev pub ground_of : Lists → RowMap → Updates → Table → List Cell → Ground
+abbrev pub ground_of : Lists → RowMap → Updates → Table → List Cell → UpdateConflict
 ground_of catalog rows updates table stored =
     record { catalog = catalog; rows = rows; table = table; stored = stored; remote = old_row updates table.columns }
 

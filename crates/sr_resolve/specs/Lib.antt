@@ -1,4 +1,4 @@
 pub mod Named
 pub mod Judging
 pub mod Taking
-pub mod Laws
+pub mod Inner

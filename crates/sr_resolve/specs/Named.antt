@@ -1,5 +1,5 @@
 -- The columns and values that an op names, in the columns of its table. No op names a column twice.
-use Rattle.std.specs.Prelude.{◌≡◌, ℕ, Bool, false, not, ◌&&◌, ◌||◌, cond, nat_eq, List}
+use Rattle.std.specs.Prelude.{ℕ, Bool, false, not, ◌&&◌, ◌||◌, cond, nat_eq, List}
 use Rattle.std.specs.Prelude.{[], ◌∷◌, map, length, Option, Some, None, slice_get, unwrap_or, bytes_eq}
 use Rattle.std.specs.List.{list_any, list_all}
 use Rattle.std.specs.Option.{option_map}
@@ -8,16 +8,15 @@ use Rattle.sr_base.specs.declared.value.Value.{Value as Cell}
 use Rattle.sr_base.specs.declared.value.Value.TheVariants.{Null}
 use Rattle.sr_base.specs.Order.{value_cmp}
 use Rattle.sr_book.specs.Entries.{Name}
-use Rattle.sr_dates.specs.Fitting.{fitted}
+use Rattle.sr_base_dates.specs.Fitting.{fitted}
 use Rattle.sr_eval.specs.Comparisons.{is_null}
-use Rattle.sr_fits.specs.Rows.{IsRow}
-use Rattle.sr_firing.specs.Actions.{in_front}
-use Rattle.sr_history.specs.Fitting.{fitted_in}
-use Rattle.sr_schema.specs.Firsts.{has}
-use Rattle.sr_schema.specs.Members.{has_column, key_names}
-use Rattle.sr_schema.specs.Names.{named}
-use Rattle.sr_schema.specs.declared.table.Column.{Column}
-use Rattle.sr_schema.specs.declared.table.Table.{Table}
+use Rattle.sr_resolve_triggers.specs.Actions.{in_front}
+use Rattle.sr_database_history.specs.Fitting.{fitted_in}
+use Rattle.sr_catalog_schema.specs.Firsts.{has}
+use Rattle.sr_catalog_schema.specs.Members.{has_column, key_names}
+use Rattle.sr_catalog_schema.specs.Names.{named}
+use Rattle.sr_catalog_schema.specs.declared.table.Column.{Column}
+use Rattle.sr_catalog_schema.specs.declared.table.Table.{Table}
 
 -- columns with values, and columns with old values and new ones
 abbrev pub Values : Type 0
@@ -104,12 +103,6 @@ abbrev pub with_news : List (Option Cell) → List Cell → List Cell
 with_news news [] = []
 with_news [] (v ∷ row) = v ∷ with_news [] row
 with_news (new ∷ news) (v ∷ row) = unwrap_or new v ∷ with_news news row
-
--- a stored row of these columns can take the new values of an update: they fit, and NULL stands only where it may
-pub record CanTake (columns : List Column) (updates : Updates) (stored : List Cell) (news : List (Option Cell)) : Type 0 where
-  pub stored_fits : IsRow columns stored
-  pub fit : new_values updates columns ≡ Some news
-  pub nulls : sets_null columns news ≡ false
 
 -- ---- the other side's old values
 

@@ -2,15 +2,15 @@
 use Rattle.std.specs.Prelude.{◌≡◌, ⊤, Bool, false, List, [], ◌∷◌, Option, Some, None}
 use Rattle.sr_ast.specs.declared.stmt.Stmt.{Stmt}
 use Rattle.sr_book.specs.Entries.{Name}
-use Rattle.sr_history.specs.Folds.{State, after_done}
-use Rattle.sr_history.specs.Recorded.{Done, plain, ran, conflict, clash, done_of}
+use Rattle.sr_database_history.specs.Folds.{State, after_done}
+use Rattle.sr_database_history.specs.Recorded.{Done, plain, ran, conflict, clash, done_of}
 use Rattle.sr_logform.specs.declared.change.Change.{Change}
 use Rattle.sr_logform.specs.declared.op.Op.{Op}
 use Rattle.sr_logform.specs.declared.outcome.Outcome.{Outcome}
 use Rattle.sr_logform.specs.declared.outcome.Outcome.TheVariants.{Plain, Conflict, Clash}
-use Rattle.sr_schema.specs.Members.{user_name}
-use Rattle.sr_schema.specs.Names.{named}
-use Rattle.sr_schema.specs.declared.user.User.{User}
+use Rattle.sr_catalog_schema.specs.Members.{user_name}
+use Rattle.sr_catalog_schema.specs.Names.{named}
+use Rattle.sr_catalog_schema.specs.declared.user.User.{User}
 use Rattle.sr_resolve.specs.Judging.{judged, IsStatementOf}
 
 -- ---- one op
@@ -29,25 +29,6 @@ done_by o statement (Clash why) = clash o why
 -- what is done with an op in a state, by who sent it
 unfoldable pub done_judged : State → Bool → Op → Option Stmt → Done
 done_judged s above o statement = done_by o statement (judged s.catalog s.rows above o statement)
-
--- ---- the ops of a transaction
-
--- an op that is asked for, with the statement that it carries
-abbrev pub Asked : Type 0
-Asked = Op × Option Stmt
-
-abbrev pub IsAsked : Asked → Type 0
-IsAsked a = IsStatementOf a.1 a.0
-
--- what is done with ops one after the other
-abbrev pub judged_all : State → Bool → List Asked → List Done
-judged_all s above [] = []
-judged_all s above (a ∷ asked) = done_judged s above a.0 a.1 ∷ judged_all (after_done (done_judged s above a.0 a.1) s) above asked
-
--- the state that judging leaves. Outcomes that are stored are not read
-abbrev pub after_judged : State → Bool → List Asked → State
-after_judged s above [] = s
-after_judged s above (a ∷ asked) = after_judged (after_done (done_judged s above a.0 a.1) s) above asked
 
 -- ---- stored outcomes
 

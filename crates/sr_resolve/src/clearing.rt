@@ -1,7 +1,7 @@
 //! Clear.
 
 ghost use Rattle.std.specs.Prelude.{◌≡◌, map, IfOk};
-ghost use Rattle.sr_dml.specs.Statements.{table_named};
+ghost use Rattle.sr_exec_dml.specs.Statements.{table_named};
 ghost use Rattle.sr_logform.specs.declared.outcome.Clash.TheVariants as why;
 ghost use Rattle.sr_resolve.specs.Judging.{clash_unless, judged_clear, removal};
 ghost use Rattle.sr_rows.specs.Walks.{Entry, table_rows};

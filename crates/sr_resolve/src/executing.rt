@@ -1,9 +1,9 @@
 //! Exec: the statements of passthrough.
 
 ghost use Rattle.std.specs.Prelude.{◌≡◌, IfOk};
-ghost use Rattle.sr_change.specs.Changes.{refusal};
-ghost use Rattle.sr_dml.specs.Conditions.{RowsFit};
-ghost use Rattle.sr_dml.specs.Statements.{done};
+ghost use Rattle.sr_catalog_change.specs.Changes.{refusal};
+ghost use Rattle.sr_exec_dml.specs.Inner.Conditions.{RowsFit};
+ghost use Rattle.sr_exec_dml.specs.Statements.{done};
 ghost use Rattle.sr_logform.specs.declared.outcome.Clash.TheVariants.{Statement};
 ghost use Rattle.sr_logform.specs.declared.outcome.Outcome.TheVariants.{Plain};
 ghost use Rattle.sr_resolve.specs.Judging.{clash_if, is_too_long, ran_dml, ran_ddl, ran_stmt, executed, judged_exec};

@@ -6,17 +6,18 @@ ghost use Rattle.sr_base.specs.declared.offset.Offset.{Offset as Place};
 ghost use Rattle.sr_base.specs.declared.value.Value.{Value as Cell};
 ghost use Rattle.sr_ast.specs.declared.stmt.Stmt.{Stmt as Statement};
 ghost use Rattle.sr_book.specs.Entries.{Name};
-ghost use Rattle.sr_dml.specs.Conditions.{RowsFit};
-ghost use Rattle.sr_history.specs.Fitting.{Knows, DoneFits, DonesFit, FitsState};
-ghost use Rattle.sr_history.specs.Folds.{State, after_done, after_dones, next};
-ghost use Rattle.sr_history.specs.Recorded.{Done, taken, done_of, IsDone, IsNoExec, IsRecorded};
+ghost use Rattle.sr_exec_dml.specs.Inner.Conditions.{RowsFit};
+ghost use Rattle.sr_database_history.specs.Fitting.{Knows, DoneFits, DonesFit, FitsState};
+ghost use Rattle.sr_database_history.specs.Folds.{State, after_done, after_dones, next};
+ghost use Rattle.sr_database_history.specs.Recorded.{Done, taken, done_of, IsLawfulDone, IsNoExec, IsRecorded};
 ghost use Rattle.sr_logform.specs.declared.op.Op.{Op as AnOp};
 ghost use Rattle.sr_logform.specs.declared.outcome.Outcome.{Outcome as AnOutcome};
 ghost use Rattle.sr_resolve.specs.Judging.{judged, IsStatementOf, IsJudged};
-ghost use Rattle.sr_resolve.specs.Laws.{ChangesDiffer, AreAlikeAt};
-ghost use Rattle.sr_resolve.specs.Taking.{Asked, IsAsked, op_of, done_by, done_judged, judged_all, after_judged, IsDoneJudged, AreJudged, is_above};
+ghost use Rattle.sr_resolve.specs.Inner.Laws.{ChangesDiffer, AreAlikeAt};
+ghost use Rattle.sr_resolve.specs.Taking.{op_of, done_by, done_judged, IsDoneJudged, AreJudged, is_above};
+ghost use Rattle.sr_resolve.specs.Inner.Taking.{Asked, IsAsked, judged_all, after_judged};
 ghost use Rattle.sr_rows.specs.Marks.{RowMap, rows_of_table};
-ghost use Rattle.sr_schema.specs.Catalogs.{Lists};
+ghost use Rattle.sr_catalog_schema.specs.Catalogs.{Lists};
 
 /// An op has one outcome, in every state and whoever sent it, and carries one statement at most.
 pub fn judging_has_one_answer()
@@ -33,7 +34,7 @@ pub fn judged_outcomes_fit()
     ensures done { (s : State) (above : Bool) (o : AnOp) (statement : Option Statement)
         → done_judged s above o statement ≡ done_by o statement (judged s.catalog s.rows above o statement) }
     ensures meant { (s : State) (above : Bool) (o : AnOp) (statement : Option Statement) → IsStatementOf statement o
-        → IsDone (done_judged s above o statement) }
+        → IsLawfulDone (done_judged s above o statement) }
     ensures stands { (s : State) (above : Bool) (o : AnOp) (statement : Option Statement) → IsStatementOf statement o
         → done_of (done_judged s above o statement) ≡ (o, judged s.catalog s.rows above o statement) }
     ensures differ { (s : State) (above : Bool) (o : AnOp) (statement : Option Statement) → RowsFit s.catalog s.rows → IsStatementOf statement o

@@ -4,15 +4,15 @@ ghost use Rattle.std.specs.Prelude.{◌≡◌, bytes_eq, not, slice_get, Some, I
 ghost use Rattle.std.specs.List.{list_all, list_any};
 ghost use Rattle.std.specs.Option.{option_copied};
 ghost use Rattle.sr_eval.specs.Comparisons.{is_null};
-ghost use Rattle.sr_history.specs.Fitting.{fitted_in};
+ghost use Rattle.sr_database_history.specs.Fitting.{fitted_in};
 ghost use Rattle.sr_resolve.specs.Named.{is_named, names_key, fitted_key, names_other, filled, filled_row, has_null};
-ghost use Rattle.sr_schema.specs.Members.{has_column};
-ghost use Rattle.sr_schema.specs.Names.{named};
+ghost use Rattle.sr_catalog_schema.specs.Members.{has_column};
+ghost use Rattle.sr_catalog_schema.specs.Names.{named};
 
 use sr_base::{Copied, Key, Name, NoMemory, Row, Seq, Value};
 use sr_catalog::{Column, Table};
-use sr_firing::{held_as, is_null};
-use sr_schema::{is_taken, item_at};
+use sr_catalog_schema::{is_taken, item_at};
+use sr_resolve_triggers::{held_as, is_null};
 use std::alloc::Global;
 
 /// Whether the named columns are, as a set, the table's key, where none is named twice: there are as many, and each column of the key is

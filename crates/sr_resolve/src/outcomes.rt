@@ -1,7 +1,7 @@
 //! Outcomes of one change.
 
 ghost use Rattle.std.specs.Prelude.{◌≡◌, ◌∷◌, [], IfOk};
-ghost use Rattle.sr_firing.specs.Actions.{insertion};
+ghost use Rattle.sr_resolve_triggers.specs.Actions.{insertion};
 ghost use Rattle.sr_logform.specs.declared.outcome.Outcome.TheVariants.{Plain};
 ghost use Rattle.sr_resolve.specs.Judging.{changed, removal};
 

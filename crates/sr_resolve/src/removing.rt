@@ -1,7 +1,7 @@
 //! Remove.
 
 ghost use Rattle.std.specs.Prelude.{◌≡◌, IfOk};
-ghost use Rattle.sr_dml.specs.Statements.{table_named};
+ghost use Rattle.sr_exec_dml.specs.Statements.{table_named};
 ghost use Rattle.sr_logform.specs.declared.outcome.Clash.TheVariants as why;
 ghost use Rattle.sr_resolve.specs.Judging.{clash_unless, judged_remove, removed_at};
 

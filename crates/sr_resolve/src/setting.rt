@@ -1,20 +1,21 @@
 //! Set: an update of a row, and what triggers make of it where it met another value than it took for the stored one.
 
 ghost use Rattle.std.specs.Prelude.{◌≡◌, Some, IfOk};
-ghost use Rattle.sr_dml.specs.Conditions.{RowsFit, TableFits};
-ghost use Rattle.sr_dml.specs.Statements.{table_named};
-ghost use Rattle.sr_firing.specs.Firing.{fired};
+ghost use Rattle.sr_exec_dml.specs.Inner.Conditions.{RowsFit, TableFits};
+ghost use Rattle.sr_exec_dml.specs.Statements.{table_named};
+ghost use Rattle.sr_resolve_triggers.specs.Firing.{fired};
 ghost use Rattle.sr_logform.specs.declared.outcome.Clash.TheVariants as why;
 ghost use Rattle.sr_resolve.specs.Judging.{changed, clash_unless, ground_of, judged_set, judged_update, resolved, set_at, updated_at, where_met};
-ghost use Rattle.sr_resolve.specs.Named.{new_values, with_news, CanTake};
+ghost use Rattle.sr_resolve.specs.Named.{new_values, with_news};
+ghost use Rattle.sr_resolve.specs.Inner.Named.{CanTake};
 
 use crate::named::{fitted_key, has_any_null, names_key};
 use crate::outcomes::changed;
 use crate::updates::{differing, has_no_target, new_values, old_row, sets_null, with_news};
 use sr_base::{Copied, Key, Name, NoMemory, Row, Seq, Value};
 use sr_catalog::{Catalog, Table};
-use sr_firing::{Conflict, Fired, fire};
 use sr_logform::{Clash, Outcome};
+use sr_resolve_triggers::{Conflict, Fired, fire};
 use sr_rows::Rows;
 use std::alloc::Global;
 

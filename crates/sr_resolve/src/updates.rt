@@ -9,8 +9,8 @@ ghost use Rattle.sr_resolve.specs.Named.{with_news, is_value, differs, differing
 
 use sr_base::{Copied, Name, NoMemory, Row, Seq, Value};
 use sr_catalog::{Column, Table};
-use sr_firing::{held_as, is_null, is_of_key};
-use sr_schema::is_taken;
+use sr_catalog_schema::is_taken;
+use sr_resolve_triggers::{held_as, is_null, is_of_key};
 use std::alloc::Global;
 
 /// Whether one of the updates may not be made: its column is not in the table, or is one of its key.

@@ -10,11 +10,13 @@ use Rattle.std.proofs.lemmas.Map.Keys.{sorted_head, sorted_tail}
 use Rattle.std.specs.FinMap.{FinMap, entries, find, get, from_entries, is_sorted, get-entries, entries_sorted, get-from_entries}
 use Rattle.std.specs.FinMap.Entries.{same_entries}
 use Rattle.sr_base.specs.declared.value.Value.{Value}
-use Rattle.sr_base.specs.Order.{key_cmp, key_cmp_total}
+use Rattle.sr_base.specs.Order.{key_cmp}
+use Rattle.sr_base.specs.Inner.Order.{key_cmp_total}
 use Rattle.sr_base.proofs.Exact.{exact_keys}
-use Rattle.sr_rows.specs.Gathered.{row_of, and_filled, filled_rows}
+use Rattle.sr_rows.specs.Inner.Gathered.{row_of, and_filled, filled_rows}
 use Rattle.sr_rows.specs.Marks.{RowMap, rows_of_table}
-use Rattle.sr_rows.specs.Walks.{Entry, table_rows, Rises}
+use Rattle.sr_rows.specs.Walks.{Entry, table_rows}
+use Rattle.sr_rows.specs.Inner.Walks.{Rises}
 use Rattle.sr_rows.proofs.Listing.{is_below, rises, get-table_rows, table_rows-rise, none_below, each_found, all_by}
 
 abbrev Key : Type 0

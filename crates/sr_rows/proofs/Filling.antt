@@ -4,10 +4,10 @@ use Rattle.std.specs.FinMap.{FinMap, get, insert}
 use Rattle.sr_base.specs.declared.value.Value.{Value}
 use Rattle.sr_base.specs.Order.{key_cmp}
 use Rattle.sr_rows.specs.declared.undo.Undo.{Undo}
-use Rattle.sr_rows.specs.Filling.{Fills, FillsRows}
-use Rattle.sr_rows.specs.Gathered.{gathered, filled, row_of}
+use Rattle.sr_rows.specs.Inner.Filling.{Fills, FillsRows}
+use Rattle.sr_rows.specs.Inner.Gathered.{gathered, filled, row_of}
 use Rattle.sr_rows.specs.Marks.{Place, Marked}
-use Rattle.sr_rows.specs.Undoing.{PlaceMap, seen}
+use Rattle.sr_rows.specs.Inner.Undoing.{PlaceMap, seen}
 use Rattle.sr_rows.proofs.Gathering.{table_at, ChangesTable, get-held, place_at-held, gathered-inserted, gathered-same}
 use Rattle.sr_rows.proofs.Keeping.{get-filled, filled-insert, seen-fresh}
 

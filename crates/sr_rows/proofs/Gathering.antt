@@ -10,10 +10,12 @@ use Rattle.std.specs.BTreeMap.{is_at}
 use Rattle.std.proofs.lemmas.Map.Lookups.{exact_bytes, exact_pairs}
 use Rattle.std.specs.FinMap.{IsAntisymmetric, FinMap, empty, entries, get, insert, remove, retain_keys, find, same_map, get-entries, get-empty, get-insert, get-remove, get-retain_keys}
 use Rattle.sr_base.specs.declared.value.Value.{Value}
-use Rattle.sr_base.specs.Order.{name_cmp, key_cmp, name_cmp_total, key_cmp_total}
+use Rattle.sr_base.specs.Order.{name_cmp, key_cmp}
+use Rattle.sr_base.specs.Inner.Order.{name_cmp_total, key_cmp_total}
 use Rattle.sr_base.proofs.Exact.{exact_keys}
-use Rattle.sr_rows.specs.Marks.{Place, place_cmp, place_cmp_total}
-use Rattle.sr_rows.specs.Gathered.{with_table, gathered}
+use Rattle.sr_rows.specs.Marks.{Place, place_cmp}
+use Rattle.sr_rows.specs.Inner.Marks.{place_cmp_total}
+use Rattle.sr_rows.specs.Inner.Gathered.{with_table, gathered}
 
 pub exact_places : IsAntisymmetric place_cmp
 exact_places = exact_pairs name_cmp key_cmp exact_bytes exact_keys

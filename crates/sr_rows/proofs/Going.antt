@@ -2,7 +2,7 @@
 use Rattle.std.proofs.Common.{◌≡◌, ℕ, ◌≤◌, List, [], ◌∷◌, ◌++◌, length, drop, arith, refl, sym, ap, subst, ◌∙◌}
 use Rattle.std.proofs.lemmas.List.{length-append, length-drop, take-append-le, drop-append-le, take_all}
 use Rattle.sr_rows.specs.Marks.{RowMap, Marked}
-use Rattle.sr_rows.specs.Steps.{with_step, first_or, back, GoesOn}
+use Rattle.sr_rows.specs.Inner.Steps.{with_step, first_or, back, GoesOn}
 
 first_or-snoc : (rows : List RowMap) (row other : RowMap) → first_or (rows ++ row ∷ []) other ≡ first_or rows row
 first_or-snoc [] row other = refl

@@ -9,13 +9,15 @@ use Rattle.std.specs.BTreeMap.{is_at}
 use Rattle.std.proofs.lemmas.Map.Lookups.{exact_bytes}
 use Rattle.std.specs.FinMap.{get, insert, same_map}
 use Rattle.sr_base.specs.declared.value.Value.{Value}
-use Rattle.sr_base.specs.Order.{name_cmp, name_cmp_total}
+use Rattle.sr_base.specs.Order.{name_cmp}
+use Rattle.sr_base.specs.Inner.Order.{name_cmp_total}
 use Rattle.sr_rows.specs.declared.undo.Undo.{Undo}
-use Rattle.sr_rows.specs.Gathered.{gathered, filled, row_of}
-use Rattle.sr_rows.specs.Hands.{TableMap, with_hand, seen_at_hand, Replaces}
-use Rattle.sr_rows.specs.Marks.{place_cmp_total, Marked, OneAtHand}
-use Rattle.sr_rows.specs.Steps.{with_step, GoesOn}
-use Rattle.sr_rows.specs.Undoing.{with_place, put_back, seen, Undoable}
+use Rattle.sr_rows.specs.Inner.Gathered.{gathered, filled, row_of}
+use Rattle.sr_rows.specs.Inner.Hands.{TableMap, with_hand, seen_at_hand, Replaces}
+use Rattle.sr_rows.specs.Marks.{Marked, OneAtHand}
+use Rattle.sr_rows.specs.Inner.Marks.{place_cmp_total}
+use Rattle.sr_rows.specs.Inner.Steps.{with_step, GoesOn}
+use Rattle.sr_rows.specs.Inner.Undoing.{with_place, put_back, seen, Undoable}
 use Rattle.sr_rows.proofs.Filling.{Tables}
 use Rattle.sr_rows.proofs.Gathering.{exact_places, table_at, place_at, get-gathered, ChangesTable, gathered-inserted}
 use Rattle.sr_rows.proofs.Going.{GoesOn-step}

@@ -5,13 +5,15 @@ use Rattle.std.specs.Cmp.{Equal-is, tied_itself}
 use Rattle.std.specs.FinMap.{FinMap, empty, entries, get, insert, remove, find, same_map, get-entries, get-empty, get-insert, get-remove, get-retain_keys}
 use Rattle.sr_base.specs.declared.value.Value.{Value}
 use Rattle.sr_rows.specs.declared.undo.Undo.{Undo}
-use Rattle.sr_rows.specs.Marks.{Place, place_cmp, place_cmp_total, RowMap, Marked}
+use Rattle.sr_rows.specs.Marks.{Place, place_cmp, RowMap, Marked}
+use Rattle.sr_rows.specs.Inner.Marks.{place_cmp_total}
 use Rattle.std.specs.Option.{option_and_then}
 use Rattle.std.specs.BTreeMap.{is_at}
 use Rattle.sr_base.specs.Order.{name_cmp, key_cmp}
-use Rattle.sr_rows.specs.Gathered.{gathered, with_row, filled_entries, filled, row_of}
-use Rattle.sr_rows.specs.Steps.{at_mark, with_step, without_table}
-use Rattle.sr_rows.specs.Undoing.{PlaceMap, with_place, put_back, undone, trail_of, seen, Undoable}
+use Rattle.sr_rows.specs.Inner.Gathered.{gathered, with_row, filled_entries, filled, row_of}
+use Rattle.sr_rows.specs.Steps.{without_table}
+use Rattle.sr_rows.specs.Inner.Steps.{at_mark, with_step}
+use Rattle.sr_rows.specs.Inner.Undoing.{PlaceMap, with_place, put_back, undone, trail_of, seen, Undoable}
 use Rattle.sr_rows.proofs.Gathering.{exact_places, table_at, place_at, get-gathered}
 
 get-with_row : (m : RowMap) (p : Place) (o : Option (List Value)) (q : Place) → get (with_row m p o) q ≡ cond (eq_by_cmp place_cmp q p) o (get m q)

@@ -8,12 +8,15 @@ use Rattle.std.specs.List.{AllByRecursion}
 use Rattle.std.specs.Option.{MatchOption}
 use Rattle.std.specs.FinMap.{entries, find, is_sorted, get-entries, entries_sorted}
 use Rattle.sr_base.specs.declared.value.Value.{Value}
-use Rattle.sr_base.specs.Order.{name_cmp, key_cmp, name_cmp_total, key_cmp_total}
+use Rattle.sr_base.specs.Order.{name_cmp, key_cmp}
+use Rattle.sr_base.specs.Inner.Order.{name_cmp_total, key_cmp_total}
 use Rattle.std.proofs.lemmas.Map.Lookups.{exact_bytes}
 use Rattle.std.proofs.lemmas.Map.Text.{is_eq-slice_cmp}
 use Rattle.sr_base.proofs.Exact.{exact_keys}
-use Rattle.sr_rows.specs.Marks.{Place, place_cmp, RowMap, rows_of_table, IsPast, IsNext, IsLast}
-use Rattle.sr_rows.specs.Walks.{Entry, of_table, table_rows, is_past, past, Rises}
+use Rattle.sr_rows.specs.Marks.{Place, place_cmp, RowMap, rows_of_table}
+use Rattle.sr_rows.specs.Inner.Marks.{IsPast, IsNext, IsLast}
+use Rattle.sr_rows.specs.Walks.{Entry, of_table, table_rows}
+use Rattle.sr_rows.specs.Inner.Walks.{is_past, past, Rises}
 
 abbrev Key : Type 0
 Key = List Value

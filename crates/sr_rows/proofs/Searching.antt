@@ -19,10 +19,11 @@ use Rattle.std.proofs.lemmas.Map.Entries.{lookup_from_place, lookup_at_gap}
 use Rattle.std.proofs.lemmas.Map.Keys.{sorted_head, sorted_tail, IsDistinct-from_sorted, Less-from_sorted}
 use Rattle.std.proofs.lemmas.Option.{slice_get-get_or, get_or_from_slice_get, slice_get_within}
 use Rattle.sr_base.specs.declared.value.Value.{Value}
-use Rattle.sr_base.specs.Order.{key_cmp, key_cmp_total}
+use Rattle.sr_base.specs.Order.{key_cmp}
+use Rattle.sr_base.specs.Inner.Order.{key_cmp_total}
 use Rattle.sr_base.proofs.Exact.{exact_keys}
-use Rattle.sr_rows.specs.Gathered.{first_of, first_filled, and_filled, filled_rows}
-use Rattle.sr_rows.specs.Searches.{InOrder, EndsAt}
+use Rattle.sr_rows.specs.Inner.Gathered.{first_of, first_filled, and_filled, filled_rows}
+use Rattle.sr_rows.specs.Inner.Searches.{InOrder, EndsAt}
 use Rattle.sr_rows.proofs.Entries.{get-lookup, from_entries-given, from_entries-removed}
 use Rattle.sr_rows.proofs.Walking.{Key, Entry, at, above_head, turned, same_key}
 

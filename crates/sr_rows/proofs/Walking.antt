@@ -10,13 +10,14 @@ use Rattle.std.specs.Map.{lookup, keys_of}
 use Rattle.std.specs.BTreeMap.{is_at}
 use Rattle.std.proofs.lemmas.Map.Keys.{sorted_head, sorted_tail}
 use Rattle.sr_base.specs.declared.value.Value.{Value}
-use Rattle.sr_base.specs.Order.{key_cmp, key_cmp_total}
+use Rattle.sr_base.specs.Order.{key_cmp}
+use Rattle.sr_base.specs.Inner.Order.{key_cmp_total}
 use Rattle.sr_base.proofs.Exact.{exact_keys}
 use Rattle.std.specs.Option.{option_map, MatchOption}
 use Rattle.std.specs.Map.Iter.{deref_pair}
 use Rattle.std.specs.FinMap.{FinMap, from_entries, get}
-use Rattle.sr_rows.specs.Gathered.{first_of, first_filled, row_of}
-use Rattle.sr_rows.specs.Marks.{IsPast, IsNext, IsLast}
+use Rattle.sr_rows.specs.Inner.Gathered.{first_of, first_filled, row_of}
+use Rattle.sr_rows.specs.Inner.Marks.{IsPast, IsNext, IsLast}
 use Rattle.sr_rows.proofs.Entries.{get-lookup}
 
 abbrev pub Key : Type 0

@@ -1,10 +1,4 @@
-pub mod Filling
-pub mod Forms
-pub mod Gathered
-pub mod Hands
-pub mod Lefts
 pub mod Marks
-pub mod Searches
 pub mod Steps
-pub mod Undoing
 pub mod Walks
+pub mod Inner

@@ -1,8 +1,8 @@
 ghost use Rattle.std.specs.Prelude.{◌≡◌, ◌++◌, ◌∷◌, [], Option, Some, List, IsSome, IfOk, IfErr, OnErr};
 ghost use Rattle.std.specs.FinMap as map;
 ghost use Rattle.sr_base.specs.declared.value.Value.{Value as Cell};
-ghost use Rattle.sr_rows.specs.Hands.{Replaces};
-ghost use Rattle.sr_rows.specs.Steps.{GoesOn};
+ghost use Rattle.sr_rows.specs.Inner.Hands.{Replaces};
+ghost use Rattle.sr_rows.specs.Inner.Steps.{GoesOn};
 
 use crate::rows::Rows;
 use crate::table::Table;
@@ -27,13 +27,14 @@ pub struct AtHand {
 }
 
 impl Model for AtHand {
-    ghost use Rattle.sr_rows.specs.Marks.{OneAtHand, coded_at_hand};
+    ghost use Rattle.sr_rows.specs.Marks.{OneAtHand};
+    ghost use Rattle.sr_rows.specs.Inner.Marks.{coded_at_hand};
 
     ghost Value = { OneAtHand };
 
     ghost coded = { coded_at_hand };
 
-    ghost use Rattle.sr_rows.specs.Hands.{seen_at_hand, IsAtHand};
+    ghost use Rattle.sr_rows.specs.Inner.Hands.{seen_at_hand, IsAtHand};
 
     ghost view = { λ h. seen_at_hand h.changes.items h.name.value h.table h.tables.entries };
 

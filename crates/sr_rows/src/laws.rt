@@ -5,7 +5,8 @@ ghost use Rattle.std.specs.FinMap.{find};
 ghost use Rattle.sr_base.specs.declared.value.Value.{Value as Cell};
 ghost use Rattle.sr_base.specs.Order.{key_cmp};
 ghost use Rattle.sr_rows.specs.Marks.{RowMap, rows_of_table};
-ghost use Rattle.sr_rows.specs.Walks.{table_rows, past, Rises};
+ghost use Rattle.sr_rows.specs.Walks.{table_rows};
+ghost use Rattle.sr_rows.specs.Inner.Walks.{past, Rises};
 
 /// The list of a table's rows has exactly the rows that are held, its keys rise, and all of it comes after no key: so going on
 /// with `Rows::next` from `None` gives each row of the table once, in the order of the keys.

@@ -7,9 +7,9 @@ ghost use Rattle.std.specs.FinMap as map;
 ghost use Rattle.sr_base.specs.declared.value.Value.{Value as Cell};
 ghost use Rattle.sr_base.specs.Order.{key_cmp};
 ghost use Rattle.std.specs.Map.Iter.{TakesFirst, deref_pair};
-ghost use Rattle.sr_rows.specs.Gathered.{row_of, filled_rows};
-ghost use Rattle.sr_rows.specs.Marks.{IsNext, IsLast};
-ghost use Rattle.sr_rows.specs.Searches.{InOrder, EndsAt, IsGivenBack};
+ghost use Rattle.sr_rows.specs.Inner.Gathered.{row_of, filled_rows};
+ghost use Rattle.sr_rows.specs.Inner.Marks.{IsNext, IsLast};
+ghost use Rattle.sr_rows.specs.Inner.Searches.{InOrder, EndsAt, IsGivenBack};
 
 use crate::tree::Tree;
 use sr_base::{Copied, Key, NoMemory, Row, Value};
@@ -41,13 +41,13 @@ impl Model for Rising {
     ghost use Rattle.std.specs.FinMap as map;
     ghost use Rattle.sr_base.specs.declared.value.Value.{Value as Cell};
     ghost use Rattle.sr_base.specs.Order.{key_cmp};
-    ghost use Rattle.sr_base.specs.Codes.{coded_value};
+    ghost use Rattle.sr_base.specs.Inner.Codes.{coded_value};
 
     ghost Value = { map.FinMap key_cmp (Option (List Cell)) };
 
     ghost coded = { map.code (coded_list coded_value) (coded_option (coded_list coded_value)) };
 
-    ghost use Rattle.sr_rows.specs.Searches.{InOrder};
+    ghost use Rattle.sr_rows.specs.Inner.Searches.{InOrder};
 
     ghost view = { λ t. map.from_entries t.places.items };
 

@@ -1,11 +1,14 @@
 ghost use Rattle.std.specs.Prelude.{◌≡◌, ◌∷◌, [], length, is_some, IfOk, OnOk, OnErr, MatchOption};
 ghost use Rattle.std.specs.Option.{option_copied};
 ghost use Rattle.std.specs.FinMap as map;
-ghost use Rattle.sr_rows.specs.Filling.{FillsRows};
-ghost use Rattle.sr_rows.specs.Gathered.{gathered, filled};
-ghost use Rattle.sr_rows.specs.Marks.{rows_of_table, IsNext, IsLast};
-ghost use Rattle.sr_rows.specs.Steps.{at_mark, back, without_table, GoesOn};
-ghost use Rattle.sr_rows.specs.Walks.{table_rows, past};
+ghost use Rattle.sr_rows.specs.Inner.Filling.{FillsRows};
+ghost use Rattle.sr_rows.specs.Inner.Gathered.{gathered, filled};
+ghost use Rattle.sr_rows.specs.Marks.{rows_of_table};
+ghost use Rattle.sr_rows.specs.Inner.Marks.{IsNext, IsLast};
+ghost use Rattle.sr_rows.specs.Steps.{without_table};
+ghost use Rattle.sr_rows.specs.Inner.Steps.{at_mark, back, GoesOn};
+ghost use Rattle.sr_rows.specs.Walks.{table_rows};
+ghost use Rattle.sr_rows.specs.Inner.Walks.{past};
 
 use crate::tables::{
     Tables, empty_at, fill_at, insert_at, place_at, remove_at, replace_at, take_at,
@@ -31,14 +34,15 @@ pub struct Rows {
 }
 
 impl Model for Rows {
-    ghost use Rattle.sr_rows.specs.Marks.{Marked, coded_marked};
+    ghost use Rattle.sr_rows.specs.Marks.{Marked};
+    ghost use Rattle.sr_rows.specs.Inner.Marks.{coded_marked};
 
     ghost Value = { Marked };
 
     ghost coded = { coded_marked };
 
-    ghost use Rattle.sr_rows.specs.Gathered.{gathered};
-    ghost use Rattle.sr_rows.specs.Undoing.{seen, Undoable};
+    ghost use Rattle.sr_rows.specs.Inner.Gathered.{gathered};
+    ghost use Rattle.sr_rows.specs.Inner.Undoing.{seen, Undoable};
 
     ghost view = { λ r. seen r.changes.items (gathered r.tables.entries) };
 

@@ -1,11 +1,11 @@
 ghost use Rattle.std.specs.Prelude.{◌≡◌, Option, Some, None, IsSome, IfOk, IfErr, IfSome, OnOk, OnErr, MatchOption, MatchResult};
 ghost use Rattle.std.specs.Option.{option_copied};
 ghost use Rattle.std.specs.FinMap as map;
-ghost use Rattle.sr_rows.specs.Filling.{Fills};
-ghost use Rattle.sr_rows.specs.Forms.{places_of};
-ghost use Rattle.sr_rows.specs.Gathered.{row_of};
-ghost use Rattle.sr_rows.specs.Lefts.{places_left};
-ghost use Rattle.sr_rows.specs.Marks.{IsNext, IsLast};
+ghost use Rattle.sr_rows.specs.Inner.Filling.{Fills};
+ghost use Rattle.sr_rows.specs.Inner.Forms.{places_of};
+ghost use Rattle.sr_rows.specs.Inner.Gathered.{row_of};
+ghost use Rattle.sr_rows.specs.Inner.Lefts.{places_left};
+ghost use Rattle.sr_rows.specs.Inner.Marks.{IsNext, IsLast};
 
 use crate::rising::{Refused, Rising};
 use crate::tree::Tree;
@@ -34,13 +34,13 @@ impl Model for Table {
     ghost use Rattle.std.specs.FinMap as map;
     ghost use Rattle.sr_base.specs.declared.value.Value.{Value as Cell};
     ghost use Rattle.sr_base.specs.Order.{key_cmp};
-    ghost use Rattle.sr_base.specs.Codes.{coded_value};
+    ghost use Rattle.sr_base.specs.Inner.Codes.{coded_value};
 
     ghost Value = { map.FinMap key_cmp (Option (List Cell)) };
 
     ghost coded = { map.code (coded_list coded_value) (coded_option (coded_list coded_value)) };
 
-    ghost use Rattle.sr_rows.specs.Forms.{places_of};
+    ghost use Rattle.sr_rows.specs.Inner.Forms.{places_of};
 
     ghost view = { λ t. places_of t.places };
 }

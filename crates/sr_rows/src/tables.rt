@@ -3,8 +3,8 @@ ghost use Rattle.std.specs.Option.{option_copied};
 ghost use Rattle.std.specs.BTreeMap as tree;
 ghost use Rattle.std.specs.FinMap as map;
 ghost use Rattle.sr_base.specs.Order.{name_cmp};
-ghost use Rattle.sr_rows.specs.Gathered.{gathered};
-ghost use Rattle.sr_rows.specs.Filling.{Fills};
+ghost use Rattle.sr_rows.specs.Inner.Gathered.{gathered};
+ghost use Rattle.sr_rows.specs.Inner.Filling.{Fills};
 
 use crate::table::Table;
 use sr_base::{Copied, Key, Name, NoMemory, Row};

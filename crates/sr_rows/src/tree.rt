@@ -2,8 +2,8 @@ ghost use Rattle.std.specs.Prelude.{◌≡◌, Option, Some, None, IsSome, IsTru
 ghost use Rattle.std.specs.Option.{option_copied, option_map};
 ghost use Rattle.std.specs.FinMap as map;
 ghost use Rattle.std.specs.Map.Iter.{deref_pair};
-ghost use Rattle.sr_rows.specs.Gathered.{row_of, first_filled};
-ghost use Rattle.sr_rows.specs.Marks.{IsNext, IsLast};
+ghost use Rattle.sr_rows.specs.Inner.Gathered.{row_of, first_filled};
+ghost use Rattle.sr_rows.specs.Inner.Marks.{IsNext, IsLast};
 
 use sr_base::{Key, NoMemory, Row};
 use std::alloc::Global;
@@ -25,7 +25,7 @@ impl Model for Tree {
     ghost use Rattle.std.specs.FinMap as map;
     ghost use Rattle.sr_base.specs.declared.value.Value.{Value as Cell};
     ghost use Rattle.sr_base.specs.Order.{key_cmp};
-    ghost use Rattle.sr_base.specs.Codes.{coded_value};
+    ghost use Rattle.sr_base.specs.Inner.Codes.{coded_value};
 
     ghost Value = { map.FinMap key_cmp (Option (List Cell)) };
 

@@ -1,7 +1,7 @@
 ghost use Rattle.std.specs.Prelude.{◌≡◌, ◌++◌, ◌∷◌, [], Option, Some, None, IsSome, IfOk, OnOk, OnErr};
 ghost use Rattle.std.specs.FinMap as map;
-ghost use Rattle.sr_rows.specs.Gathered.{gathered};
-ghost use Rattle.sr_rows.specs.Undoing.{put_back};
+ghost use Rattle.sr_rows.specs.Inner.Gathered.{gathered};
+ghost use Rattle.sr_rows.specs.Inner.Undoing.{put_back};
 
 use crate::tables::{Tables, remove_at, set_at};
 use sr_base::{Copied, Key, Name, NoMemory, Row};

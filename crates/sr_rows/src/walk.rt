@@ -1,7 +1,7 @@
 ghost use Rattle.std.specs.Prelude.{◌≡◌};
 ghost use Rattle.std.specs.Map.Iter.{TakesFirst, deref_pair};
-ghost use Rattle.sr_rows.specs.Gathered.{filled_rows};
-ghost use Rattle.sr_rows.specs.Lefts.{places_left};
+ghost use Rattle.sr_rows.specs.Inner.Gathered.{filled_rows};
+ghost use Rattle.sr_rows.specs.Inner.Lefts.{places_left};
 
 use crate::rising::{Place, next_filled};
 use sr_base::{Key, Row};
@@ -30,8 +30,8 @@ impl<'a> Model for Walk<'a> {
 
     ghost Value = { List Entry };
 
-    ghost use Rattle.sr_rows.specs.Gathered.{filled_rows};
-    ghost use Rattle.sr_rows.specs.Lefts.{places_left};
+    ghost use Rattle.sr_rows.specs.Inner.Gathered.{filled_rows};
+    ghost use Rattle.sr_rows.specs.Inner.Lefts.{places_left};
 
     ghost view = { λ w. filled_rows (places_left w.places) };
 }

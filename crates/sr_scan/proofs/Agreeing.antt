@@ -2,43 +2,44 @@
 use Rattle.std.proofs.Common.{◌≡◌, ℕ, Bool, true, false, cond, List, [], ◌∷◌, ◌++◌, length, map, Option, Some, None, nat_eq, slice_get, bytes_eq, refl, sym, ap, ap₂, ◌∙◌}
 use Rattle.std.specs.Ordering.{eq_by_cmp}
 use Rattle.std.specs.Cmp.{eq_by_cmp_equiv}
-use Rattle.sr_base.specs.Order.{key_cmp, key_cmp_total}
+use Rattle.sr_base.specs.Order.{key_cmp}
+use Rattle.sr_base.specs.Inner.Order.{key_cmp_total}
 use Rattle.sr_base.specs.declared.value.Value.{Value as Cell}
 use Rattle.sr_ast.specs.Layout.{printed}
 use Rattle.sr_ast.specs.declared.stmt.Stmt.{Stmt}
 use Rattle.sr_base.specs.declared.offset.Offset.{Offset as Place}
 use Rattle.sr_book.specs.Entries.{Name}
-use Rattle.sr_change.specs.Changes.{refusal, next as catalog_next}
-use Rattle.sr_dml.specs.Applying.{applied_in, applied}
-use Rattle.sr_dml.specs.Conditions.{RowsFit}
-use Rattle.sr_dml.specs.FittingChanges.{ChangesFit}
-use Rattle.sr_dml.specs.Statements.{key_of, table_named}
-use Rattle.sr_dml.proofs.Applied.{fitting_changes_keep}
-use Rattle.sr_history.specs.Fitting.{IsAcceptedPass, IsNamedKey, AreNamedRows, all_there, fitted_in, DoneFits, DonesFit, FitsState, Fits}
-use Rattle.sr_history.specs.Folds.{State, with_changes, with_statement, done_changes, after_done, after_dones, after_pass, row_change, next}
-use Rattle.sr_history.specs.Recorded.{Done, plain, ran, conflict, clash, done_of}
-use Rattle.sr_history.specs.Recorded.{Recorded, own, taken, ddl, sync, pass, note, entry_of}
-use Rattle.sr_history.specs.Laws.{Holds}
-use Rattle.sr_history.proofs.Tables.{statement_keeps}
+use Rattle.sr_catalog_change.specs.Changes.{refusal, next as catalog_next}
+use Rattle.sr_exec_dml.specs.Applying.{applied_in, applied}
+use Rattle.sr_exec_dml.specs.Inner.Conditions.{RowsFit}
+use Rattle.sr_exec_dml.specs.FittingChanges.{ChangesFit}
+use Rattle.sr_exec_dml.specs.Statements.{key_of, table_named}
+use Rattle.sr_exec_dml.proofs.Applied.{fitting_changes_keep}
+use Rattle.sr_database_history.specs.Fitting.{IsAcceptedPass, IsNamedKey, AreNamedRows, all_there, fitted_in, DoneFits, DonesFit, FitsState, Fits}
+use Rattle.sr_database_history.specs.Folds.{State, with_changes, with_statement, done_changes, after_done, after_dones, after_pass, row_change, next}
+use Rattle.sr_database_history.specs.Recorded.{Done, plain, ran, conflict, clash, done_of}
+use Rattle.sr_database_history.specs.Recorded.{Recorded, own, taken, ddl, sync, pass, note, entry_of}
+use Rattle.sr_database_history.specs.Inner.Laws.{Holds}
+use Rattle.sr_database_history.proofs.Tables.{statement_keeps}
 use Rattle.sr_logform.specs.declared.change.Change.{Change}
 use Rattle.sr_logform.specs.declared.op.Op.{Op}
 use Rattle.sr_logform.specs.declared.op.Op.TheVariants.{Insert, Remove, Set, Clear, Exec}
 use Rattle.sr_logform.specs.declared.op.Transaction.{Transaction}
 use Rattle.sr_logform.specs.declared.outcome.Clash.{Clash as Why}
 use Rattle.sr_logform.specs.declared.outcome.Outcome.TheVariants as outcomes
-use Rattle.sr_fits.specs.Rows.{is_row}
-use Rattle.sr_publish.specs.Shares.{share_of}
+use Rattle.sr_exec_fits.specs.Rows.{is_row}
+use Rattle.sr_publish.specs.SubscribedTables.{subscribed_table_of}
 use Rattle.sr_publish.specs.Views.{shown_row}
 use Rattle.sr_rows.specs.Marks.{RowMap, rows_of_table}
-use Rattle.sr_schema.specs.Catalogs.{Lists}
-use Rattle.sr_schema.specs.Firsts.{has}
-use Rattle.sr_schema.specs.declared.fault.DdlFault.{DdlFault}
-use Rattle.sr_schema.specs.declared.table.Table.{Table}
+use Rattle.sr_catalog_schema.specs.Catalogs.{Lists}
+use Rattle.sr_catalog_schema.specs.Firsts.{has}
+use Rattle.sr_catalog_schema.specs.declared.fault.DdlFault.{DdlFault}
+use Rattle.sr_catalog_schema.specs.declared.table.Table.{Table}
 use Rattle.sr_scan.specs.Ops.{told_back}
 use Rattle.sr_scan.specs.Given.{changes_given, row_given, key_given, done_given_to, dones_given, pass_given, gives}
-use Rattle.sr_scan.specs.Images.{changes_told, with_value, all_of, key_meant, stands_under, are_rows_of, rows_told, conflict_told, op_told, unless_refused, catalog_behind, catalog_after, ops_told, told}
-use Rattle.sr_scan.specs.Meanings.{meant_done, meant_by, IsGiven}
-use Rattle.sr_scan.specs.Scanners.{Scan, transaction_of, IsFed}
+use Rattle.sr_scan.specs.Inner.Images.{changes_told, with_value, all_of, key_meant, stands_under, are_rows_of, rows_told, conflict_told, op_told, unless_refused, catalog_behind, catalog_after, ops_told, told}
+use Rattle.sr_scan.specs.Inner.Meanings.{meant_done, meant_by, IsGiven}
+use Rattle.sr_scan.specs.Inner.Scanners.{Scan, transaction_of, IsFed}
 use Rattle.sr_scan.proofs.Applying.{first_fit, last_fits, applied-append, after_fits, holds_after}
 use Rattle.sr_scan.proofs.Moves.{changes_same}
 use Rattle.sr_scan.proofs.Meant.{meant_is}
@@ -81,10 +82,10 @@ module _ (s : State) (user table : Name) (columns : List (Name × Cell)) (values
   abbrev change : Change
   change = row_change (Set table columns values) before after
 
-  inserts_same : changes_given s user inserts ≡ changes_told (share_of s.catalog user) inserts
+  inserts_same : changes_given s user inserts ≡ changes_told (subscribed_table_of s.catalog user) inserts
   inserts_same = changes_same s user inserts fit (first_fit s.catalog inserts (change ∷ []) s.rows f.changes)
 
-  all_same : changes_given s user (done_changes d) ≡ changes_told (share_of s.catalog user) (inserts ++ change ∷ [])
+  all_same : changes_given s user (done_changes d) ≡ changes_told (subscribed_table_of s.catalog user) (inserts ++ change ∷ [])
   all_same = changes_same s user (inserts ++ change ∷ []) fit f.changes
 
   -- the row of the key behind it
@@ -101,28 +102,28 @@ module _ (s : State) (user table : Name) (columns : List (Name × Cell)) (values
       ∙ (ap (λ k. rows_of_table (applied_in (table_named s.catalog table) change before_it) table k) (sym key) ∙ holds_after s.catalog before_it change last fit_before)
 
   back_same : row_given (after_done d s) user (Set table columns values) before
-      ≡ told_back f.outcome.1.table (share_of s.catalog user table) (key_of f.outcome.1.table.key before) before (shown_row (share_of s.catalog user table) (Some after))
+      ≡ told_back f.outcome.1.table (subscribed_table_of s.catalog user table) (key_of f.outcome.1.table.key before) before (shown_row (subscribed_table_of s.catalog user table) (Some after))
   back_same =
       let t = f.outcome.1.table in
       ap (λ o. key_given o (after_done d s) user table before) f.outcome.1.named
-      ∙ ap (λ o. told_back t (share_of s.catalog user table) (key_of t.key before) before (shown_row (share_of s.catalog user table) o)) row_after
+      ∙ ap (λ o. told_back t (subscribed_table_of s.catalog user table) (key_of t.key before) before (shown_row (subscribed_table_of s.catalog user table) o)) row_after
 
   rows_same : (is_origin : Bool) → done_given_to is_origin s user d
-      ≡ rows_told is_origin (share_of s.catalog user) f.outcome.1.table table inserts before after
+      ≡ rows_told is_origin (subscribed_table_of s.catalog user) f.outcome.1.table table inserts before after
   rows_same true = ap₂ (λ x y. x ++ y) inserts_same back_same
   rows_same false = all_same
 
   pub conflict_same : (is_origin : Bool) → done_given_to is_origin s user d ≡ op_told is_origin s.catalog user (done_of d).0 (done_of d).1
   conflict_same is_origin =
       let t = f.outcome.1.table in
-      rows_same is_origin ∙ sym (ap (λ o. conflict_told is_origin (share_of s.catalog user) o table columns inserts before after) f.outcome.1.named
-      ∙ cond_true (are_rows_of t columns before after) (rows_told is_origin (share_of s.catalog user) t table inserts before after) []
+      rows_same is_origin ∙ sym (ap (λ o. conflict_told is_origin (subscribed_table_of s.catalog user) o table columns inserts before after) f.outcome.1.named
+      ∙ cond_true (are_rows_of t columns before after) (rows_told is_origin (subscribed_table_of s.catalog user) t table inserts before after) []
       (rows_are s.catalog table columns before after f.outcome.1))
 
 -- ---- what was done
 
-plain_same : (is_origin : Bool) (s : State) (user : Name) (changes : List Change) → changes_given s user changes ≡ changes_told (share_of s.catalog user) changes
-    → cond is_origin [] (changes_given s user changes) ≡ cond is_origin [] (changes_told (share_of s.catalog user) changes)
+plain_same : (is_origin : Bool) (s : State) (user : Name) (changes : List Change) → changes_given s user changes ≡ changes_told (subscribed_table_of s.catalog user) changes
+    → cond is_origin [] (changes_given s user changes) ≡ cond is_origin [] (changes_told (subscribed_table_of s.catalog user) changes)
 plain_same true s user changes e = refl
 plain_same false s user changes e = e
 
@@ -196,7 +197,7 @@ dones_behind s (d ∷ dones) f = ap (λ (c : Lists). catalog_after c (map meant_
 -- ---- entries
 
 pass_same : (only : Bool) (s : State) (user : Name) (changes : List Change) → RowsFit s.catalog s.rows → ChangesFit s.catalog s.rows changes
-    → pass_given only s user changes ≡ cond only [] (changes_told (share_of s.catalog user) changes)
+    → pass_given only s user changes ≡ cond only [] (changes_told (subscribed_table_of s.catalog user) changes)
 pass_same true s user changes fit f = refl
 pass_same false s user changes fit f = changes_same s user changes fit f
 

@@ -5,16 +5,17 @@ use Rattle.std.specs.FinMap.{get, insert, remove, get-insert, get-remove}
 use Rattle.std.specs.Ordering.{eq_by_cmp}
 use Rattle.sr_base.specs.declared.value.Value.{Value as Cell}
 use Rattle.sr_book.specs.Entries.{Name}
-use Rattle.sr_dml.specs.Applying.{without_row, with_row, applied_in, applied}
-use Rattle.sr_dml.specs.Conditions.{RowsFit}
-use Rattle.sr_fits.specs.Rows.{IsRow}
-use Rattle.sr_dml.specs.FittingChanges.{FitsAt, IsFitChange, ChangesFit}
-use Rattle.sr_dml.specs.Statements.{key_of, table_named}
-use Rattle.sr_dml.proofs.Fixed.{same_name}
+use Rattle.sr_exec_dml.specs.Applying.{without_row, with_row, applied_in, applied}
+use Rattle.sr_exec_dml.specs.Inner.Conditions.{RowsFit}
+use Rattle.sr_exec_fits.specs.Rows.{IsRow}
+use Rattle.sr_exec_dml.specs.FittingChanges.{FitsAt, IsFitChange, ChangesFit}
+use Rattle.sr_exec_dml.specs.Statements.{key_of, table_named}
+use Rattle.sr_exec_dml.proofs.Fixed.{same_name}
 use Rattle.sr_logform.specs.declared.change.Change.{Change}
-use Rattle.sr_rows.specs.Marks.{Place, place_cmp, place_cmp_total, RowMap, rows_of_table}
-use Rattle.sr_schema.specs.Catalogs.{Lists}
-use Rattle.sr_schema.specs.declared.table.Table.{Table}
+use Rattle.sr_rows.specs.Marks.{Place, place_cmp, RowMap, rows_of_table}
+use Rattle.sr_rows.specs.Inner.Marks.{place_cmp_total}
+use Rattle.sr_catalog_schema.specs.Catalogs.{Lists}
+use Rattle.sr_catalog_schema.specs.declared.table.Table.{Table}
 
 -- the place where a row stands
 abbrev at : Table → List Cell → Place

@@ -3,13 +3,13 @@ use Rattle.std.proofs.Common.{◌≡◌, ℕ, true, false, List, Option, Some, N
 use Rattle.sr_ast.specs.Statements.{is_ddl}
 use Rattle.sr_ast.specs.declared.stmt.Stmt.{Stmt}
 use Rattle.sr_ast.specs.declared.stmt.Stmt.TheVariants as stmt
-use Rattle.sr_change.specs.Changes.{refusal, next}
+use Rattle.sr_catalog_change.specs.Changes.{refusal, next}
 use Rattle.sr_parse.specs.Prints.{Prints}
-use Rattle.sr_schema.specs.Catalogs.{Lists}
-use Rattle.sr_schema.specs.declared.fault.DdlFault.{DdlFault}
-use Rattle.sr_scan.specs.Changed.{or_before, LeavesBehind}
-use Rattle.sr_scan.specs.Images.{unless_refused, catalog_behind}
-use Rattle.sr_scan.specs.Meanings.{IsMeant}
+use Rattle.sr_catalog_schema.specs.Catalogs.{Lists}
+use Rattle.sr_catalog_schema.specs.declared.fault.DdlFault.{DdlFault}
+use Rattle.sr_scan.specs.Inner.Changed.{or_before, LeavesBehind}
+use Rattle.sr_scan.specs.Inner.Images.{unless_refused, catalog_behind}
+use Rattle.sr_scan.specs.Inner.Meanings.{IsMeant}
 
 -- ---- behind a statement
 

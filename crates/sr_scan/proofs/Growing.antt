@@ -1,8 +1,8 @@
 -- What histories give that go on.
 use Rattle.std.proofs.Common.{◌≡◌, ℕ, ◌+◌, List, [], ◌∷◌, ◌++◌, refl, ap, ◌∙◌}
 use Rattle.sr_book.specs.Entries.{Name}
-use Rattle.sr_history.specs.Folds.{State, fresh, next, size, state_from, state_of, end_from, end_of}
-use Rattle.sr_history.specs.Recorded.{Recorded}
+use Rattle.sr_database_history.specs.Folds.{State, fresh, next, size, state_from, state_of, end_from, end_of}
+use Rattle.sr_database_history.specs.Recorded.{Recorded}
 use Rattle.sr_logform.specs.declared.op.Op.{Op}
 use Rattle.sr_scan.specs.Given.{gives, with_transaction, given_from, given_of}
 

@@ -5,8 +5,8 @@ use Rattle.sr_ast.specs.Layout.{printed}
 use Rattle.sr_ast.specs.declared.stmt.Stmt.{Stmt}
 use Rattle.sr_book.specs.Entries.{Name}
 use Rattle.sr_ast.specs.NormalForms.{IsNormal}
-use Rattle.sr_history.specs.Recorded.{Done, plain, ran, conflict, clash, done_of, IsDone, IsNoExec}
-use Rattle.sr_history.specs.Recorded.{Recorded, own, taken, ddl, sync, pass, note, entry_of, IsRecorded}
+use Rattle.sr_database_history.specs.Recorded.{Done, plain, ran, conflict, clash, done_of, IsLawfulDone, IsNoExec}
+use Rattle.sr_database_history.specs.Recorded.{Recorded, own, taken, ddl, sync, pass, note, entry_of, IsRecorded}
 use Rattle.sr_logform.specs.declared.change.Change.{Change}
 use Rattle.sr_logform.specs.declared.entry.Entry.{Entry}
 use Rattle.sr_logform.specs.declared.op.Op.{Op}
@@ -15,9 +15,9 @@ use Rattle.sr_logform.specs.declared.outcome.Clash.{Clash as Why}
 use Rattle.sr_logform.specs.declared.outcome.Outcome.TheVariants.{Plain, Conflict, Clash}
 use Rattle.sr_base.specs.declared.value.Value.{Value as Cell}
 use Rattle.sr_parse.proofs.Prints.{prints_once}
-use Rattle.sr_schema.specs.Catalogs.{Lists}
-use Rattle.sr_scan.specs.Images.{told}
-use Rattle.sr_scan.specs.Meanings.{text_done, texts_of, IsMeant, AreMeant, IsGiven, meant_done, meant_by}
+use Rattle.sr_catalog_schema.specs.Catalogs.{Lists}
+use Rattle.sr_scan.specs.Inner.Images.{told}
+use Rattle.sr_scan.specs.Inner.Meanings.{text_done, texts_of, IsMeant, AreMeant, IsGiven, meant_done, meant_by}
 
 -- what a text is, is one
 one_meaning : (t : Option (List ℕ)) (m n : Option Stmt) → IsMeant t m → IsMeant t n → m ≡ n
@@ -64,13 +64,13 @@ none_meant : (t : Option (List ℕ)) → t ≡ None → IsMeant t None
 none_meant None e = refl
 none_meant (Some text) e = cc
 
-done_meant : (d : Done) → IsDone d → IsMeant (text_done (done_of d).0 (done_of d).1) (meant_done d)
+done_meant : (d : Done) → IsLawfulDone d → IsMeant (text_done (done_of d).0 (done_of d).1) (meant_done d)
 done_meant (plain op changes) n = none_meant (text_done op (Plain changes)) (no_text op changes n)
 done_meant (ran statement changes) n = record { normal = n.0; prints = refl }
 done_meant (conflict op inserts before after) n = none_meant (text_done op (Conflict inserts before after)) (no_text_met op inserts before after)
 done_meant (clash op why) n = none_meant (text_done op (Clash why)) (no_text_clash op why)
 
-dones_meant : (dones : List Done) → AllByRecursion IsDone dones → AreMeant (map (λ p. text_done p.0 p.1) (map done_of dones)) (map meant_done dones)
+dones_meant : (dones : List Done) → AllByRecursion IsLawfulDone dones → AreMeant (map (λ p. text_done p.0 p.1) (map done_of dones)) (map meant_done dones)
 dones_meant [] n = tt
 dones_meant (d ∷ dones) n = (done_meant d n.0, dones_meant dones n.1)
 

@@ -6,9 +6,9 @@ use Rattle.std.specs.Ordering.{eq_by_cmp}
 use Rattle.sr_base.specs.Order.{value_cmp}
 use Rattle.sr_base.specs.declared.value.Value.{Value as Cell}
 use Rattle.sr_logform.specs.Rules.{is_present, AreDistinct}
-use Rattle.sr_schema.specs.Firsts.{has}
-use Rattle.sr_schema.specs.Members.{column_name}
-use Rattle.sr_schema.specs.declared.table.Column.{Column}
+use Rattle.sr_catalog_schema.specs.Firsts.{has}
+use Rattle.sr_catalog_schema.specs.Members.{column_name}
+use Rattle.sr_catalog_schema.specs.declared.table.Column.{Column}
 use Rattle.sr_scan.specs.Ops.{present_columns, differing, outside_key}
 
 -- some of the names, in their order

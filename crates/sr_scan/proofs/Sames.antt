@@ -1,7 +1,7 @@
 -- Small facts on tests, options and lists.
 use Rattle.std.proofs.Common.{◌≡◌, ℕ, Bool, true, false, ◌&&◌, cond, List, [], ◌∷◌, ◌++◌, Some, nat_eq, refl, sym, ap, ◌∙◌, append_assoc, rules}
 use Rattle.sr_logform.specs.declared.change.Change.{Change}
-use Rattle.sr_scan.specs.Images.{Shares, change_told, changes_told}
+use Rattle.sr_scan.specs.Inner.Images.{SubscribedTables, change_told, changes_told}
 
 pub some_is : {A : Type 0} {x y : A} → Some x ≡ Some y → x ≡ y
 some_is e = cc
@@ -18,7 +18,7 @@ pub same_length : (n : ℕ) → nat_eq n n ≡ true
 same_length n = search rules
 
 -- what changes give that stand behind others
-pub changes_told-append : (shares : Shares) (xs ys : List Change) → changes_told shares (xs ++ ys) ≡ changes_told shares xs ++ changes_told shares ys
-changes_told-append shares [] ys = refl
-changes_told-append shares (x ∷ xs) ys = ap (λ l. change_told (shares x.table) x ++ l) (changes_told-append shares xs ys)
-    ∙ sym (append_assoc (change_told (shares x.table) x) (changes_told shares xs) (changes_told shares ys))
+pub changes_told-append : (subscribed_tables : SubscribedTables) (xs ys : List Change) → changes_told subscribed_tables (xs ++ ys) ≡ changes_told subscribed_tables xs ++ changes_told subscribed_tables ys
+changes_told-append subscribed_tables [] ys = refl
+changes_told-append subscribed_tables (x ∷ xs) ys = ap (λ l. change_told (subscribed_tables x.table) x ++ l) (changes_told-append subscribed_tables xs ys)
+    ∙ sym (append_assoc (change_told (subscribed_tables x.table) x) (changes_told subscribed_tables xs) (changes_told subscribed_tables ys))

@@ -10,22 +10,22 @@ use Rattle.sr_base.specs.Order.{value_cmp}
 use Rattle.sr_base.specs.Values.{IsValue}
 use Rattle.sr_base.specs.declared.value.Value.{Value as Cell}
 use Rattle.sr_base.specs.declared.value.Value.TheVariants.{Null, Int, Big, Str, Date}
-use Rattle.sr_dates.specs.Fitting.{fitted}
+use Rattle.sr_base_dates.specs.Fitting.{fitted}
 use Rattle.sr_eval.specs.Comparisons.{is_null}
-use Rattle.sr_dml.specs.Statements.{key_of}
+use Rattle.sr_exec_dml.specs.Statements.{key_of}
 use Rattle.sr_logform.specs.Ops.{OpHas, IsOp}
 use Rattle.sr_logform.specs.Rules.{is_present, AreDistinct, AreColumns}
 use Rattle.sr_logform.specs.declared.op.Op.TheVariants.{Insert, Remove}
-use Rattle.sr_fits.specs.Rows.{is_kept, may_hold, is_row}
-use Rattle.sr_publish.specs.Laws.{AreAt, HasKey, IsInOrder}
-use Rattle.sr_publish.specs.Shares.{Share}
+use Rattle.sr_exec_fits.specs.Rows.{is_kept, may_hold, is_row}
+use Rattle.sr_publish.specs.Inner.Laws.{AreAt, HasKey, IsInOrder}
+use Rattle.sr_publish.specs.SubscribedTables.{SubscribedTable}
 use Rattle.sr_publish.specs.Views.{is_in, shown, shown_row}
 use Rattle.sr_publish.proofs.Orderly.{no_more}
-use Rattle.sr_schema.specs.Firsts.{has}
-use Rattle.sr_schema.specs.Members.{column_name, column_names, has_column, key_names}
-use Rattle.sr_schema.specs.declared.table.Column.{Column}
-use Rattle.sr_schema.specs.declared.table.Table.{Table}
-use Rattle.sr_scan.specs.Images.{images_told}
+use Rattle.sr_catalog_schema.specs.Firsts.{has}
+use Rattle.sr_catalog_schema.specs.Members.{column_name, column_names, has_column, key_names}
+use Rattle.sr_catalog_schema.specs.declared.table.Column.{Column}
+use Rattle.sr_catalog_schema.specs.declared.table.Table.{Table}
+use Rattle.sr_scan.specs.Inner.Images.{images_told}
 use Rattle.sr_scan.specs.Ops.{key_columns, present_columns, differing, outside_key, update_of, told_of, told_back}
 use Rattle.sr_scan.proofs.Parts.{Part, part_distinct, part_length, present_part, differing_part, outside_part, zip_part}
 
@@ -68,8 +68,8 @@ pub record IsStrict (t : Table) : Type 0 where
   pub names : AllByRecursion (λ c. IsName c.name) t.columns
   pub key : AllByRecursion (λ c. has (key_names t) c.name ≡ true → c.not_null ≡ true) t.columns
 
--- a share of such a table
-pub record IsProper (s : Share) : Type 0 where
+-- a subscribed table of such a table
+pub record IsProper (s : SubscribedTable) : Type 0 where
   pub strict : IsStrict s.table
   pub key : HasKey s.table
   pub order : IsInOrder s
@@ -101,7 +101,7 @@ both_true : (a b : Bool) → a ≡ true → b ≡ true → (a && b) ≡ true
 both_true true b e f = f
 both_true false b e f = cc
 
--- what a share shows of a row that fits the table fits its columns
+-- what a subscribed table shows of a row that fits the table fits its columns
 pub shown_fits : (t : Table) (columns : List Column) (places : List ℕ) (row : List Cell) → is_row t.columns row ≡ true → AreAt t columns places
     → is_row columns (key_of places row) ≡ true
 shown_fits t [] [] row f a = refl
@@ -153,7 +153,7 @@ present_filled n (c ∷ columns) (v ∷ row) f h strict =
 
 -- ---- an Insert
 
-module _ (s : Share) (proper : IsProper s) where
+module _ (s : SubscribedTable) (proper : IsProper s) where
   names : AllByRecursion (λ c. IsName c.name) s.columns
   names = each_at (λ c. IsName c.name) s.table s.columns s.places proper.strict.names proper.order.places
 
@@ -164,14 +164,14 @@ module _ (s : Share) (proper : IsProper s) where
       let three = proper.key.few in
       omega arith
 
-  -- a key column of the share is NOT NULL
+  -- a key column of the subscribed table is NOT NULL
   strict_key : (n : List ℕ) → has (key_names s.table) n ≡ true → AllByRecursion (λ c. bytes_eq n c.name ≡ true → c.not_null ≡ true) s.columns
   strict_key n h = each_at (λ c. bytes_eq n c.name ≡ true → c.not_null ≡ true) s.table s.columns s.places (all s.table.columns proper.strict.key) proper.order.places where
     all : (cs : List Column) → AllByRecursion (λ c. has (key_names s.table) c.name ≡ true → c.not_null ≡ true) cs → AllByRecursion (λ c. bytes_eq n c.name ≡ true → c.not_null ≡ true) cs
     all [] k = tt
     all (c ∷ cs) k = ((λ e. k.0 (ap (has (key_names s.table)) (sym ((bytes_eq-Decides n c.name).0 e)) ∙ h)), all cs k.1)
 
-  -- some column of the share is of the key
+  -- some column of the subscribed table is of the key
   filled : (row : List Cell) → is_row s.columns row ≡ true → ¬ (present_columns s.columns row ≡ [])
   filled row f = go (key_names s.table) refl proper.key.some proper.order.key where
     go : (ns : List (List ℕ)) → key_names s.table ≡ ns → ¬ (ns ≡ []) → AllByRecursion (λ n. has (map column_name s.columns) n ≡ true) ns → ¬ (present_columns s.columns row ≡ [])
@@ -310,7 +310,7 @@ key_length (i ∷ places) row = ap suc (key_length places row)
 
 -- ---- two rows of a table
 
-module _ (s : Share) (proper : IsProper s) (named : IsName s.table.name) where
+module _ (s : SubscribedTable) (proper : IsProper s) (named : IsName s.table.name) where
   removes : (row : List Cell) → Values row → AllByRecursion IsOp (Remove s.table.name (key_columns s.table (key_of s.table.key row)) ∷ [])
   removes row vs = (remove_fits s.table proper.strict proper.key (key_of s.table.key row) named (values_fit s.table.key row vs) (key_length s.table.key row), tt)
 
@@ -355,8 +355,8 @@ module _ (t : Table) (strict : IsStrict t) (has_key : HasKey t) (named : IsName 
   abbrev key : List Cell
   key = key_of t.key before
 
-  pub back_fits : (share : Option Share) → ((s : Share) → share ≡ Some s → IsProper s) → (after : List Cell) → Values after
-      → AllByRecursion IsOp (told_back t share key before (shown_row share (Some after)))
+  pub back_fits : (subscribed_table : Option SubscribedTable) → ((s : SubscribedTable) → subscribed_table ≡ Some s → IsProper s) → (after : List Cell) → Values after
+      → AllByRecursion IsOp (told_back t subscribed_table key before (shown_row subscribed_table (Some after)))
   back_fits None proper after vs = (remove_fits t strict has_key key named (values_fit t.key before bs) (key_length t.key before), tt)
   back_fits (Some s) proper after vs = go (is_in s after) where
     p : IsProper s

@@ -10,30 +10,30 @@ use Rattle.sr_ast.specs.declared.stmt.Stmt.{Stmt}
 use Rattle.sr_ast.specs.declared.stmt.Stmt.TheVariants as stmt
 use Rattle.sr_base.specs.Fields.{IsName}
 use Rattle.sr_book.specs.Entries.{Name}
-use Rattle.sr_change.specs.Changes.{refusal, next as catalog_next}
-use Rattle.sr_ddl.specs.Tables.{rule_name, column_of, table_of}
-use Rattle.sr_dml.specs.Statements.{table_named}
+use Rattle.sr_catalog_change.specs.Changes.{refusal, next as catalog_next}
+use Rattle.sr_catalog_ddl.specs.Tables.{rule_name, column_of, table_of}
+use Rattle.sr_exec_dml.specs.Statements.{table_named}
 use Rattle.sr_ast.specs.Normal.{IsSomeOf}
 use Rattle.sr_ast.specs.NormalForms.{IsNormal, IsNormalRule, IsNormalTable}
-use Rattle.sr_history.specs.Fitting.{IsAcceptedPass, DoneFits, DonesFit, FitsState, stored_from, Stored}
-use Rattle.sr_history.specs.Folds.{State, fresh, with_changes, with_statement, after_done, after_dones, after_pass, next, state_from, state_of}
-use Rattle.sr_history.specs.Recorded.{Done, plain, ran, conflict, clash, IsDone}
-use Rattle.sr_history.specs.Recorded.{Recorded, own, taken, ddl, sync, pass, note, IsRecorded}
+use Rattle.sr_database_history.specs.Fitting.{IsAcceptedPass, DoneFits, DonesFit, FitsState, stored_from, Stored}
+use Rattle.sr_database_history.specs.Folds.{State, fresh, with_changes, with_statement, after_done, after_dones, after_pass, next, state_from, state_of}
+use Rattle.sr_database_history.specs.Recorded.{Done, plain, ran, conflict, clash, IsLawfulDone}
+use Rattle.sr_database_history.specs.Recorded.{Recorded, own, taken, ddl, sync, pass, note, IsRecorded}
 use Rattle.sr_logform.specs.declared.change.Change.{Change}
-use Rattle.sr_publish.specs.Shares.{Share, share_of}
-use Rattle.sr_publish.proofs.Orderly.{table_has_key, share_in_order}
-use Rattle.sr_replay.specs.Scripts.{IsMade}
-use Rattle.sr_replay.proofs.Made.{new_made, still_made}
-use Rattle.sr_replay.proofs.ReplayLists.{AllByRecursion-append, AllByRecursion-filter}
-use Rattle.sr_schema.proofs.Places.{find-place}
-use Rattle.sr_schema.specs.Catalogs.{Lists}
-use Rattle.sr_schema.specs.Firsts.{has}
-use Rattle.sr_schema.specs.Members.{column_name, key_names}
-use Rattle.sr_schema.specs.Names.{place_of}
-use Rattle.sr_schema.specs.declared.table.Column.{Column}
-use Rattle.sr_schema.specs.declared.table.Table.{Table}
+use Rattle.sr_publish.specs.SubscribedTables.{SubscribedTable, subscribed_table_of}
+use Rattle.sr_publish.proofs.Orderly.{table_has_key, subscribed_table_in_order}
+use Rattle.sr_catalog_script_laws.specs.Inner.Scripts.{IsMade}
+use Rattle.sr_catalog_script_laws.proofs.Made.{new_made, still_made}
+use Rattle.sr_catalog_script_laws.proofs.ReplayLists.{AllByRecursion-append, AllByRecursion-filter}
+use Rattle.sr_catalog_schema.proofs.Places.{find-place}
+use Rattle.sr_catalog_schema.specs.Catalogs.{Lists}
+use Rattle.sr_catalog_schema.specs.Firsts.{has}
+use Rattle.sr_catalog_schema.specs.Members.{column_name, key_names}
+use Rattle.sr_catalog_schema.specs.Names.{place_of}
+use Rattle.sr_catalog_schema.specs.declared.table.Column.{Column}
+use Rattle.sr_catalog_schema.specs.declared.table.Table.{Table}
 use Rattle.sr_scan.proofs.Applying.{find_has, name_of_table}
-use Rattle.sr_scan.proofs.Moves.{share_table}
+use Rattle.sr_scan.proofs.Moves.{subscribed_table_table}
 use Rattle.sr_scan.proofs.Spelled.{IsStrict, IsProper}
 
 some_is : {A : Type 0} {x y : A} → Some x ≡ Some y → x ≡ y
@@ -131,13 +131,13 @@ statement_good : (s : State) (statement : Stmt) → IsNormal statement → refus
 unfolding with_statement
 statement_good s statement n accepted g = record { made = still_made s.catalog statement g.made accepted; strict = strict_next s.catalog statement n g.strict }
 
-pub done_good : (s : State) (d : Done) → IsDone d → DoneFits s d → IsGood s.catalog → IsGood (after_done d s).catalog
+pub done_good : (s : State) (d : Done) → IsLawfulDone d → DoneFits s d → IsGood s.catalog → IsGood (after_done d s).catalog
 done_good s (plain op changes) n f g = g
 done_good s (ran statement changes) n f g = statement_good (with_changes changes s) statement n.0 f.outcome.catalog g
 done_good s (conflict op inserts before after) n f g = g
 done_good s (clash op why) n f g = g
 
-dones_good : (s : State) (dones : List Done) → AllByRecursion IsDone dones → DonesFit s dones → IsGood s.catalog → IsGood (after_dones dones s).catalog
+dones_good : (s : State) (dones : List Done) → AllByRecursion IsLawfulDone dones → DonesFit s dones → IsGood s.catalog → IsGood (after_dones dones s).catalog
 dones_good s [] n f g = g
 dones_good s (d ∷ dones) n f g = dones_good (after_done d s) dones n.1 f.1 (done_good s d n.0 f.0 g)
 
@@ -174,14 +174,14 @@ all_found P p (y ∷ xs) x all e = go (p y) e (all_found P p xs x all.1) where
 pub table_strict : (c : Lists) (name : Name) (t : Table) → IsGood c → table_named c name ≡ Some t → IsStrict t
 table_strict c name t g e = all_found IsStrict (λ (x : Table). bytes_eq name x.name) c.tables t g.strict e
 
-pub share_proper : (c : Lists) (user table : Name) (s : Share) → IsGood c → share_of c user table ≡ Some s → IsProper s
-share_proper c user table s g e =
-    let named = share_table c user table s e in
+pub subscribed_table_proper : (c : Lists) (user table : Name) (s : SubscribedTable) → IsGood c → subscribed_table_of c user table ≡ Some s → IsProper s
+subscribed_table_proper c user table s g e =
+    let named = subscribed_table_table c user table s e in
     record {
       strict = table_strict c table s.table g named;
       key = table_has_key c table s.table g.made named;
-      order = share_in_order c user table s g.made e;
+      order = subscribed_table_in_order c user table s g.made e;
     }
 
-pub share_named : (c : Lists) (user table : Name) (s : Share) → share_of c user table ≡ Some s → table ≡ s.table.name
-share_named c user table s e = name_of_table c table s.table (share_table c user table s e)
+pub subscribed_table_named : (c : Lists) (user table : Name) (s : SubscribedTable) → subscribed_table_of c user table ≡ Some s → table ≡ s.table.name
+subscribed_table_named c user table s e = name_of_table c table s.table (subscribed_table_table c user table s e)

@@ -3,12 +3,12 @@ use Rattle.std.proofs.Common.{◌≡◌, ℕ, Bool, List, [], ◌∷◌, ◌++�
 use Rattle.sr_ast.specs.declared.stmt.Stmt.{Stmt}
 use Rattle.sr_logform.specs.declared.op.Op.{Op}
 use Rattle.sr_logform.specs.declared.outcome.Outcome.{Outcome}
-use Rattle.sr_schema.specs.Catalogs.{Lists}
-use Rattle.sr_schema.specs.Firsts.{first_of}
-use Rattle.sr_scan.specs.Changed.{or_before, LeavesBehind, texts_done, AreTaken}
-use Rattle.sr_scan.specs.Images.{catalog_behind, catalog_after, op_told, ops_told}
-use Rattle.sr_scan.specs.Meanings.{text_done, AreMeant}
-use Rattle.sr_scan.specs.Views.{AreViews}
+use Rattle.sr_catalog_schema.specs.Catalogs.{Lists}
+use Rattle.sr_catalog_schema.specs.Firsts.{first_of}
+use Rattle.sr_scan.specs.Inner.Changed.{or_before, LeavesBehind, texts_done, AreTaken}
+use Rattle.sr_scan.specs.Inner.Images.{catalog_behind, catalog_after, op_told, ops_told}
+use Rattle.sr_scan.specs.Inner.Meanings.{text_done, AreMeant}
+use Rattle.sr_scan.specs.Inner.Views.{AreViews}
 use Rattle.sr_scan.specs.declared.entries.Sight.{Sight}
 
 -- the catalog in force

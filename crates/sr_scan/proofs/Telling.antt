@@ -13,23 +13,23 @@ use Rattle.sr_logform.specs.declared.op.Op.TheVariants.{Exec}
 use Rattle.sr_logform.specs.declared.op.Transaction.{Transaction}
 use Rattle.sr_logform.specs.declared.outcome.Outcome.{Outcome}
 use Rattle.sr_ast.specs.declared.stmt.Stmt.{Stmt}
-use Rattle.sr_publish.specs.Shares.{Share, share_of}
-use Rattle.sr_schema.specs.Catalogs.{Lists}
-use Rattle.sr_schema.specs.Firsts.{has}
-use Rattle.sr_scan.specs.Changed.{or_before, LeavesBehind, AreTaken, IsTold}
+use Rattle.sr_publish.specs.SubscribedTables.{SubscribedTable, subscribed_table_of}
+use Rattle.sr_catalog_schema.specs.Catalogs.{Lists}
+use Rattle.sr_catalog_schema.specs.Firsts.{has}
+use Rattle.sr_scan.specs.Inner.Changed.{or_before, LeavesBehind, AreTaken, IsTold}
 use Rattle.sr_scan.specs.Given.{table_synced}
-use Rattle.sr_scan.specs.Images.{Shares, changes_told, catalog_behind, told}
-use Rattle.sr_scan.specs.Meanings.{IsMeant, IsGiven}
-use Rattle.sr_scan.specs.Scanners.{Scan, Follows, transaction_of, IsFed}
-use Rattle.sr_scan.specs.Views.{AreViews}
+use Rattle.sr_scan.specs.Inner.Images.{SubscribedTables, changes_told, catalog_behind, told}
+use Rattle.sr_scan.specs.Inner.Meanings.{IsMeant, IsGiven}
+use Rattle.sr_scan.specs.Inner.Scanners.{Scan, Follows, transaction_of, IsFed}
+use Rattle.sr_scan.specs.Inner.Views.{AreViews}
 
 abbrev Views : Type 0
-Views = tree.BTreeMap (List ℕ) Share
+Views = tree.BTreeMap (List ℕ) SubscribedTable
 
 pub own_told : (c : Lists) (user : List ℕ) (views : Views) (changes : List Change) (ops : List Op) → AreViews c user views
     → ops ≡ changes_told (tree.get name_cmp views) changes → IsTold c (Own changes) user ops None
 unfolding told
-own_told c user views changes ops v e = record { meant = []; are = tt; gives = e ∙ ap (λ (f : Shares). changes_told f changes) v.same; catalog = refl }
+own_told c user views changes ops v e = record { meant = []; are = tt; gives = e ∙ ap (λ (f : SubscribedTables). changes_told f changes) v.same; catalog = refl }
 
 pub from_told : (c : Lists) (user from : List ℕ) (at : Offset) (taken : List (Op × Outcome)) (ops : List Op) (behind : Option Lists)
     → AreTaken (bytes_eq from user) c user taken ops behind → IsTold c (From from at taken) user ops behind
@@ -47,8 +47,8 @@ sync_told c user to tables ops e = record { meant = []; are = tt; gives = e; cat
 
 pass_is : (c : Lists) (user : List ℕ) (views : Views) (users : List (List ℕ)) (only : Bool) (text : List ℕ) (changes : List Change) (ops : List Op) → AreViews c user views
     → ops ≡ cond (has users user) (Exec text ∷ []) (cond only [] (changes_told (tree.get name_cmp views) changes))
-    → ops ≡ cond (has users user) (Exec text ∷ []) (cond only [] (changes_told (share_of c user) changes))
-pass_is c user views users only text changes ops v e = e ∙ ap (λ (f : Shares). cond (has users user) (Exec text ∷ []) (cond only [] (changes_told f changes))) v.same
+    → ops ≡ cond (has users user) (Exec text ∷ []) (cond only [] (changes_told (subscribed_table_of c user) changes))
+pass_is c user views users only text changes ops v e = e ∙ ap (λ (f : SubscribedTables). cond (has users user) (Exec text ∷ []) (cond only [] (changes_told f changes))) v.same
 
 pub pass_only_told : (c : Lists) (user : List ℕ) (views : Views) (users : List (List ℕ)) (only : Bool) (text : List ℕ) (changes : List Change) (ops : List Op) → AreViews c user views
     → only ≡ true → ops ≡ cond (has users user) (Exec text ∷ []) (cond only [] (changes_told (tree.get name_cmp views) changes)) → IsTold c (Pass users only text changes) user ops None

@@ -3,19 +3,19 @@ use Rattle.std.specs.Prelude.{ℕ, ◌+◌, Bool, true, false, cond, List, [], �
 use Rattle.sr_base.specs.declared.value.Value.{Value as Cell}
 use Rattle.sr_ast.specs.Layout.{printed}
 use Rattle.sr_book.specs.Entries.{Name}
-use Rattle.sr_dml.specs.Statements.{key_of, table_named}
-use Rattle.sr_history.specs.Folds.{State, fresh, with_changes, done_changes, after_done, next, size}
-use Rattle.sr_history.specs.Recorded.{Done, plain, ran, conflict, clash}
-use Rattle.sr_history.specs.Recorded.{Recorded, own, taken, ddl, sync, pass, note}
+use Rattle.sr_exec_dml.specs.Statements.{key_of, table_named}
+use Rattle.sr_database_history.specs.Folds.{State, fresh, with_changes, done_changes, after_done, next, size}
+use Rattle.sr_database_history.specs.Recorded.{Done, plain, ran, conflict, clash}
+use Rattle.sr_database_history.specs.Recorded.{Recorded, own, taken, ddl, sync, pass, note}
 use Rattle.sr_logform.specs.declared.change.Change.{Change}
 use Rattle.sr_logform.specs.declared.op.Op.{Op}
 use Rattle.sr_logform.specs.declared.op.Op.TheVariants.{Insert, Remove, Set, Clear, Exec}
-use Rattle.sr_fits.specs.Rows.{is_row}
-use Rattle.sr_publish.specs.Shares.{Share, share_of}
+use Rattle.sr_exec_fits.specs.Rows.{is_row}
+use Rattle.sr_publish.specs.SubscribedTables.{SubscribedTable, subscribed_table_of}
 use Rattle.sr_publish.specs.Views.{view}
-use Rattle.sr_schema.specs.Catalogs.{Lists}
-use Rattle.sr_schema.specs.Firsts.{has}
-use Rattle.sr_schema.specs.declared.table.Table.{Table}
+use Rattle.sr_catalog_schema.specs.Catalogs.{Lists}
+use Rattle.sr_catalog_schema.specs.Firsts.{has}
+use Rattle.sr_catalog_schema.specs.declared.table.Table.{Table}
 use Rattle.sr_scan.specs.Ops.{present_columns, told_of, told_back, key_changed}
 
 -- ---- changes
@@ -25,15 +25,15 @@ abbrev pub view_in : State → Name → Name → List Cell → Option (List Cell
 view_in s user table key = view s.catalog s.rows user table key
 
 -- what a change gives: his view of its key before and after; nothing of a table that he has not
-abbrev pub change_given : Option Share → State → Name → Change → List Op
+abbrev pub change_given : Option SubscribedTable → State → Name → Change → List Op
 change_given None s user c = []
-change_given (Some share) s user c = told_of share (key_changed share.table c) (view_in s user c.table (key_changed share.table c))
-    (view_in (with_changes (c ∷ []) s) user c.table (key_changed share.table c))
+change_given (Some subscribed_table) s user c = told_of subscribed_table (key_changed subscribed_table.table c) (view_in s user c.table (key_changed subscribed_table.table c))
+    (view_in (with_changes (c ∷ []) s) user c.table (key_changed subscribed_table.table c))
 
 -- what changes give, each in the state that those before it leave
 abbrev pub changes_given : State → Name → List Change → List Op
 changes_given s user [] = []
-changes_given s user (c ∷ changes) = change_given (share_of s.catalog user c.table) s user c ++ changes_given (with_changes (c ∷ []) s) user changes
+changes_given s user (c ∷ changes) = change_given (subscribed_table_of s.catalog user c.table) s user c ++ changes_given (with_changes (c ∷ []) s) user changes
 
 -- ---- what was taken from a partner
 
@@ -44,7 +44,7 @@ done_given s user d = changes_given s user (done_changes d)
 -- the row of a key, to the origin of the op, in the state behind it
 abbrev pub key_given : Option Table → State → Name → Name → List Cell → List Op
 key_given None s user table before = []
-key_given (Some t) s user table before = told_back t (share_of s.catalog user table) (key_of t.key before) before (view_in s user table (key_of t.key before))
+key_given (Some t) s user table before = told_back t (subscribed_table_of s.catalog user table) (key_of t.key before) before (view_in s user table (key_of t.key before))
 
 abbrev pub row_given : State → Name → Op → List Cell → List Op
 row_given s user (Insert table values) before = []
@@ -72,13 +72,13 @@ dones_given is_origin s user (d ∷ dones) = done_given_to is_origin s user d ++
 -- ---- SYNCHRONIZE
 
 -- a row of a view, where it is one: it has a fitting value for each column of the article by which the user has the table
-abbrev pub row_synced : Option Share → Name → List Cell → List Op
+abbrev pub row_synced : Option SubscribedTable → Name → List Cell → List Op
 row_synced None table row = []
 row_synced (Some s) table row = cond (is_row s.columns row) (Insert table (present_columns s.columns row) ∷ []) []
 
 -- a table is cleared, and then each row is inserted
 abbrev pub table_synced : Lists → Name → Name × List (List Cell) → List Op
-table_synced c user p = Clear p.0 ∷ flat_map (row_synced (share_of c user p.0) p.0) p.1
+table_synced c user p = Clear p.0 ∷ flat_map (row_synced (subscribed_table_of c user p.0) p.0) p.1
 
 -- ---- entries
 

@@ -3,17 +3,17 @@ use Rattle.std.specs.Prelude.{ℕ, cond, List, [], ◌∷◌, map, filter, zip, 
 use Rattle.std.specs.Ordering.{eq_by_cmp}
 use Rattle.sr_base.specs.Order.{value_cmp}
 use Rattle.sr_base.specs.declared.value.Value.{Value as Cell}
-use Rattle.sr_dml.specs.Statements.{key_of}
+use Rattle.sr_exec_dml.specs.Statements.{key_of}
 use Rattle.sr_logform.specs.Rules.{is_present}
 use Rattle.sr_logform.specs.declared.change.Change.{Change}
 use Rattle.sr_logform.specs.declared.op.Op.{Op}
 use Rattle.sr_logform.specs.declared.op.Op.TheVariants.{Insert, Remove, Set}
-use Rattle.sr_publish.specs.Shares.{Share}
+use Rattle.sr_publish.specs.SubscribedTables.{SubscribedTable}
 use Rattle.sr_publish.specs.Views.{shown}
-use Rattle.sr_schema.specs.Firsts.{has}
-use Rattle.sr_schema.specs.Members.{column_name, key_names}
-use Rattle.sr_schema.specs.declared.table.Column.{Column}
-use Rattle.sr_schema.specs.declared.table.Table.{Table}
+use Rattle.sr_catalog_schema.specs.Firsts.{has}
+use Rattle.sr_catalog_schema.specs.Members.{column_name, key_names}
+use Rattle.sr_catalog_schema.specs.declared.table.Column.{Column}
+use Rattle.sr_catalog_schema.specs.declared.table.Table.{Table}
 
 -- the key of a table by its columns, in key order
 abbrev pub key_columns : Table → List Cell → List (List ℕ × Cell)
@@ -45,7 +45,7 @@ update_of t key (u ∷ updates) = Set t.name (key_columns t key) (u ∷ updates)
 
 -- what tells a partner how his view of the row under a key went on: a row that came into it is an insert, one that left it a delete, also
 -- where the row itself was updated; of a row that stays in it the columns that changed
-abbrev pub told_of : Share → List Cell → Option (List Cell) → Option (List Cell) → List Op
+abbrev pub told_of : SubscribedTable → List Cell → Option (List Cell) → Option (List Cell) → List Op
 told_of s key None None = []
 told_of s key None (Some row) = Insert s.table.name (present_columns s.columns row) ∷ []
 told_of s key (Some row) None = Remove s.table.name (key_columns s.table key) ∷ []
@@ -53,8 +53,8 @@ told_of s key (Some before) (Some after) = update_of s.table key (differing s.co
 
 -- what tells the origin of an op that met another value how his view of the row under its key is now: that it has none, or all its columns
 -- outside the key, with their values before. `before` is the whole row
-abbrev pub told_back : Table → Option Share → List Cell → List Cell → Option (List Cell) → List Op
-told_back t share key before None = Remove t.name (key_columns t key) ∷ []
+abbrev pub told_back : Table → Option SubscribedTable → List Cell → List Cell → Option (List Cell) → List Op
+told_back t subscribed_table key before None = Remove t.name (key_columns t key) ∷ []
 told_back t None key before (Some row) = []
 told_back t (Some s) key before (Some row) = update_of t key (outside_key (key_names t) s.columns (shown s before) row)
 

@@ -4,20 +4,20 @@ ghost use Rattle.std.specs.Prelude.{◌≡◌, ◌++◌, ◌∷◌, [], Some, No
 ghost use Rattle.std.specs.BTreeMap as tree;
 ghost use Rattle.std.specs.Option.{option_copied};
 ghost use Rattle.sr_base.specs.Order.{name_cmp};
-ghost use Rattle.sr_dml.specs.Statements.{key_of};
+ghost use Rattle.sr_exec_dml.specs.Statements.{key_of};
 ghost use Rattle.sr_logform.specs.declared.op.Op.TheVariants.{Insert, Remove};
 ghost use Rattle.sr_publish.specs.Views.{shown};
-ghost use Rattle.sr_scan.specs.Images.{images_told, change_told, changes_told};
+ghost use Rattle.sr_scan.specs.Inner.Images.{images_told, change_told, changes_told};
 ghost use Rattle.sr_scan.specs.Ops.{differing, key_columns, present_columns, update_of};
 
 use crate::columns::{differing_at, present_at};
 use crate::keys::key_of_row;
 use crate::views::Views;
 use sr_base::{Copied, Name, NoMemory, Row, Seq, Value};
-use sr_fits::is_row;
+use sr_catalog_schema::Table;
+use sr_exec_fits::is_row;
 use sr_logform::{Change, Op};
 use sr_publish::TableView;
-use sr_schema::Table;
 use std::alloc::{AllocError, Global};
 
 /// Adds an op.

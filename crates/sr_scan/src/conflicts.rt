@@ -3,10 +3,10 @@
 ghost use Rattle.std.specs.Prelude.{◌≡◌, ◌++◌, ◌∷◌, [], Some, OnOk};
 ghost use Rattle.std.specs.BTreeMap as tree;
 ghost use Rattle.sr_base.specs.Order.{name_cmp};
-ghost use Rattle.sr_dml.specs.Statements.{table_named};
-ghost use Rattle.sr_publish.specs.Shares.{share_of};
-ghost use Rattle.sr_scan.specs.Images.{changes_told, images_told, change_told, row_changed, rows_told, conflict_told, op_told};
-ghost use Rattle.sr_scan.specs.Views.{AreViews};
+ghost use Rattle.sr_exec_dml.specs.Statements.{table_named};
+ghost use Rattle.sr_publish.specs.SubscribedTables.{subscribed_table_of};
+ghost use Rattle.sr_scan.specs.Inner.Images.{changes_told, images_told, change_told, row_changed, rows_told, conflict_told, op_told};
+ghost use Rattle.sr_scan.specs.Inner.Views.{AreViews};
 
 use crate::changes::{tell_changes, tell_update};
 use crate::keys::are_rows_of;
@@ -14,8 +14,8 @@ use crate::returns::tell_back;
 use crate::views::Views;
 use sr_base::{Name, NoMemory, Row, Value};
 use sr_catalog::Catalog;
+use sr_catalog_schema::Table;
 use sr_logform::{Change, Op, Outcome};
-use sr_schema::Table;
 use std::alloc::Global;
 
 /// Adds what an op gives, with what became of it: to another user its changes; to its origin nothing, but for an op that met another value.

@@ -5,11 +5,11 @@ ghost use Rattle.std.specs.BTreeMap as tree;
 ghost use Rattle.sr_base.specs.Order.{name_cmp};
 ghost use Rattle.sr_logform.specs.declared.entry.Entry.TheVariants.{Own, From, Ddl, Sync, Pass, Note as Noted};
 ghost use Rattle.sr_logform.specs.declared.op.Op.TheVariants.{Exec};
-ghost use Rattle.sr_schema.specs.Firsts.{first_of, has};
-ghost use Rattle.sr_scan.specs.Changed.{or_before, LeavesBehind, AreTaken, IsTold};
-ghost use Rattle.sr_scan.specs.Images.{op_told, changes_told};
-ghost use Rattle.sr_scan.specs.Meanings.{text_done};
-ghost use Rattle.sr_scan.specs.Views.{AreViews};
+ghost use Rattle.sr_catalog_schema.specs.Firsts.{first_of, has};
+ghost use Rattle.sr_scan.specs.Inner.Changed.{or_before, LeavesBehind, AreTaken, IsTold};
+ghost use Rattle.sr_scan.specs.Inner.Images.{op_told, changes_told};
+ghost use Rattle.sr_scan.specs.Inner.Meanings.{text_done};
+ghost use Rattle.sr_scan.specs.Inner.Views.{AreViews};
 
 use crate::changes::{push, tell_changes};
 use crate::columns::has;

@@ -3,18 +3,18 @@
 ghost use Rattle.std.specs.Prelude.{◌≡◌, ◌&&◌, List, ℕ, Some, zip, map, IfOk, slice_get};
 ghost use Rattle.std.specs.Ordering.{eq_by_cmp};
 ghost use Rattle.sr_base.specs.Order.{key_cmp};
-ghost use Rattle.sr_dates.specs.Fitting.{fitted};
-ghost use Rattle.sr_dml.specs.Statements.{key_of};
-ghost use Rattle.sr_history.specs.Fitting.{fitted_in};
-ghost use Rattle.sr_scan.specs.Images.{key_meant, all_of, stands_under, are_rows_of};
+ghost use Rattle.sr_base_dates.specs.Fitting.{fitted};
+ghost use Rattle.sr_exec_dml.specs.Statements.{key_of};
+ghost use Rattle.sr_database_history.specs.Fitting.{fitted_in};
+ghost use Rattle.sr_scan.specs.Inner.Images.{key_meant, all_of, stands_under, are_rows_of};
 ghost use Rattle.sr_scan.specs.Ops.{key_columns};
 
 use crate::columns::add_copies;
 use sr_base::{Copied, Key, Name, NoMemory, Row, Seq, Value};
-use sr_dates::fit;
-use sr_fits::is_row;
+use sr_base_dates::fit;
+use sr_catalog_schema::{Column, Table, item_at, key_names};
+use sr_exec_fits::is_row;
 use sr_publish::values_at;
-use sr_schema::{Column, Table, item_at, key_names};
 use std::alloc::Global;
 
 /// The key of a table by its columns, in key order.

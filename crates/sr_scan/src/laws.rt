@@ -6,19 +6,19 @@ ghost use Rattle.sr_ast.specs.declared.stmt.Stmt.TheVariants.{DropTable};
 ghost use Rattle.sr_base.specs.declared.offset.Offset.{Offset as Place};
 ghost use Rattle.sr_base.specs.declared.value.Value.{Value as Cell};
 ghost use Rattle.sr_book.specs.Entries.{Name as Bytes};
-ghost use Rattle.sr_history.specs.Fitting.{IsAccepted, Fits, Stored};
-ghost use Rattle.sr_history.specs.Folds.{State, next, size, state_of, end_of, with_statement};
-ghost use Rattle.sr_history.specs.Laws.{Holds};
-ghost use Rattle.sr_history.specs.Recorded.{Recorded, entry_of, IsRecorded};
+ghost use Rattle.sr_database_history.specs.Fitting.{IsAccepted, Fits, Stored};
+ghost use Rattle.sr_database_history.specs.Folds.{State, next, size, state_of, end_of, with_statement};
+ghost use Rattle.sr_database_history.specs.Inner.Laws.{Holds};
+ghost use Rattle.sr_database_history.specs.Recorded.{Recorded, entry_of, IsRecorded};
 ghost use Rattle.sr_logform.specs.declared.entry.Entry.{Entry as LogEntry};
 ghost use Rattle.sr_logform.specs.declared.op.Op.{Op as AnOp};
 ghost use Rattle.sr_logform.specs.declared.op.Transaction.{Transaction as ATransaction};
-ghost use Rattle.sr_schema.specs.Catalogs.{Lists};
+ghost use Rattle.sr_catalog_schema.specs.Catalogs.{Lists};
 ghost use Rattle.sr_scan.specs.Given.{view_in, gives, with_transaction, given_from, given_of};
-ghost use Rattle.sr_scan.specs.Images.{told, catalog_after};
-ghost use Rattle.sr_scan.specs.Laws.{HaveSpellings};
-ghost use Rattle.sr_scan.specs.Meanings.{texts_of, meant_by, AreMeant, IsGiven};
-ghost use Rattle.sr_scan.specs.Scanners.{Scan, transaction_of, IsFed};
+ghost use Rattle.sr_scan.specs.Inner.Images.{told, catalog_after};
+ghost use Rattle.sr_scan.specs.Inner.Laws.{HaveSpellings};
+ghost use Rattle.sr_scan.specs.Inner.Meanings.{texts_of, meant_by, AreMeant, IsGiven};
+ghost use Rattle.sr_scan.specs.Inner.Scanners.{Scan, transaction_of, IsFed};
 
 /// The statements that the texts of a recorded entry are, are those that it was recorded with. So the ops of an entry are one list, and a scanner answers
 /// one thing.

@@ -1,6 +1,6 @@
 //! What a log gives a partner: which ops each of its entries comes to for him.
 //!
-//! It stands on sr_publish for views, on sr_parse for the statements that texts are, and on sr_history for what a log comes to. A `Scanner` reads the entries of a log one
+//! It stands on sr_publish for views, on sr_parse for the statements that texts are, and on sr_database_history for what a log comes to. A `Scanner` reads the entries of a log one
 //! after the other, and sees their images and the catalog alone, never the rows. The contract that matters most is that of
 //! `Scanner::feed`, with the law `images_are_views`: what it answers is what the views before and after each change differ in.
 #![tactic(auto)]

@@ -2,17 +2,17 @@
 
 ghost use Rattle.std.specs.Prelude.{◌≡◌, ◌++◌, Some, OnOk};
 ghost use Rattle.std.specs.Option.{option_copied};
-ghost use Rattle.sr_dml.specs.Statements.{key_of};
+ghost use Rattle.sr_exec_dml.specs.Statements.{key_of};
 ghost use Rattle.sr_publish.specs.Views.{shown, shown_row};
-ghost use Rattle.sr_schema.specs.Members.{key_names};
+ghost use Rattle.sr_catalog_schema.specs.Members.{key_names};
 ghost use Rattle.sr_scan.specs.Ops.{outside_key, told_back, update_of};
 
 use crate::changes::{add_removal, tell_columns};
 use crate::columns::outside_key_at;
 use sr_base::{NoMemory, Row};
+use sr_catalog_schema::{Table, key_names};
 use sr_logform::Op;
 use sr_publish::TableView;
-use sr_schema::{Table, key_names};
 use std::alloc::Global;
 
 /// Adds what tells the origin of an op how its key is now: a Remove where he does not see the row, and else a Set of all columns that he

@@ -3,10 +3,10 @@
 ghost use Rattle.std.specs.Prelude.{◌≡◌, Some, None, IfOk, OnOk, OnErr};
 ghost use Rattle.sr_ast.specs.NormalForms.{IsNormal};
 ghost use Rattle.sr_logform.specs.declared.entry.Entry.TheVariants.{Own};
-ghost use Rattle.sr_scan.specs.Changed.{IsTold, or_before};
-ghost use Rattle.sr_scan.specs.Images.{catalog_behind};
-ghost use Rattle.sr_scan.specs.Meanings.{IsGiven};
-ghost use Rattle.sr_scan.specs.Scanners.{IsFed, Follows, transaction_of};
+ghost use Rattle.sr_scan.specs.Inner.Changed.{IsTold, or_before};
+ghost use Rattle.sr_scan.specs.Inner.Images.{catalog_behind};
+ghost use Rattle.sr_scan.specs.Inner.Meanings.{IsGiven};
+ghost use Rattle.sr_scan.specs.Inner.Scanners.{IsFed, Follows, transaction_of};
 
 use crate::entries::{Told, own_ops, tell_entry};
 use crate::statements::{is_refused, meant_by};
@@ -65,9 +65,9 @@ pub struct Scanner {
 
 impl Model for Scanner {
     ghost use Rattle.std.specs.Coded.{codes};
-    ghost use Rattle.sr_ast.specs.Terms.{term_code};
-    ghost use Rattle.sr_ast.specs.Chains.{chain_code};
-    ghost use Rattle.sr_scan.specs.Scanners.{Scan};
+    ghost use Rattle.sr_ast.specs.Inner.Terms.{term_code};
+    ghost use Rattle.sr_ast.specs.Inner.Chains.{chain_code};
+    ghost use Rattle.sr_scan.specs.Inner.Scanners.{Scan};
 
     ghost Value = { Scan };
 
@@ -76,7 +76,7 @@ impl Model for Scanner {
     ghost view = { λ s. record { catalog = s.catalog; user = s.user } };
 
     ghost use Rattle.std.specs.Prelude.{IfSome};
-    ghost use Rattle.sr_scan.specs.Views.{AreViews};
+    ghost use Rattle.sr_scan.specs.Inner.Views.{AreViews};
 
     ghost invariant = { λ s. IfSome s.views (λ views. AreViews s.catalog s.user views) };
 }

@@ -3,10 +3,10 @@
 ghost use Rattle.std.specs.Prelude.{◌≡◌, None, Some, is_some, IfOk, IfSome};
 ghost use Rattle.std.specs.Option.{option_copied};
 ghost use Rattle.sr_ast.specs.NormalForms.{IsNormal};
-ghost use Rattle.sr_change.specs.Changes.{refusal, next};
-ghost use Rattle.sr_scan.specs.Changed.{or_before, LeavesBehind};
-ghost use Rattle.sr_scan.specs.Images.{catalog_behind};
-ghost use Rattle.sr_scan.specs.Meanings.{text_done, IsMeant};
+ghost use Rattle.sr_catalog_change.specs.Changes.{refusal, next};
+ghost use Rattle.sr_scan.specs.Inner.Changed.{or_before, LeavesBehind};
+ghost use Rattle.sr_scan.specs.Inner.Images.{catalog_behind};
+ghost use Rattle.sr_scan.specs.Inner.Meanings.{text_done, IsMeant};
 
 use sr_ast::{Stmt, is_ddl};
 use sr_base::{Copied, NoMemory, Text};

@@ -5,14 +5,14 @@ ghost use Rattle.std.specs.BTreeMap as tree;
 ghost use Rattle.std.specs.Option.{option_copied};
 ghost use Rattle.sr_base.specs.Order.{name_cmp};
 ghost use Rattle.sr_scan.specs.Given.{row_synced, table_synced};
-ghost use Rattle.sr_scan.specs.Views.{AreViews};
+ghost use Rattle.sr_scan.specs.Inner.Views.{AreViews};
 
 use crate::changes::push;
 use crate::columns::present_columns;
 use crate::views::Views;
 use sr_base::{Copied, Name, NoMemory, Row, Seq};
 use sr_catalog::Catalog;
-use sr_fits::is_row;
+use sr_exec_fits::is_row;
 use sr_logform::Op;
 use sr_publish::TableView;
 use std::alloc::Global;

@@ -4,13 +4,13 @@ ghost use Rattle.std.specs.Prelude.{◌≡◌, ℕ, Some, List, cond, IfOk, OnOk
 ghost use Rattle.std.specs.BTreeMap as tree;
 ghost use Rattle.std.specs.Ordering.{is_eq};
 ghost use Rattle.sr_base.specs.Order.{name_cmp};
-ghost use Rattle.sr_publish.specs.Shares.{share_of};
-ghost use Rattle.sr_scan.specs.Views.{AreViews, IsAdded};
+ghost use Rattle.sr_publish.specs.SubscribedTables.{subscribed_table_of};
+ghost use Rattle.sr_scan.specs.Inner.Views.{AreViews, IsAdded};
 
 use sr_base::{Copied, Name, NoMemory};
 use sr_catalog::Catalog;
+use sr_catalog_schema::Table;
 use sr_publish::TableView;
-use sr_schema::Table;
 use std::alloc::{AllocError, Global};
 use std::collections::BTreeMap;
 
@@ -55,7 +55,7 @@ fn add_view(
     table: &Table,
     views: &mut Views,
 ) -> Result<(), NoMemory>
-    ensures added { OnOk result (IsAdded (share_of catalog.now user.now table.now.name) table.now.name views.old views.new) }
+    ensures added { OnOk result (IsAdded (subscribed_table_of catalog.now user.now table.now.name) table.now.name views.old views.new) }
 {
     match TableView::of(alloc, catalog, user, &table.name)? {
         None => Ok(()),

@@ -1,23 +1,23 @@
--- What a cutter has made: it begins the one cut of a front of what was pushed.
+-- What a cutter has made: it begins the one cut of a prefix of what was pushed.
 use Rattle.std.proofs.Common.{◌≡◌, ℕ, ◌≤◌, List, [], ◌∷◌, ◌++◌, length, Option, Some, None, refl, sym, ap, subst, ◌∙◌, arith, append_assoc}
 use Rattle.std.specs.Prelude.{cond, nat_lt, true, false, Bool}
 use Rattle.std.specs.List.{AllByRecursion}
 use Rattle.std.proofs.lemmas.List.{append-nil}
 use Rattle.sr_base.specs.declared.offset.Offset.{Offset}
-use Rattle.sr_cut.specs.Bodies.{RisesPast, last_at, first_long, longest_transaction}
-use Rattle.sr_cut.specs.Cuts.{Cutting, HasGiven, AreCut, IsFull, AreFull, Parcel, IsParcel, transactions_of, all_messages, file_length, bodyless}
-use Rattle.sr_cut.specs.declared.head.Head.{Head}
-use Rattle.sr_cut.proofs.Existing.{cut_there}
-use Rattle.sr_cut.proofs.Giving.{AreFull-first, transactions-append, messages-append}
-use Rattle.sr_cut.proofs.Items.{long-behind}
-use Rattle.sr_cut.proofs.Lists.{AllByRecursion-append, AllByRecursion-back, AllByRecursion-map}
-use Rattle.sr_cut.proofs.Rising.{RisesPast-front}
-use Rattle.sr_cut.proofs.Truth.{cut_keeps}
+use Rattle.sr_mail_cut.specs.Bodies.{RisesPast, last_at, first_long, longest_transaction}
+use Rattle.sr_mail_cut.specs.Cuts.{Cutting, HasGiven, AreCut, IsFull, AreFull, Parcel, IsParcel, transactions_of, all_messages, file_length, bodyless}
+use Rattle.sr_mail_cut.specs.declared.head.Head.{Head}
+use Rattle.sr_mail_cut.proofs.Existing.{cut_there}
+use Rattle.sr_mail_cut.proofs.Giving.{AreFull-first, transactions-append, messages-append}
+use Rattle.sr_mail_cut.proofs.Items.{long-behind}
+use Rattle.sr_mail_cut.proofs.Lists.{AllByRecursion-append, AllByRecursion-back, AllByRecursion-map}
+use Rattle.sr_mail_cut.proofs.Rising.{RisesPast-prefix}
+use Rattle.sr_mail_cut.proofs.Truth.{cut_keeps}
 use Rattle.sr_logform.specs.Ops.{transaction_spelling}
 use Rattle.sr_logform.specs.declared.op.Transaction.{Transaction}
 use Rattle.sr_msgform.specs.Messages.{KeepsRules, message_length}
 use Rattle.sr_msgform.specs.declared.message.Message.{Message}
-use Rattle.sr_send.specs.Aims.{IsAim, HasMade, IsCutFront}
+use Rattle.sr_send.specs.Inner.Aims.{IsAim, HasMade, IsCutPrefix}
 use Rattle.sr_send.specs.declared.aim.Aim.{Aim}
 use Rattle.sr_send.specs.declared.post.Post.{Post}
 use Rattle.sr_send.proofs.Numbers.{MayBePut}
@@ -28,15 +28,15 @@ full_alone : (head : Head) (limit : ℕ) (ts others : List Transaction) (x : Tra
 full_alone head limit ts [] x full = tt
 full_alone head limit ts (t ∷ others) x full = full
 
-front_alone : (head : Head) (limit : ℕ) (ps : List Parcel) (x : Transaction) → AreFull head limit ps (x ∷ []) → AreFull head limit ps []
-front_alone head limit [] x full = tt
-front_alone head limit (p ∷ ps) x full = (full_alone head limit p.transactions (transactions_of ps) x full.0, front_alone head limit ps x full.1)
+prefix_alone : (head : Head) (limit : ℕ) (ps : List Parcel) (x : Transaction) → AreFull head limit ps (x ∷ []) → AreFull head limit ps []
+prefix_alone head limit [] x full = tt
+prefix_alone head limit (p ∷ ps) x full = (full_alone head limit p.transactions (transactions_of ps) x full.0, prefix_alone head limit ps x full.1)
 
 nothing_follows : (head : Head) (limit : ℕ) (ps : List Parcel) (held : List Transaction) → ((next : Transaction) → AreFull head limit ps (held ++ next ∷ [])) → AreFull head limit ps []
 nothing_follows head limit ps [] full =
     let any : Transaction = record { at = record { 0 = 0 }; ops = [] } in
-    front_alone head limit ps any (full any)
-nothing_follows head limit ps (x ∷ held) full = front_alone head limit ps x (AreFull-first head limit ps x (held ++ x ∷ []) [] (full x))
+    prefix_alone head limit ps any (full any)
+nothing_follows head limit ps (x ∷ held) full = prefix_alone head limit ps x (AreFull-first head limit ps x (held ++ x ∷ []) [] (full x))
 
 -- ---- the front
 
@@ -103,9 +103,9 @@ room_along : (aim : Aim) (cutter : Cutting) → IsAim aim → cutter.head ≡ ai
 room_along aim cutter good head_is limit_is =
     subst (λ (n : ℕ). file_length cutter.head 1 ≤ n) (sym limit_is) (subst (λ (h : Head). file_length h 1 ≤ aim.limit) (sym head_is) (has_room aim good))
 
-pub given_front : (aim : Aim) (cutter : Cutting) (pushed : List Transaction) (messages left : List Message) → IsAim aim → cutter.head ≡ aim.head → cutter.limit ≡ aim.limit
-    → HasGiven cutter aim.prev pushed (messages ++ left) → IsCutFront aim pushed messages
-given_front aim cutter pushed messages left good head_is limit_is given = record {
+pub given_prefix : (aim : Aim) (cutter : Cutting) (pushed : List Transaction) (messages left : List Message) → IsAim aim → cutter.head ≡ aim.head → cutter.limit ≡ aim.limit
+    → HasGiven cutter aim.prev pushed (messages ++ left) → IsCutPrefix aim pushed messages
+given_prefix aim cutter pushed messages left good head_is limit_is given = record {
   begins = λ rest.
       let more = goes_on cutter aim.prev pushed rest (messages ++ left) (room_along aim cutter good head_is limit_is) given in (
         left ++ more.0,
@@ -114,17 +114,17 @@ given_front aim cutter pushed messages left good head_is limit_is given = record
       );
 }
 
-pub made_front : (aim : Aim) (post : Post) (pushed : List Transaction) (messages : List Message) → IsAim aim → HasMade aim post pushed messages → IsCutFront aim pushed (messages ++ [])
-made_front aim post pushed messages good made =
-    subst (λ (ms : List Message). IsCutFront aim pushed ms) (sym (append-nil messages))
-    (given_front aim post.cutter pushed messages [] good made.head_is made.limit_is
+pub made_prefix : (aim : Aim) (post : Post) (pushed : List Transaction) (messages : List Message) → IsAim aim → HasMade aim post pushed messages → IsCutPrefix aim pushed (messages ++ [])
+made_prefix aim post pushed messages good made =
+    subst (λ (ms : List Message). IsCutPrefix aim pushed ms) (sym (append-nil messages))
+    (given_prefix aim post.cutter pushed messages [] good made.head_is made.limit_is
     (subst (λ (ms : List Message). HasGiven post.cutter aim.prev pushed ms) (sym (append-nil messages)) made.given))
 
 -- it is one of more transactions too
-pub front_more : (aim : Aim) (pushed added : List Transaction) (messages : List Message) → IsCutFront aim pushed messages → IsCutFront aim (pushed ++ added) messages
-front_more aim pushed added messages front = record {
+pub prefix_more : (aim : Aim) (pushed added : List Transaction) (messages : List Message) → IsCutPrefix aim pushed messages → IsCutPrefix aim (pushed ++ added) messages
+prefix_more aim pushed added messages prefix = record {
   begins = λ rest.
-      let more = front.begins (added ++ rest) in
+      let more = prefix.begins (added ++ rest) in
       (more.0, subst (λ (ts : List Transaction). AreCut aim.head aim.prev ts aim.limit (messages ++ more.0)) (sym (append_assoc pushed added rest)) more.1);
 }
 
@@ -170,11 +170,11 @@ cut_may aim ts earlier messages good rises fits cut =
     (wider aim.limit (earlier ++ messages) good.most (cut_keeps aim.head aim.prev ts aim.limit (earlier ++ messages) good.ask (omega (arith, good.most)) rises fits cut))
 
 -- so may those that begin one
-pub front_may : (aim : Aim) (cutter : Cutting) (pushed : List Transaction) (earlier messages : List Message) → IsAim aim → cutter.head ≡ aim.head → cutter.limit ≡ aim.limit → RisesPast aim.prev.0 pushed → first_long pushed ≡ None
+pub prefix_may : (aim : Aim) (cutter : Cutting) (pushed : List Transaction) (earlier messages : List Message) → IsAim aim → cutter.head ≡ aim.head → cutter.limit ≡ aim.limit → RisesPast aim.prev.0 pushed → first_long pushed ≡ None
     → HasGiven cutter aim.prev pushed (earlier ++ messages) → AllByRecursion MayBePut messages
-front_may aim cutter pushed earlier messages good head_is limit_is rises fits given =
+prefix_may aim cutter pushed earlier messages good head_is limit_is rises fits given =
     cut_may aim (transactions_of given.parcels) earlier messages good
-    (RisesPast-front aim.prev.0 (transactions_of given.parcels) given.held (subst (RisesPast aim.prev.0) given.covered rises))
+    (RisesPast-prefix aim.prev.0 (transactions_of given.parcels) given.held (subst (RisesPast aim.prev.0) given.covered rises))
     (none_long (transactions_of given.parcels) given.held (ap first_long (sym given.covered) ∙ fits))
     (cut_along cutter.head aim.head cutter.limit aim.limit aim.prev (transactions_of given.parcels) (earlier ++ messages) head_is limit_is (given_cut cutter aim.prev pushed (earlier ++ messages) given))
 

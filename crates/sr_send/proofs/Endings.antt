@@ -8,26 +8,28 @@ use Rattle.sr_base.specs.Values.{offset_from}
 use Rattle.sr_base.specs.declared.offset.Offset.{Offset}
 use Rattle.sr_book.specs.Entries.{Name}
 use Rattle.sr_book.specs.declared.book.Book.{Book}
-use Rattle.sr_cut.specs.Bodies.{RisesPast, last_at}
-use Rattle.sr_cut.specs.Cuts.{Cutting, HasGiven, AreCut, IsParcel, Parcel, transactions_of, all_messages, messages_held, bodyless, CutCause}
-use Rattle.sr_cut.specs.declared.head.Head.{Head}
-use Rattle.sr_cut.specs.declared.too_long.TooLong.{TooLong}
-use Rattle.sr_cut.specs.declared.too_long.TooLong.TheVariants as long
-use Rattle.sr_cut.proofs.Existing.{cut_there}
-use Rattle.sr_cut.proofs.Giving.{finishes}
-use Rattle.sr_cut.proofs.Lists.{AllByRecursion-append}
-use Rattle.sr_cut.proofs.Rising.{lt-last}
+use Rattle.sr_mail_cut.specs.Bodies.{RisesPast, last_at}
+use Rattle.sr_mail_cut.specs.Cuts.{Cutting, HasGiven, AreCut, IsParcel, Parcel, transactions_of, all_messages, bodyless}
+use Rattle.sr_mail_cut.specs.Inner.Cuts.{messages_held, CutCause}
+use Rattle.sr_mail_cut.specs.declared.head.Head.{Head}
+use Rattle.sr_mail_cut.specs.declared.too_long.TooLong.{TooLong}
+use Rattle.sr_mail_cut.specs.declared.too_long.TooLong.TheVariants as long
+use Rattle.sr_mail_cut.proofs.Existing.{cut_there}
+use Rattle.sr_mail_cut.proofs.Giving.{finishes}
+use Rattle.sr_mail_cut.proofs.Lists.{AllByRecursion-append}
+use Rattle.sr_mail_cut.proofs.Rising.{lt-last}
 use Rattle.sr_database.specs.Views.{View}
 use Rattle.sr_logform.specs.declared.op.Transaction.{Transaction}
 use Rattle.sr_msgform.specs.Messages.{IsMessage}
 use Rattle.sr_msgform.specs.declared.message.Message.{Message}
 use Rattle.sr_site.specs.Seen.{Seen}
-use Rattle.sr_send.specs.Aims.{IsAim, HasMade, HasMadeSome}
-use Rattle.sr_send.specs.Faults.{fault_of_cut}
-use Rattle.sr_send.specs.Letters.{IsDue, AreMessages, letters}
-use Rattle.sr_send.specs.Posting.{Posted, IsSteady, PutFault}
-use Rattle.sr_send.specs.Steps.{Emptied, IsDueAlone, Bodyless, Completed, AllRead, PutAll}
-use Rattle.sr_send.specs.Stops.{IsPartSent, HeldStop, LastStop, EndStop, PutStop}
+use Rattle.sr_send.specs.Inner.Aims.{IsAim, HasMade, HasMadeSome}
+use Rattle.sr_send.specs.Inner.Faults.{fault_of_cut}
+use Rattle.sr_send.specs.PutFiles.{IsDue, AreMessages, put_files}
+use Rattle.sr_send.specs.Posting.{IsSteady}
+use Rattle.sr_send.specs.Inner.Posting.{Posted, PutFault}
+use Rattle.sr_send.specs.Inner.Steps.{Emptied, IsDueAlone, Bodyless, Completed, AllRead, PutAll}
+use Rattle.sr_send.specs.Inner.Stops.{IsPartSent, HeldStop, LastStop, EndStop, PutStop}
 use Rattle.sr_send.specs.Unsent.{unsent}
 use Rattle.sr_send.specs.declared.aim.Aim.{Aim}
 use Rattle.sr_send.specs.declared.fault.SendFault.{SendFault}
@@ -36,7 +38,7 @@ use Rattle.sr_send.specs.declared.post.Post.{Post}
 use Rattle.sr_send.proofs.Posts.{posted_none, steady_on, ends_same, ends_on, rose_from}
 use Rattle.sr_send.proofs.Numbers.{MayBePut, posted_more}
 use Rattle.sr_send.proofs.Cutting.{cut_along, cut_may, has_room}
-use Rattle.sr_send.proofs.Loops.{letters_on}
+use Rattle.sr_send.proofs.Loops.{put_files_on}
 
 -- ---- what the cutter holds
 
@@ -54,7 +56,7 @@ held_may aim old closed good some emptied =
     cut_may aim some.pushed some.messages closed good some.made.rises some.made.fits (held_cut aim old closed emptied some.pushed some.messages some.made)
 
 pub emptied_so : (aim : Aim) (old new : Post) (closed : List Message) (before now : Seen) → IsEmptied old.cutter closed → new.put ≡ old.put + length closed → new.end ≡ old.end
-    → Posted before now (letters aim.address (aim.count + old.put) closed) → AllByRecursion IsMessage closed → IsSteady before now → Emptied aim old new before now
+    → Posted before now (put_files aim.address (aim.count + old.put) closed) → AllByRecursion IsMessage closed → IsSteady before now → Emptied aim old new before now
 emptied_so aim old new closed before now emptied count end_is posted spelled steady = record {
   closed = closed;
   cut = held_cut aim old closed emptied;
@@ -97,11 +99,11 @@ held_short aim old seen =
 
 no_parcels : (head : Head) (limit : ℕ) (ps : List Parcel) → AllByRecursion (IsParcel head limit) ps → transactions_of ps ≡ [] → ps ≡ []
 no_parcels head limit [] windows none = refl
-no_parcels head limit (p ∷ ps) windows none = absurd (windows.0.filled (front_none p.transactions (transactions_of ps) none))
+no_parcels head limit (p ∷ ps) windows none = absurd (windows.0.filled (prefix_none p.transactions (transactions_of ps) none))
   where
-    front_none : (xs ys : List Transaction) → xs ++ ys ≡ [] → xs ≡ []
-    front_none [] ys e = refl
-    front_none (x ∷ xs) ys e = absurd cc
+    prefix_none : (xs ys : List Transaction) → xs ++ ys ≡ [] → xs ≡ []
+    prefix_none [] ys e = refl
+    prefix_none (x ∷ xs) ys e = absurd cc
 
 nothing_cut : (head : Head) (prev : Offset) (limit : ℕ) (messages : List Message) → AreCut head prev [] limit messages → messages ≡ []
 nothing_cut head prev limit messages cut = cut.sent ∙ ap (all_messages head prev) (no_parcels head limit cut.parcels cut.windows cut.covered)
@@ -205,12 +207,12 @@ are_bodyless aim book ask old middle before now more at emptied alone is pushed 
     bodyless_all aim.head aim.prev book ask aim.limit pushed (messages ++ (emptied.closed ++ more)) at none alone.1
     (alone_behind aim old emptied.closed more pushed messages none (emptied.cut pushed messages made) ∙ is)
 
--- letters behind those of what the cutter held
-letters_behind : (aim : Aim) (old middle : Post) (closed more : List Message) (before seen now : Seen) → middle.put ≡ old.put + length closed → Posted before seen (letters aim.address (aim.count + old.put) closed)
-    → Posted seen now (letters aim.address (aim.count + middle.put) more) → Posted before now (letters aim.address (aim.count + old.put) (closed ++ more))
-letters_behind aim old middle closed more before seen now count one two =
+-- message files behind those of what the cutter held
+put_files_behind : (aim : Aim) (old middle : Post) (closed more : List Message) (before seen now : Seen) → middle.put ≡ old.put + length closed → Posted before seen (put_files aim.address (aim.count + old.put) closed)
+    → Posted seen now (put_files aim.address (aim.count + middle.put) more) → Posted before now (put_files aim.address (aim.count + old.put) (closed ++ more))
+put_files_behind aim old middle closed more before seen now count one two =
     let same : aim.count + middle.put ≡ aim.count + old.put + length closed = omega (arith, count) in
-    posted_more aim.address (aim.count + old.put) closed more before seen now one (subst (λ (n : ℕ). Posted seen now (letters aim.address n more)) same two)
+    posted_more aim.address (aim.count + old.put) closed more before seen now one (subst (λ (n : ℕ). Posted seen now (put_files aim.address n more)) same two)
 
 pub completed_bodyless : (aim : Aim) (book : Book) (ask : Bool) (old middle new : Post) (before seen now : Seen) → aim.prev ≡ offset_from book.log_sent → Emptied aim old middle before seen → IsDueAlone aim.prev middle.end book ask
     → Bodyless aim middle new seen now → Completed aim book ask old new before now
@@ -219,7 +221,7 @@ completed_bodyless aim book ask old middle new before seen now at emptied alone 
   are = are_bodyless aim book ask old middle before seen (bodyless aim.head aim.prev ∷ []) at emptied alone refl;
   count = omega (arith, emptied.count, put.count, length-append emptied.closed (bodyless aim.head aim.prev ∷ []));
   end_is = put.end_is ∙ emptied.end_is;
-  posted = letters_behind aim old middle emptied.closed (bodyless aim.head aim.prev ∷ []) before seen now emptied.count emptied.posted put.posted;
+  posted = put_files_behind aim old middle emptied.closed (bodyless aim.head aim.prev ∷ []) before seen now emptied.count emptied.posted put.posted;
   spelled = AllByRecursion-append IsMessage emptied.closed (bodyless aim.head aim.prev ∷ []) emptied.spelled put.spelled;
   steady = steady_on before seen now emptied.steady put.steady;
 }
@@ -240,7 +242,7 @@ last_stopped aim book ask old middle before seen now fault at emptied alone part
     subst (λ (ms : List Message). AreMessages aim.head book ask aim.limit pushed (earlier ++ ms)) (sym (append_assoc emptied.closed part.done part.left))
         (are_bodyless aim book ask old middle before seen (part.done ++ part.left) at emptied alone (sym part.parts) pushed earlier made),
   );
-  posted = letters_behind aim old middle emptied.closed part.done before seen now emptied.count emptied.posted part.posted;
+  posted = put_files_behind aim old middle emptied.closed part.done before seen now emptied.count emptied.posted part.posted;
   spelled = AllByRecursion-append IsMessage emptied.closed part.done emptied.spelled part.spelled;
   cause = fault_behind before seen now fault emptied.steady part.cause;
   ends = ends_on before seen now emptied.steady part.ends;
@@ -257,7 +259,7 @@ all_put db aim book ask user post post' before middle now read completed = recor
   count = omega (arith, completed.count, read.made.count, length-append read.messages completed.closed);
   end_is = completed.end_is ∙ read.made.end_is;
   fits = read.made.fits;
-  posted = letters_on aim post read.pushed read.messages completed.closed before middle now read.made read.posted completed.posted;
+  posted = put_files_on aim post read.pushed read.messages completed.closed before middle now read.made read.posted completed.posted;
   spelled = AllByRecursion-append IsMessage read.messages completed.closed read.spelled completed.spelled;
   steady = steady_on before middle now read.steady completed.steady;
   whole = read.whole;
@@ -272,7 +274,7 @@ last_read db aim book ask user post before middle now fault read stop =
       messages = read.messages ++ stop.messages;
       left = all.0;
       are = subst (λ (ms : List Message). AreMessages aim.head book ask aim.limit read.pushed ms) (sym (append_assoc read.messages stop.messages all.0)) all.1;
-      posted = letters_on aim post read.pushed read.messages stop.messages before middle now read.made read.posted stop.posted;
+      posted = put_files_on aim post read.pushed read.messages stop.messages before middle now read.made read.posted stop.posted;
       spelled = AllByRecursion-append IsMessage read.messages stop.messages read.spelled stop.spelled;
       whole = read.whole;
       cause = fault_behind before middle now fault read.steady stop.cause;
@@ -288,7 +290,7 @@ pub nothing_put : (db : View) (aim : Aim) (book : Book) (ask : Bool) (user : Nam
 nothing_put db aim book ask user seen good = inl (record {
   pushed = [];
   messages = [];
-  front = record { begins = λ rest. cut_there aim.head aim.limit (has_room aim good) aim.prev rest };
+  prefix = record { begins = λ rest. cut_there aim.head aim.limit (has_room aim good) aim.prev rest };
   posted = posted_none seen;
   spelled = tt;
   begins = λ told publisher es database. record { rest = unsent publisher es user aim.prev.0; parts = refl };

@@ -3,11 +3,11 @@ use Rattle.std.proofs.Common.{◌≡◌, ℕ, ◌≤◌, [], length, true, false
 use Rattle.std.specs.Prelude.{Bool, cond, IsTrue}
 use Rattle.sr_book.specs.Entries.{Name}
 use Rattle.sr_book.specs.declared.book.Book.{Book}
-use Rattle.sr_cut.specs.Cuts.{Cutting, HasGiven, file_length}
-use Rattle.sr_cut.specs.declared.head.Head.{Head}
+use Rattle.sr_mail_cut.specs.Cuts.{Cutting, HasGiven, file_length}
+use Rattle.sr_mail_cut.specs.declared.head.Head.{Head}
 use Rattle.sr_database.specs.Views.{View}
-use Rattle.sr_send.specs.Aims.{IsAim, HasMade, aim_at}
-use Rattle.sr_send.specs.Letters.{head_of}
+use Rattle.sr_send.specs.Inner.Aims.{IsAim, HasMade, aim_at}
+use Rattle.sr_send.specs.PutFiles.{head_of}
 use Rattle.sr_send.specs.declared.aim.Aim.{Aim}
 use Rattle.sr_send.specs.declared.post.Post.{Post}
 

@@ -7,22 +7,22 @@ use Rattle.sr_base.specs.Values.{offset_from}
 use Rattle.sr_base.specs.declared.offset.Offset.{Offset}
 use Rattle.sr_book.specs.Entries.{Name}
 use Rattle.sr_database.specs.Databases.{IsOf}
-use Rattle.sr_database.specs.Entries.{IsNext}
+use Rattle.sr_database.specs.Inner.Entries.{IsNext}
 use Rattle.sr_database.specs.Views.{View}
-use Rattle.sr_history.specs.Fitting.{Fits, Stored}
-use Rattle.sr_history.specs.Folds.{State, fresh, size, state_of, end_of}
-use Rattle.sr_history.specs.Recorded.{Recorded, entry_of}
-use Rattle.sr_history.proofs.Joined.{state_from-more, end_from-more, stored_from-append}
-use Rattle.sr_history.proofs.Kept.{stored_holds}
+use Rattle.sr_database_history.specs.Fitting.{Fits, Stored}
+use Rattle.sr_database_history.specs.Folds.{State, fresh, size, state_of, end_of}
+use Rattle.sr_database_history.specs.Recorded.{Recorded, entry_of}
+use Rattle.sr_database_history.proofs.Joined.{state_from-more, end_from-more, stored_from-append}
+use Rattle.sr_database_history.proofs.Kept.{stored_holds}
 use Rattle.sr_logform.specs.declared.entry.Entry.{Entry}
 use Rattle.sr_logform.specs.declared.op.Op.{Op}
 use Rattle.sr_logform.specs.declared.op.Transaction.{Transaction}
 use Rattle.sr_scan.specs.Given.{given_of, given_from, gives, with_transaction}
-use Rattle.sr_scan.specs.Scanners.{Scan, IsFed, transaction_of}
+use Rattle.sr_scan.specs.Inner.Scanners.{Scan, IsFed, transaction_of}
 use Rattle.sr_scan.proofs.Agreeing.{fed_same}
 use Rattle.sr_scan.proofs.Growing.{joined, one_more}
-use Rattle.sr_send.specs.Steps.{newer, HasRead, IsScanned}
-use Rattle.sr_send.specs.Stops.{IsFrontOf, IsNextFound}
+use Rattle.sr_send.specs.Inner.Steps.{newer, HasRead, IsScanned}
+use Rattle.sr_send.specs.Inner.Stops.{IsPrefixOf, IsNextFound}
 use Rattle.sr_send.specs.Unsent.{as_transaction, past, unsent}
 
 -- ---- those past an offset
@@ -53,9 +53,9 @@ unsent_more publisher user rs r sent at is =
     ∙ past-append sent (given_of publisher rs user) (with_transaction (end_of rs + (size r + 5)) ops [])
     ∙ ap (λ (ts : List Transaction). unsent publisher rs user sent ++ ts) (past_found sent (end_of rs + (size r + 5)) at ops place)
 
--- those of a front are the first
-unsent_front : (publisher user : Name) (rs qs : List Recorded) (sent : ℕ) → IsFrontOf (unsent publisher rs user sent) (unsent publisher (rs ++ qs) user sent)
-unsent_front publisher user rs qs sent = record {
+-- those of a prefix are the first
+unsent_prefix : (publisher user : Name) (rs qs : List Recorded) (sent : ℕ) → IsPrefixOf (unsent publisher rs user sent) (unsent publisher (rs ++ qs) user sent)
+unsent_prefix publisher user rs qs sent = record {
   rest = past sent (given_from (state_of publisher rs) (end_of rs) qs user);
   parts = ap (past sent) (joined publisher user rs qs) ∙ past-append sent (given_of publisher rs user) (given_from (state_of publisher rs) (end_of rs) qs user);
 }
@@ -118,18 +118,18 @@ read_all publisher es user sent after scan pushed read none =
     read.pushed_are ∙ ap (λ (rs : List Recorded). unsent publisher rs user sent) (sym (read.parts ∙ ap (λ (rs : List Recorded). read.done ++ rs) none ∙ append-nil read.done))
 
 -- what was pushed is the first of what is unsent
-pub read_front : (publisher : Name) (es : List Recorded) (user : Name) (sent : ℕ) (after : Offset) (scan : Scan) (pushed : List Transaction) → HasRead publisher es user sent after scan pushed
-    → IsFrontOf pushed (unsent publisher es user sent)
-read_front publisher es user sent after scan pushed read =
-    let front = unsent_front publisher user read.done read.left sent in
+pub read_prefix : (publisher : Name) (es : List Recorded) (user : Name) (sent : ℕ) (after : Offset) (scan : Scan) (pushed : List Transaction) → HasRead publisher es user sent after scan pushed
+    → IsPrefixOf pushed (unsent publisher es user sent)
+read_prefix publisher es user sent after scan pushed read =
+    let prefix = unsent_prefix publisher user read.done read.left sent in
     record {
-      rest = front.rest;
-      parts = ap (λ (rs : List Recorded). unsent publisher rs user sent) read.parts ∙ front.parts ∙ ap (λ (ts : List Transaction). ts ++ front.rest) (sym read.pushed_are);
+      rest = prefix.rest;
+      parts = ap (λ (rs : List Recorded). unsent publisher rs user sent) read.parts ∙ prefix.parts ∙ ap (λ (ts : List Transaction). ts ++ prefix.rest) (sym read.pushed_are);
     }
 
 -- with what the next entry gives
-pub next_front : (publisher : Name) (es : List Recorded) (user : Name) (sent : ℕ) (after : Offset) (scan : Scan) (pushed added : List Transaction) → Stored publisher es → (read : HasRead publisher es user sent after scan pushed)
-    → IsNextFound scan sent read.done read.left added → IsFrontOf (pushed ++ added) (unsent publisher es user sent)
-next_front publisher es user sent after scan pushed added stored read found =
-    read_front publisher es user sent found.end found.found.behind (pushed ++ added)
+pub next_prefix : (publisher : Name) (es : List Recorded) (user : Name) (sent : ℕ) (after : Offset) (scan : Scan) (pushed added : List Transaction) → Stored publisher es → (read : HasRead publisher es user sent after scan pushed)
+    → IsNextFound scan sent read.done read.left added → IsPrefixOf (pushed ++ added) (unsent publisher es user sent)
+next_prefix publisher es user sent after scan pushed added stored read found =
+    read_prefix publisher es user sent found.end found.found.behind (pushed ++ added)
     (read_more publisher es user sent after found.end scan found.found.behind pushed added found.entry stored read found.next found.found.scanned)

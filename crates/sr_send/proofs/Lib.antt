@@ -1,6 +1,7 @@
 pub mod Results
 pub mod Heads
 pub mod Posts
+pub mod Founds
 pub mod Numbers
 pub mod Cutting
 pub mod Still
@@ -12,4 +13,4 @@ pub mod Endings
 pub mod NoteEnds
 pub mod PassEnds
 pub mod Truths
-pub mod TrueLetters
+pub mod TrueSentMessages

@@ -4,29 +4,26 @@ use Rattle.std.specs.Prelude.{IsTrue, IfOk, IfErr, OnOk, ◌⊎◌}
 use Rattle.std.proofs.lemmas.List.{append-nil}
 use Rattle.sr_base.specs.declared.offset.Offset.{Offset}
 use Rattle.sr_book.specs.Entries.{Name}
-use Rattle.sr_cut.proofs.Items.{long-behind}
-use Rattle.sr_cut.proofs.Lists.{AllByRecursion-append}
-use Rattle.sr_database.specs.Causes.{EntryCause}
+use Rattle.sr_mail_cut.proofs.Items.{long-behind}
+use Rattle.sr_mail_cut.proofs.Lists.{AllByRecursion-append}
 use Rattle.sr_database.specs.Databases.{IsOfSome, IsDatabase}
-use Rattle.sr_database.specs.Entries.{IsNext}
+use Rattle.sr_database.specs.Inner.Entries.{IsNext}
 use Rattle.sr_database.specs.Views.{View}
-use Rattle.sr_files.specs.declared.fault.DatabaseFault.{DatabaseFault}
-use Rattle.sr_files.specs.declared.fault.DatabaseFault.TheVariants as store
-use Rattle.sr_history.specs.Folds.{end_of}
-use Rattle.sr_history.specs.Recorded.{Recorded}
+use Rattle.sr_database_history.specs.Folds.{end_of}
+use Rattle.sr_database_history.specs.Recorded.{Recorded}
 use Rattle.sr_logform.specs.declared.entry.Entry.{Entry}
 use Rattle.sr_logform.specs.declared.op.Transaction.{Transaction}
 use Rattle.sr_msgform.specs.Messages.{IsMessage}
 use Rattle.sr_msgform.specs.declared.message.Message.{Message}
-use Rattle.sr_scan.specs.Scanners.{Scan}
+use Rattle.sr_scan.specs.Inner.Scanners.{Scan}
 use Rattle.sr_site.specs.Seen.{Seen}
-use Rattle.sr_standing.specs.Items.{Item}
-use Rattle.sr_send.specs.Aims.{IsAim, HasMade, HasMadeSome}
-use Rattle.sr_send.specs.Faults.{fault_of_store}
-use Rattle.sr_send.specs.Letters.{letters}
-use Rattle.sr_send.specs.Posting.{Posted, IsSteady}
-use Rattle.sr_send.specs.Steps.{EndsAt, IsBehind, Fed, Stepped, IsAtEnd, DoneStep, stepped_to, HasRead, UnderWay, AllRead}
-use Rattle.sr_send.specs.Stops.{NextFault, StopFault, PushStop, FeedStop, IsFound, IsNextFound, StepStop, IsFrontOf, ReadStop}
+use Rattle.sr_database_meaning.specs.Events.{Event}
+use Rattle.sr_send.specs.Inner.Aims.{IsAim, HasMade, HasMadeSome}
+use Rattle.sr_send.specs.PutFiles.{put_files}
+use Rattle.sr_send.specs.Posting.{IsSteady}
+use Rattle.sr_send.specs.Inner.Posting.{Posted}
+use Rattle.sr_send.specs.Inner.Steps.{EndsAt, IsBehind, Fed, Stepped, IsAtEnd, DoneStep, stepped_to, HasRead, UnderWay, AllRead}
+use Rattle.sr_send.specs.Inner.Stops.{NextFault, StopFault, PushStop, FeedStop, IsFound, IsNextFound, StepStop, IsPrefixOf, ReadStop}
 use Rattle.sr_send.specs.Unsent.{unsent}
 use Rattle.sr_send.specs.declared.aim.Aim.{Aim}
 use Rattle.sr_send.specs.declared.fault.SendFault.{SendFault}
@@ -35,20 +32,20 @@ use Rattle.sr_send.specs.declared.post.Post.{Post}
 use Rattle.sr_send.proofs.Posts.{told_then, posted_none, posted_on, posted_database, same_counts, steady_on, ends_none, ends_on, rose_from}
 use Rattle.sr_send.proofs.Numbers.{no_commits, posted_more}
 use Rattle.sr_send.proofs.Pushes.{nothing_put}
-use Rattle.sr_send.proofs.Histories.{read_none, read_more, read_all, read_front, next_front}
+use Rattle.sr_send.proofs.Histories.{read_none, read_more, read_all, read_prefix, next_prefix}
 
 -- ---- one step
 
 -- the entry was found: the next behind the offset
 abbrev pub IsFoundNext : View → Offset → Offset → Entry → Seen → Type 0
-IsFoundNext db after end entry seen = IsTrue seen.told → (publisher : Name) (done left : List Recorded) → IsDatabase db publisher (done ++ left) seen → after.0 ≡ end_of done → IsNext done left end entry
+IsFoundNext db after end entry seen = IsTrue seen.observable → (publisher : Name) (done left : List Recorded) → IsDatabase db publisher (done ++ left) seen → after.0 ≡ end_of done → IsNext done left end entry
 
 behind_fed : (sent : ℕ) (after end old new : Offset) → IsBehind sent after.0 old.0 → after.0 < end.0 → EndsAt old end new → IsBehind sent end.0 new.0
 behind_fed sent after end old new behind later (inl same) = λ n past further. subst (λ (o : Offset). o.0 < n) (sym same) (behind n past (omega (arith, later, further)))
 behind_fed sent after end old new behind later (inr is) = λ n past further. subst (λ (o : Offset). o.0 < n) (sym is) further
 
-posted_behind_read : (before middle now : Seen) (items : List Item) → Posted before middle [] → Posted middle now items → Posted before now items
-posted_behind_read before middle now items read posted = posted_on before middle now [] items refl read posted
+posted_behind_read : (before middle now : Seen) (events : List Event) → Posted before middle [] → Posted middle now events → Posted before now events
+posted_behind_read before middle now events read posted = posted_on before middle now [] events refl read posted
 
 pub step_on : (db : View) (aim : Aim) (scan scan' : Scan) (old new : Post) (after end : Offset) (entry : Entry) (before middle now : Seen) → IsBehind aim.prev.0 after.0 old.end.0 → Posted before middle [] → IsSteady before middle
     → (after.0 < end.0) × (end.0 ≤ db.log.end) → IsFoundNext db after end entry before → Fed aim scan scan' old new end entry middle now → Stepped db aim scan scan' old new after end before now
@@ -80,7 +77,7 @@ stop_from : (aim : Aim) (old : Post) (before middle now : Seen) (added : List Tr
     → PushStop aim old before now added fault
 stop_from aim old before middle now added fault read steady stop = record {
   messages = stop.messages;
-  front = stop.front;
+  prefix = stop.prefix;
   posted = posted_behind_read before middle now _ read stop.posted;
   spelled = stop.spelled;
   cause = fault_from before middle now added fault steady stop.cause;
@@ -88,7 +85,7 @@ stop_from aim old before middle now added fault read steady stop = record {
 }
 
 found_of : (db : View) (aim : Aim) (scan : Scan) (old : Post) (after end : Offset) (entry : Entry) (before middle now : Seen) (fault : SendFault) → IsFoundNext db after end entry before → (stop : FeedStop aim scan old end entry middle now fault)
-    → IsTrue before.told → (publisher : Name) (done left : List Recorded) → IsDatabase db publisher (done ++ left) before → after.0 ≡ end_of done → (stop.added ≡ []) ⊎ IsNextFound scan aim.prev.0 done left stop.added
+    → IsTrue before.observable → (publisher : Name) (done left : List Recorded) → IsDatabase db publisher (done ++ left) before → after.0 ≡ end_of done → (stop.added ≡ []) ⊎ IsNextFound scan aim.prev.0 done left stop.added
 found_of db aim scan old after end entry before middle now fault next_is stop told publisher done left database at = cases stop.found
   where
     cases : (stop.added ≡ []) ⊎ IsFound scan end entry aim.prev.0 stop.added → (stop.added ≡ []) ⊎ IsNextFound scan aim.prev.0 done left stop.added
@@ -118,7 +115,7 @@ step_unread db aim scan old after before now fault good read mail cause = record
   found = λ told publisher done left database at. inl refl;
   stop = record {
     messages = [];
-    front = nothing_put aim old [] good;
+    prefix = nothing_put aim old [] good;
     posted = read;
     spelled = tt;
     cause = next_fault before now fault mail cause;
@@ -148,12 +145,12 @@ under_start db aim user scan post after seen made at order catalog user_is =
 pub some_made : (db : View) (aim : Aim) (user : Name) (scan : Scan) (post : Post) (after : Offset) (before now : Seen) → UnderWay db aim user scan post after before now → HasMadeSome aim post
 some_made db aim user scan post after before now under = record { pushed = under.pushed; messages = under.messages; made = under.made }
 
--- the letters of a step stand behind those before it
-pub letters_on : (aim : Aim) (post : Post) (pushed : List Transaction) (messages more : List Message) (before middle now : Seen) → HasMade aim post pushed messages → Posted before middle (letters aim.address aim.count messages)
-    → Posted middle now (letters aim.address (aim.count + post.put) more) → Posted before now (letters aim.address aim.count (messages ++ more))
-letters_on aim post pushed messages more before middle now made one two =
+-- the message files of a step stand behind those before it
+pub put_files_on : (aim : Aim) (post : Post) (pushed : List Transaction) (messages more : List Message) (before middle now : Seen) → HasMade aim post pushed messages → Posted before middle (put_files aim.address aim.count messages)
+    → Posted middle now (put_files aim.address (aim.count + post.put) more) → Posted before now (put_files aim.address aim.count (messages ++ more))
+put_files_on aim post pushed messages more before middle now made one two =
     posted_more aim.address aim.count messages more before middle now one
-    (subst (λ (n : ℕ). Posted middle now (letters aim.address (aim.count + n) more)) made.count two)
+    (subst (λ (n : ℕ). Posted middle now (put_files aim.address (aim.count + n) more)) made.count two)
 
 pub under_step : (db : View) (aim : Aim) (user : Name) (scan scan' : Scan) (post post' : Post) (after end : Offset) (first before now : Seen) → UnderWay db aim user scan post after first before
     → Stepped db aim scan scan' post post' after end before now → UnderWay db aim user scan' post' end first now
@@ -161,7 +158,7 @@ under_step db aim user scan scan' post post' after end first before now under st
   pushed = under.pushed ++ step.added;
   messages = under.messages ++ step.pushed.closed;
   made = step.pushed.made under.pushed under.messages under.made;
-  posted = letters_on aim post under.pushed under.messages step.pushed.closed first before now under.made under.posted step.pushed.posted;
+  posted = put_files_on aim post under.pushed under.messages step.pushed.closed first before now under.made under.posted step.pushed.posted;
   spelled = AllByRecursion-append IsMessage under.messages step.pushed.closed under.spelled step.pushed.spelled;
   steady = steady_on first before now under.steady step.pushed.steady;
   from_base = omega (arith, under.from_base, step.later);
@@ -181,8 +178,8 @@ under_end db aim user scan post post' after first before now under at_end = reco
   messages = under.messages;
   made = subst (λ (p : Post). HasMade aim p under.pushed under.messages) (sym at_end.same) under.made;
   posted =
-      subst (λ (items : List Item). Posted first now items) (append-nil (letters aim.address aim.count under.messages))
-      (posted_on first before now (letters aim.address aim.count under.messages) [] (no_commits aim.address aim.count under.messages) under.posted at_end.posted);
+      subst (λ (events : List Event). Posted first now events) (append-nil (put_files aim.address aim.count under.messages))
+      (posted_on first before now (put_files aim.address aim.count under.messages) [] (no_commits aim.address aim.count under.messages) under.posted at_end.posted);
   spelled = under.spelled;
   steady = steady_on first before now under.steady at_end.steady;
   whole = λ told publisher es database.
@@ -201,39 +198,30 @@ long_of aim post pushed added messages first before now (Full end need) made ste
 long_of aim post pushed added messages first before now (Long size limit) made steady cause = (steady_on first before now steady cause.0, cause.1, long-behind pushed added made.fits ∙ cause.2)
 long_of aim post pushed added messages first before now Memory made steady cause = fault_from first before now added Memory steady cause
 
-front_at : (publisher : Name) (es : List Recorded) (user : Name) (sent : ℕ) (after : Offset) (scan : Scan) (pushed added : List Transaction) (db : View) (seen : Seen) → IsDatabase db publisher es seen → (read : HasRead publisher es user sent after scan pushed)
-    → (added ≡ []) ⊎ IsNextFound scan sent read.done read.left added → IsFrontOf (pushed ++ added) (unsent publisher es user sent)
-front_at publisher es user sent after scan pushed added db seen database read (inl none) =
-    subst (λ (ts : List Transaction). IsFrontOf ts (unsent publisher es user sent)) (sym (ap (λ (ts : List Transaction). pushed ++ ts) none ∙ append-nil pushed)) (read_front publisher es user sent after scan pushed read)
-front_at publisher es user sent after scan pushed added db seen database read (inr found) = next_front publisher es user sent after scan pushed added database.is.stored read found
+prefix_at : (publisher : Name) (es : List Recorded) (user : Name) (sent : ℕ) (after : Offset) (scan : Scan) (pushed added : List Transaction) (db : View) (seen : Seen) → IsDatabase db publisher es seen → (read : HasRead publisher es user sent after scan pushed)
+    → (added ≡ []) ⊎ IsNextFound scan sent read.done read.left added → IsPrefixOf (pushed ++ added) (unsent publisher es user sent)
+prefix_at publisher es user sent after scan pushed added db seen database read (inl none) =
+    subst (λ (ts : List Transaction). IsPrefixOf ts (unsent publisher es user sent)) (sym (ap (λ (ts : List Transaction). pushed ++ ts) none ∙ append-nil pushed)) (read_prefix publisher es user sent after scan pushed read)
+prefix_at publisher es user sent after scan pushed added db seen database read (inr found) = next_prefix publisher es user sent after scan pushed added database.is.stored read found
 
 pub under_stopped : (db : View) (aim : Aim) (user : Name) (scan : Scan) (post : Post) (after : Offset) (first before now : Seen) (fault : SendFault) → UnderWay db aim user scan post after first before
     → StepStop db aim scan post after before now fault → ReadStop db aim user first now fault
 under_stopped db aim user scan post after first before now fault under stop = record {
   pushed = under.pushed ++ stop.added;
   messages = under.messages ++ stop.stop.messages;
-  front = stop.stop.front under.pushed under.messages under.made;
-  posted = letters_on aim post under.pushed under.messages stop.stop.messages first before now under.made under.posted stop.stop.posted;
+  prefix = stop.stop.prefix under.pushed under.messages under.made;
+  posted = put_files_on aim post under.pushed under.messages stop.stop.messages first before now under.made under.posted stop.stop.posted;
   spelled = AllByRecursion-append IsMessage under.messages stop.stop.messages under.spelled stop.stop.spelled;
   begins = λ told publisher es database.
       let read = under.read told publisher es database in
       let here = posted_database db publisher es first before _ under.posted told database in
-      front_at publisher es user aim.prev.0 after scan under.pushed stop.added db first database read
+      prefix_at publisher es user aim.prev.0 after scan under.pushed stop.added db first database read
       (stop.found (told_then first before under.posted.stays told) publisher read.done read.left (subst (λ (rs : List Recorded). IsDatabase db publisher rs before) read.parts here) read.after_is);
   cause = long_of aim post under.pushed stop.added under.messages first before now fault under.made under.steady stop.stop.cause;
   ends = ends_on first before now under.steady stop.stop.ends;
 }
 
 -- ---- as the code meets them
-
-pub next_cause : (db : View) (after : Offset) (before now : Seen) (fault : DatabaseFault) → EntryCause db after before now fault → NextFault before now (fault_of_store fault)
-next_cause db after before now store.Missing cause = absurd cause
-next_cause db after before now store.Exists cause = absurd cause
-next_cause db after before now (store.Damaged file at) cause = cause.1
-next_cause db after before now store.Disk cause = cause
-next_cause db after before now (store.Full end need) cause = absurd cause
-next_cause db after before now (store.Long size limit) cause = absurd cause
-next_cause db after before now store.Memory cause = cause
 
 pub done_answer : (db : View) (aim : Aim) (scan scan' : Scan) (old new : Post) (after end : Offset) (entry : Entry) (before middle now : Seen) (result : Result (Unit {0}) SendFault) → IsBehind aim.prev.0 after.0 old.end.0 → Posted before middle []
     → IsSteady before middle → (after.0 < end.0) × (end.0 ≤ db.log.end) → IsFoundNext db after end entry before → OnOk result (Fed aim scan scan' old new end entry middle now)

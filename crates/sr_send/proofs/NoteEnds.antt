@@ -1,26 +1,32 @@
 -- The note of messages, committed or not.
-use Rattle.std.proofs.Common.{◌≡◌, List, [], ◌∷◌, ◌++◌, Result, Ok, Err, refl, sym, subst}
+use Rattle.std.proofs.Common.{◌≡◌, ℕ, ◌≤◌, List, [], ◌∷◌, ◌++◌, length, Result, Ok, Err, refl, sym, subst, arith}
 use Rattle.std.specs.Prelude.{IsTrue, IsSome, IfErr, OnOk, true}
+use Rattle.std.proofs.lemmas.List.{length-append}
+use Rattle.sr_base.specs.Fields.{name_spelling}
 use Rattle.sr_base.specs.declared.offset.Offset.{Offset}
 use Rattle.sr_book.specs.Entries.{Name}
 use Rattle.sr_book.specs.declared.note.Note.{Note}
-use Rattle.sr_database.specs.Causes.{CommitCause, IsBegun}
-use Rattle.sr_database.specs.Commits.{CanCommit, CanCommitSome, HasRoom}
+use Rattle.sr_book.specs.declared.note.Note.TheVariants.{Sent as sent_up_to}
+use Rattle.sr_database.specs.Inner.Causes.{CommitCause, IsBegun}
+use Rattle.sr_database.specs.Commits.{HasRoom, IsLong}
+use Rattle.sr_database.specs.Inner.Commits.{CanCommit, CanCommitSome}
 use Rattle.sr_database.specs.Databases.{IsOf, IsDatabase}
 use Rattle.sr_database.specs.Views.{View}
-use Rattle.sr_files.specs.declared.fault.DatabaseFault.{DatabaseFault}
-use Rattle.sr_files.specs.declared.fault.DatabaseFault.TheVariants as store
-use Rattle.sr_history.specs.Fitting.{FitsState}
-use Rattle.sr_history.specs.Recorded.{Recorded, note}
+use Rattle.sr_database_files.specs.declared.fault.DatabaseFault.{DatabaseFault}
+use Rattle.sr_database_files.specs.declared.fault.DatabaseFault.TheVariants as store
+use Rattle.sr_database_history.specs.Fitting.{FitsState}
+use Rattle.sr_database_history.specs.Recorded.{Recorded, note}
+use Rattle.sr_logform.specs.Entries.{entry_spelling}
+use Rattle.sr_logform.specs.Outcomes.{note_spelling}
 use Rattle.sr_logform.specs.declared.entry.Entry.{Entry}
 use Rattle.sr_logform.specs.declared.entry.Entry.TheVariants as entries
-use Rattle.sr_schema.specs.Members.{user_name}
-use Rattle.sr_schema.specs.Names.{named}
+use Rattle.sr_catalog_schema.specs.Members.{user_name}
+use Rattle.sr_catalog_schema.specs.Names.{named}
 use Rattle.sr_site.specs.Seen.{Seen}
-use Rattle.sr_standing.specs.Items.{commit}
-use Rattle.sr_standing.specs.Trails.{Went}
-use Rattle.sr_send.specs.Faults.{fault_of_store}
-use Rattle.sr_send.specs.Notes.{Noted, NoteCause, noted_as}
+use Rattle.sr_database_meaning.specs.Events.{commit}
+use Rattle.sr_database_meaning.specs.Traces.{Went}
+use Rattle.sr_send.specs.Inner.Notes.{Noted, NoteCause, IsNoteRefusal, IsNotedAs}
+use Rattle.sr_send.specs.declared.fault.SendFault.{SendFault}
 
 -- a note of a user who is granted may be committed
 pub can_note : (db : View) (user : Name) (what : Note) → db.pending ≡ [] → IsSome (named user_name user db.catalog.users) → CanCommit db (entries.Note user what) (note user what)
@@ -32,34 +38,65 @@ can_note_some db user what none known = record { r = note user what; can = can_n
 
 -- what `commit` says of each entry that it may commit
 abbrev pub WentIf : View → Seen → Seen → Name → Note → Type 0 → Type 0
-WentIf old before now user what begun = IsTrue before.told → (publisher : Name) (es : List Recorded) (r : Recorded) → IsDatabase old publisher es before → CanCommit old (entries.Note user what) r → begun
+WentIf old before now user what begun = IsTrue before.observable → (publisher : Name) (es : List Recorded) (r : Recorded) → IsDatabase old publisher es before → CanCommit old (entries.Note user what) r → begun
     → Went before now publisher es (commit r ∷ [])
 
-pub not_noted : (old new : View) (before now : Seen) (user : Name) (what : Note) (fault : DatabaseFault) → CanCommit old (entries.Note user what) (note user what) → CommitCause old new (entries.Note user what) before now fault
-    → WentIf old before now user what (IsBegun (Err fault)) → NoteCause old new before now (note user what) (fault_of_store fault)
-not_noted old new before now user what store.Missing can cause went = absurd cause
-not_noted old new before now user what store.Exists can cause went = absurd cause
-not_noted old new before now user what (store.Damaged file at) can cause went = absurd cause
-not_noted old new before now user what store.Disk can cause went = (cause.0, cause.1, λ told publisher es database. went told publisher es (note user what) database can tt)
-not_noted old new before now user what (store.Full end need) can cause went = cause
-not_noted old new before now user what (store.Long size limit) can cause went = cause.1
-not_noted old new before now user what store.Memory can cause went = cause
+pub not_noted : (old new : View) (before now : Seen) (user : Name) (what : Note) (fault : DatabaseFault) (answer : Result (Unit {0}) SendFault) → CanCommit old (entries.Note user what) (note user what)
+    → CommitCause old new (entries.Note user what) before now fault → WentIf old before now user what (IsBegun (Err fault)) → IsNotedAs (Err fault) answer → IfErr answer (NoteCause old new before now (note user what))
+not_noted old new before now user what store.Missing answer can cause went noted = absurd noted
+not_noted old new before now user what store.Exists answer can cause went noted = absurd noted
+not_noted old new before now user what (store.Damaged file at) answer can cause went noted = absurd noted
+not_noted old new before now user what store.Disk answer can cause went noted =
+    subst (λ (r : Result (Unit {0}) SendFault). IfErr r (NoteCause old new before now (note user what))) (sym noted)
+    (cause.0, cause.1, λ told publisher es database. went told publisher es (note user what) database can tt)
+not_noted old new before now user what (store.Full end need) answer can cause went noted = subst (λ (r : Result (Unit {0}) SendFault). IfErr r (NoteCause old new before now (note user what))) (sym noted) cause
+not_noted old new before now user what (store.Long size limit) answer can cause went noted = absurd noted
+not_noted old new before now user what store.Memory answer can cause went noted = subst (λ (r : Result (Unit {0}) SendFault). IfErr r (NoteCause old new before now (note user what))) (sym noted) cause
+
+-- a fault is no answer that it was noted
+not_done : (fault : DatabaseFault) (answer : Result (Unit {0}) SendFault) (holds : Type 0) → IsNotedAs (Err fault) answer → OnOk answer holds
+not_done store.Missing answer holds noted = absurd noted
+not_done store.Exists answer holds noted = absurd noted
+not_done (store.Damaged file at) answer holds noted = absurd noted
+not_done store.Disk answer holds noted = subst (λ (r : Result (Unit {0}) SendFault). OnOk r holds) (sym noted) tt
+not_done (store.Full end need) answer holds noted = subst (λ (r : Result (Unit {0}) SendFault). OnOk r holds) (sym noted) tt
+not_done (store.Long size limit) answer holds noted = absurd noted
+not_done store.Memory answer holds noted = subst (λ (r : Result (Unit {0}) SendFault). OnOk r holds) (sym noted) tt
+
+-- ---- what a commit of a note may be refused with
+
+-- the note's tag, the name with its length, and the note: the messages' last offset, their number and the offset that they confirm
+pub note_short : (user : Name) (end confirm : Offset) (put : ℕ) → length user ≤ 64 → ¬ (IsLong (entries.Note user (sent_up_to end put confirm)))
+unfolding entry_spelling note_spelling
+note_short user end confirm put short long =
+    let what : length (note_spelling (sent_up_to end put confirm)) ≡ 21 = refl in
+    omega (arith, long, short, what, length-append (name_spelling user) (note_spelling (sent_up_to end put confirm)))
+
+pub note_refused : (old new : View) (before now : Seen) (entry : Entry) (outcome : Result Offset DatabaseFault) → ¬ (IsLong entry) → IfErr outcome (CommitCause old new entry before now) → IfErr outcome IsNoteRefusal
+note_refused old new before now entry (Ok offset) short cause = tt
+note_refused old new before now entry (Err store.Missing) short cause = absurd cause
+note_refused old new before now entry (Err store.Exists) short cause = absurd cause
+note_refused old new before now entry (Err (store.Damaged file at)) short cause = absurd cause
+note_refused old new before now entry (Err store.Disk) short cause = tt
+note_refused old new before now entry (Err (store.Full end need)) short cause = tt
+note_refused old new before now entry (Err (store.Long size limit)) short cause = absurd (short cause.0.long)
+note_refused old new before now entry (Err store.Memory) short cause = tt
 
 -- what `commit` says
 pub record CommitSays (old new : View) (before now : Seen) (entry : Entry) (result : Result Offset DatabaseFault) : Type 0 where
   pub ready : OnOk result ((new.log.usable ≡ true) × (new.pending ≡ []))
   pub value : (publisher : Name) (es : List Recorded) (r : Recorded) → IsOf old publisher es → CanCommit old entry r → OnOk result (IsOf new publisher (es ++ r ∷ []))
-  pub database : IsTrue before.told → (publisher : Name) (es : List Recorded) (r : Recorded) → IsDatabase old publisher es before → CanCommit old entry r → OnOk result (IsDatabase new publisher (es ++ r ∷ []) now)
-  pub went : IsTrue before.told → (publisher : Name) (es : List Recorded) (r : Recorded) → IsDatabase old publisher es before → CanCommit old entry r → IsBegun result → Went before now publisher es (commit r ∷ [])
+  pub database : IsTrue before.observable → (publisher : Name) (es : List Recorded) (r : Recorded) → IsDatabase old publisher es before → CanCommit old entry r → OnOk result (IsDatabase new publisher (es ++ r ∷ []) now)
+  pub went : IsTrue before.observable → (publisher : Name) (es : List Recorded) (r : Recorded) → IsDatabase old publisher es before → CanCommit old entry r → IsBegun result → Went before now publisher es (commit r ∷ [])
   pub room : OnOk result (HasRoom old.log entry)
   pub steady : OnOk result (now.disk_faults ≡ before.disk_faults)
   pub cause : IfErr result (CommitCause old new entry before now)
 
-pub noted_answer : (old new : View) (before now : Seen) (user : Name) (what : Note) (entry : Entry) (result : Result Offset DatabaseFault) → old.pending ≡ [] → IsSome (named user_name user old.catalog.users) → entry ≡ entries.Note user what
-    → CommitSays old new before now entry result → OnOk (noted_as result) (Noted old new before now (note user what))
-noted_answer old new before now user what entry (Ok offset) none known is says =
+pub noted_answer : (old new : View) (before now : Seen) (user : Name) (what : Note) (entry : Entry) (outcome : Result Offset DatabaseFault) (answer : Result (Unit {0}) SendFault) → old.pending ≡ []
+    → IsSome (named user_name user old.catalog.users) → entry ≡ entries.Note user what → CommitSays old new before now entry outcome → IsNotedAs outcome answer → OnOk answer (Noted old new before now (note user what))
+noted_answer old new before now user what entry (Ok offset) answer none known is says noted =
     let can : CanCommit old entry (note user what) = subst (λ (e : Entry). CanCommit old e (note user what)) (sym is) (can_note old user what none known) in
-    record {
+    let done : Noted old new before now (note user what) = record {
       usable = says.ready.0;
       pending = says.ready.1;
       room = subst (λ (e : Entry). HasRoom old.log e) is says.room;
@@ -67,13 +104,14 @@ noted_answer old new before now user what entry (Ok offset) none known is says =
       value = λ publisher es there. says.value publisher es (note user what) there can;
       database = λ told publisher es database. says.database told publisher es (note user what) database can;
       went = λ told publisher es database. says.went told publisher es (note user what) database can tt;
-    }
-noted_answer old new before now user what entry (Err fault) none known is says = tt
+    } in
+    subst (λ (r : Result (Unit {0}) SendFault). OnOk r (Noted old new before now (note user what))) (sym noted) done
+noted_answer old new before now user what entry (Err fault) answer none known is says noted = not_done fault answer (Noted old new before now (note user what)) noted
 
-pub cause_answer : (old new : View) (before now : Seen) (user : Name) (what : Note) (entry : Entry) (result : Result Offset DatabaseFault) → old.pending ≡ [] → IsSome (named user_name user old.catalog.users) → entry ≡ entries.Note user what
-    → CommitSays old new before now entry result → IfErr (noted_as result) (NoteCause old new before now (note user what))
-cause_answer old new before now user what entry (Ok offset) none known is says = tt
-cause_answer old new before now user what entry (Err fault) none known is says =
+pub cause_answer : (old new : View) (before now : Seen) (user : Name) (what : Note) (entry : Entry) (outcome : Result Offset DatabaseFault) (answer : Result (Unit {0}) SendFault) → old.pending ≡ []
+    → IsSome (named user_name user old.catalog.users) → entry ≡ entries.Note user what → CommitSays old new before now entry outcome → IsNotedAs outcome answer → IfErr answer (NoteCause old new before now (note user what))
+cause_answer old new before now user what entry (Ok offset) answer none known is says noted = subst (λ (r : Result (Unit {0}) SendFault). IfErr r (NoteCause old new before now (note user what))) (sym noted) tt
+cause_answer old new before now user what entry (Err fault) answer none known is says noted =
     let can = can_note old user what none known in
-    not_noted old new before now user what fault can (subst (λ (e : Entry). CommitCause old new e before now fault) is says.cause)
-    (λ told publisher es r database may begun. says.went told publisher es r database (subst (λ (e : Entry). CanCommit old e r) (sym is) may) begun)
+    not_noted old new before now user what fault answer can (subst (λ (e : Entry). CommitCause old new e before now fault) is says.cause)
+    (λ told publisher es r database may begun. says.went told publisher es r database (subst (λ (e : Entry). CanCommit old e r) (sym is) may) begun) noted

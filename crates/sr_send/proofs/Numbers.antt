@@ -1,46 +1,47 @@
--- Letters, numbered on.
+-- Message files, numbered on.
 use Rattle.std.proofs.Common.{◌≡◌, ℕ, ◌+◌, ◌≤◌, ◌%◌, ◌^◌, List, [], ◌∷◌, ◌++◌, length, refl, sym, ap, subst, ◌∙◌, arith, append_assoc, length-append, inl, inr}
 use Rattle.std.specs.Prelude.{◌⊎◌}
 use Rattle.std.specs.List.{AllByRecursion}
 use Rattle.std.proofs.lemmas.List.{append-nil}
 use Rattle.sr_book.specs.Entries.{Name}
-use Rattle.sr_cut.proofs.Lists.{AllByRecursion-append}
+use Rattle.sr_mail_cut.proofs.Lists.{AllByRecursion-append}
 use Rattle.sr_msgform.specs.Messages.{IsMessage, KeepsRules, message_length}
 use Rattle.sr_msgform.specs.declared.message.Message.{Message}
 use Rattle.sr_site.specs.Seen.{Seen}
-use Rattle.sr_standing.specs.Items.{Item, commits}
-use Rattle.sr_send.specs.Letters.{letter, letters}
-use Rattle.sr_send.specs.Posting.{Posted, IsSteady, PutFault}
-use Rattle.sr_send.specs.Stops.{IsPartPut, IsPartSent}
+use Rattle.sr_database_meaning.specs.Events.{Event, commits}
+use Rattle.sr_send.specs.PutFiles.{put_file, put_files}
+use Rattle.sr_send.specs.Posting.{IsSteady}
+use Rattle.sr_send.specs.Inner.Posting.{Posted, PutFault}
+use Rattle.sr_send.specs.Inner.Stops.{IsPartPut, IsPartSent}
 use Rattle.sr_send.specs.declared.aim.Aim.{Aim}
 use Rattle.sr_send.specs.declared.fault.SendFault.{SendFault}
 use Rattle.sr_send.specs.declared.fault.SendFault.TheVariants.{Disk, Mail, Full, Long, Memory}
 use Rattle.sr_send.proofs.Posts.{posted_none, posted_on, same_counts, steady_on, ends_on, ends_steady, rose_from}
 
--- letters commit nothing
-pub no_commits : (address : Name) (count : ℕ) (messages : List Message) → commits (letters address count messages) ≡ []
+-- message files commit nothing
+pub no_commits : (address : Name) (count : ℕ) (messages : List Message) → commits (put_files address count messages) ≡ []
 no_commits address count [] = refl
 no_commits address count (m ∷ messages) = no_commits address (count + 1) messages
 
 -- with what stands behind them
-pub commits_behind : (address : Name) (count : ℕ) (messages : List Message) (items : List Item) → commits (letters address count messages ++ items) ≡ commits items
-commits_behind address count [] items = refl
-commits_behind address count (m ∷ messages) items = commits_behind address (count + 1) messages items
+pub commits_behind : (address : Name) (count : ℕ) (messages : List Message) (events : List Event) → commits (put_files address count messages ++ events) ≡ commits events
+commits_behind address count [] events = refl
+commits_behind address count (m ∷ messages) events = commits_behind address (count + 1) messages events
 
-pub letters-append : (address : Name) (count : ℕ) (xs ys : List Message) → letters address count (xs ++ ys) ≡ letters address count xs ++ letters address (count + length xs) ys
-letters-append address count [] ys =
+pub put_files-append : (address : Name) (count : ℕ) (xs ys : List Message) → put_files address count (xs ++ ys) ≡ put_files address count xs ++ put_files address (count + length xs) ys
+put_files-append address count [] ys =
     let same : count ≡ count + 0 = omega arith in
-    ap (λ (n : ℕ). letters address n ys) same
-letters-append address count (x ∷ xs) ys =
+    ap (λ (n : ℕ). put_files address n ys) same
+put_files-append address count (x ∷ xs) ys =
     let same : count + 1 + length xs ≡ count + length (x ∷ xs) = omega arith in
-    ap (λ (items : List Item). letter address ((count + 1) % 2 ^ 64) x ∷ items)
-    (letters-append address (count + 1) xs ys ∙ ap (λ (n : ℕ). letters address (count + 1) xs ++ letters address n ys) same)
+    ap (λ (events : List Event). put_file address ((count + 1) % 2 ^ 64) x ∷ events)
+    (put_files-append address (count + 1) xs ys ∙ ap (λ (n : ℕ). put_files address (count + 1) xs ++ put_files address n ys) same)
 
--- some letters behind others
-pub posted_more : (address : Name) (count : ℕ) (xs ys : List Message) (a b c : Seen) → Posted a b (letters address count xs) → Posted b c (letters address (count + length xs) ys) → Posted a c (letters address count (xs ++ ys))
+-- some message files behind others
+pub posted_more : (address : Name) (count : ℕ) (xs ys : List Message) (a b c : Seen) → Posted a b (put_files address count xs) → Posted b c (put_files address (count + length xs) ys) → Posted a c (put_files address count (xs ++ ys))
 posted_more address count xs ys a b c one two =
-    subst (λ (items : List Item). Posted a c items) (sym (letters-append address count xs ys))
-    (posted_on a b c (letters address count xs) (letters address (count + length xs) ys) (no_commits address count xs) one two)
+    subst (λ (events : List Event). Posted a c events) (sym (put_files-append address count xs ys))
+    (posted_on a b c (put_files address count xs) (put_files address (count + length xs) ys) (no_commits address count xs) one two)
 
 -- ---- the loop over messages
 
@@ -52,7 +53,7 @@ MayBePut m = KeepsRules m × (message_length m ≤ 2097152)
 pub record IsPutting (address : Name) (count put : ℕ) (messages left : List Message) (total : ℕ) (before now : Seen) : Type 0 where
   pub done : List Message
   pub parts : messages ≡ done ++ left
-  pub posted : Posted before now (letters address (count + put) done)
+  pub posted : Posted before now (put_files address (count + put) done)
   pub spelled : AllByRecursion IsMessage done
   pub total_is : total ≡ put + length done
   pub each : AllByRecursion MayBePut left
@@ -63,19 +64,19 @@ putting_start address count put messages seen each = record { done = []; parts =
 
 -- the number that comes next
 next_number : (address : Name) (count put total number : ℕ) (done : List Message) (m : Message) → total ≡ put + length done → number ≡ (count + (total + 1)) % 2 ^ 64
-    → letter address number m ∷ [] ≡ letters address (count + put + length done) (m ∷ [])
+    → put_file address number m ∷ [] ≡ put_files address (count + put + length done) (m ∷ [])
 next_number address count put total number done m total_is is =
     let same : count + (total + 1) ≡ count + put + length done + 1 = omega (arith, total_is) in
-    ap (λ (n : ℕ). letter address n m ∷ []) (is ∙ ap (λ (n : ℕ). n % 2 ^ 64) same)
+    ap (λ (n : ℕ). put_file address n m ∷ []) (is ∙ ap (λ (n : ℕ). n % 2 ^ 64) same)
 
 one_more : (address : Name) (count put total number : ℕ) (m : Message) (left messages : List Message) (before middle now : Seen) (p : IsPutting address count put messages (m ∷ left) total before middle)
-    → number ≡ (count + (total + 1)) % 2 ^ 64 → Posted middle now (letter address number m ∷ []) → Posted before now (letters address (count + put) (p.done ++ m ∷ []))
+    → number ≡ (count + (total + 1)) % 2 ^ 64 → Posted middle now (put_file address number m ∷ []) → Posted before now (put_files address (count + put) (p.done ++ m ∷ []))
 one_more address count put total number m left messages before middle now p is posted =
     posted_more address (count + put) p.done (m ∷ []) before middle now p.posted
-    (subst (λ (items : List Item). Posted middle now items) (next_number address count put total number p.done m p.total_is is) posted)
+    (subst (λ (events : List Event). Posted middle now events) (next_number address count put total number p.done m p.total_is is) posted)
 
 pub putting_more : (address : Name) (count put total number : ℕ) (m : Message) (left messages : List Message) (before middle now : Seen) → IsPutting address count put messages (m ∷ left) total before middle
-    → number ≡ (count + (total + 1)) % 2 ^ 64 → Posted middle now (letter address number m ∷ []) → IsMessage m → IsSteady middle now → IsPutting address count put messages left (total + 1) before now
+    → number ≡ (count + (total + 1)) % 2 ^ 64 → Posted middle now (put_file address number m ∷ []) → IsMessage m → IsSteady middle now → IsPutting address count put messages left (total + 1) before now
 putting_more address count put total number m left messages before middle now p is posted spelled steady = record {
   done = p.done ++ m ∷ [];
   parts = p.parts ∙ sym (append_assoc p.done (m ∷ []) left);
@@ -103,14 +104,14 @@ pub putting_stop : (aim : Aim) (put total number : ℕ) (m : Message) (left mess
     → number ≡ (aim.count + (total + 1)) % 2 ^ 64 → IsPartPut middle now aim.address number m fault → IsPartSent aim (aim.count + put) before now messages fault
 putting_stop aim put total number m left messages before middle now fault p is stop = stopped stop.posted
   where
-    stopped : Posted middle now [] ⊎ (Posted middle now (letter aim.address number m ∷ []) × IsMessage m) → IsPartSent aim (aim.count + put) before now messages fault
+    stopped : Posted middle now [] ⊎ (Posted middle now (put_file aim.address number m ∷ []) × IsMessage m) → IsPartSent aim (aim.count + put) before now messages fault
     stopped (inl posted) = record {
       done = p.done;
       left = m ∷ left;
       parts = p.parts;
       posted =
-          subst (λ (items : List Item). Posted before now items) (append-nil (letters aim.address (aim.count + put) p.done))
-          (posted_on before middle now (letters aim.address (aim.count + put) p.done) [] (no_commits aim.address (aim.count + put) p.done) p.posted posted);
+          subst (λ (events : List Event). Posted before now events) (append-nil (put_files aim.address (aim.count + put) p.done))
+          (posted_on before middle now (put_files aim.address (aim.count + put) p.done) [] (no_commits aim.address (aim.count + put) p.done) p.posted posted);
       spelled = p.spelled;
       cause = put_fault before middle now fault p.steady stop.cause;
       ends = ends_on before middle now p.steady stop.ends;

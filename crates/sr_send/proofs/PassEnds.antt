@@ -7,34 +7,36 @@ use Rattle.std.proofs.lemmas.List.{append-nil}
 use Rattle.sr_base.specs.Values.{offset_from}
 use Rattle.sr_book.specs.Entries.{Name}
 use Rattle.sr_book.specs.declared.book.Book.{Book}
-use Rattle.sr_cut.specs.Bodies.{last_at, first_long}
-use Rattle.sr_cut.specs.Cuts.{AreCut}
-use Rattle.sr_cut.specs.declared.head.Head.{Head}
+use Rattle.sr_mail_cut.specs.Bodies.{last_at, first_long}
+use Rattle.sr_mail_cut.specs.Cuts.{AreCut}
+use Rattle.sr_mail_cut.specs.declared.head.Head.{Head}
 use Rattle.sr_database.specs.Books.{book_in}
-use Rattle.sr_database.specs.Causes.{IsSame, IsTooFar}
+use Rattle.sr_database.specs.Causes.{IsTooFar}
+use Rattle.sr_database.specs.Inner.Causes.{IsSame}
 use Rattle.sr_database.specs.Commits.{HasRoom}
 use Rattle.sr_database.specs.Databases.{IsOf, IsDatabase, HasDatabase}
 use Rattle.sr_database.specs.Views.{View}
-use Rattle.sr_history.specs.Recorded.{Recorded, entry_of}
+use Rattle.sr_database_history.specs.Recorded.{Recorded, entry_of}
 use Rattle.sr_logform.specs.declared.op.Transaction.{Transaction}
 use Rattle.sr_msgform.specs.Messages.{IsMessage}
 use Rattle.sr_msgform.specs.declared.message.Message.{Message}
-use Rattle.sr_schema.specs.Catalogs.{Lists}
-use Rattle.sr_schema.specs.declared.user.User.{User}
+use Rattle.sr_catalog_schema.specs.Catalogs.{Lists}
+use Rattle.sr_catalog_schema.specs.declared.user.User.{User}
 use Rattle.sr_site.specs.Causes.{Stays, DiskStays}
-use Rattle.sr_site.specs.Growing.{stays_on}
+use Rattle.sr_site.specs.Inner.Growing.{stays_on}
 use Rattle.sr_site.specs.Happenings.{Happening, mail_in}
 use Rattle.sr_site.specs.Seen.{Seen}
-use Rattle.sr_standing.specs.Items.{Item, commit, commits}
-use Rattle.sr_standing.specs.Trails.{Went}
-use Rattle.sr_standing.proofs.Joining.{joined}
-use Rattle.sr_send.specs.Aims.{aim_at}
-use Rattle.sr_send.specs.Letters.{head_of, address_in, AreMessages, letters, sent_note, noted_letters}
-use Rattle.sr_send.specs.Notes.{Noted, NoteCause}
+use Rattle.sr_database_meaning.specs.Events.{Event, commit, commits}
+use Rattle.sr_database_meaning.specs.Traces.{Went}
+use Rattle.sr_database_meaning.proofs.Joining.{joined}
+use Rattle.sr_send.specs.Inner.Aims.{aim_at}
+use Rattle.sr_send.specs.PutFiles.{head_of, address_in, AreMessages, put_files, sent_note, noted_put_files}
+use Rattle.sr_send.specs.Inner.Notes.{Noted, NoteCause}
 use Rattle.sr_send.specs.Passes.{waiting, AreAll, sent_end, Passed, HasSent, PutInPart, Unnoted, PutAndBegan, NoteRefused, NoteFull, HasLongEncoding, SendCause}
-use Rattle.sr_send.specs.Posting.{PutAlone, Posted, NoneFailed, EndsAtPut, IsSteady, IsDeviceFault, PutFault}
-use Rattle.sr_send.specs.Steps.{PutAll}
-use Rattle.sr_send.specs.Stops.{StopFault, ReadStop, EndStop, PutStop}
+use Rattle.sr_send.specs.Posting.{PutAlone, NoneFailed, IsSteady, IsDeviceFault}
+use Rattle.sr_send.specs.Inner.Posting.{Posted, EndsAtPut, PutFault}
+use Rattle.sr_send.specs.Inner.Steps.{PutAll}
+use Rattle.sr_send.specs.Inner.Stops.{StopFault, ReadStop, EndStop, PutStop}
 use Rattle.sr_send.specs.declared.aim.Aim.{Aim}
 use Rattle.sr_send.specs.declared.fault.SendFault.{SendFault}
 use Rattle.sr_send.specs.declared.fault.SendFault.TheVariants.{Disk, Mail, Full, Long, Memory}
@@ -62,7 +64,7 @@ are_along head head' book ask limit ts ts' messages same whole are =
 module _ (db : View) (user : Name) (book : Book) (limit : ℕ) (ask : Bool) (is : book ≡ book_in db.books user) where
   -- in part
   abbrev pub InPart : Seen → Seen → Type 0
-  InPart before now = IsTrue before.told → (publisher : Name) (es : List Recorded) → IsDatabase db publisher es before → PutInPart db before now publisher es user book limit ask
+  InPart before now = IsTrue before.observable → (publisher : Name) (es : List Recorded) → IsDatabase db publisher es before → PutInPart db before now publisher es user book limit ask
 
   unnoted : (before now : Seen) → Stays before now → InPart before now → Unnoted db db before now user limit ask
   unnoted before now stays part = record {
@@ -75,7 +77,7 @@ module _ (db : View) (user : Name) (book : Book) (limit : ℕ) (ask : Bool) (is 
   read_part before now fault stop told publisher es database =
       let begins = stop.begins told publisher es database in
       let head = head_of db.base_catalog.publisher user book ask in
-      let more = stop.front.begins begins.rest in
+      let more = stop.prefix.begins begins.rest in
       let cut = subst (λ (ts : List Transaction). AreCut head (offset_from book.log_sent) ts limit (stop.messages ++ more.0)) (sym begins.parts) more.1 in
       let some = some_left head (offset_from book.log_sent) book ask limit (waiting publisher es user book) stop.messages more.0 refl cut in
       record {
@@ -92,8 +94,8 @@ module _ (db : View) (user : Name) (book : Book) (limit : ℕ) (ask : Bool) (is 
 
   -- all that was put, with what is left
   all_part : (before now : Seen) (pushed : List Transaction) (messages left : List Message) → AreMessages (head_of db.base_catalog.publisher user book ask) book ask limit pushed (messages ++ left)
-      → Posted before now (letters (address_in db.catalog user) book.send_count messages) → AllByRecursion IsMessage messages → EndsAtPut before now
-      → (IsTrue before.told → (publisher : Name) (es : List Recorded) → IsDatabase db publisher es before → pushed ≡ waiting publisher es user book) → InPart before now
+      → Posted before now (put_files (address_in db.catalog user) book.send_count messages) → AllByRecursion IsMessage messages → EndsAtPut before now
+      → (IsTrue before.observable → (publisher : Name) (es : List Recorded) → IsDatabase db publisher es before → pushed ≡ waiting publisher es user book) → InPart before now
   all_part before now pushed messages left are posted spelled ends whole told publisher es database = record {
     messages = messages;
     left = left;
@@ -145,36 +147,36 @@ module _ (db : View) (user : Name) (book : Book) (limit : ℕ) (ask : Bool) (is 
 
   -- what a whole pass leaves, with its note
   module _ (new : View) (before middle now : Seen) (sent : Sent) (put : PutAll db (aim_at db user book limit ask) book ask user before middle sent) where
-    all_of : IsTrue before.told → (publisher : Name) (es : List Recorded) → IsDatabase db publisher es before → AreAll publisher es user book ask limit put.messages
+    all_of : IsTrue before.observable → (publisher : Name) (es : List Recorded) → IsDatabase db publisher es before → AreAll publisher es user book ask limit put.messages
     all_of told publisher es database =
         are_along (head_of db.base_catalog.publisher user book ask) (head_of publisher user book ask) book ask limit put.pushed (waiting publisher es user book) put.messages
         (head_is db publisher es user book ask database.is) (put.whole told publisher es database) put.are
 
-    end_of_all : IsTrue before.told → (publisher : Name) (es : List Recorded) → IsDatabase db publisher es before → sent.end ≡ sent_end publisher es user book
+    end_of_all : IsTrue before.observable → (publisher : Name) (es : List Recorded) → IsDatabase db publisher es before → sent.end ≡ sent_end publisher es user book
     end_of_all told publisher es database = put.end_is ∙ ap (last_at (offset_from book.log_sent)) (put.whole told publisher es database)
 
-    fits_all : IsTrue before.told → (publisher : Name) (es : List Recorded) → IsDatabase db publisher es before → first_long (waiting publisher es user book) ≡ None
+    fits_all : IsTrue before.observable → (publisher : Name) (es : List Recorded) → IsDatabase db publisher es before → first_long (waiting publisher es user book) ≡ None
     fits_all told publisher es database = ap first_long (sym (put.whole told publisher es database)) ∙ put.fits
 
-    -- the letters, and then one commit
-    letters_then : (r : Recorded) (publisher : Name) (es : List Recorded) → IsTrue before.told → IsDatabase db publisher es before
-        → (IsTrue middle.told → IsDatabase db publisher es middle → Went middle now publisher es (commit r ∷ []))
-        → Went before now publisher es (letters (address_in db.catalog user) book.send_count put.messages ++ commit r ∷ [])
-    letters_then r publisher es told database noted =
-        let items = letters (address_in db.catalog user) book.send_count put.messages in
-        let same : es ++ commits items ≡ es = ap (λ (rs : List Recorded). es ++ rs) (no_commits (address_in db.catalog user) book.send_count put.messages) ∙ append-nil es in
-        joined before middle now publisher es items (commit r ∷ []) (posted_went db publisher es before middle items put.posted told database)
+    -- the message files, and then one commit
+    put_files_then : (r : Recorded) (publisher : Name) (es : List Recorded) → IsTrue before.observable → IsDatabase db publisher es before
+        → (IsTrue middle.observable → IsDatabase db publisher es middle → Went middle now publisher es (commit r ∷ []))
+        → Went before now publisher es (put_files (address_in db.catalog user) book.send_count put.messages ++ commit r ∷ [])
+    put_files_then r publisher es told database noted =
+        let events = put_files (address_in db.catalog user) book.send_count put.messages in
+        let same : es ++ commits events ≡ es = ap (λ (rs : List Recorded). es ++ rs) (no_commits (address_in db.catalog user) book.send_count put.messages) ∙ append-nil es in
+        joined before middle now publisher es events (commit r ∷ []) (posted_went db publisher es before middle events put.posted told database)
         (subst (λ (rs : List Recorded). Went middle now publisher rs (commit r ∷ [])) (sym same)
-        (noted (told_then before middle put.posted.stays told) (posted_database db publisher es before middle items put.posted told database)))
+        (noted (told_then before middle put.posted.stays told) (posted_database db publisher es before middle events put.posted told database)))
 
-    -- what happened to the mail: nothing but the letters, whatever commit was begun behind them
-    mail_then : (begun : List Item) → IsTrue before.told → PutAlone begun (mail_in middle.happened) (mail_in now.happened)
-        → PutAlone (letters (address_in db.catalog user) book.send_count put.messages ++ begun) (mail_in before.happened) (mail_in now.happened)
+    -- what happened to the mail: nothing but the message files, whatever commit was begun behind them
+    mail_then : (begun : List Event) → IsTrue before.observable → PutAlone begun (mail_in middle.happened) (mail_in now.happened)
+        → PutAlone (put_files (address_in db.catalog user) book.send_count put.messages ++ begun) (mail_in before.happened) (mail_in now.happened)
     mail_then begun told alone =
-        alone_on (letters (address_in db.catalog user) book.send_count put.messages) begun (mail_in before.happened) (mail_in middle.happened) (mail_in now.happened) (put.posted.mail told) alone
+        alone_on (put_files (address_in db.catalog user) book.send_count put.messages) begun (mail_in before.happened) (mail_in middle.happened) (mail_in now.happened) (put.posted.mail told) alone
 
     -- nothing was put: nothing is noted
-    passed_none : (publisher : Name) (es : List Recorded) → IsTrue before.told → IsDatabase db publisher es before → put.messages ≡ [] → Passed db db before middle publisher es user book limit ask sent
+    passed_none : (publisher : Name) (es : List Recorded) → IsTrue before.observable → IsDatabase db publisher es before → put.messages ≡ [] → Passed db db before middle publisher es user book limit ask sent
     passed_none publisher es told database none = record {
       messages = [];
       are = subst (λ (ms : List Message). AreAll publisher es user book ask limit ms) none (all_of told publisher es database);
@@ -182,8 +184,8 @@ module _ (db : View) (user : Name) (book : Book) (limit : ℕ) (ask : Bool) (is 
       count = put.count ∙ ap (λ (ms : List Message). length ms) none;
       end_is = end_of_all told publisher es database;
       fits = fits_all told publisher es database;
-      went = subst (λ (ms : List Message). Went before middle publisher es (letters (address_in db.catalog user) book.send_count ms)) none (posted_went db publisher es before middle _ put.posted told database);
-      mail = subst (λ (ms : List Message). PutAlone (letters (address_in db.catalog user) book.send_count ms) (mail_in before.happened) (mail_in middle.happened)) none (put.posted.mail told);
+      went = subst (λ (ms : List Message). Went before middle publisher es (put_files (address_in db.catalog user) book.send_count ms)) none (posted_went db publisher es before middle _ put.posted told database);
+      mail = subst (λ (ms : List Message). PutAlone (put_files (address_in db.catalog user) book.send_count ms) (mail_in before.happened) (mail_in middle.happened)) none (put.posted.mail told);
       database = subst (λ (rs : List Recorded). IsDatabase db publisher rs middle) (sym (append-nil es)) (posted_database db publisher es before middle _ put.posted told database);
     }
 
@@ -205,26 +207,26 @@ module _ (db : View) (user : Name) (book : Book) (limit : ℕ) (ask : Bool) (is 
           (passed_none publisher es told database (no_messages put.messages (sym put.count ∙ none)));
     }
 
-    -- the trail of letters that are some
-    noted_is : (ms : List Message) → ms ≢ [] → noted_letters (address_in db.catalog user) user book sent.end ms
-        ≡ letters (address_in db.catalog user) book.send_count ms ++ commit (sent_note user book sent.end (length ms)) ∷ []
+    -- the trace of message files that are some
+    noted_is : (ms : List Message) → ms ≢ [] → noted_put_files (address_in db.catalog user) user book sent.end ms
+        ≡ put_files (address_in db.catalog user) book.send_count ms ++ commit (sent_note user book sent.end (length ms)) ∷ []
     noted_is [] some = absurd (some refl)
     noted_is (m ∷ ms) some = refl
 
     some_messages : sent.put ≢ 0 → put.messages ≢ []
     some_messages some none = some (put.count ∙ ap (λ (ms : List Message). length ms) none)
 
-    passed_noted : (publisher : Name) (es : List Recorded) → IsTrue before.told → IsDatabase db publisher es before → sent.put ≢ 0 → DiskStays middle now → Noted db new middle now (sent_note user book sent.end sent.put)
+    passed_noted : (publisher : Name) (es : List Recorded) → IsTrue before.observable → IsDatabase db publisher es before → sent.put ≢ 0 → DiskStays middle now → Noted db new middle now (sent_note user book sent.end sent.put)
         → Passed db new before now publisher es user book limit ask sent
     passed_noted publisher es told database some stays noted =
         let address = address_in db.catalog user in
         let r = sent_note user book sent.end sent.put in
-        let trail = noted_is put.messages (some_messages some) in
-        let whole : letters address book.send_count put.messages ++ commit r ∷ [] ≡ noted_letters address user book sent.end put.messages =
-        ap (λ (n : ℕ). letters address book.send_count put.messages ++ commit (sent_note user book sent.end n) ∷ []) put.count ∙ sym trail in
+        let trace = noted_is put.messages (some_messages some) in
+        let whole : put_files address book.send_count put.messages ++ commit r ∷ [] ≡ noted_put_files address user book sent.end put.messages =
+        ap (λ (n : ℕ). put_files address book.send_count put.messages ++ commit (sent_note user book sent.end n) ∷ []) put.count ∙ sym trace in
         let middle_is = posted_database db publisher es before middle _ put.posted told database in
         let then = told_then before middle put.posted.stays told in
-        let stands : IsDatabase new publisher (es ++ commits (letters address book.send_count put.messages ++ commit r ∷ [])) now =
+        let stands : IsDatabase new publisher (es ++ commits (put_files address book.send_count put.messages ++ commit r ∷ [])) now =
         subst (λ (rs : List Recorded). IsDatabase new publisher (es ++ rs) now) (sym (commits_behind address book.send_count put.messages (commit r ∷ []))) (noted.database then publisher es middle_is) in
         record {
           messages = put.messages;
@@ -233,9 +235,9 @@ module _ (db : View) (user : Name) (book : Book) (limit : ℕ) (ask : Bool) (is 
           count = put.count;
           end_is = end_of_all told publisher es database;
           fits = fits_all told publisher es database;
-          went = subst (λ (items : List Item). Went before now publisher es items) whole (letters_then r publisher es told database (λ yes there. noted.went yes publisher es there));
-          mail = subst (λ (items : List Item). PutAlone items (mail_in before.happened) (mail_in now.happened)) whole (mail_then (commit r ∷ []) told stays.mail);
-          database = subst (λ (items : List Item). IsDatabase new publisher (es ++ commits items) now) whole stands;
+          went = subst (λ (events : List Event). Went before now publisher es events) whole (put_files_then r publisher es told database (λ yes there. noted.went yes publisher es there));
+          mail = subst (λ (events : List Event). PutAlone events (mail_in before.happened) (mail_in now.happened)) whole (mail_then (commit r ∷ []) told stays.mail);
+          database = subst (λ (events : List Event). IsDatabase new publisher (es ++ commits events) now) whole stands;
         }
 
     pub sent_noted : sent.put ≢ 0 → DiskStays middle now → Noted db new middle now (sent_note user book sent.end sent.put) → HasSent db new before now user limit ask sent
@@ -262,27 +264,27 @@ module _ (db : View) (user : Name) (book : Book) (limit : ℕ) (ask : Bool) (is 
     }
 
     -- all of them, and then these commits
-    put_and_began : (publisher : Name) (es : List Recorded) (begun : List Item) → IsTrue before.told → IsDatabase db publisher es before
-        → Went before now publisher es (letters (address_in db.catalog user) book.send_count put.messages ++ begun) → PutAlone begun (mail_in middle.happened) (mail_in now.happened)
+    put_and_began : (publisher : Name) (es : List Recorded) (begun : List Event) → IsTrue before.observable → IsDatabase db publisher es before
+        → Went before now publisher es (put_files (address_in db.catalog user) book.send_count put.messages ++ begun) → PutAlone begun (mail_in middle.happened) (mail_in now.happened)
         → mail_in now.happened ≡ mail_in middle.happened → PutAndBegan before now (address_in db.catalog user) publisher es user book limit ask sent.end sent.put begun
-    put_and_began publisher es begun told database trail alone same = record {
+    put_and_began publisher es begun told database trace alone same = record {
       messages = put.messages;
       are = all_of told publisher es database;
       spelled = put.spelled;
       count_is = put.count;
       end_is = end_of_all told publisher es database;
-      went = trail;
+      went = trace;
       mail = mail_then begun told alone;
       done = subst (λ (l : List Happening). NoneFailed (mail_in before.happened) l) (sym same) (put.steady.done told);
     }
 
     -- no commit was begun
-    letters_alone : (publisher : Name) (es : List Recorded) → IsTrue before.told → IsDatabase db publisher es before → now ≡ middle
-        → Went before now publisher es (letters (address_in db.catalog user) book.send_count put.messages ++ [])
-    letters_alone publisher es told database same =
-        let items = letters (address_in db.catalog user) book.send_count put.messages in
-        subst (λ (seen : Seen). Went before seen publisher es (items ++ [])) (sym same)
-        (subst (λ (l : List Item). Went before middle publisher es l) (sym (append-nil items)) (posted_went db publisher es before middle items put.posted told database))
+    put_files_alone : (publisher : Name) (es : List Recorded) → IsTrue before.observable → IsDatabase db publisher es before → now ≡ middle
+        → Went before now publisher es (put_files (address_in db.catalog user) book.send_count put.messages ++ [])
+    put_files_alone publisher es told database same =
+        let events = put_files (address_in db.catalog user) book.send_count put.messages in
+        subst (λ (seen : Seen). Went before seen publisher es (events ++ [])) (sym same)
+        (subst (λ (l : List Event). Went before middle publisher es l) (sym (append-nil events)) (posted_went db publisher es before middle events put.posted told database))
 
     refused_note : sent.put ≢ 0 → DiskStays middle now → NoteCause db new middle now (sent_note user book sent.end sent.put) Disk → NoteRefused db new before now user limit ask
     refused_note some stays cause = record {
@@ -296,7 +298,7 @@ module _ (db : View) (user : Name) (book : Book) (limit : ℕ) (ask : Bool) (is 
       part = λ told publisher es database.
           let r = sent_note user book sent.end sent.put in
           subst (λ (b : Book). PutAndBegan before now (address_in db.catalog user) publisher es user b limit ask sent.end sent.put (commit (sent_note user b sent.end sent.put) ∷ [])) is
-          (put_and_began publisher es (commit r ∷ []) told database (letters_then r publisher es told database (λ yes there. cause.2 yes publisher es there)) stays.mail stays.mail);
+          (put_and_began publisher es (commit r ∷ []) told database (put_files_then r publisher es told database (λ yes there. cause.2 yes publisher es there)) stays.mail stays.mail);
     }
 
     full_note : (end need : ℕ) → sent.put ≢ 0 → IsTooFar db.log (entry_of (sent_note user book sent.end sent.put)) end need → DiskStays middle now → now ≡ middle → NoteFull db before now user limit ask end need
@@ -307,7 +309,7 @@ module _ (db : View) (user : Name) (book : Book) (limit : ℕ) (ask : Bool) (is 
       full = subst (λ (b : Book). IsTooFar db.log (entry_of (sent_note user b sent.end sent.put)) end need) is full;
       part = λ told publisher es database.
           subst (λ (b : Book). PutAndBegan before now (address_in db.catalog user) publisher es user b limit ask sent.end sent.put []) is
-          (put_and_began publisher es [] told database (letters_alone publisher es told database same) stays.mail stays.mail);
+          (put_and_began publisher es [] told database (put_files_alone publisher es told database same) stays.mail stays.mail);
     }
 
     pub note_stopped : (fault : SendFault) → sent.put ≢ 0 → DiskStays middle now → NoteCause db new middle now (sent_note user book sent.end sent.put) fault → SendCause db new before now user limit ask fault
@@ -350,8 +352,8 @@ has_book found None b is known none = let both : false ≡ true = known in cc
 has_book found (Some user) b is known none = none b is
 
 -- the database is still there once files were put
-pub still_database : (db : View) (before now : Seen) (items : List Item) → Posted before now items → (IsTrue before.told → HasDatabase db before) → IsTrue now.told → HasDatabase db now
-still_database db before now items posted stands told =
-    let then : IsTrue before.told = subst (λ (b : Bool). IsTrue b) posted.stays.told told in
+pub still_database : (db : View) (before now : Seen) (events : List Event) → Posted before now events → (IsTrue before.observable → HasDatabase db before) → IsTrue now.observable → HasDatabase db now
+still_database db before now events posted stands told =
+    let then : IsTrue before.observable = subst (λ (b : Bool). IsTrue b) posted.stays.observable told in
     let there = stands then in
-    record { publisher = there.publisher; es = there.es; is = posted_database db there.publisher there.es before now items posted then there.is }
+    record { publisher = there.publisher; es = there.es; is = posted_database db there.publisher there.es before now events posted then there.is }

@@ -4,34 +4,36 @@ use Rattle.std.specs.Prelude.{cond, nat_lt, true, false, Bool, OnOk, IfErr}
 use Rattle.std.specs.List.{AllByRecursion}
 use Rattle.std.proofs.lemmas.List.{append-nil}
 use Rattle.sr_base.specs.declared.offset.Offset.{Offset}
-use Rattle.sr_cut.specs.Bodies.{RisesPast, last_at, longest_transaction}
-use Rattle.sr_cut.specs.Cuts.{Cutting, HasGiven, CutCause}
-use Rattle.sr_cut.specs.declared.too_long.TooLong.{TooLong}
-use Rattle.sr_cut.specs.declared.too_long.TooLong.TheVariants as long
-use Rattle.sr_cut.proofs.Rising.{RisesPast-more, last-is}
+use Rattle.sr_mail_cut.specs.Bodies.{RisesPast, last_at, longest_transaction}
+use Rattle.sr_mail_cut.specs.Cuts.{Cutting, HasGiven}
+use Rattle.sr_mail_cut.specs.Inner.Cuts.{CutCause}
+use Rattle.sr_mail_cut.specs.declared.too_long.TooLong.{TooLong}
+use Rattle.sr_mail_cut.specs.declared.too_long.TooLong.TheVariants as long
+use Rattle.sr_mail_cut.proofs.Rising.{RisesPast-more, last-is}
 use Rattle.sr_logform.specs.Ops.{transaction_spelling}
 use Rattle.sr_logform.specs.declared.entry.Entry.{Entry}
 use Rattle.sr_logform.specs.declared.op.Op.{Op}
 use Rattle.sr_logform.specs.declared.op.Transaction.{Transaction}
 use Rattle.sr_msgform.specs.Messages.{IsMessage}
 use Rattle.sr_msgform.specs.declared.message.Message.{Message}
-use Rattle.sr_scan.specs.Images.{told}
-use Rattle.sr_scan.specs.Scanners.{Scan, IsFed, transaction_of}
+use Rattle.sr_scan.specs.Inner.Images.{told}
+use Rattle.sr_scan.specs.Inner.Scanners.{Scan, IsFed, transaction_of}
 use Rattle.sr_site.specs.Seen.{Seen}
-use Rattle.sr_send.specs.Aims.{IsAim, HasMade, HasMadeSome, IsCutFront}
-use Rattle.sr_send.specs.Faults.{fault_of_cut}
-use Rattle.sr_send.specs.Letters.{letters}
-use Rattle.sr_send.specs.Passing.{IsPassed}
-use Rattle.sr_send.specs.Posting.{Posted, IsSteady, PutFault}
-use Rattle.sr_send.specs.Steps.{newer, EndsAt, Pushed, Fed}
-use Rattle.sr_send.specs.Stops.{IsPartSent, StopFault, PushStop, FeedStop}
+use Rattle.sr_send.specs.Inner.Aims.{IsAim, HasMade, HasMadeSome, IsCutPrefix}
+use Rattle.sr_send.specs.Inner.Faults.{fault_of_cut}
+use Rattle.sr_send.specs.PutFiles.{put_files}
+use Rattle.sr_send.specs.Inner.Passing.{IsPassed}
+use Rattle.sr_send.specs.Posting.{IsSteady}
+use Rattle.sr_send.specs.Inner.Posting.{Posted, PutFault}
+use Rattle.sr_send.specs.Inner.Steps.{newer, EndsAt, Pushed, Fed}
+use Rattle.sr_send.specs.Inner.Stops.{IsPartSent, StopFault, PushStop, FeedStop}
 use Rattle.sr_send.specs.declared.aim.Aim.{Aim}
 use Rattle.sr_send.specs.declared.fault.SendFault.{SendFault}
 use Rattle.sr_send.specs.declared.fault.SendFault.TheVariants.{Disk, Mail, Full, Long, Memory}
 use Rattle.sr_send.specs.declared.post.Post.{Post}
 use Rattle.sr_send.proofs.Posts.{posted_none, same_counts, ends_same}
 use Rattle.sr_send.proofs.Numbers.{MayBePut}
-use Rattle.sr_send.proofs.Cutting.{given_front, made_front, front_more, fits_more, front_may}
+use Rattle.sr_send.proofs.Cutting.{given_prefix, made_prefix, prefix_more, fits_more, prefix_may}
 
 -- ---- what a push does to the cutter
 
@@ -50,7 +52,7 @@ rises_more aim old t pushed messages made later =
 -- the messages that it closes may be put
 pub closed_may : (aim : Aim) (old : Post) (cutter : Cutting) (t : Transaction) (closed : List Message) → IsAim aim → HasMadeSome aim old → old.end.0 < t.at.0 → IsCutBy old.cutter cutter t closed → AllByRecursion MayBePut closed
 closed_may aim old cutter t closed good some later by =
-    front_may aim cutter (some.pushed ++ t ∷ []) some.messages closed good (by.head ∙ some.made.head_is) (by.limit ∙ some.made.limit_is)
+    prefix_may aim cutter (some.pushed ++ t ∷ []) some.messages closed good (by.head ∙ some.made.head_is) (by.limit ∙ some.made.limit_is)
     (rises_more aim old t some.pushed some.messages some.made later)
     (fits_more some.pushed t some.made.fits by.fits)
     (by.given aim.prev some.pushed some.messages some.made.given)
@@ -68,7 +70,7 @@ made_more aim old new t closed later by end_is count pushed messages made = reco
 }
 
 pub pushed_one : (aim : Aim) (old new : Post) (t : Transaction) (closed : List Message) (before now : Seen) → old.end.0 < t.at.0 → IsCutBy old.cutter new.cutter t closed → new.end ≡ t.at → new.put ≡ old.put + length closed
-    → Posted before now (letters aim.address (aim.count + old.put) closed) → AllByRecursion IsMessage closed → IsSteady before now → Pushed aim old new before now (t ∷ [])
+    → Posted before now (put_files aim.address (aim.count + old.put) closed) → AllByRecursion IsMessage closed → IsSteady before now → Pushed aim old new before now (t ∷ [])
 pushed_one aim old new t closed before now later by end_is count posted spelled steady = record {
   closed = closed;
   made = made_more aim old new t closed later by end_is count;
@@ -79,18 +81,18 @@ pushed_one aim old new t closed before now later by end_is count posted spelled 
 
 -- ---- where it ends
 
-pub nothing_put : (aim : Aim) (old : Post) (added : List Transaction) → IsAim aim → (pushed : List Transaction) (earlier : List Message) → HasMade aim old pushed earlier → IsCutFront aim (pushed ++ added) (earlier ++ [])
-nothing_put aim old added good pushed earlier made = front_more aim pushed added (earlier ++ []) (made_front aim old pushed earlier good made)
+pub nothing_put : (aim : Aim) (old : Post) (added : List Transaction) → IsAim aim → (pushed : List Transaction) (earlier : List Message) → HasMade aim old pushed earlier → IsCutPrefix aim (pushed ++ added) (earlier ++ [])
+nothing_put aim old added good pushed earlier made = prefix_more aim pushed added (earlier ++ []) (made_prefix aim old pushed earlier good made)
 
 pub stopped_short : (aim : Aim) (old : Post) (seen : Seen) (added : List Transaction) → IsAim aim → PushStop aim old seen seen added Memory
-stopped_short aim old seen added good = record { messages = []; front = nothing_put aim old added good; posted = posted_none seen; spelled = tt; cause = refl; ends = ends_same seen }
+stopped_short aim old seen added good = record { messages = []; prefix = nothing_put aim old added good; posted = posted_none seen; spelled = tt; cause = refl; ends = ends_same seen }
 
 cut_fault : (seen : Seen) (t : Transaction) (e : TooLong) → CutCause (t ∷ []) e → StopFault seen seen (t ∷ []) (fault_of_cut e)
 cut_fault seen t (long.Transaction need) cause = (same_counts seen, refl, cause)
 cut_fault seen t long.Memory cause = refl
 
 pub stopped_long : (aim : Aim) (old : Post) (seen : Seen) (t : Transaction) (e : TooLong) → IsAim aim → CutCause (t ∷ []) e → PushStop aim old seen seen (t ∷ []) (fault_of_cut e)
-stopped_long aim old seen t e good cause = record { messages = []; front = nothing_put aim old (t ∷ []) good; posted = posted_none seen; spelled = tt; cause = cut_fault seen t e cause; ends = ends_same seen }
+stopped_long aim old seen t e good cause = record { messages = []; prefix = nothing_put aim old (t ∷ []) good; posted = posted_none seen; spelled = tt; cause = cut_fault seen t e cause; ends = ends_same seen }
 
 put_fault : (before now : Seen) (added : List Transaction) (fault : SendFault) → PutFault before now fault → StopFault before now added fault
 put_fault before now added Disk cause = absurd cause
@@ -99,18 +101,18 @@ put_fault before now added (Full end need) cause = absurd cause
 put_fault before now added (Long size limit) cause = absurd cause
 put_fault before now added Memory cause = cause
 
-part_front : (aim : Aim) (old : Post) (cutter : Cutting) (t : Transaction) (closed done left : List Message) → IsAim aim → IsCutBy old.cutter cutter t closed → closed ≡ done ++ left
-    → (pushed : List Transaction) (earlier : List Message) → HasMade aim old pushed earlier → IsCutFront aim (pushed ++ t ∷ []) (earlier ++ done)
-part_front aim old cutter t closed done left good by parts pushed earlier made =
+part_prefix : (aim : Aim) (old : Post) (cutter : Cutting) (t : Transaction) (closed done left : List Message) → IsAim aim → IsCutBy old.cutter cutter t closed → closed ≡ done ++ left
+    → (pushed : List Transaction) (earlier : List Message) → HasMade aim old pushed earlier → IsCutPrefix aim (pushed ++ t ∷ []) (earlier ++ done)
+part_prefix aim old cutter t closed done left good by parts pushed earlier made =
     let all : earlier ++ closed ≡ (earlier ++ done) ++ left = ap (λ (ms : List Message). earlier ++ ms) parts ∙ sym (append_assoc earlier done left) in
-    given_front aim cutter (pushed ++ t ∷ []) (earlier ++ done) left good (by.head ∙ made.head_is) (by.limit ∙ made.limit_is)
+    given_prefix aim cutter (pushed ++ t ∷ []) (earlier ++ done) left good (by.head ∙ made.head_is) (by.limit ∙ made.limit_is)
     (subst (λ (ms : List Message). HasGiven cutter aim.prev (pushed ++ t ∷ []) ms) all (by.given aim.prev pushed earlier made.given))
 
 pub stopped_putting : (aim : Aim) (old : Post) (cutter : Cutting) (t : Transaction) (closed : List Message) (before now : Seen) (fault : SendFault) → IsAim aim → IsCutBy old.cutter cutter t closed
     → IsPartSent aim (aim.count + old.put) before now closed fault → PushStop aim old before now (t ∷ []) fault
 stopped_putting aim old cutter t closed before now fault good by part = record {
   messages = part.done;
-  front = part_front aim old cutter t closed part.done part.left good by part.parts;
+  prefix = part_prefix aim old cutter t closed part.done part.left good by part.parts;
   posted = part.posted;
   spelled = part.spelled;
   cause = put_fault before now (t ∷ []) fault part.cause;

@@ -5,29 +5,30 @@ use Rattle.std.proofs.lemmas.List.{append-nil}
 use Rattle.sr_base.specs.declared.offset.Offset.{Offset}
 use Rattle.sr_book.specs.Entries.{Name}
 use Rattle.sr_database.specs.Databases.{IsOfSome, IsDatabase}
-use Rattle.sr_database.specs.Entries.{IsNextEnd, IsNextKind}
+use Rattle.sr_database.specs.Inner.Entries.{IsNextEnd, IsNextKind}
 use Rattle.sr_database.specs.Views.{View}
-use Rattle.sr_history.specs.Fitting.{Stored}
-use Rattle.sr_history.specs.Folds.{State, fresh, next, size, state_of, end_of, end_from}
-use Rattle.sr_history.specs.Recorded.{Recorded, entry_of}
-use Rattle.sr_history.proofs.Joined.{state_from-more, end_from-append, le-end_from}
-use Rattle.sr_history.proofs.Kept.{stored_holds}
+use Rattle.sr_database_history.specs.Fitting.{Stored}
+use Rattle.sr_database_history.specs.Folds.{State, fresh, next, size, state_of, end_of, end_from}
+use Rattle.sr_database_history.specs.Recorded.{Recorded, entry_of}
+use Rattle.sr_database_history.proofs.Joined.{state_from-more, end_from-append, le-end_from}
+use Rattle.sr_database_history.proofs.Kept.{stored_holds}
 use Rattle.sr_logform.specs.Entries.{entry_spelling}
 use Rattle.sr_logform.specs.declared.entry.Entry.{Entry}
 use Rattle.sr_logform.specs.declared.entry.Entry.TheVariants.{Own, From, Ddl, Sync, Pass, Note}
 use Rattle.sr_logform.specs.declared.op.Op.{Op}
 use Rattle.sr_logform.specs.declared.op.Transaction.{Transaction}
 use Rattle.sr_scan.specs.Given.{given_from, gives, with_transaction}
-use Rattle.sr_scan.specs.Images.{told}
-use Rattle.sr_scan.specs.Scanners.{Scan, IsFed, transaction_of}
+use Rattle.sr_scan.specs.Inner.Images.{told}
+use Rattle.sr_scan.specs.Inner.Scanners.{Scan, IsFed, transaction_of}
 use Rattle.sr_scan.proofs.Agreeing.{fed_same}
 use Rattle.sr_site.specs.Seen.{Seen}
-use Rattle.sr_send.specs.Aims.{IsAim, HasMade}
-use Rattle.sr_send.specs.Passing.{RunsNothing}
-use Rattle.sr_send.specs.Posting.{Posted, IsSteady}
-use Rattle.sr_send.specs.Starts.{IsPartAt, Walked, IsStillEnd, IsStillKind, IsStillTo, Looked, IsStill, Begun, BeginStop}
-use Rattle.sr_send.specs.Steps.{HasRead, UnderWay}
-use Rattle.sr_send.specs.Stops.{NextFault, ReadStop}
+use Rattle.sr_send.specs.Inner.Aims.{IsAim, HasMade}
+use Rattle.sr_send.specs.Inner.Passing.{RunsNothing}
+use Rattle.sr_send.specs.Posting.{IsSteady}
+use Rattle.sr_send.specs.Inner.Posting.{Posted}
+use Rattle.sr_send.specs.Inner.Starts.{IsPartAt, Walked, IsStillEnd, IsStillKind, IsStillTo, Looked, IsStill, Begun, BeginStop}
+use Rattle.sr_send.specs.Inner.Steps.{HasRead, UnderWay}
+use Rattle.sr_send.specs.Inner.Stops.{NextFault, ReadStop}
 use Rattle.sr_send.specs.Unsent.{past, unsent}
 use Rattle.sr_send.specs.declared.aim.Aim.{Aim}
 use Rattle.sr_send.specs.declared.fault.SendFault.{SendFault}
@@ -35,7 +36,7 @@ use Rattle.sr_send.specs.declared.fault.SendFault.TheVariants.{Disk, Full, Long,
 use Rattle.sr_send.specs.declared.post.Post.{Post}
 use Rattle.sr_send.proofs.Posts.{told_then, posted_none, posted_on, posted_database, same_counts, steady_on, ends_none, ends_on, ends_steady, rose_from}
 use Rattle.sr_send.proofs.Still.{passed_still}
-use Rattle.sr_send.proofs.Cutting.{made_front}
+use Rattle.sr_send.proofs.Cutting.{made_prefix}
 use Rattle.sr_send.proofs.Histories.{fits_next, read_none}
 use Rattle.sr_send.proofs.Loops.{fault_from, next_fault}
 
@@ -83,7 +84,7 @@ part_on es sent at end part next_is before = record {
 }
 
 pub walk_on : (db : View) (sent : ℕ) (at end : Offset) (first before now : Seen) → Walked db sent at first before → Posted before now [] → IsSteady before now → (at.0 < end.0) × (end.0 ≤ db.log.end) × (end.0 ≤ sent)
-    → (IsTrue before.told → (publisher : Name) (done left : List Recorded) → IsDatabase db publisher (done ++ left) before → at.0 ≡ end_of done → IsNextEnd done left end) → Walked db sent end first now
+    → (IsTrue before.observable → (publisher : Name) (done left : List Recorded) → IsDatabase db publisher (done ++ left) before → at.0 ≡ end_of done → IsNextEnd done left end) → Walked db sent end first now
 walk_on db sent at end first before now walked read steady within found = record {
   posted = read_on first before now walked.posted read;
   steady = steady_on first before now walked.steady steady;
@@ -203,7 +204,7 @@ still_on publisher done left at end stored to still =
     }
 
 pub look_on : (db : View) (from at end : Offset) (first before now : Seen) → Looked db from at first before → Posted before now [] → IsSteady before now → (at.0 < end.0) × (end.0 ≤ db.log.end)
-    → (IsTrue before.told → (publisher : Name) (done left : List Recorded) → IsDatabase db publisher (done ++ left) before → at.0 ≡ end_of done → IsStillEnd done left end) → Looked db from end first now
+    → (IsTrue before.observable → (publisher : Name) (done left : List Recorded) → IsDatabase db publisher (done ++ left) before → at.0 ≡ end_of done → IsStillEnd done left end) → Looked db from end first now
 look_on db from at end first before now looked read steady within found = record {
   posted = read_on first before now looked.posted read;
   steady = steady_on first before now looked.steady steady;
@@ -303,7 +304,7 @@ pub unbegun : (db : View) (aim : Aim) (user : Name) (post : Post) (before now : 
 unbegun db aim user post before now fault good made stop = record {
   pushed = [];
   messages = [];
-  front = made_front aim post [] [] good made;
+  prefix = made_prefix aim post [] [] good made;
   posted = stop.posted;
   spelled = tt;
   begins = λ told publisher es database. record { rest = unsent publisher es user aim.prev.0; parts = refl };

@@ -8,11 +8,11 @@ use Rattle.sr_logform.specs.declared.change.Change.{Change}
 use Rattle.sr_logform.specs.declared.entry.Entry.{Entry}
 use Rattle.sr_logform.specs.declared.entry.Entry.TheVariants.{Pass}
 use Rattle.sr_logform.specs.declared.op.Transaction.{Transaction}
-use Rattle.sr_schema.specs.Catalogs.{Lists}
-use Rattle.sr_scan.specs.Images.{catalog_after}
-use Rattle.sr_scan.specs.Meanings.{texts_of, IsMeant, AreMeant}
-use Rattle.sr_scan.specs.Scanners.{Scan, IsFed}
-use Rattle.sr_send.specs.Passing.{RunsNothing, IsPassed}
+use Rattle.sr_catalog_schema.specs.Catalogs.{Lists}
+use Rattle.sr_scan.specs.Inner.Images.{catalog_after}
+use Rattle.sr_scan.specs.Inner.Meanings.{texts_of, IsMeant, AreMeant}
+use Rattle.sr_scan.specs.Inner.Scanners.{Scan, IsFed}
+use Rattle.sr_send.specs.Inner.Passing.{RunsNothing, IsPassed}
 
 -- no statement for any of the texts
 abbrev none_of : List (Option (List ℕ)) → List (Option Stmt)

@@ -2,9 +2,9 @@
 use Rattle.std.proofs.Common.{◌≡◌, ℕ, ◌+◌, ◌≤◌, ◌<◌, List, [], ◌∷◌, refl, sym, subst, arith, inl, inr, le_refl, ltb-true}
 use Rattle.std.specs.Prelude.{Bool, true, false, cond, map, filter, nat_lt, ◌⊎◌}
 use Rattle.sr_book.specs.Entries.{Name}
-use Rattle.sr_cut.specs.Bodies.{RisesPast}
-use Rattle.sr_history.specs.Folds.{State, fresh, next, size}
-use Rattle.sr_history.specs.Recorded.{Recorded}
+use Rattle.sr_mail_cut.specs.Bodies.{RisesPast}
+use Rattle.sr_database_history.specs.Folds.{State, fresh, next, size}
+use Rattle.sr_database_history.specs.Recorded.{Recorded}
 use Rattle.sr_logform.specs.declared.op.Op.{Op}
 use Rattle.sr_logform.specs.declared.op.Transaction.{Transaction}
 use Rattle.sr_scan.specs.Given.{given_of, given_from, gives, with_transaction}

@@ -1,13 +1,6 @@
-pub mod Writable
 pub mod Unsent
-pub mod Letters
-pub mod Faults
+pub mod PutFiles
 pub mod Posting
-pub mod Aims
-pub mod Passing
-pub mod Steps
-pub mod Stops
-pub mod Starts
-pub mod Notes
 pub mod Passes
-pub mod TrueLetters
+pub mod TrueSentMessages
+pub mod Inner

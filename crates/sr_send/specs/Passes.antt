@@ -5,22 +5,22 @@ use Rattle.sr_base.specs.Values.{offset_from}
 use Rattle.sr_base.specs.declared.offset.Offset.{Offset}
 use Rattle.sr_book.specs.Entries.{Name}
 use Rattle.sr_book.specs.declared.book.Book.{Book}
-use Rattle.sr_cut.specs.Bodies.{last_at, first_long, longest_transaction}
+use Rattle.sr_mail_cut.specs.Bodies.{last_at, first_long, longest_transaction}
 use Rattle.sr_database.specs.Books.{book_in}
 use Rattle.sr_database.specs.Causes.{IsTooFar}
 use Rattle.sr_database.specs.Commits.{HasRoom}
 use Rattle.sr_database.specs.Databases.{IsOf, IsDatabase}
 use Rattle.sr_database.specs.Views.{View}
-use Rattle.sr_history.specs.Recorded.{Recorded, entry_of}
+use Rattle.sr_database_history.specs.Recorded.{Recorded, entry_of}
 use Rattle.sr_logform.specs.declared.op.Transaction.{Transaction}
 use Rattle.sr_msgform.specs.Messages.{IsMessage}
 use Rattle.sr_msgform.specs.declared.message.Message.{Message}
 use Rattle.sr_site.specs.Causes.{Stays, Rose}
 use Rattle.sr_site.specs.Happenings.{mail_in}
 use Rattle.sr_site.specs.Seen.{Seen}
-use Rattle.sr_standing.specs.Items.{Item, commit, commits}
-use Rattle.sr_standing.specs.Trails.{Went}
-use Rattle.sr_send.specs.Letters.{head_of, address_in, AreMessages, letters, sent_note, noted_letters}
+use Rattle.sr_database_meaning.specs.Events.{Event, commit, commits}
+use Rattle.sr_database_meaning.specs.Traces.{Went}
+use Rattle.sr_send.specs.PutFiles.{head_of, address_in, AreMessages, put_files, sent_note, noted_put_files}
 use Rattle.sr_send.specs.Posting.{PutAlone, NoneFailed, LastMayFail, IsSteady}
 use Rattle.sr_send.specs.Unsent.{unsent}
 use Rattle.sr_send.specs.declared.fault.SendFault.{SendFault}
@@ -49,9 +49,9 @@ pub record Passed (old new : View) (before now : Seen) (publisher : Name) (es : 
   pub end_is : sent.end ≡ sent_end publisher es user book
   -- no encoding of a transaction is too long
   pub fits : first_long (waiting publisher es user book) ≡ None
-  pub went : Went before now publisher es (noted_letters (address_in old.catalog user) user book sent.end messages)
-  pub mail : PutAlone (noted_letters (address_in old.catalog user) user book sent.end messages) (mail_in before.happened) (mail_in now.happened)
-  pub database : IsDatabase new publisher (es ++ commits (noted_letters (address_in old.catalog user) user book sent.end messages)) now
+  pub went : Went before now publisher es (noted_put_files (address_in old.catalog user) user book sent.end messages)
+  pub mail : PutAlone (noted_put_files (address_in old.catalog user) user book sent.end messages) (mail_in before.happened) (mail_in now.happened)
+  pub database : IsDatabase new publisher (es ++ commits (noted_put_files (address_in old.catalog user) user book sent.end messages)) now
 
 -- what an answer says
 pub record HasSent (old new : View) (before now : Seen) (user : Name) (limit : ℕ) (ask : Bool) (sent : Sent) : Type 0 where
@@ -64,7 +64,7 @@ pub record HasSent (old new : View) (before now : Seen) (user : Name) (limit : �
   pub room : sent.put ≢ 0 → HasRoom old.log (entry_of (sent_note user (book_in old.books user) sent.end sent.put))
   pub value : sent.put ≢ 0 → (publisher : Name) (es : List Recorded) → IsOf old publisher es
       → IsOf new publisher (es ++ sent_note user (book_in old.books user) sent.end sent.put ∷ [])
-  pub passed : IsTrue before.told → (publisher : Name) (es : List Recorded) → IsDatabase old publisher es before
+  pub passed : IsTrue before.observable → (publisher : Name) (es : List Recorded) → IsDatabase old publisher es before
       → Passed old new before now publisher es user (book_in old.books user) limit ask sent
 
 -- of the messages of a pass the first were put, of which the last may have failed, and nothing else happened to the mail
@@ -74,8 +74,8 @@ pub record PutInPart (old : View) (before now : Seen) (publisher : Name) (es : L
   pub are : AreAll publisher es user book ask limit (messages ++ left)
   -- each of those that were put can be read again
   pub spelled : AllByRecursion IsMessage messages
-  pub went : Went before now publisher es (letters (address_in old.catalog user) book.send_count messages)
-  pub mail : PutAlone (letters (address_in old.catalog user) book.send_count messages) (mail_in before.happened) (mail_in now.happened)
+  pub went : Went before now publisher es (put_files (address_in old.catalog user) book.send_count messages)
+  pub mail : PutAlone (put_files (address_in old.catalog user) book.send_count messages) (mail_in before.happened) (mail_in now.happened)
   pub outcomes : LastMayFail (mail_in before.happened) (mail_in now.happened)
   pub database : IsDatabase old publisher es now
 
@@ -83,19 +83,19 @@ pub record PutInPart (old : View) (before now : Seen) (publisher : Name) (es : L
 pub record Unnoted (old new : View) (before now : Seen) (user : Name) (limit : ℕ) (ask : Bool) : Type 0 where
   pub same : new ≡ old
   pub stays : Stays before now
-  pub part : IsTrue before.told → (publisher : Name) (es : List Recorded) → IsDatabase old publisher es before
+  pub part : IsTrue before.observable → (publisher : Name) (es : List Recorded) → IsDatabase old publisher es before
       → PutInPart old before now publisher es user (book_in old.books user) limit ask
 
 -- all messages were put, so many and up to this offset, and then these commits were begun
-pub record PutAndBegan (before now : Seen) (address publisher : Name) (es : List Recorded) (user : Name) (book : Book) (limit : ℕ) (ask : Bool) (sent : Offset) (count : ℕ) (begun : List Item) : Type 0 where
+pub record PutAndBegan (before now : Seen) (address publisher : Name) (es : List Recorded) (user : Name) (book : Book) (limit : ℕ) (ask : Bool) (sent : Offset) (count : ℕ) (begun : List Event) : Type 0 where
   pub messages : List Message
   pub are : AreAll publisher es user book ask limit messages
   -- each can be read again
   pub spelled : AllByRecursion IsMessage messages
   pub count_is : count ≡ length messages
   pub end_is : sent ≡ sent_end publisher es user book
-  pub went : Went before now publisher es (letters address book.send_count messages ++ begun)
-  pub mail : PutAlone (letters address book.send_count messages ++ begun) (mail_in before.happened) (mail_in now.happened)
+  pub went : Went before now publisher es (put_files address book.send_count messages ++ begun)
+  pub mail : PutAlone (put_files address book.send_count messages ++ begun) (mail_in before.happened) (mail_in now.happened)
   pub done : NoneFailed (mail_in before.happened) (mail_in now.happened)
 
 -- all messages were put, and the disk refused their note, which may stand or not: the database is not used again
@@ -107,7 +107,7 @@ pub record NoteRefused (old new : View) (before now : Seen) (user : Name) (limit
   pub count : ℕ
   pub some : count ≢ 0
   pub room : HasRoom old.log (entry_of (sent_note user (book_in old.books user) sent count))
-  pub part : IsTrue before.told → (publisher : Name) (es : List Recorded) → IsDatabase old publisher es before
+  pub part : IsTrue before.observable → (publisher : Name) (es : List Recorded) → IsDatabase old publisher es before
       → PutAndBegan before now (address_in old.catalog user) publisher es user (book_in old.books user) limit ask sent count (commit (sent_note user (book_in old.books user) sent count) ∷ [])
 
 -- all messages were put, and their note has no room in the log
@@ -116,13 +116,13 @@ pub record NoteFull (old : View) (before now : Seen) (user : Name) (limit : ℕ)
   pub count : ℕ
   pub some : count ≢ 0
   pub full : IsTooFar old.log (entry_of (sent_note user (book_in old.books user) sent count)) end need
-  pub part : IsTrue before.told → (publisher : Name) (es : List Recorded) → IsDatabase old publisher es before
+  pub part : IsTrue before.observable → (publisher : Name) (es : List Recorded) → IsDatabase old publisher es before
       → PutAndBegan before now (address_in old.catalog user) publisher es user (book_in old.books user) limit ask sent count []
 
 -- the first encoding that is longer than 64 MiB
 pub record HasLongEncoding (old : View) (before : Seen) (user : Name) (size limit : ℕ) : Type 0 where
   pub limit_is : limit ≡ longest_transaction
-  pub first : IsTrue before.told → (publisher : Name) (es : List Recorded) → IsDatabase old publisher es before
+  pub first : IsTrue before.observable → (publisher : Name) (es : List Recorded) → IsDatabase old publisher es before
       → first_long (waiting publisher es user (book_in old.books user)) ≡ Some size
 
 -- why a pass ends before its end, and what it leaves then

@@ -1,5 +1,5 @@
 use sr_base::{Name, Offset};
-use sr_cut::Head;
+use sr_mail_cut::Head;
 
 /// What all messages of one pass have in common.
 #[derive(Drop)]

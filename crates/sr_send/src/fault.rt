@@ -1,9 +1,9 @@
-ghost use Rattle.std.specs.Prelude.{◌≡◌};
-ghost use Rattle.sr_send.specs.Faults.{fault_of_store};
+ghost use Rattle.std.specs.Prelude.{◌≡◌, IfErr};
+ghost use Rattle.sr_send.specs.Inner.Faults.{IsReadRefusal, IsFoundOrEnd};
 ghost use Rattle.sr_send.specs.declared.fault.SendFault.TheVariants.{Memory as memory};
 
-use sr_cut::TooLong;
 use sr_database::DatabaseFault;
+use sr_mail_cut::TooLong;
 use sr_site::MailFault;
 use std::alloc::AllocError;
 
@@ -35,7 +35,7 @@ impl From<AllocError> for SendFault {
 }
 
 impl From<MailFault> for SendFault {
-    ghost use Rattle.sr_send.specs.Faults.{fault_of_mail};
+    ghost use Rattle.sr_send.specs.Inner.Faults.{fault_of_mail};
 
     ghost from_gives = { λ fault e. e ≡ fault_of_mail fault };
 
@@ -48,7 +48,7 @@ impl From<MailFault> for SendFault {
 }
 
 impl From<TooLong> for SendFault {
-    ghost use Rattle.sr_send.specs.Faults.{fault_of_cut};
+    ghost use Rattle.sr_send.specs.Inner.Faults.{fault_of_cut};
 
     ghost from_gives = { λ fault e. e ≡ fault_of_cut fault };
 
@@ -63,17 +63,24 @@ impl From<TooLong> for SendFault {
     }
 }
 
-/// The fault of a pass whose database refuses. An open one is not missing, there or damaged; and the record of a note is never too long.
-pub(crate) fn store_fault(fault: DatabaseFault) -> SendFault
-    ensures fault { result ≡ fault_of_store fault }
+/// What was read behind an offset of an open log, as a pass takes it: a record that reads as damaged is the end of the log. `open` accepted it, so that
+/// only a disk that does not give what was written to it has one.
+pub(crate) fn found_or_end<T>(
+    outcome: Result<Option<T>, DatabaseFault>,
+) -> Result<Option<T>, SendFault>
+    requires refusal { IfErr outcome IsReadRefusal }
+    ensures found { IsFoundOrEnd outcome result }
 {
-    match fault {
-        DatabaseFault::Disk => SendFault::Disk,
-        DatabaseFault::Full { end, need } => SendFault::Full { end, need },
-        DatabaseFault::Missing
-        | DatabaseFault::Exists
-        | DatabaseFault::Damaged { .. }
-        | DatabaseFault::Long { .. }
-        | DatabaseFault::Memory => SendFault::Memory,
+    match outcome {
+        Ok(found) => Ok(found),
+        Err(DatabaseFault::Damaged { .. }) => Ok(None),
+        Err(DatabaseFault::Disk) => Err(SendFault::Disk),
+        Err(DatabaseFault::Memory) => Err(SendFault::Memory),
+        Err(
+            DatabaseFault::Missing
+            | DatabaseFault::Exists
+            | DatabaseFault::Full { .. }
+            | DatabaseFault::Long { .. },
+        ) => unreachable!(),
     }
 }

@@ -1,18 +1,18 @@
 //! The messages that are still due once the log was read.
 
 ghost use Rattle.std.specs.Prelude.{◌≡◌, ◌↔◌, ◌+◌, ◌∷◌, [], IsTrue, IfErr, OnOk};
-ghost use Rattle.sr_cut.specs.Cuts.{bodyless};
+ghost use Rattle.sr_mail_cut.specs.Cuts.{bodyless};
 ghost use Rattle.sr_base.specs.Values.{offset_from};
-ghost use Rattle.sr_send.specs.Aims.{IsAim, HasMadeSome};
-ghost use Rattle.sr_send.specs.Steps.{Emptied, IsDueAlone, Completed, Bodyless};
-ghost use Rattle.sr_send.specs.Stops.{HeldStop, LastStop, IsPartSent};
+ghost use Rattle.sr_send.specs.Inner.Aims.{IsAim, HasMadeSome};
+ghost use Rattle.sr_send.specs.Inner.Steps.{Emptied, IsDueAlone, Completed, Bodyless};
+ghost use Rattle.sr_send.specs.Inner.Stops.{HeldStop, LastStop, IsPartSent};
 
 use crate::aim::Aim;
 use crate::fault::SendFault;
 use crate::post::Post;
 use crate::posting::put_all;
 use sr_book::Book;
-use sr_cut::cut;
+use sr_mail_cut::cut;
 use sr_site::Site;
 use std::alloc::Global;
 

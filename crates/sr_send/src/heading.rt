@@ -1,16 +1,16 @@
 //! What the messages of a pass have in common.
 
 ghost use Rattle.std.specs.Prelude.{◌≡◌, ◌≤◌, [], true, cond, length, IsTrue, IfOk};
-ghost use Rattle.sr_send.specs.Aims.{IsAim, HasMade, aim_at};
-ghost use Rattle.sr_send.specs.Letters.{head_of, address_in};
+ghost use Rattle.sr_send.specs.Inner.Aims.{IsAim, HasMade, aim_at};
+ghost use Rattle.sr_send.specs.PutFiles.{head_of, address_in};
 
 use crate::aim::Aim;
 use crate::post::Post;
 use sr_base::{Copied, Name, NoMemory, Offset};
 use sr_book::Book;
 use sr_catalog::Catalog;
-use sr_cut::{Cutter, Head};
 use sr_database::Database;
+use sr_mail_cut::{Cutter, Head};
 use std::alloc::{AllocError, Global};
 
 /// The head of the messages: they confirm what was taken from the partner, and ask for what lies past it where an ask is due.

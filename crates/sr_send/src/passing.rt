@@ -3,8 +3,8 @@
 ghost use Rattle.std.specs.Prelude.{◌≡◌, None, false, map, IsTrue, OnOk, OnErr};
 ghost use Rattle.std.specs.List.{AllByRecursion};
 ghost use Rattle.sr_logform.specs.declared.outcome.Outcome.{Outcome as AnOutcome};
-ghost use Rattle.sr_scan.specs.Meanings.{text_done};
-ghost use Rattle.sr_send.specs.Passing.{RunsNothing, IsPassed};
+ghost use Rattle.sr_scan.specs.Inner.Meanings.{text_done};
+ghost use Rattle.sr_send.specs.Inner.Passing.{RunsNothing, IsPassed};
 
 use sr_base::{NoMemory, Offset};
 use sr_logform::{Entry, Op, Outcome};

@@ -1,5 +1,5 @@
 use sr_base::Offset;
-use sr_cut::Cutter;
+use sr_mail_cut::Cutter;
 
 /// The messages of one pass on their way.
 #[derive(Drop)]

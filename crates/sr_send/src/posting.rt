@@ -3,14 +3,15 @@
 ghost use Rattle.std.specs.Prelude.{◌≡◌, ◌≤◌, ◌+◌, ◌∷◌, [], length, IfOk, IfErr, OnOk};
 ghost use Rattle.std.specs.List.{AllByRecursion};
 ghost use Rattle.sr_msgform.specs.Messages.{IsMessage, KeepsRules, message_length};
-ghost use Rattle.sr_send.specs.Letters.{letter, letters};
-ghost use Rattle.sr_send.specs.Posting.{Posted, IsSteady};
-ghost use Rattle.sr_send.specs.Stops.{IsPartPut, IsPartSent};
+ghost use Rattle.sr_send.specs.PutFiles.{put_file, put_files};
+ghost use Rattle.sr_send.specs.Posting.{IsSteady};
+ghost use Rattle.sr_send.specs.Inner.Posting.{Posted};
+ghost use Rattle.sr_send.specs.Inner.Stops.{IsPartPut, IsPartSent};
 
 use crate::aim::Aim;
 use crate::fault::SendFault;
 use sr_base::Name;
-use sr_cut::file_name;
+use sr_mail_cut::file_name;
 use sr_msgform::{Message, write_message};
 use sr_site::Site;
 use std::alloc::Global;
@@ -25,7 +26,7 @@ fn put_one<S: Site>(
 ) -> Result<(), SendFault>
     requires rules { KeepsRules message.now }
     requires file { message_length message.now ≤ 2097152 }
-    ensures put { OnOk result (Posted (S.seen site.old) (S.seen site.new) (letter address.now number message.now ∷ [])) }
+    ensures put { OnOk result (Posted (S.seen site.old) (S.seen site.new) (put_file address.now number message.now ∷ [])) }
     ensures spelled { OnOk result (IsMessage message.now) }
     ensures steady { OnOk result (IsSteady (S.seen site.old) (S.seen site.new)) }
     ensures cause { IfErr result (IsPartPut (S.seen site.old) (S.seen site.new) address.now number message.now) }
@@ -50,7 +51,7 @@ pub(crate) fn put_all<S: Site>(
     messages: &[Message],
 ) -> Result<u32, SendFault>
     requires each { AllByRecursion (λ m. KeepsRules m × (message_length m ≤ 2097152)) messages.now }
-    ensures posted { OnOk result (Posted (S.seen site.old) (S.seen site.new) (letters aim.now.address (aim.now.count + put) messages.now)) }
+    ensures posted { OnOk result (Posted (S.seen site.old) (S.seen site.new) (put_files aim.now.address (aim.now.count + put) messages.now)) }
     ensures spelled { OnOk result (AllByRecursion IsMessage messages.now) }
     ensures count { IfOk result (λ total. total ≡ put + length messages.now) }
     ensures steady { OnOk result (IsSteady (S.seen site.old) (S.seen site.new)) }

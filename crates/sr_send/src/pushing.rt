@@ -1,10 +1,10 @@
 //! What an entry gives, pushed to the messages.
 
 ghost use Rattle.std.specs.Prelude.{◌≡◌, ◌<◌, ◌∷◌, [], nat_lt, Some, IfErr, OnOk};
-ghost use Rattle.sr_logform.specs.Ops.{IsShortTransaction};
-ghost use Rattle.sr_send.specs.Aims.{IsAim, HasMadeSome};
-ghost use Rattle.sr_send.specs.Steps.{newer, EndsAt, Pushed, Fed};
-ghost use Rattle.sr_send.specs.Stops.{PushStop, FeedStop};
+ghost use Rattle.sr_logform.specs.Inner.Ops.{IsShortTransaction};
+ghost use Rattle.sr_send.specs.Inner.Aims.{IsAim, HasMadeSome};
+ghost use Rattle.sr_send.specs.Inner.Steps.{newer, EndsAt, Pushed, Fed};
+ghost use Rattle.sr_send.specs.Inner.Stops.{PushStop, FeedStop};
 
 use crate::aim::Aim;
 use crate::fault::SendFault;

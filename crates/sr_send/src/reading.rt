@@ -2,17 +2,18 @@
 
 ghost use Rattle.std.specs.Prelude.{◌≡◌, ◌≤◌, ◌<◌, ◌++◌, true, [], List, IsTrue, IfOk, IfErr, IfSome, OnOk};
 ghost use Rattle.sr_book.specs.Entries.{Name as AName};
-ghost use Rattle.sr_history.specs.Folds.{end_of};
-ghost use Rattle.sr_history.specs.Recorded.{Recorded};
+ghost use Rattle.sr_database_history.specs.Folds.{end_of};
+ghost use Rattle.sr_database_history.specs.Recorded.{Recorded};
 ghost use Rattle.sr_database.specs.Databases.{IsDatabase};
-ghost use Rattle.sr_database.specs.Entries.{IsEntryAfter};
-ghost use Rattle.sr_send.specs.Aims.{IsAim, HasMade, HasMadeSome};
-ghost use Rattle.sr_send.specs.Posting.{Posted, IsSteady};
-ghost use Rattle.sr_send.specs.Steps.{IsBehind, DoneStep, AllRead, stepped_to};
-ghost use Rattle.sr_send.specs.Stops.{NextFault, StepStop, ReadStop};
+ghost use Rattle.sr_database.specs.Inner.Entries.{IsEntryAfter};
+ghost use Rattle.sr_send.specs.Inner.Aims.{IsAim, HasMade, HasMadeSome};
+ghost use Rattle.sr_send.specs.Posting.{IsSteady};
+ghost use Rattle.sr_send.specs.Inner.Posting.{Posted};
+ghost use Rattle.sr_send.specs.Inner.Steps.{IsBehind, DoneStep, AllRead, stepped_to};
+ghost use Rattle.sr_send.specs.Inner.Stops.{NextFault, StepStop, ReadStop};
 
 use crate::aim::Aim;
-use crate::fault::{SendFault, store_fault};
+use crate::fault::{SendFault, found_or_end};
 use crate::post::Post;
 use crate::pushing::feed_one;
 use crate::starting::begin_at;
@@ -23,8 +24,7 @@ use sr_scan::Scanner;
 use sr_site::Site;
 use std::alloc::Global;
 
-/// The entry behind an offset, with its end, read into a buffer that is lent. That a record is damaged, which only a disk can say that does not give what
-/// was written to it, is taken for want of memory.
+/// The entry behind an offset, with its end, read into a buffer that is lent.
 pub(crate) fn next_entry<S: Site>(
     alloc: Global,
     db: &Database,
@@ -34,7 +34,7 @@ pub(crate) fn next_entry<S: Site>(
 ) -> Result<Option<(Offset, Entry)>, SendFault>
     requires usable { db.now.log.usable ≡ true }
     requires after { (db.now.log.base ≤ after.0) × (after.0 ≤ db.now.log.end) }
-    ensures entry { IsTrue (S.seen site.old).told → (publisher : AName) (done left : List Recorded) → IsDatabase db.now publisher (done ++ left) (S.seen site.old) → after.0 ≡ end_of done
+    ensures entry { IsTrue (S.seen site.old).observable → (publisher : AName) (done left : List Recorded) → IsDatabase db.now publisher (done ++ left) (S.seen site.old) → after.0 ≡ end_of done
         → IfOk result (IsEntryAfter done left) }
     ensures within { IfOk result (λ found. IfSome found (λ x. (after.0 < x.0.0) × (x.0.0 ≤ db.now.log.end))) }
     ensures posted { Posted (S.seen site.old) (S.seen site.new) [] }
@@ -42,10 +42,8 @@ pub(crate) fn next_entry<S: Site>(
     ensures mail { (S.seen site.new).mail_faults ≡ (S.seen site.old).mail_faults }
     ensures cause { IfErr result (NextFault (S.seen site.old) (S.seen site.new)) }
 {
-    match db.entry_read(alloc, site, after, buffer) {
-        Ok(found) => Ok(found),
-        Err(fault) => Err(store_fault(fault)),
-    }
+    let outcome = db.entry_read(alloc, site, after, buffer);
+    found_or_end(outcome)
 }
 
 /// A step to the end of an entry, where what it gives was put.

@@ -4,13 +4,13 @@ ghost use Rattle.std.specs.Prelude.{◌≡◌, ◌≢◌, ◌≤◌, [], true, f
 ghost use Rattle.sr_base.specs.Values.{offset_from};
 ghost use Rattle.sr_database.specs.Books.{book_in};
 ghost use Rattle.sr_database.specs.Databases.{HasDatabase};
-ghost use Rattle.sr_schema.specs.Members.{user_name};
-ghost use Rattle.sr_schema.specs.Names.{named};
-ghost use Rattle.sr_send.specs.Aims.{IsAim, HasMade, aim_at};
+ghost use Rattle.sr_catalog_schema.specs.Members.{user_name};
+ghost use Rattle.sr_catalog_schema.specs.Names.{named};
+ghost use Rattle.sr_send.specs.Inner.Aims.{IsAim, HasMade, aim_at};
 ghost use Rattle.sr_send.specs.Passes.{HasSent, SendCause};
 ghost use Rattle.sr_send.specs.Posting.{IsDeviceFault};
-ghost use Rattle.sr_send.specs.Steps.{PutAll};
-ghost use Rattle.sr_send.specs.Stops.{PutStop};
+ghost use Rattle.sr_send.specs.Inner.Steps.{PutAll};
+ghost use Rattle.sr_send.specs.Inner.Stops.{PutStop};
 
 use crate::aim::Aim;
 use crate::fault::SendFault;
@@ -58,7 +58,7 @@ pub fn send<S: Site>(
     requires least { 10000 ≤ length }
     requires most { length ≤ 1048576 }
     requires ask { IsTrue ask → 1 ≤ (book_in db.old.books user.now).rereceive_count }
-    requires stands { IsTrue (S.seen site.old).told → HasDatabase db.old (S.seen site.old) }
+    requires stands { IsTrue (S.seen site.old).observable → HasDatabase db.old (S.seen site.old) }
     ensures sent { IfOk result (HasSent db.old db.new (S.seen site.old) (S.seen site.new) user.now length ask) }
     ensures cause { IfErr result (SendCause db.old db.new (S.seen site.old) (S.seen site.new) user.now length ask) }
     ensures devices { IfErr result (IsDeviceFault (S.seen site.old) (S.seen site.new)) }

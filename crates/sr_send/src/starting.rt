@@ -4,18 +4,20 @@
 //! if no statement ran in the entries that follow. So the ends of the entries are read, five bytes each, up to that offset, for it need be no end itself;
 //! and then the kinds of the entries behind it, and those entries whose kind does not tell that no statement ran.
 
-ghost use Rattle.std.specs.Prelude.{◌≡◌, ◌≤◌, ◌<◌, ◌++◌, true, [], List, IsTrue, IfOk, IfErr, IfSome, OnOk};
+ghost use Rattle.std.specs.Prelude.{◌≡◌, ◌≢◌, ◌≤◌, ◌<◌, ◌++◌, true, [], List, IsTrue, IfOk, IfErr, IfSome, OnOk};
 ghost use Rattle.sr_book.specs.Entries.{Name as AName};
-ghost use Rattle.sr_history.specs.Folds.{end_of};
-ghost use Rattle.sr_history.specs.Recorded.{Recorded};
+ghost use Rattle.sr_database_history.specs.Folds.{end_of};
+ghost use Rattle.sr_database_history.specs.Recorded.{Recorded};
 ghost use Rattle.sr_database.specs.Databases.{IsDatabase};
-ghost use Rattle.sr_database.specs.Entries.{IsKindAfter, IsNextEnd};
-ghost use Rattle.sr_send.specs.Posting.{Posted, IsSteady};
-ghost use Rattle.sr_send.specs.Starts.{Walked, IsStillEnd, IsStillKind, Looked, IsStill, Begun, BeginStop};
-ghost use Rattle.sr_send.specs.Stops.{NextFault};
+ghost use Rattle.sr_database.specs.Inner.Entries.{IsEndAfter, IsKindAfter, IsNextEnd};
+ghost use Rattle.sr_send.specs.Posting.{IsSteady};
+ghost use Rattle.sr_send.specs.Inner.Posting.{Posted};
+ghost use Rattle.sr_send.specs.Inner.Starts.{Walked, IsStillEnd, IsStillKind, Looked, IsStill, Begun, BeginStop};
+ghost use Rattle.sr_send.specs.Inner.Stops.{NextFault};
+ghost use Rattle.sr_send.specs.declared.fault.SendFault.TheVariants.{Memory as memory};
 
 use crate::aim::Aim;
-use crate::fault::{SendFault, store_fault};
+use crate::fault::{SendFault, found_or_end};
 use crate::passing::runs_nothing;
 use crate::reading::next_entry;
 use sr_base::{Name, NoMemory, Offset};
@@ -37,7 +39,28 @@ fn up_to(found: Option<Offset>, sent: Offset, last: Offset) -> Option<Offset>
     }
 }
 
-/// The end of the entry behind an offset, where it does not lie past another.
+/// The end of the entry behind an offset. It takes no memory.
+fn found_end<S: Site>(
+    db: &Database,
+    site: &mut S,
+    after: Offset,
+) -> Result<Option<Offset>, SendFault>
+    requires usable { db.now.log.usable ≡ true }
+    requires after { (db.now.log.base ≤ after.0) × (after.0 ≤ db.now.log.end) }
+    ensures end { IsTrue (S.seen site.old).observable → (publisher : AName) (done left : List Recorded) → IsDatabase db.now publisher (done ++ left) (S.seen site.old) → after.0 ≡ end_of done
+        → IfOk result (IsEndAfter done left) }
+    ensures later { IfOk result (λ found. IfSome found (λ end. after.0 < end.0)) }
+    ensures posted { Posted (S.seen site.old) (S.seen site.new) [] }
+    ensures steady { OnOk result (IsSteady (S.seen site.old) (S.seen site.new)) }
+    ensures mail { (S.seen site.new).mail_faults ≡ (S.seen site.old).mail_faults }
+    ensures cause { IfErr result (NextFault (S.seen site.old) (S.seen site.new)) }
+    ensures memory { IfErr result (λ fault. fault ≢ memory) }
+{
+    let outcome = db.end_after(site, after);
+    found_or_end(outcome)
+}
+
+/// The end of the entry behind an offset, where it does not lie past another. It takes no memory.
 fn next_end<S: Site>(
     db: &Database,
     site: &mut S,
@@ -46,25 +69,27 @@ fn next_end<S: Site>(
 ) -> Result<Option<Offset>, SendFault>
     requires usable { db.now.log.usable ≡ true }
     requires after { (db.now.log.base ≤ after.0) × (after.0 ≤ db.now.log.end) }
-    ensures end { IsTrue (S.seen site.old).told → (publisher : AName) (done left : List Recorded) → IsDatabase db.now publisher (done ++ left) (S.seen site.old) → after.0 ≡ end_of done
+    ensures end { IsTrue (S.seen site.old).observable → (publisher : AName) (done left : List Recorded) → IsDatabase db.now publisher (done ++ left) (S.seen site.old) → after.0 ≡ end_of done
         → IfOk result (λ found. IfSome found (IsNextEnd done left)) }
     ensures within { IfOk result (λ found. IfSome found (λ end. (after.0 < end.0) × (end.0 ≤ db.now.log.end) × (end.0 ≤ sent.0))) }
     ensures posted { Posted (S.seen site.old) (S.seen site.new) [] }
     ensures steady { OnOk result (IsSteady (S.seen site.old) (S.seen site.new)) }
     ensures mail { (S.seen site.new).mail_faults ≡ (S.seen site.old).mail_faults }
     ensures cause { IfErr result (NextFault (S.seen site.old) (S.seen site.new)) }
+    ensures memory { IfErr result (λ fault. fault ≢ memory) }
 {
-    match db.end_after(site, after) {
+    match found_end(db, site, after) {
         Ok(found) => Ok(up_to(found, sent, db.end())),
-        Err(fault) => Err(store_fault(fault)),
+        Err(fault) => Err(fault),
     }
 }
 
-/// The last end of an entry, or the base, that does not lie past an offset.
+/// The last end of an entry, or the base, that does not lie past an offset. It takes no memory.
 fn end_before<S: Site>(db: &Database, site: &mut S, sent: Offset) -> Result<Offset, SendFault>
     requires usable { db.now.log.usable ≡ true }
     ensures walked { IfOk result (λ at. Walked db.now sent.0 at (S.seen site.old) (S.seen site.new)) }
     ensures cause { IfErr result (BeginStop (S.seen site.old) (S.seen site.new)) }
+    ensures memory { IfErr result (λ fault. fault ≢ memory) }
 {
     let usable_here = db.usable();
     prove!(usable_here);
@@ -92,7 +117,7 @@ fn next_kind<S: Site>(
 ) -> Result<Option<(Offset, u8)>, SendFault>
     requires usable { db.now.log.usable ≡ true }
     requires after { (db.now.log.base ≤ after.0) × (after.0 ≤ db.now.log.end) }
-    ensures kind { IsTrue (S.seen site.old).told → (publisher : AName) (done left : List Recorded) → IsDatabase db.now publisher (done ++ left) (S.seen site.old) → after.0 ≡ end_of done
+    ensures kind { IsTrue (S.seen site.old).observable → (publisher : AName) (done left : List Recorded) → IsDatabase db.now publisher (done ++ left) (S.seen site.old) → after.0 ≡ end_of done
         → IfOk result (IsKindAfter done left) }
     ensures within { IfOk result (λ found. IfSome found (λ x. (after.0 < x.0.0) × (x.0.0 ≤ db.now.log.end))) }
     ensures posted { Posted (S.seen site.old) (S.seen site.new) [] }
@@ -100,10 +125,8 @@ fn next_kind<S: Site>(
     ensures mail { (S.seen site.new).mail_faults ≡ (S.seen site.old).mail_faults }
     ensures cause { IfErr result (NextFault (S.seen site.old) (S.seen site.new)) }
 {
-    match db.kind_after(site, after, buffer) {
-        Ok(found) => Ok(found),
-        Err(fault) => Err(store_fault(fault)),
-    }
+    let outcome = db.kind_after(site, after, buffer);
+    found_or_end(outcome)
 }
 
 /// Whether entries of a kind run no statement: an Own, a Sync and a Note.
@@ -123,7 +146,7 @@ fn still_end<S: Site>(
 ) -> Result<Option<Offset>, SendFault>
     requires usable { db.now.log.usable ≡ true }
     requires after { (db.now.log.base ≤ after.0) × (after.0 ≤ db.now.log.end) }
-    ensures end { IsTrue (S.seen site.old).told → (publisher : AName) (done left : List Recorded) → IsDatabase db.now publisher (done ++ left) (S.seen site.old) → after.0 ≡ end_of done
+    ensures end { IsTrue (S.seen site.old).observable → (publisher : AName) (done left : List Recorded) → IsDatabase db.now publisher (done ++ left) (S.seen site.old) → after.0 ≡ end_of done
         → IfOk result (λ found. IfSome found (IsStillEnd done left)) }
     ensures within { IfOk result (λ found. IfSome found (λ end. (after.0 < end.0) × (end.0 ≤ db.now.log.end))) }
     ensures posted { Posted (S.seen site.old) (S.seen site.new) [] }
@@ -152,7 +175,7 @@ fn read_still<S: Site>(
 ) -> Result<Option<Offset>, SendFault>
     requires usable { db.now.log.usable ≡ true }
     requires after { (db.now.log.base ≤ after.0) × (after.0 ≤ db.now.log.end) }
-    ensures end { IsTrue (S.seen site.old).told → (publisher : AName) (done left : List Recorded) → IsDatabase db.now publisher (done ++ left) (S.seen site.old) → after.0 ≡ end_of done
+    ensures end { IsTrue (S.seen site.old).observable → (publisher : AName) (done left : List Recorded) → IsDatabase db.now publisher (done ++ left) (S.seen site.old) → after.0 ≡ end_of done
         → IfOk result (λ found. IfSome found (IsStillEnd done left)) }
     ensures within { IfOk result (λ found. IfSome found (λ end. (after.0 < end.0) × (end.0 ≤ db.now.log.end))) }
     ensures posted { Posted (S.seen site.old) (S.seen site.new) [] }

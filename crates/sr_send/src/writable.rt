@@ -4,9 +4,10 @@ ghost use Rattle.std.specs.Prelude.{◌≡◌, ◌↔◌, ◌<◌, ◌^◌, ⊤,
 ghost use Rattle.std.specs.List.{AllByRecursion};
 ghost use Rattle.sr_base.specs.Values.{IsShort};
 ghost use Rattle.sr_base.specs.declared.value.Value.TheVariants.{Null};
-ghost use Rattle.sr_logform.specs.Ops.{AreKeyColumns, AreUpdates, AreValues, IsShortOp, IsShortTransaction};
+ghost use Rattle.sr_logform.specs.Ops.{AreKeyColumns, AreUpdates, AreValues, IsShortOp};
+ghost use Rattle.sr_logform.specs.Inner.Ops.{IsShortTransaction};
 ghost use Rattle.sr_logform.specs.Rules.{AreDistinct};
-ghost use Rattle.sr_send.specs.Writable.{IsCount};
+ghost use Rattle.sr_send.specs.Inner.Writable.{IsCount};
 
 use sr_base::{Name, Value};
 use sr_logform::{Op, Transaction};

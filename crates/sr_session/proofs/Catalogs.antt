@@ -6,24 +6,24 @@ use Rattle.sr_ast.specs.Statements.{is_ddl}
 use Rattle.sr_ast.specs.declared.stmt.Passthrough.{Passthrough}
 use Rattle.sr_ast.specs.declared.stmt.Stmt.{Stmt}
 use Rattle.sr_ast.specs.declared.stmt.Stmt.TheVariants as stmt
-use Rattle.sr_change.specs.Changes.{refusal}
-use Rattle.sr_history.specs.Fitting.{FitsState, IsAccepted}
-use Rattle.sr_history.specs.Fitting.{IsDone as IsDoneBy}
-use Rattle.sr_history.specs.Folds.{State}
-use Rattle.sr_history.specs.Recorded.{ddl, IsDdl}
+use Rattle.sr_catalog_change.specs.Changes.{refusal}
+use Rattle.sr_database_history.specs.Fitting.{FitsState, IsAccepted}
+use Rattle.sr_database_history.specs.Fitting.{RowsAllow as IsDoneBy}
+use Rattle.sr_database_history.specs.Folds.{State}
+use Rattle.sr_database_history.specs.Recorded.{ddl, IsDdl}
 use Rattle.sr_logform.specs.declared.entry.Entry.TheVariants.{Ddl}
-use Rattle.sr_schema.specs.Catalogs.{Lists}
-use Rattle.sr_schema.specs.declared.fault.DdlFault.{DdlFault}
+use Rattle.sr_catalog_schema.specs.Catalogs.{Lists}
+use Rattle.sr_catalog_schema.specs.declared.fault.DdlFault.{DdlFault}
 use Rattle.sr_site.specs.Seen.{Seen}
-use Rattle.sr_database.specs.Commits.{CanCommit, CanCommitSome}
+use Rattle.sr_database.specs.Inner.Commits.{CanCommit, CanCommitSome}
 use Rattle.sr_database.specs.Views.{View, committed}
-use Rattle.sr_script.specs.Acts.{nothing, line}
-use Rattle.sr_script.specs.Meaning.{enters, unless_ddl, accepted, recorded, changed, is_done_already}
-use Rattle.sr_script.specs.Answers.{IsStop}
-use Rattle.sr_script.specs.declared.refusal.Stop.{Stop}
-use Rattle.sr_session.specs.Faults.{fault_of_stop}
-use Rattle.sr_session.specs.Ready.{work_of}
-use Rattle.sr_session.specs.Steps.{Took}
+use Rattle.sr_session_script.specs.Acts.{nothing, line}
+use Rattle.sr_session_script.specs.Meaning.{enters, unless_ddl, accepted, recorded, changed, is_done_already}
+use Rattle.sr_session_script.specs.Inner.Answers.{IsStop}
+use Rattle.sr_session_script.specs.declared.refusal.Stop.{Stop}
+use Rattle.sr_session.specs.Inner.Faults.{fault_of_stop}
+use Rattle.sr_session.specs.Inner.Ready.{work_of}
+use Rattle.sr_session.specs.Inner.Steps.{Took}
 use Rattle.sr_session.specs.declared.fault.StepFault.{StepFault}
 use Rattle.sr_session.proofs.Quiet.{came_still, took_ok, took_stop}
 

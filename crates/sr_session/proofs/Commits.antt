@@ -6,26 +6,29 @@ use Rattle.std.proofs.lemmas.List.{append-nil}
 use Rattle.sr_ast.specs.declared.stmt.Passthrough.{Passthrough}
 use Rattle.sr_base.specs.declared.offset.Offset.{Offset}
 use Rattle.sr_book.specs.Entries.{Name}
-use Rattle.sr_history.specs.Folds.{State, next, size}
-use Rattle.sr_history.specs.Recorded.{Recorded}
+use Rattle.sr_database_history.specs.Folds.{State, next, size, end_of}
+use Rattle.sr_database_history.specs.Recorded.{Recorded}
 use Rattle.sr_logform.specs.declared.change.Change.{Change}
 use Rattle.sr_logform.specs.declared.entry.Entry.{Entry}
 use Rattle.sr_site.specs.Causes.{DiskStays}
 use Rattle.sr_site.specs.Seen.{Seen}
-use Rattle.sr_standing.specs.Items.{commit}
-use Rattle.sr_standing.specs.Trails.{Went}
-use Rattle.sr_database.specs.Causes.{CommitCause, IsBegun, IsTooFar, IsTooLong}
-use Rattle.sr_database.specs.Commits.{CanCommit}
+use Rattle.sr_database_meaning.specs.Events.{commit}
+use Rattle.sr_database_meaning.specs.Traces.{Went}
+use Rattle.sr_database.specs.Causes.{IsTooFar, IsTooLong}
+use Rattle.sr_database.specs.Inner.Causes.{CommitCause, IsBegun}
+use Rattle.sr_database.specs.Commits.{HasRoom}
+use Rattle.sr_database.specs.Inner.Commits.{CanCommit}
 use Rattle.sr_database.specs.Databases.{IsOf, IsDatabase}
 use Rattle.sr_database.specs.Views.{View, committed}
-use Rattle.sr_files.specs.declared.fault.DatabaseFault.{DatabaseFault}
-use Rattle.sr_files.specs.declared.fault.DatabaseFault.TheVariants as store
-use Rattle.sr_script.specs.Acts.{commits, line}
-use Rattle.sr_script.specs.Meaning.{Stepped, goes, enters}
-use Rattle.sr_script.specs.Works.{Work}
-use Rattle.sr_session.specs.Faults.{fault_of_store}
-use Rattle.sr_session.specs.Ready.{IsReady, work_of}
-use Rattle.sr_session.specs.Steps.{acts_in, Came, Took}
+use Rattle.sr_database.proofs.Rooms.{room_at}
+use Rattle.sr_database_files.specs.declared.fault.DatabaseFault.{DatabaseFault}
+use Rattle.sr_database_files.specs.declared.fault.DatabaseFault.TheVariants as store
+use Rattle.sr_session_script.specs.Acts.{commits, line}
+use Rattle.sr_session_script.specs.Meaning.{Stepped, goes, enters}
+use Rattle.sr_session_script.specs.Works.{Work}
+use Rattle.sr_session.specs.Inner.Faults.{fault_of_store}
+use Rattle.sr_session.specs.Inner.Ready.{IsReady, work_of}
+use Rattle.sr_session.specs.Inner.Steps.{acts_in, Came, Took}
 use Rattle.sr_session.specs.declared.fault.StepFault.TheVariants.{Memory}
 use Rattle.sr_session.proofs.Reaching.{reached_still}
 use Rattle.sr_session.proofs.States.{committed_more, end_more}
@@ -40,15 +43,16 @@ came_none view seen lines lines' usable same = record {
 -- for want of memory nothing is done of a step
 pub took_none : (meant : Stepped) (view : View) (seen : Seen) (lines lines' : List ℕ) (region : Option Passthrough) → view.log.usable ≡ true → lines' ≡ lines
     → Took meant view view seen seen lines lines' region (Err Memory)
-took_none meant view seen lines lines' region usable same = record { acts = []; front = (acts_in meant, refl); came = came_none view seen lines lines' usable same }
+took_none meant view seen lines lines' region usable same = record { acts = []; prefix = (acts_in meant, refl); came = came_none view seen lines lines' usable same }
 
 -- what `commit` says where it succeeds
 pub record Committed (old new : View) (before now : Seen) (entry : Entry) (offset : Offset) : Type 0 where
   pub offset_is : offset.0 ≡ new.log.end
   pub ready : (new.log.usable ≡ true) × (new.pending ≡ [])
   pub value : (publisher : Name) (es : List Recorded) (r : Recorded) → IsOf old publisher es → CanCommit old entry r → IsOf new publisher (es ++ r ∷ [])
-  pub database : IsTrue before.told → (publisher : Name) (es : List Recorded) (r : Recorded) → IsDatabase old publisher es before → CanCommit old entry r → IsDatabase new publisher (es ++ r ∷ []) now
-  pub went : IsTrue before.told → (publisher : Name) (es : List Recorded) (r : Recorded) → IsDatabase old publisher es before → CanCommit old entry r → Went before now publisher es (commit r ∷ [])
+  pub database : IsTrue before.observable → (publisher : Name) (es : List Recorded) (r : Recorded) → IsDatabase old publisher es before → CanCommit old entry r → IsDatabase new publisher (es ++ r ∷ []) now
+  pub went : IsTrue before.observable → (publisher : Name) (es : List Recorded) (r : Recorded) → IsDatabase old publisher es before → CanCommit old entry r → Went before now publisher es (commit r ∷ [])
+  pub room : HasRoom old.log entry
   pub stays : DiskStays before now
   pub steady : now.disk_faults ≡ before.disk_faults
 
@@ -80,6 +84,7 @@ entered old new before now lines lines' region entry offset r ready can done sai
       came = record {
         reached = record {
           state = (done.ready.0, done.steady);
+          room = λ publisher es of. (room_at old.log entry r (end_of es) can.is of.end done.room, tt);
           value = λ yes publisher es of. done.value publisher es r of can;
           end = λ yes. end;
           database = λ told yes publisher es database. done.database told publisher es r database can;
@@ -93,7 +98,7 @@ entered old new before now lines lines' region entry offset r ready can done sai
 -- what `commit` says where it is refused
 pub record NotCommitted (old new : View) (before now : Seen) (entry : Entry) (fault : DatabaseFault) : Type 0 where
   pub cause : CommitCause old new entry before now fault
-  pub went : IsTrue before.told → (publisher : Name) (es : List Recorded) (r : Recorded) → IsDatabase old publisher es before → CanCommit old entry r → IsBegun (Err fault)
+  pub went : IsTrue before.observable → (publisher : Name) (es : List Recorded) (r : Recorded) → IsDatabase old publisher es before → CanCommit old entry r → IsBegun (Err fault)
       → Went before now publisher es (commit r ∷ [])
   pub stays : DiskStays before now
 
@@ -113,10 +118,11 @@ not_entered old new before now lines lines' region entry r (store.Damaged file a
 not_entered old new before now lines lines' region entry r store.Disk ready can done same = record {
   acts = [];
   broken = r ∷ [];
-  end = record { entry = r; front = ([], refl); why = refl };
+  end = record { entry = r; prefix = ([], refl); why = refl };
   came = record {
     reached = record {
       state = (done.cause.0.spent, done.cause.0.rose);
+      room = λ publisher es is. tt;
       value = λ yes publisher es is. absurd (true_not_false new.log.usable done.cause.0.spent yes);
       end = λ yes. absurd (true_not_false new.log.usable done.cause.0.spent yes);
       database = λ told yes publisher es database. absurd (true_not_false new.log.usable done.cause.0.spent yes);
@@ -133,7 +139,7 @@ not_entered old new before now lines lines' region entry r (store.Full end need)
     refl,
     record {
       entry = r;
-      front = ([], refl);
+      prefix = ([], refl);
       why = subst (λ (e : Entry). IsTooFar new.log e end need) (sym can.is) (subst (λ (v : View). IsTooFar v.log entry end need) (sym done.cause.1.value) done.cause.0);
     },
   );
@@ -142,11 +148,11 @@ not_entered old new before now lines lines' region entry r (store.Full end need)
 not_entered old new before now lines lines' region entry r (store.Long size limit) ready can done same = record {
   acts = [];
   broken = [];
-  end = (refl, record { entry = r; front = ([], refl); why = subst (λ (e : Entry). IsTooLong e size limit) (sym can.is) done.cause.0 });
+  end = (refl, record { entry = r; prefix = ([], refl); why = subst (λ (e : Entry). IsTooLong e size limit) (sym can.is) done.cause.0 });
   came = came_same old new before now lines lines' done.cause.1.value done.cause.1.site ready.usable same;
 }
 not_entered old new before now lines lines' region entry r store.Memory ready can done same = record {
   acts = [];
-  front = (commits r ∷ [], refl);
+  prefix = (commits r ∷ [], refl);
   came = came_same old new before now lines lines' done.cause.value done.cause.site ready.usable same;
 }

@@ -2,56 +2,56 @@
 use Rattle.std.proofs.Common.{◌≡◌, ℕ, List, [], ◌++◌, Option, Result, Ok, Err, sym, ap, subst, ◌∙◌}
 use Rattle.std.specs.Prelude.{IsTrue, OnOk}
 use Rattle.sr_ast.specs.declared.stmt.Passthrough.{Passthrough}
-use Rattle.sr_history.specs.Folds.{State, fresh, state_from}
-use Rattle.sr_history.proofs.Joined.{state_from-append}
+use Rattle.sr_database_history.specs.Folds.{State, fresh, state_from}
+use Rattle.sr_database_history.proofs.Joined.{state_from-append}
 use Rattle.sr_site.specs.Seen.{Seen}
 use Rattle.sr_database.specs.Databases.{IsOfSome, HasDatabase}
 use Rattle.sr_database.specs.Views.{View, committed}
-use Rattle.sr_script.specs.Acts.{Act, entries_of}
-use Rattle.sr_script.specs.Meaning.{Stepped, goes, after, closing, once_closed}
-use Rattle.sr_script.specs.Works.{Work, closed}
+use Rattle.sr_session_script.specs.Acts.{ScriptAct, entries_of}
+use Rattle.sr_session_script.specs.Meaning.{Stepped, goes, after, closing, once_closed}
+use Rattle.sr_session_script.specs.Works.{Work, closed}
 use Rattle.sr_session.specs.Reached.{Reached}
-use Rattle.sr_session.specs.Ready.{AreUsers, IsReady, work_of}
-use Rattle.sr_session.specs.Steps.{IsDoneStep, Took}
+use Rattle.sr_session.specs.Inner.Ready.{AreUsers, IsReady, work_of}
+use Rattle.sr_session.specs.Inner.Steps.{IsDoneStep, Took}
 use Rattle.sr_session.specs.declared.fault.StepFault.{StepFault}
 use Rattle.sr_session.proofs.Regions.{users_on}
 use Rattle.sr_session.proofs.States.{committed_is}
-use Rattle.sr_session.proofs.Taking.{took_after, took_front}
+use Rattle.sr_session.proofs.Taking.{took_after, took_prefix}
 
 -- ---- what a stretch without a refusal leaves
 
-pub some_on : (old new : View) (first second : Seen) (acts : List Act) → Reached old new first second acts [] → IsOfSome old → IsOfSome new
+pub some_on : (old new : View) (first second : Seen) (acts : List ScriptAct) → Reached old new first second acts [] → IsOfSome old → IsOfSome new
 some_on old new first second acts reached some =
     record { publisher = some.publisher; es = some.es ++ entries_of acts; is = reached.value reached.state.0 some.publisher some.es some.is }
 
-database_on : (old new : View) (first second : Seen) (acts : List Act) → Reached old new first second acts [] → IsTrue first.told → HasDatabase old first → HasDatabase new second
+database_on : (old new : View) (first second : Seen) (acts : List ScriptAct) → Reached old new first second acts [] → IsTrue first.observable → HasDatabase old first → HasDatabase new second
 database_on old new first second acts reached told has =
     record { publisher = has.publisher; es = has.es ++ entries_of acts; is = reached.database told reached.state.0 has.publisher has.es has.is }
 
-pub ready_on : (old new : View) (first second : Seen) (acts : List Act) → Reached old new first second acts [] → IsReady old first → IsReady new second
+pub ready_on : (old new : View) (first second : Seen) (acts : List ScriptAct) → Reached old new first second acts [] → IsReady old first → IsReady new second
 ready_on old new first second acts reached ready = record {
   usable = reached.state.0;
   some = some_on old new first second acts reached ready.some;
-  stands = λ told. let before : IsTrue first.told = subst (λ b. IsTrue b) reached.stays.told told in database_on old new first second acts reached before (ready.stands before);
+  stands = λ told. let before : IsTrue first.observable = subst (λ b. IsTrue b) reached.stays.observable told in database_on old new first second acts reached before (ready.stands before);
 }
 
-pub committed_on : (old new : View) (first second : Seen) (acts : List Act) → Reached old new first second acts [] → IsOfSome old → committed new ≡ state_from (committed old) (entries_of acts)
+pub committed_on : (old new : View) (first second : Seen) (acts : List ScriptAct) → Reached old new first second acts [] → IsOfSome old → committed new ≡ state_from (committed old) (entries_of acts)
 committed_on old new first second acts reached some =
     committed_is new some.publisher (some.es ++ entries_of acts) (reached.value reached.state.0 some.publisher some.es some.is)
     ∙ state_from-append (fresh some.publisher) some.es (entries_of acts)
     ∙ ap (λ (s : State). state_from s (entries_of acts)) (sym (committed_is old some.publisher some.es some.is))
 
-pub users_kept : (old new : View) (first second : Seen) (acts : List Act) (region : Option Passthrough) → Reached old new first second acts [] → IsOfSome old
+pub users_kept : (old new : View) (first second : Seen) (acts : List ScriptAct) (region : Option Passthrough) → Reached old new first second acts [] → IsOfSome old
     → AreUsers (committed old) region → AreUsers (committed new) region
 users_kept old new first second acts region reached some users =
     subst (λ (s : State). AreUsers s region) (sym (committed_on old new first second acts reached some)) (users_on (committed old) (entries_of acts) region users)
 
 -- ---- the open transaction is committed
 
-same_acts : (acts more : List Act) (w v : Work) → goes acts w ≡ goes more v → acts ≡ more
+same_acts : (acts more : List ScriptAct) (w v : Work) → goes acts w ≡ goes more v → acts ≡ more
 same_acts acts more w v is = cc
 
-same_work : (acts more : List Act) (w v : Work) → goes acts w ≡ goes more v → w ≡ v
+same_work : (acts more : List ScriptAct) (w v : Work) → goes acts w ≡ goes more v → w ≡ v
 same_work acts more w v is = cc
 
 pub closed_pending : (old middle : View) (first second : Seen) (l0 l1 : List ℕ) (region : Option Passthrough)
@@ -68,7 +68,7 @@ closed_then step old middle new first second third l0 l1 l2 region later result 
     let acts_are : done.acts ≡ closing old.pending = sym (same_acts (closing old.pending) done.acts (closed (work_of old region)) (work_of middle region) done.is) in
     let work_is : work_of middle region ≡ closed (work_of old region) = sym (same_work (closing old.pending) done.acts (closed (work_of old region)) (work_of middle region) done.is) in
     subst (λ (w : Work). Took (after (closing old.pending) (step w)) old new first third l0 l2 later result) work_is
-    (subst (λ (acts : List Act). Took (after acts (step (work_of middle region))) old new first third l0 l2 later result) acts_are
+    (subst (λ (acts : List ScriptAct). Took (after acts (step (work_of middle region))) old new first third l0 l2 later result) acts_are
     (took_after done.acts (step (work_of middle region)) old middle new first second third l0 l1 l2 later result done.came took))
 
 -- it was not committed
@@ -76,7 +76,7 @@ pub not_closed : (step : Work → Stepped) (old new : View) (first second : Seen
     → Took (goes (closing old.pending) (closed (work_of old region))) old new first second l0 l1 later (Err fault)
     → Took (once_closed (work_of old region) step) old new first second l0 l1 later (Err fault)
 not_closed step old new first second l0 l1 region later fault took =
-    took_front (closing old.pending) (closed (work_of old region)) (step (closed (work_of old region))) old new first second l0 l1 later fault took
+    took_prefix (closing old.pending) (closed (work_of old region)) (step (closed (work_of old region))) old new first second l0 l1 later fault took
 
 -- what the commit leaves
 pub closed_ready : (old middle : View) (first second : Seen) (l0 l1 : List ℕ) (region : Option Passthrough)

@@ -4,7 +4,7 @@ use Rattle.std.specs.Prelude.{IsTrue}
 use Rattle.std.proofs.lemmas.List.{append-nil}
 use Rattle.sr_ast.specs.declared.stmt.Stmt.{Stmt}
 use Rattle.sr_book.specs.Entries.{Name}
-use Rattle.sr_history.specs.Recorded.{Recorded, entry_of}
+use Rattle.sr_database_history.specs.Recorded.{Recorded, entry_of}
 use Rattle.sr_logfile.specs.Log.{Log}
 use Rattle.sr_site.specs.Causes.{Rose}
 use Rattle.sr_site.specs.Seen.{Seen}
@@ -12,22 +12,22 @@ use Rattle.sr_site.specs.Streams.{Output, OutputStays}
 use Rattle.sr_database.specs.Causes.{IsTooFar}
 use Rattle.sr_database.specs.Databases.{IsOf}
 use Rattle.sr_database.specs.Views.{View, committed}
-use Rattle.sr_files.specs.declared.fault.DatabaseFault.{DatabaseFault}
-use Rattle.sr_files.specs.declared.fault.DatabaseFault.TheVariants as store
-use Rattle.sr_script.specs.Acts.{Act, commits, text_from}
-use Rattle.sr_script.specs.Scripts.{Ran as Script, ran}
-use Rattle.sr_session.specs.Ends.{StoreEnd, IsDone, EndsAs, SinkEnd}
+use Rattle.sr_database_files.specs.declared.fault.DatabaseFault.{DatabaseFault}
+use Rattle.sr_database_files.specs.declared.fault.DatabaseFault.TheVariants as store
+use Rattle.sr_session_script.specs.Acts.{ScriptAct, commits, text_from}
+use Rattle.sr_session_script.specs.Scripts.{ScriptRun as Script, ran}
+use Rattle.sr_session.specs.Ends.{StoreEnd, DidAllActs, EndsAs, SinkEnd}
 use Rattle.sr_session.specs.Ends.{Wrote as LinesOf}
 use Rattle.sr_session.specs.Reached.{IsBroken, Reached}
-use Rattle.sr_session.specs.Running.{Ran, Keeps, counted, IsNoSink}
+use Rattle.sr_session.specs.Inner.Running.{Ran, Keeps, counted, IsNoSink}
 use Rattle.sr_session.specs.Runs.{RanScript}
-use Rattle.sr_session.specs.Said.{IsFront, WroteFront, Said}
+use Rattle.sr_session.specs.Said.{IsPrefix, WrotePrefix, Said}
 use Rattle.sr_session.specs.declared.fault.SessionFault.{SessionFault}
 use Rattle.sr_session.specs.declared.fault.SessionFault.TheVariants.{Statement, Store, Sink, Memory}
 use Rattle.sr_session.proofs.Commits.{came_none}
 use Rattle.sr_session.proofs.Reaching.{database_along}
-use Rattle.sr_session.proofs.Stretches.{outputs_on, said_flush, front_said}
-use Rattle.sr_session.proofs.Taking.{no_broken, front_of_store}
+use Rattle.sr_session.proofs.Stretches.{outputs_on, said_flush, prefix_said}
+use Rattle.sr_session.proofs.Taking.{no_broken, prefix_of_store}
 use Rattle.sr_session.proofs.Timely.{in_time_on}
 
 -- ---- a value that keeps its log and its history
@@ -44,9 +44,10 @@ broken_kept (r ∷ other ∷ rs) old new before now same state = state
 usable_before : (old new : View) → new.log ≡ old.log → new.log.usable ≡ true → old.log.usable ≡ true
 usable_before old new same can = sym (ap (λ (log : Log). log.usable) same) ∙ can
 
-pub reached_kept : (old middle new : View) (before now : Seen) (acts : List Act) (broken : List Recorded) → IsKept middle new → Reached old middle before now acts broken → Reached old new before now acts broken
+pub reached_kept : (old middle new : View) (before now : Seen) (acts : List ScriptAct) (broken : List Recorded) → IsKept middle new → Reached old middle before now acts broken → Reached old new before now acts broken
 reached_kept old middle new before now acts broken kept reached = record {
   state = broken_kept broken middle new before now kept.log reached.state;
+  room = reached.room;
   value = λ can publisher es is. kept.value publisher _ (reached.value (usable_before middle new kept.log can) publisher es is);
   end = λ can. ap (λ (log : Log). log.end) kept.log ∙ reached.end (usable_before middle new kept.log can);
   database = λ told can publisher es database.
@@ -56,13 +57,13 @@ reached_kept old middle new before now acts broken kept reached = record {
   stays = reached.stays;
 }
 
-store_kept : (old new : View) (acts whole : List Act) (broken : List Recorded) (fault : DatabaseFault) → new.log ≡ old.log → StoreEnd old acts whole broken fault → StoreEnd new acts whole broken fault
+store_kept : (old new : View) (acts whole : List ScriptAct) (broken : List Recorded) (fault : DatabaseFault) → new.log ≡ old.log → StoreEnd old acts whole broken fault → StoreEnd new acts whole broken fault
 store_kept old new acts whole broken store.Missing same end = end
 store_kept old new acts whole broken store.Exists same end = end
 store_kept old new acts whole broken (store.Damaged file at) same end = end
 store_kept old new acts whole broken store.Disk same end = end
 store_kept old new acts whole broken (store.Full at need) same end =
-    (end.0, record { entry = end.1.entry; front = end.1.front; why = subst (λ (log : Log). IsTooFar log (entry_of end.1.entry) at need) (sym same) end.1.why })
+    (end.0, record { entry = end.1.entry; prefix = end.1.prefix; why = subst (λ (log : Log). IsTooFar log (entry_of end.1.entry) at need) (sym same) end.1.why })
 store_kept old new acts whole broken (store.Long size limit) same end = end
 store_kept old new acts whole broken store.Memory same end = end
 
@@ -78,13 +79,13 @@ ran_none view seen written statements usable none = record {
   in_time = λ told. record { done = 0; begun = ((ran (committed view) (take 1 statements)).acts, refl); wrote = ([], sym (append-nil (written.taken ++ []) ∙ append-nil written.taken)) };
   sink = refl;
   pending = none;
-  stays = record { told = refl; later = le_refl written.faults };
+  stays = record { observable = refl; later = le_refl written.faults };
 }
 
 -- ---- the last lines are written, or the sink fails
 
 -- how a script ended stays so
-ends_kept : (script : Script) (count : ℕ) (old new : View) (acts : List Act) (broken : List Recorded) (result : Result ℕ SessionFault) → new.log ≡ old.log
+ends_kept : (script : Script) (count : ℕ) (old new : View) (acts : List ScriptAct) (broken : List Recorded) (result : Result ℕ SessionFault) → new.log ≡ old.log
     → EndsAs script count old acts broken result → EndsAs script count new acts broken result
 ends_kept script count old new acts broken (Ok number) same ends = ends
 ends_kept script count old new acts broken (Err (Statement number fault)) same ends = ends
@@ -94,12 +95,12 @@ ends_kept script count old new acts broken (Err Memory) same ends = ends
 
 -- what a sink did with the last lines
 pub record Wrote (lines : List ℕ) (before now : Output) : Type 0 where
-  pub said : IsTrue before.told → now.taken ≡ before.taken ++ lines
+  pub said : IsTrue before.observable → now.taken ≡ before.taken ++ lines
   pub stays : OutputStays before now
   pub steady : now.faults ≡ before.faults
 
 pub record Failed (lines : List ℕ) (before now : Output) : Type 0 where
-  pub front : IsTrue before.told → WroteFront lines before.taken now.taken
+  pub prefix : IsTrue before.observable → WrotePrefix lines before.taken now.taken
   pub stays : OutputStays before now
   pub rose : Rose before.faults now.faults
 
@@ -107,8 +108,8 @@ all_said : (text kept old new now : List ℕ) → Said text kept old new → now
 all_said text kept old new now said is =
     let all = said_flush text kept old new now said is in all.new_is ∙ ap (λ l. old ++ l) (sym (all.all ∙ append-nil all.written))
 
-told_there : (before now : Output) → OutputStays before now → IsTrue before.told → IsTrue now.told
-told_there before now stays told = subst (λ b. IsTrue b) (sym stays.told) told
+told_there : (before now : Output) → OutputStays before now → IsTrue before.observable → IsTrue now.observable
+told_there before now stays told = subst (λ b. IsTrue b) (sym stays.observable) told
 
 lines_written : (text kept : List ℕ) (written taken taken' : Output) (result : Result (Unit {0}) SessionFault) (count : ℕ) → IsNoSink result → Keeps text written.taken taken.taken kept result
     → taken'.taken ≡ taken.taken ++ kept → LinesOf text written.taken taken'.taken (counted count result)
@@ -160,24 +161,24 @@ ended_already old middle new before now written taken kept statements run same n
   stays = run.stays;
 }
 
-front_done : (script : Script) (acts : List Act) (broken : List Recorded) → IsDone script acts broken → IsFront (acts ++ map commits broken) script.acts
-front_done script acts broken done = no_broken acts script.acts broken done.none ([], done.acts_are ∙ sym (append-nil acts))
+prefix_done : (script : Script) (acts : List ScriptAct) (broken : List Recorded) → DidAllActs script acts broken → IsPrefix (acts ++ map commits broken) script.acts
+prefix_done script acts broken done = no_broken acts script.acts broken done.none ([], done.acts_are ∙ sym (append-nil acts))
 
-front_of_end : (script : Script) (count : ℕ) (new : View) (acts : List Act) (broken : List Recorded) (result : Result ℕ SessionFault) → EndsAs script count new acts broken result
-    → IsFront (acts ++ map commits broken) script.acts
-front_of_end script count new acts broken (Ok number) end = front_done script acts broken end.0
-front_of_end script count new acts broken (Err (Statement number fault)) end = front_done script acts broken end.0
-front_of_end script count new acts broken (Err (Store fault)) end = front_of_store new acts script.acts broken fault end
-front_of_end script count new acts broken (Err Sink) end = end
-front_of_end script count new acts broken (Err Memory) end = no_broken acts script.acts broken end.0 end.1
+prefix_of_end : (script : Script) (count : ℕ) (new : View) (acts : List ScriptAct) (broken : List Recorded) (result : Result ℕ SessionFault) → EndsAs script count new acts broken result
+    → IsPrefix (acts ++ map commits broken) script.acts
+prefix_of_end script count new acts broken (Ok number) end = prefix_done script acts broken end.0
+prefix_of_end script count new acts broken (Err (Statement number fault)) end = prefix_done script acts broken end.0
+prefix_of_end script count new acts broken (Err (Store fault)) end = prefix_of_store new acts script.acts broken fault end
+prefix_of_end script count new acts broken (Err Sink) end = end
+prefix_of_end script count new acts broken (Err Memory) end = no_broken acts script.acts broken end.0 end.1
 
-lines_front : (text kept : List ℕ) (written taken taken' : Output) (result : Result (Unit {0}) SessionFault) → IsNoSink result → Keeps text written.taken taken.taken kept result
-    → WroteFront kept taken.taken taken'.taken → WroteFront text written.taken taken'.taken
-lines_front text kept written taken taken' (Ok done) quiet said front = front_said text kept written.taken taken.taken taken'.taken said front
-lines_front text kept written taken taken' (Err (Statement number fault)) quiet said front = front_said text kept written.taken taken.taken taken'.taken said front
-lines_front text kept written taken taken' (Err (Store fault)) quiet said front = front_said text kept written.taken taken.taken taken'.taken said front
-lines_front text kept written taken taken' (Err Sink) quiet said front = absurd quiet
-lines_front text kept written taken taken' (Err Memory) quiet said front = front_said text kept written.taken taken.taken taken'.taken said front
+lines_prefix : (text kept : List ℕ) (written taken taken' : Output) (result : Result (Unit {0}) SessionFault) → IsNoSink result → Keeps text written.taken taken.taken kept result
+    → WrotePrefix kept taken.taken taken'.taken → WrotePrefix text written.taken taken'.taken
+lines_prefix text kept written taken taken' (Ok done) quiet said prefix = prefix_said text kept written.taken taken.taken taken'.taken said prefix
+lines_prefix text kept written taken taken' (Err (Statement number fault)) quiet said prefix = prefix_said text kept written.taken taken.taken taken'.taken said prefix
+lines_prefix text kept written taken taken' (Err (Store fault)) quiet said prefix = prefix_said text kept written.taken taken.taken taken'.taken said prefix
+lines_prefix text kept written taken taken' (Err Sink) quiet said prefix = absurd quiet
+lines_prefix text kept written taken taken' (Err Memory) quiet said prefix = prefix_said text kept written.taken taken.taken taken'.taken said prefix
 
 sink_rose : (written taken taken' : Output) (result : Result (Unit {0}) SessionFault) (count : ℕ) → IsNoSink result → SinkEnd written taken (counted count result) → Rose taken.faults taken'.faults
     → Rose written.faults taken'.faults
@@ -195,10 +196,10 @@ ended_sink old middle new before now written taken taken' kept statements result
   acts = run.acts;
   broken = run.broken;
   reached = reached_kept old middle new before now run.acts run.broken same run.reached;
-  ends = front_of_end (ran (committed old) statements) (length statements) middle run.acts run.broken (counted (length statements) result) run.ends;
-  lines = λ told. lines_front (text_from old.log.end run.acts) kept written taken taken' result quiet (run.lines told) (failed.front (told_there written taken run.stays told));
+  ends = prefix_of_end (ran (committed old) statements) (length statements) middle run.acts run.broken (counted (length statements) result) run.ends;
+  lines = λ told. lines_prefix (text_from old.log.end run.acts) kept written taken taken' result quiet (run.lines told) (failed.prefix (told_there written taken run.stays told));
   in_time = λ told.
-      let more = failed.front (told_there written taken run.stays told) in
+      let more = failed.prefix (told_there written taken run.stays told) in
       in_time_on (committed old) old.log.end statements (run.acts ++ map commits run.broken) written.taken taken.taken taken'.taken (run.in_time told) (more.written, more.new_is);
   sink = sink_rose written taken taken' result (length statements) quiet run.sink failed.rose;
   pending = none;

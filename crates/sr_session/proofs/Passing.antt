@@ -4,29 +4,29 @@ use Rattle.sr_ast.specs.declared.query.Dml.{Dml}
 use Rattle.sr_ast.specs.declared.stmt.Passthrough.{Passthrough}
 use Rattle.sr_ast.specs.declared.stmt.Stmt.{Stmt}
 use Rattle.sr_ast.specs.declared.stmt.Stmt.TheVariants as stmt
-use Rattle.sr_change.specs.Changes.{refusal}
-use Rattle.sr_dml.specs.Conditions.{RowsFit}
-use Rattle.sr_dml.specs.FittingChanges.{ChangesFit}
-use Rattle.sr_dml.specs.Statements.{done}
-use Rattle.sr_dml.specs.declared.changes.Changes.{Changes}
-use Rattle.sr_dml.proofs.Applied.{statements_changes_fit}
-use Rattle.sr_history.specs.Fitting.{HasChanges, IsAcceptedPass, MayHaveChanges}
-use Rattle.sr_history.specs.Folds.{State}
-use Rattle.sr_history.specs.Recorded.{pass, IsDdl}
+use Rattle.sr_catalog_change.specs.Changes.{refusal}
+use Rattle.sr_exec_dml.specs.Inner.Conditions.{RowsFit}
+use Rattle.sr_exec_dml.specs.FittingChanges.{ChangesFit}
+use Rattle.sr_exec_dml.specs.Statements.{done}
+use Rattle.sr_exec_dml.specs.declared.changes.Changes.{Changes}
+use Rattle.sr_exec_dml.proofs.Applied.{statements_changes_fit}
+use Rattle.sr_database_history.specs.Fitting.{HasChanges, IsAcceptedPass, MayHaveChanges}
+use Rattle.sr_database_history.specs.Folds.{State}
+use Rattle.sr_database_history.specs.Recorded.{pass, IsDdl}
 use Rattle.sr_logform.specs.declared.change.Change.{Change}
-use Rattle.sr_schema.specs.Catalogs.{Lists}
-use Rattle.sr_schema.specs.Causes.{first_fault}
-use Rattle.sr_schema.specs.declared.fault.DmlFault.{DmlFault}
+use Rattle.sr_catalog_schema.specs.Catalogs.{Lists}
+use Rattle.sr_catalog_schema.specs.Causes.{first_fault}
+use Rattle.sr_catalog_schema.specs.declared.fault.DmlFault.{DmlFault}
 use Rattle.sr_site.specs.Seen.{Seen}
 use Rattle.sr_database.specs.Views.{View}
-use Rattle.sr_script.specs.Answers.{IsStop}
-use Rattle.sr_script.specs.Meaning.{Stepped, enters, unless_dml, accepted, without_changes, list_of, catalog_changes, row_changes, passed}
-use Rattle.sr_script.specs.Works.{Work}
-use Rattle.sr_script.specs.declared.refusal.Refusal.{Refusal}
-use Rattle.sr_script.specs.declared.refusal.Stop.{Stop}
-use Rattle.sr_session.specs.Faults.{fault_of_stop}
-use Rattle.sr_session.specs.Ready.{work_of}
-use Rattle.sr_session.specs.Steps.{Took}
+use Rattle.sr_session_script.specs.Inner.Answers.{IsStop}
+use Rattle.sr_session_script.specs.Meaning.{Stepped, enters, unless_dml, accepted, without_changes, list_of, catalog_changes, row_changes, passed}
+use Rattle.sr_session_script.specs.Works.{Work}
+use Rattle.sr_session_script.specs.declared.refusal.Refusal.{Refusal}
+use Rattle.sr_session_script.specs.declared.refusal.Stop.{Stop}
+use Rattle.sr_session.specs.Inner.Faults.{fault_of_stop}
+use Rattle.sr_session.specs.Inner.Ready.{work_of}
+use Rattle.sr_session.specs.Inner.Steps.{Took}
 use Rattle.sr_session.specs.declared.fault.StepFault.{StepFault}
 use Rattle.sr_session.proofs.Catalogs.{accepts}
 use Rattle.sr_session.proofs.Quiet.{took_ok, took_stop}

@@ -3,24 +3,24 @@ use Rattle.std.proofs.Common.{◌≡◌, true, ℕ, List, [], ◌∷◌, ◌++�
 use Rattle.sr_ast.specs.declared.stmt.Passthrough.{Passthrough}
 use Rattle.sr_base.specs.declared.value.Value.{Value as Cell}
 use Rattle.sr_book.specs.Entries.{Name}
-use Rattle.sr_history.specs.Recorded.{Recorded}
+use Rattle.sr_database_history.specs.Recorded.{Recorded}
 use Rattle.sr_site.specs.Seen.{Seen}
 use Rattle.sr_database.specs.Databases.{IsOf}
 use Rattle.sr_database.specs.Views.{View}
-use Rattle.sr_script.specs.Acts.{Act, row, rows, entries_of, end_behind, text_from}
-use Rattle.sr_script.specs.Answers.{IsStop}
-use Rattle.sr_script.specs.Meaning.{Stepped, then_step, listing}
-use Rattle.sr_script.specs.declared.refusal.Refusal.{Refusal}
-use Rattle.sr_script.specs.declared.refusal.Stop.{Stop}
-use Rattle.sr_script.specs.declared.refusal.Stop.TheVariants as stop
-use Rattle.sr_session.specs.Faults.{fault_of_stop}
-use Rattle.sr_session.specs.Steps.{Came, Took}
+use Rattle.sr_session_script.specs.Acts.{ScriptAct, row, rows, entries_of, end_behind, text_from}
+use Rattle.sr_session_script.specs.Inner.Answers.{IsStop}
+use Rattle.sr_session_script.specs.Meaning.{Stepped, then_step, listing}
+use Rattle.sr_session_script.specs.declared.refusal.Refusal.{Refusal}
+use Rattle.sr_session_script.specs.declared.refusal.Stop.{Stop}
+use Rattle.sr_session_script.specs.declared.refusal.Stop.TheVariants as stop
+use Rattle.sr_session.specs.Inner.Faults.{fault_of_stop}
+use Rattle.sr_session.specs.Inner.Steps.{Came, Took}
 use Rattle.sr_session.specs.declared.fault.StepFault.{StepFault}
 use Rattle.sr_session.proofs.Commits.{came_none, took_none}
 use Rattle.sr_session.proofs.Reaching.{reached_still}
 
 -- acts without an entry
-pub came_still : (old new : View) (seen : Seen) (lines lines' : List ℕ) (acts : List Act) → entries_of acts ≡ [] → end_behind old.log.end acts ≡ old.log.end
+pub came_still : (old new : View) (seen : Seen) (lines lines' : List ℕ) (acts : List ScriptAct) → entries_of acts ≡ [] → end_behind old.log.end acts ≡ old.log.end
     → new.log ≡ old.log → old.log.usable ≡ true → ((publisher : Name) (es : List Recorded) → IsOf old publisher es → IsOf new publisher es)
     → lines' ≡ lines ++ text_from old.log.end acts → Came old new seen seen lines lines' acts []
 came_still old new seen lines lines' acts none ends same usable keeps said = record {

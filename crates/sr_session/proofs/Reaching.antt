@@ -3,25 +3,29 @@ use Rattle.std.proofs.Common.{◌≡◌, true, ℕ, List, [], ◌∷◌, ◌++�
 use Rattle.std.specs.Prelude.{IsTrue}
 use Rattle.std.proofs.lemmas.List.{append-nil}
 use Rattle.sr_book.specs.Entries.{Name}
-use Rattle.sr_history.specs.Recorded.{Recorded}
+use Rattle.sr_database_history.specs.Folds.{end_of}
+use Rattle.sr_database_history.specs.Recorded.{Recorded}
+use Rattle.sr_database_history.proofs.Joined.{end_from-append}
 use Rattle.sr_logfile.specs.Log.{Log}
 use Rattle.sr_site.specs.Causes.{DiskStays, Rose}
 use Rattle.sr_site.specs.Files.{Files}
-use Rattle.sr_site.specs.Growing.{disk_stays_on}
+use Rattle.sr_site.specs.Inner.Growing.{disk_stays_on}
 use Rattle.sr_site.specs.Images.{IsSettled}
 use Rattle.sr_site.specs.Seen.{Seen}
-use Rattle.sr_standing.specs.Generations.{log_of}
-use Rattle.sr_standing.specs.Items.{Item, commit, commits}
-use Rattle.sr_standing.specs.Standing.{StandsFor, StandsAs}
-use Rattle.sr_standing.specs.Trails.{Went}
-use Rattle.sr_standing.proofs.Going.{nothing}
-use Rattle.sr_standing.proofs.Joining.{joined}
+use Rattle.sr_database_meaning.specs.Generations.{log_of}
+use Rattle.sr_database_meaning.specs.Events.{Event, commit, commits}
+use Rattle.sr_database_meaning.specs.Standing.{StandsFor, StandsAs}
+use Rattle.sr_database_meaning.specs.Traces.{Went}
+use Rattle.sr_database_meaning.proofs.Going.{nothing}
+use Rattle.sr_database_meaning.proofs.Joining.{joined}
 use Rattle.sr_database.specs.Databases.{IsOf, IsHeld, IsDatabase}
+use Rattle.sr_database.specs.Rooms.{HaveRoom}
 use Rattle.sr_database.specs.Views.{View}
-use Rattle.sr_script.specs.Acts.{Act, entries_of, end_behind, text_from}
-use Rattle.sr_script.proofs.Joins.{entries_of-append, end_behind-append, text_from-append}
+use Rattle.sr_database.proofs.Rooms.{rooms_on}
+use Rattle.sr_session_script.specs.Acts.{ScriptAct, entries_of, end_behind, text_from}
+use Rattle.sr_session_script.proofs.Joins.{entries_of-append, end_behind-append, text_from-append}
 use Rattle.sr_session.specs.Reached.{IsBroken, Reached}
-use Rattle.sr_session.specs.Steps.{Came}
+use Rattle.sr_session.specs.Inner.Steps.{Came}
 
 -- ---- a value that keeps its log
 
@@ -46,17 +50,18 @@ stands_as : (view : View) (publisher : Name) (es : List Recorded) (seen : Seen) 
 stands_as view publisher es seen database = λ image left. record { base = view.log.base; stands = (database.settled image left).stands }
 
 pub still : (seen : Seen) → DiskStays seen seen
-still seen = record { told = refl; first = refl; grows = λ moment there. there; mail = refl; mail_faults = refl; later = le_refl seen.disk_faults }
+still seen = record { observable = refl; first = refl; grows = λ moment there. there; mail = refl; mail_faults = refl; later = le_refl seen.disk_faults }
 
-no_more : (es : List Recorded) (acts : List Act) → entries_of acts ≡ [] → es ≡ es ++ entries_of acts
+no_more : (es : List Recorded) (acts : List ScriptAct) → entries_of acts ≡ [] → es ≡ es ++ entries_of acts
 no_more es acts none = sym (ap (λ rs. es ++ rs) none ∙ append-nil es)
 
 -- acts without an entry, on a value that keeps its log
-pub reached_still : (old new : View) (seen : Seen) (acts : List Act) → entries_of acts ≡ [] → end_behind old.log.end acts ≡ old.log.end
+pub reached_still : (old new : View) (seen : Seen) (acts : List ScriptAct) → entries_of acts ≡ [] → end_behind old.log.end acts ≡ old.log.end
     → new.log ≡ old.log → old.log.usable ≡ true → ((publisher : Name) (es : List Recorded) → IsOf old publisher es → IsOf new publisher es)
     → Reached old new seen seen acts []
 reached_still old new seen acts none ends same usable keeps = record {
   state = (ap (λ (log : Log). log.usable) same ∙ usable, refl);
+  room = λ publisher es is. subst (λ (rs : List Recorded). HaveRoom old.log.base (end_of es) rs) (sym none) tt;
   value = λ yes publisher es is. subst (λ (rs : List Recorded). IsOf new publisher rs) (no_more es acts none) (keeps publisher es is);
   end = λ yes. ap (λ (log : Log). log.end) same ∙ sym ends;
   database = λ told yes publisher es database.
@@ -81,22 +86,27 @@ broken_on [] middle new first second third one two = (two.0, two.1 ∙ one.1)
 broken_on (r ∷ []) middle new first second third one two = (two.0, subst (λ (count : ℕ). Rose count third.disk_faults) one.1 two.1)
 broken_on (r ∷ other ∷ rs) middle new first second third one two = two
 
-entries_on : (es : List Recorded) (acts more : List Act) → (es ++ entries_of acts) ++ entries_of more ≡ es ++ entries_of (acts ++ more)
+entries_on : (es : List Recorded) (acts more : List ScriptAct) → (es ++ entries_of acts) ++ entries_of more ≡ es ++ entries_of (acts ++ more)
 entries_on es acts more = append_assoc es (entries_of acts) (entries_of more) ∙ ap (λ rs. es ++ rs) (sym (entries_of-append acts more))
 
-trail_on : (acts more : List Act) (broken : List Recorded) → map commit (entries_of acts ++ []) ++ map commit (entries_of more ++ broken) ≡ map commit (entries_of (acts ++ more) ++ broken)
-trail_on acts more broken =
+trace_on : (acts more : List ScriptAct) (broken : List Recorded) → map commit (entries_of acts ++ []) ++ map commit (entries_of more ++ broken) ≡ map commit (entries_of (acts ++ more) ++ broken)
+trace_on acts more broken =
     ap (λ rs. map commit rs ++ map commit (entries_of more ++ broken)) (append-nil (entries_of acts))
     ∙ sym (map-append (entries_of acts) (entries_of more ++ broken))
     ∙ ap (λ rs. map commit rs) (sym (append_assoc (entries_of acts) (entries_of more) broken) ∙ ap (λ rs. rs ++ broken) (sym (entries_of-append acts more)))
 
-told_later : (first second : Seen) → DiskStays first second → IsTrue first.told → IsTrue second.told
-told_later first second stays told = subst (λ b. IsTrue b) (sym stays.told) told
+told_later : (first second : Seen) → DiskStays first second → IsTrue first.observable → IsTrue second.observable
+told_later first second stays told = subst (λ b. IsTrue b) (sym stays.observable) told
 
-pub reached_on : (a b c : View) (first second third : Seen) (acts more : List Act) (broken : List Recorded)
+pub reached_on : (a b c : View) (first second third : Seen) (acts more : List ScriptAct) (broken : List Recorded)
     → Reached a b first second acts [] → Reached b c second third more broken → Reached a c first third (acts ++ more) broken
 reached_on a b c first second third acts more broken one two = record {
   state = broken_on broken b c first second third one.state two.state;
+  room = λ publisher es is.
+      let grown = one.value one.state.0 publisher es is in
+      subst (λ (rs : List Recorded). HaveRoom a.log.base (end_of es) rs) (sym (entries_of-append acts more))
+      (rooms_on a.log.base b.log.base (end_of es) (entries_of acts) (entries_of more) (grown.base ∙ sym is.base) (one.room publisher es is)
+      (subst (λ (n : ℕ). HaveRoom b.log.base n (entries_of more)) (end_from-append 0 es (entries_of acts)) (two.room publisher (es ++ entries_of acts) grown)));
   value = λ yes publisher es is.
       subst (λ (rs : List Recorded). IsOf c publisher rs) (entries_on es acts more) (two.value yes publisher (es ++ entries_of acts) (one.value one.state.0 publisher es is));
   end = λ yes. two.end yes ∙ ap (λ place. end_behind place more) (one.end one.state.0) ∙ sym (end_behind-append a.log.end acts more);
@@ -107,12 +117,12 @@ reached_on a b c first second third acts more broken one two = record {
       let behind : Went second third publisher (es ++ commits (map commit (entries_of acts ++ []))) (map commit (entries_of more ++ broken)) =
       subst (λ (rs : List Recorded). Went second third publisher (es ++ rs) (map commit (entries_of more ++ broken))) (sym (commits_of (entries_of acts ++ []) ∙ append-nil (entries_of acts)))
       (two.went (told_later first second one.stays told) publisher (es ++ entries_of acts) (one.database told one.state.0 publisher es database)) in
-      subst (λ (items : List Item). Went first third publisher es items) (trail_on acts more broken)
+      subst (λ (items : List Event). Went first third publisher es items) (trace_on acts more broken)
       (joined first second third publisher es (map commit (entries_of acts ++ [])) (map commit (entries_of more ++ broken)) (one.went told publisher es database) behind);
   stays = disk_stays_on first second third one.stays two.stays;
 }
 
-pub came_on : (a b c : View) (first second third : Seen) (l0 l1 l2 : List ℕ) (acts more : List Act) (broken : List Recorded)
+pub came_on : (a b c : View) (first second third : Seen) (l0 l1 l2 : List ℕ) (acts more : List ScriptAct) (broken : List Recorded)
     → Came a b first second l0 l1 acts [] → Came b c second third l1 l2 more broken → Came a c first third l0 l2 (acts ++ more) broken
 came_on a b c first second third l0 l1 l2 acts more broken one two = record {
   reached = reached_on a b c first second third acts more broken one.reached two.reached;

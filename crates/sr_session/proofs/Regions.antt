@@ -7,39 +7,39 @@ use Rattle.sr_ast.specs.declared.stmt.Passthrough.{Passthrough}
 use Rattle.sr_ast.specs.declared.stmt.Stmt.{Stmt}
 use Rattle.sr_ast.specs.declared.stmt.Stmt.TheVariants as stmt
 use Rattle.sr_book.specs.Entries.{Name}
-use Rattle.sr_change.specs.Changes.{refusal}
-use Rattle.sr_ddl.specs.Users.{is_remote, passthrough_causes}
-use Rattle.sr_dml.specs.FittingChanges.{ChangesFit}
-use Rattle.sr_history.specs.Fitting.{Knows, FitsState, IsAcceptedPass, MayHaveChanges}
-use Rattle.sr_history.specs.Folds.{State, next, state_from}
-use Rattle.sr_history.specs.Recorded.{Recorded, pass, IsCarried}
-use Rattle.sr_history.proofs.Granted.{stays_known}
+use Rattle.sr_catalog_change.specs.Changes.{refusal}
+use Rattle.sr_catalog_ddl.specs.Users.{is_remote, passthrough_causes}
+use Rattle.sr_exec_dml.specs.FittingChanges.{ChangesFit}
+use Rattle.sr_database_history.specs.Fitting.{Knows, FitsState, IsAcceptedPass, MayHaveChanges}
+use Rattle.sr_database_history.specs.Folds.{State, next, state_from}
+use Rattle.sr_database_history.specs.Recorded.{Recorded, pass, IsCarried}
+use Rattle.sr_database_history.proofs.Granted.{stays_known}
 use Rattle.sr_logform.specs.Entries.{AreUsers as AreLogUsers}
 use Rattle.sr_logform.specs.Outcomes.{IsShortChange}
 use Rattle.sr_base.specs.Fields.{IsListOf}
 use Rattle.sr_logform.specs.declared.change.Change.{Change}
 use Rattle.sr_logform.specs.declared.entry.Entry.TheVariants.{Pass}
-use Rattle.sr_replay.proofs.ReplayCauses.{NoCause, no_cause_of, first_of-None, where_true-None}
-use Rattle.sr_schema.specs.Firsts.{first_among, where_true}
-use Rattle.sr_schema.specs.Members.{user_name}
-use Rattle.sr_schema.specs.Names.{named}
-use Rattle.sr_schema.specs.declared.user.User.{User}
-use Rattle.sr_database.specs.Commits.{CanCommit, CanCommitSome}
+use Rattle.sr_catalog_script_laws.proofs.ReplayCauses.{NoCause, no_cause_of, first_of-None, where_true-None}
+use Rattle.sr_catalog_schema.specs.Firsts.{first_among, where_true}
+use Rattle.sr_catalog_schema.specs.Members.{user_name}
+use Rattle.sr_catalog_schema.specs.Names.{named}
+use Rattle.sr_catalog_schema.specs.declared.user.User.{User}
+use Rattle.sr_database.specs.Inner.Commits.{CanCommit, CanCommitSome}
 use Rattle.sr_database.specs.Views.{View, committed}
-use Rattle.sr_script.specs.Works.{region_of}
-use Rattle.sr_script.proofs.Regions.{once_distinct, once_all}
-use Rattle.sr_script.specs.Acts.{line, region_begins, region_ends}
-use Rattle.sr_script.specs.Answers.{IsStop}
-use Rattle.sr_script.specs.Meaning.{Stepped, goes, stops, accepted, then_step, began, ended, refused_in, uncarried}
-use Rattle.sr_script.specs.Works.{Work}
-use Rattle.sr_script.specs.declared.refusal.Refusal.{Refusal}
-use Rattle.sr_script.specs.declared.refusal.Refusal.TheVariants.{Ddl}
-use Rattle.sr_script.specs.declared.refusal.Stop.{Stop}
+use Rattle.sr_session_script.specs.Works.{region_of}
+use Rattle.sr_session_script.proofs.Regions.{once_distinct, once_all}
+use Rattle.sr_session_script.specs.Acts.{line, region_begins, region_ends}
+use Rattle.sr_session_script.specs.Inner.Answers.{IsStop}
+use Rattle.sr_session_script.specs.Meaning.{Stepped, goes, stops, accepted, then_step, began, ended, refused_in, uncarried}
+use Rattle.sr_session_script.specs.Works.{Work}
+use Rattle.sr_session_script.specs.declared.refusal.Refusal.{Refusal}
+use Rattle.sr_session_script.specs.declared.refusal.Refusal.TheVariants.{Ddl}
+use Rattle.sr_session_script.specs.declared.refusal.Stop.{Stop}
 use Rattle.sr_site.specs.Seen.{Seen}
-use Rattle.sr_schema.specs.declared.fault.DdlFault.{DdlFault}
-use Rattle.sr_session.specs.Faults.{fault_of_stop}
-use Rattle.sr_session.specs.Ready.{AreUsers, work_of}
-use Rattle.sr_session.specs.Steps.{Took}
+use Rattle.sr_catalog_schema.specs.declared.fault.DdlFault.{DdlFault}
+use Rattle.sr_session.specs.Inner.Faults.{fault_of_stop}
+use Rattle.sr_session.specs.Inner.Ready.{AreUsers, work_of}
+use Rattle.sr_session.specs.Inner.Steps.{Took}
 use Rattle.sr_session.specs.declared.fault.StepFault.TheVariants.{Refused}
 use Rattle.sr_session.proofs.Commits.{came_none}
 use Rattle.sr_session.proofs.Quiet.{came_still, took_stop}

@@ -4,8 +4,8 @@ use Rattle.std.specs.Prelude.{IsErrAnd}
 use Rattle.sr_ast.specs.declared.stmt.Passthrough.{Passthrough}
 use Rattle.sr_site.specs.Seen.{Seen}
 use Rattle.sr_database.specs.Views.{View}
-use Rattle.sr_script.specs.Meaning.{Stepped}
-use Rattle.sr_session.specs.Steps.{Took}
+use Rattle.sr_session_script.specs.Meaning.{Stepped}
+use Rattle.sr_session.specs.Inner.Steps.{Took}
 use Rattle.sr_session.specs.declared.fault.StepFault.{StepFault}
 use Rattle.sr_session.specs.declared.fault.StepFault.TheVariants.{Memory}
 use Rattle.sr_session.proofs.Commits.{took_none}

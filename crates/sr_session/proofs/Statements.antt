@@ -7,26 +7,27 @@ use Rattle.sr_ast.specs.declared.query.Select.{Select}
 use Rattle.sr_ast.specs.declared.stmt.Passthrough.{Passthrough}
 use Rattle.sr_base.specs.declared.value.Value.{Value as Cell}
 use Rattle.sr_book.specs.Entries.{Name}
-use Rattle.sr_dml.specs.Conditions.{RowsFit}
-use Rattle.sr_dml.specs.FittingChanges.{ChangesFit}
-use Rattle.sr_dml.proofs.Applied.{statements_changes_fit}
-use Rattle.sr_dml.specs.Statements.{done}
-use Rattle.sr_dml.specs.declared.changes.Changes.{Changes}
-use Rattle.sr_history.specs.Folds.{State}
-use Rattle.sr_history.specs.Recorded.{Recorded}
+use Rattle.sr_exec_dml.specs.Inner.Conditions.{RowsFit}
+use Rattle.sr_exec_dml.specs.FittingChanges.{ChangesFit}
+use Rattle.sr_exec_dml.proofs.Applied.{statements_changes_fit}
+use Rattle.sr_exec_dml.specs.Statements.{done}
+use Rattle.sr_exec_dml.specs.declared.changes.Changes.{Changes}
+use Rattle.sr_database_history.specs.Folds.{State}
+use Rattle.sr_database_history.specs.Recorded.{Recorded}
 use Rattle.sr_logform.specs.declared.change.Change.{Change}
-use Rattle.sr_schema.specs.declared.fault.DmlFault.{DmlFault}
+use Rattle.sr_catalog_schema.specs.declared.fault.DmlFault.{DmlFault}
 use Rattle.sr_site.specs.Seen.{Seen}
 use Rattle.sr_database.specs.Databases.{IsOf, IsOfSome}
-use Rattle.sr_database.specs.Views.{View, committed, present}
-use Rattle.sr_script.specs.Acts.{rows, line, text_from}
-use Rattle.sr_script.specs.Answers.{IsStop}
-use Rattle.sr_script.specs.Meaning.{Stepped, goes, unless_dml, changes_by, rows_by, then_step, executed, answered, with_pending, listing}
-use Rattle.sr_script.specs.Works.{Work, visible}
-use Rattle.sr_script.specs.declared.refusal.Stop.{Stop}
-use Rattle.sr_session.specs.Faults.{fault_of_stop}
-use Rattle.sr_session.specs.Ready.{work_of}
-use Rattle.sr_session.specs.Steps.{Took}
+use Rattle.sr_database.specs.Views.{View, committed}
+use Rattle.sr_database.specs.Inner.Views.{present}
+use Rattle.sr_session_script.specs.Acts.{rows, line, text_from}
+use Rattle.sr_session_script.specs.Inner.Answers.{IsStop}
+use Rattle.sr_session_script.specs.Meaning.{Stepped, goes, unless_dml, changes_by, rows_by, then_step, executed, answered, with_pending, listing}
+use Rattle.sr_session_script.specs.Works.{Work, visible}
+use Rattle.sr_session_script.specs.declared.refusal.Stop.{Stop}
+use Rattle.sr_session.specs.Inner.Faults.{fault_of_stop}
+use Rattle.sr_session.specs.Inner.Ready.{work_of}
+use Rattle.sr_session.specs.Inner.Steps.{Took}
 use Rattle.sr_session.specs.declared.fault.StepFault.TheVariants.{Memory}
 use Rattle.sr_session.proofs.Quiet.{came_still, listing_none, listing_ends, took_stop}
 use Rattle.sr_session.proofs.States.{committed_kept, present_is}
@@ -74,7 +75,7 @@ pub executed_short : (old new : View) (seen : Seen) (lines lines' : List ℕ) (r
     → Took (executed (work_of old region) d) old new seen seen lines lines' region (Err Memory)
 executed_short old new seen lines lines' region d usable same keeps lines_same = record {
   acts = [];
-  front = (_, refl);
+  prefix = (_, refl);
   came = came_still old new seen lines lines' [] refl refl same usable keeps (lines_same ∙ sym (append-nil lines));
 }
 

@@ -1,15 +1,16 @@
 -- The state of a database's value, before and behind an entry.
 use Rattle.std.proofs.Common.{◌≡◌, ◌+◌, ℕ, List, [], ◌∷◌, ◌++◌, sym, ap, ◌∙◌}
 use Rattle.sr_book.specs.Entries.{Name}
-use Rattle.sr_dml.specs.Applying.{applied}
-use Rattle.sr_history.specs.Folds.{State, with_changes, next, state_of, size}
-use Rattle.sr_history.specs.Recorded.{Recorded}
-use Rattle.sr_history.proofs.Joined.{state_from-more, end_from-more}
-use Rattle.sr_history.specs.Folds.{fresh}
+use Rattle.sr_exec_dml.specs.Applying.{applied}
+use Rattle.sr_database_history.specs.Folds.{State, with_changes, next, state_of, size}
+use Rattle.sr_database_history.specs.Recorded.{Recorded}
+use Rattle.sr_database_history.proofs.Joined.{state_from-more, end_from-more}
+use Rattle.sr_database_history.specs.Folds.{fresh}
 use Rattle.sr_rows.specs.Marks.{Marked, RowMap}
-use Rattle.sr_schema.specs.Catalogs.{Lists}
+use Rattle.sr_catalog_schema.specs.Catalogs.{Lists}
 use Rattle.sr_database.specs.Databases.{IsOf, IsOfSome}
-use Rattle.sr_database.specs.Views.{View, committed, present}
+use Rattle.sr_database.specs.Views.{View, committed}
+use Rattle.sr_database.specs.Inner.Views.{present}
 
 abbrev state_with : Lists → RowMap → State
 state_with catalog rows = record { catalog = catalog; rows = rows }

@@ -6,27 +6,27 @@ use Rattle.std.proofs.lemmas.List.{append-nil}
 use Rattle.sr_ast.specs.declared.stmt.Passthrough.{Passthrough}
 use Rattle.sr_ast.specs.declared.stmt.Stmt.{Stmt}
 use Rattle.sr_ast.specs.NormalForms.{IsNormal}
-use Rattle.sr_history.specs.Folds.{State}
-use Rattle.sr_history.specs.Recorded.{Recorded}
+use Rattle.sr_database_history.specs.Folds.{State}
+use Rattle.sr_database_history.specs.Recorded.{Recorded}
 use Rattle.sr_logform.specs.declared.change.Change.{Change}
 use Rattle.sr_site.specs.Causes.{Rose}
 use Rattle.sr_site.specs.Seen.{Seen}
 use Rattle.sr_site.specs.Streams.{Output, OutputStays}
 use Rattle.sr_database.specs.Views.{View, committed}
-use Rattle.sr_script.specs.Acts.{Act, commits, rolled_back, line, text_from}
-use Rattle.sr_script.specs.Acts.{end_behind as acts_end}
-use Rattle.sr_script.specs.Meaning.{Stepped, goes, stops, done_by}
-use Rattle.sr_script.specs.Scripts.{Ran as Script, End, refused, last_acts, led, going_on, ran_from, ran}
-use Rattle.sr_script.specs.Works.{Work, at_beginning}
-use Rattle.sr_script.proofs.Joins.{text_from-append}
+use Rattle.sr_session_script.specs.Acts.{ScriptAct, commits, rolled_back, line, text_from}
+use Rattle.sr_session_script.specs.Acts.{end_behind as acts_end}
+use Rattle.sr_session_script.specs.Meaning.{Stepped, goes, stops, done_by}
+use Rattle.sr_session_script.specs.Scripts.{ScriptRun as Script, End, refused, last_acts, led, going_on, ran_from, ran}
+use Rattle.sr_session_script.specs.Works.{Work, at_beginning}
+use Rattle.sr_session_script.proofs.Joins.{text_from-append}
 use Rattle.sr_session.specs.Due.{said_from, is_due, due, WroteInTime}
 use Rattle.sr_session.specs.Ends.{StoreEnd}
-use Rattle.sr_session.specs.Faults.{session_fault}
+use Rattle.sr_session.specs.Inner.Faults.{session_fault}
 use Rattle.sr_session.specs.Reached.{Reached}
-use Rattle.sr_session.specs.Ready.{AreUsers, IsReady, work_of}
-use Rattle.sr_session.specs.Running.{Under, Ran, RanStatements}
-use Rattle.sr_session.specs.Said.{IsFront, WroteFront, Said}
-use Rattle.sr_session.specs.Steps.{acts_in, Came, IsDoneStep, Took}
+use Rattle.sr_session.specs.Inner.Ready.{AreUsers, IsReady, work_of}
+use Rattle.sr_session.specs.Inner.Running.{Under, Ran, RanStatements}
+use Rattle.sr_session.specs.Said.{IsPrefix, WrotePrefix, Said}
+use Rattle.sr_session.specs.Inner.Steps.{acts_in, Came, IsDoneStep, Took}
 use Rattle.sr_session.specs.declared.fault.SessionFault.{SessionFault}
 use Rattle.sr_session.specs.declared.fault.SessionFault.TheVariants.{Sink, Memory}
 use Rattle.sr_session.specs.declared.fault.StepFault.{StepFault}
@@ -35,22 +35,22 @@ use Rattle.sr_session.proofs.Dispatch.{ready_on}
 use Rattle.sr_session.proofs.Commits.{came_none}
 use Rattle.sr_session.proofs.Quiet.{came_still}
 use Rattle.sr_session.proofs.Reaching.{reached_on}
-use Rattle.sr_session.proofs.Taking.{end_behind, end_longer, front_behind, front_longer, no_broken, front_of_store}
-use Rattle.sr_session.proofs.Timely.{due_step, due_kept, due_written, one_front, timely}
+use Rattle.sr_session.proofs.Taking.{end_behind, end_longer, prefix_behind, prefix_longer, no_broken, prefix_of_store}
+use Rattle.sr_session.proofs.Timely.{due_step, due_kept, due_written, one_prefix, timely}
 
 -- ---- what a script does, one statement further
 
-abbrev script_with : End → List Act → Script
+abbrev script_with : End → List ScriptAct → Script
 script_with end acts = record { acts = acts; end = end }
 
-led_twice : (acts more : List Act) (r : Script) → led acts (led more r) ≡ led (acts ++ more) r
+led_twice : (acts more : List ScriptAct) (r : Script) → led acts (led more r) ≡ led (acts ++ more) r
 led_twice acts more r = ap (script_with r.end) (sym (append_assoc acts more r.acts))
 
 abbrev follow : ℕ → List Stmt → Work → Script
 follow count statements w = ran_from count w statements
 
 -- the acts of a script go on behind those of its first statement
-first_acts : (number : ℕ) (rest : Work → Script) (meant : Stepped) → (more : List Act) × ((going_on number rest meant).acts ≡ acts_in meant ++ more)
+first_acts : (number : ℕ) (rest : Work → Script) (meant : Stepped) → (more : List ScriptAct) × ((going_on number rest meant).acts ≡ acts_in meant ++ more)
 first_acts number rest (goes acts w) = ((rest w).acts, refl)
 first_acts number rest (stops acts fault) = ([], sym (append-nil acts))
 
@@ -63,10 +63,10 @@ said_on text lines lines' old new more said is = record {
   all = ap (λ l. l ++ more) said.all ∙ append_assoc said.written lines more ∙ ap (λ l. said.written ++ l) (sym is);
 }
 
-text_on : (place middle : ℕ) (acts more : List Act) → middle ≡ acts_end place acts → text_from place acts ++ text_from middle more ≡ text_from place (acts ++ more)
+text_on : (place middle : ℕ) (acts more : List ScriptAct) → middle ≡ acts_end place acts → text_from place acts ++ text_from middle more ≡ text_from place (acts ++ more)
 text_on place middle acts more is = ap (λ n. text_from place acts ++ text_from n more) is ∙ sym (text_from-append place acts more)
 
-came_said : (old view new : View) (first seen now : Seen) (written taken lines lines' : List ℕ) (acts more : List Act) (broken : List Recorded) → Reached old view first seen acts [] → Came view new seen now lines lines' more broken
+came_said : (old view new : View) (first seen now : Seen) (written taken lines lines' : List ℕ) (acts more : List ScriptAct) (broken : List Recorded) → Reached old view first seen acts [] → Came view new seen now lines lines' more broken
     → Said (text_from old.log.end acts) lines written taken → Said (text_from old.log.end (acts ++ more)) lines' written taken
 came_said old view new first seen now written taken lines lines' acts more broken reached came said =
     subst (λ (text : List ℕ). Said text lines' written taken) (text_on old.log.end view.log.end acts more (reached.end reached.state.0))
@@ -80,16 +80,16 @@ said_flush text lines old new now said is = record {
   all = said.all ∙ sym (append-nil (said.written ++ lines));
 }
 
--- a front of the lines that are kept is written
-pub front_said : (text lines old new now : List ℕ) → Said text lines old new → WroteFront lines new now → WroteFront text old now
-front_said text lines old new now said wrote = record {
+-- a prefix of the lines that are kept is written
+pub prefix_said : (text lines old new now : List ℕ) → Said text lines old new → WrotePrefix lines new now → WrotePrefix text old now
+prefix_said text lines old new now said wrote = record {
   written = said.written ++ wrote.written;
-  front = (wrote.front.0, said.all ∙ ap (λ l. said.written ++ l) wrote.front.1 ∙ sym (append_assoc said.written wrote.written wrote.front.0));
+  prefix = (wrote.prefix.0, said.all ∙ ap (λ l. said.written ++ l) wrote.prefix.1 ∙ sym (append_assoc said.written wrote.written wrote.prefix.0));
   new_is = wrote.new_is ∙ ap (λ l. l ++ wrote.written) said.new_is ∙ append_assoc old said.written wrote.written;
 }
 
 pub outputs_on : (one two three : Output) → OutputStays one two → OutputStays two three → OutputStays one three
-outputs_on one two three first second = record { told = second.told ∙ first.told; later = omega (arith, first.later, second.later) }
+outputs_on one two three first second = record { observable = second.observable ∙ first.observable; later = omega (arith, first.later, second.later) }
 
 abbrev start_of : State → List Change → Option Passthrough → Work
 start_of s p region = record { state = s; pending = p; region = region }
@@ -131,13 +131,13 @@ under_step old view new first seen now written taken lines lines' region region'
   normal = under.normal.1;
 }
 
-told_on : (before now : Output) → OutputStays before now → IsTrue before.told → IsTrue now.told
-told_on before now stays told = subst (λ b. IsTrue b) (sym stays.told) told
+told_on : (before now : Output) → OutputStays before now → IsTrue before.observable → IsTrue now.observable
+told_on before now stays told = subst (λ b. IsTrue b) (sym stays.observable) told
 
 -- it is done, and all lines are written
 pub under_flush : (old view new : View) (first seen now : Seen) (written taken taken' : Output) (lines lines' : List ℕ) (region region' : Option Passthrough) (all left : List Stmt) (s : Stmt)
     → Under old view first seen written taken lines region all (s ∷ left) → Took (done_by (work_of view region) s) view new seen now lines lines' region' (Ok tt) → AreUsers (committed new) region'
-    → is_due s lines' ≡ true → (IsTrue taken.told → taken'.taken ≡ taken.taken ++ lines') → OutputStays taken taken' → taken'.faults ≡ taken.faults
+    → is_due s lines' ≡ true → (IsTrue taken.observable → taken'.taken ≡ taken.taken ++ lines') → OutputStays taken taken' → taken'.faults ≡ taken.faults
     → Under old new first now written taken' [] region' all left
 under_flush old view new first seen now written taken taken' lines lines' region region' all left s under took users flushed said stays same = record {
   done = under.done + 1;
@@ -164,7 +164,7 @@ under_flush old view new first seen now written taken taken' lines lines' region
 
 -- ---- a statement that ends the script
 
-all_of : (l : List ℕ) → IsFront l l
+all_of : (l : List ℕ) → IsPrefix l l
 all_of l = ([], sym (append-nil l))
 
 abbrev numbered : ℕ → StepFault → Result (Unit {0}) SessionFault
@@ -178,7 +178,7 @@ going_all old view first seen written taken lines region all left under = ap (λ
 -- what a script does goes on behind what was done and what its next statement does
 whole_acts : (old view : View) (first seen : Seen) (written taken : Output) (lines : List ℕ) (region : Option Passthrough) (all left : List Stmt) (s : Stmt)
     → (under : Under old view first seen written taken lines region all (s ∷ left))
-    → (more : List Act) × ((ran (committed old) all).acts ≡ under.acts ++ (acts_in (done_by (work_of view region) s) ++ more))
+    → (more : List ScriptAct) × ((ran (committed old) all).acts ≡ under.acts ++ (acts_in (done_by (work_of view region) s) ++ more))
 whole_acts old view first seen written taken lines region all left s under =
     let rest = first_acts (under.done + 1) (follow (under.done + 1) left) (done_by (work_of view region) s) in
     (rest.0, ap (λ (r : Script). r.acts) (going_all old view first seen written taken lines region all (s ∷ left) under) ∙ ap (λ l. under.acts ++ l) rest.1)
@@ -188,12 +188,12 @@ number_is done number s left all count is = omega (arith, count, is)
 
 -- it ends within a statement, with the lines kept
 timely_fault : (old view : View) (first seen : Seen) (written taken : Output) (lines : List ℕ) (region : Option Passthrough) (all left : List Stmt) (s : Stmt)
-    → (under : Under old view first seen written taken lines region all (s ∷ left)) → (acts : List Act) (broken : List Recorded)
-    → IsFront (acts ++ map commits broken) (acts_in (done_by (work_of view region) s)) → IsTrue written.told
+    → (under : Under old view first seen written taken lines region all (s ∷ left)) → (acts : List ScriptAct) (broken : List Recorded)
+    → IsPrefix (acts ++ map commits broken) (acts_in (done_by (work_of view region) s)) → IsTrue written.observable
     → WroteInTime (committed old) old.log.end all ((under.acts ++ acts) ++ map commits broken) written.taken taken.taken
-timely_fault old view first seen written taken lines region all left s under acts broken front told =
+timely_fault old view first seen written taken lines region all left s under acts broken prefix told =
     timely old view first seen written taken lines region all (s ∷ left) under ((under.acts ++ acts) ++ map commits broken) taken.taken
-    (one_front under.acts acts broken (under.done + 1) (follow (under.done + 1) []) (done_by (work_of view region) s) front) (all_of taken.taken) told
+    (one_prefix under.acts acts broken (under.done + 1) (follow (under.done + 1) []) (done_by (work_of view region) s) prefix) (all_of taken.taken) told
 
 pub ran_fault : (old view new : View) (first seen now : Seen) (written taken : Output) (lines lines' : List ℕ) (region region' : Option Passthrough) (all left : List Stmt) (s : Stmt) (number : ℕ) (fault : StepFault)
     → Under old view first seen written taken lines region all (s ∷ left) → Took (done_by (work_of view region) s) view new seen now lines lines' region' (Err fault)
@@ -222,12 +222,12 @@ ran_fault old view new first seen now written taken lines lines' region region' 
       acts = under.acts ++ took.acts;
       broken = took.broken;
       reached = reached_on old view new first seen now under.acts took.acts took.broken under.reached took.came.reached;
-      ends = subst (λ (acts : List Act). StoreEnd new (under.acts ++ took.acts) acts took.broken fault) (sym whole.1)
+      ends = subst (λ (acts : List ScriptAct). StoreEnd new (under.acts ++ took.acts) acts took.broken fault) (sym whole.1)
           (end_behind under.acts took.acts (acts_in (done_by (work_of view region) s) ++ whole.0) new took.broken fault (end_longer took.acts (acts_in (done_by (work_of view region) s)) whole.0 new took.broken fault took.end));
       lines = λ told. came_said old view new first seen now written.taken taken.taken lines lines' under.acts took.acts took.broken under.reached took.came (under.said told);
       in_time =
           timely_fault old view first seen written taken lines region all left s under took.acts took.broken
-          (front_of_store new took.acts (acts_in (done_by (work_of view region) s)) took.broken fault took.end);
+          (prefix_of_store new took.acts (acts_in (done_by (work_of view region) s)) took.broken fault took.end);
       sink = under.sink;
       stays = under.stays;
     }
@@ -239,13 +239,13 @@ ran_fault old view new first seen now written taken lines lines' region region' 
       reached = reached_on old view new first seen now under.acts took.acts [] under.reached took.came.reached;
       ends = (
         refl,
-        subst (λ (acts : List Act). IsFront (under.acts ++ took.acts) acts) (sym whole.1)
-            (front_behind under.acts took.acts (acts_in (done_by (work_of view region) s) ++ whole.0) (front_longer took.acts (acts_in (done_by (work_of view region) s)) whole.0 took.front)),
+        subst (λ (acts : List ScriptAct). IsPrefix (under.acts ++ took.acts) acts) (sym whole.1)
+            (prefix_behind under.acts took.acts (acts_in (done_by (work_of view region) s) ++ whole.0) (prefix_longer took.acts (acts_in (done_by (work_of view region) s)) whole.0 took.prefix)),
       );
       lines = λ told. came_said old view new first seen now written.taken taken.taken lines lines' under.acts took.acts [] under.reached took.came (under.said told);
       in_time =
           timely_fault old view first seen written taken lines region all left s under took.acts []
-          (no_broken took.acts (acts_in (done_by (work_of view region) s)) [] refl took.front);
+          (no_broken took.acts (acts_in (done_by (work_of view region) s)) [] refl took.prefix);
       sink = under.sink;
       stays = under.stays;
     }
@@ -254,7 +254,7 @@ ran_fault old view new first seen now written taken lines lines' region region' 
 
 pub ran_sink : (old view new : View) (first seen now : Seen) (written taken taken' : Output) (lines lines' kept : List ℕ) (region region' : Option Passthrough) (all left : List Stmt) (s : Stmt)
     → Under old view first seen written taken lines region all (s ∷ left) → Took (done_by (work_of view region) s) view new seen now lines lines' region' (Ok tt)
-    → (IsTrue taken.told → WroteFront lines' taken.taken taken'.taken) → OutputStays taken taken' → Rose taken.faults taken'.faults
+    → (IsTrue taken.observable → WrotePrefix lines' taken.taken taken'.taken) → OutputStays taken taken' → Rose taken.faults taken'.faults
     → Ran old new first now written taken' kept all (Err Sink)
 ran_sink old view new first seen now written taken taken' lines lines' kept region region' all left s under took wrote stays rose =
     let script = ap (λ (l : List Stmt). (ran (committed old) l).acts) (under.all_are ∙ sym (append_assoc under.firsts (s ∷ []) left))
@@ -266,12 +266,12 @@ ran_sink old view new first seen now written taken taken' lines lines' kept regi
       reached = reached_on old view new first seen now under.acts took.acts [] under.reached took.came.reached;
       ends = no_broken (under.acts ++ took.acts) (ran (committed old) all).acts [] refl ((ran_from (under.done + 1) (work_of new region') left).acts, script);
       lines = λ told.
-          front_said (text_from old.log.end (under.acts ++ took.acts)) lines' written.taken taken.taken taken'.taken
+          prefix_said (text_from old.log.end (under.acts ++ took.acts)) lines' written.taken taken.taken taken'.taken
           (came_said old view new first seen now written.taken taken.taken lines lines' under.acts took.acts [] under.reached took.came (under.said told)) (wrote (told_on written taken under.stays told));
       in_time = λ told.
           let more = wrote (told_on written taken under.stays told) in
           timely old view first seen written taken lines region all (s ∷ left) under ((under.acts ++ took.acts) ++ []) taken'.taken
-          (one_front under.acts took.acts [] (under.done + 1) (follow (under.done + 1) []) meant (no_broken took.acts (acts_in meant) [] refl ([], ap acts_in took.is ∙ sym (append-nil took.acts))))
+          (one_prefix under.acts took.acts [] (under.done + 1) (follow (under.done + 1) []) meant (no_broken took.acts (acts_in meant) [] refl ([], ap acts_in took.is ∙ sym (append-nil took.acts))))
           (more.written, more.new_is) told;
       sink = subst (λ (count : ℕ). Rose count taken'.faults) under.sink rose;
       stays = outputs_on written taken taken' under.stays stays;
@@ -288,11 +288,11 @@ stopped_by_sink old view first seen written taken kept region all told (Err faul
 
 -- it ends with what was done
 timely_here : (old view : View) (first seen : Seen) (written taken : Output) (lines : List ℕ) (region : Option Passthrough) (all left : List Stmt)
-    → (under : Under old view first seen written taken lines region all left) → IsTrue written.told
+    → (under : Under old view first seen written taken lines region all left) → IsTrue written.observable
     → WroteInTime (committed old) old.log.end all (under.acts ++ []) written.taken taken.taken
 timely_here old view first seen written taken lines region all left under =
     let acts = (ran_from under.done (work_of view region) (take 1 left)).acts in
-    timely old view first seen written taken lines region all left under (under.acts ++ []) taken.taken (front_behind under.acts [] acts (acts, refl)) (all_of taken.taken)
+    timely old view first seen written taken lines region all left under (under.acts ++ []) taken.taken (prefix_behind under.acts [] acts (acts, refl)) (all_of taken.taken)
 
 -- nothing is open
 pub ran_closed : (old view : View) (first seen : Seen) (written taken : Output) (lines : List ℕ) (region : Option Passthrough) (all : List Stmt)
@@ -375,6 +375,6 @@ under_start view seen written lines region all ready none outside empty normal =
   wrote = λ told. sym (append-nil written.taken);
   said = λ told. record { written = []; new_is = sym (append-nil written.taken); all = sym empty };
   sink = refl;
-  stays = record { told = refl; later = le_refl written.faults };
+  stays = record { observable = refl; later = le_refl written.faults };
   normal = normal;
 }

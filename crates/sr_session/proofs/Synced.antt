@@ -4,32 +4,32 @@ use Rattle.sr_ast.specs.declared.create.SubscriptionRule.{SubscriptionRule}
 use Rattle.sr_ast.specs.declared.stmt.Passthrough.{Passthrough}
 use Rattle.sr_ast.specs.declared.stmt.Stmt.{Stmt}
 use Rattle.sr_ast.specs.declared.stmt.Stmt.TheVariants as stmt
-use Rattle.sr_change.specs.Changes.{refusal}
-use Rattle.sr_ddl.specs.Subscriptions.{is_started, missing_unless, synchronize_causes}
-use Rattle.sr_ddl.specs.Users.{is_remote}
-use Rattle.sr_history.specs.Fitting.{Knows, FitsState}
-use Rattle.sr_history.specs.Folds.{State}
-use Rattle.sr_history.specs.Recorded.{sync}
-use Rattle.sr_logform.specs.Entries.{IsShortEntry}
+use Rattle.sr_catalog_change.specs.Changes.{refusal}
+use Rattle.sr_catalog_ddl.specs.Subscriptions.{is_started, missing_unless, synchronize_causes}
+use Rattle.sr_catalog_ddl.specs.Users.{is_remote}
+use Rattle.sr_database_history.specs.Fitting.{Knows, FitsState}
+use Rattle.sr_database_history.specs.Folds.{State}
+use Rattle.sr_database_history.specs.Recorded.{sync}
+use Rattle.sr_logform.specs.Inner.Entries.{IsShortEntry}
 use Rattle.sr_logform.specs.declared.entry.Entry.{Entry}
 use Rattle.sr_logform.specs.declared.entry.Entry.TheVariants.{Sync}
-use Rattle.sr_replay.proofs.ReplayCauses.{NoCause, no_cause_of, first_of-None, where_true-None}
-use Rattle.sr_schema.specs.Catalogs.{Lists}
-use Rattle.sr_schema.specs.Firsts.{where_true}
-use Rattle.sr_schema.specs.Members.{user_name}
-use Rattle.sr_schema.specs.Names.{named}
-use Rattle.sr_database.specs.Commits.{CanCommit, CanCommitSome}
+use Rattle.sr_catalog_script_laws.proofs.ReplayCauses.{NoCause, no_cause_of, first_of-None, where_true-None}
+use Rattle.sr_catalog_schema.specs.Catalogs.{Lists}
+use Rattle.sr_catalog_schema.specs.Firsts.{where_true}
+use Rattle.sr_catalog_schema.specs.Members.{user_name}
+use Rattle.sr_catalog_schema.specs.Names.{named}
+use Rattle.sr_database.specs.Inner.Commits.{CanCommit, CanCommitSome}
 use Rattle.sr_database.specs.Views.{View, committed}
-use Rattle.sr_script.specs.Answers.{IsStop}
-use Rattle.sr_script.specs.Meaning.{Stepped, enters, accepted, synchronized}
-use Rattle.sr_script.specs.Synced.{views_of}
-use Rattle.sr_script.specs.Works.{Work}
-use Rattle.sr_script.specs.declared.refusal.Refusal.{Refusal}
-use Rattle.sr_script.specs.declared.refusal.Stop.{Stop}
+use Rattle.sr_session_script.specs.Inner.Answers.{IsStop}
+use Rattle.sr_session_script.specs.Meaning.{Stepped, enters, accepted, synchronized}
+use Rattle.sr_session_script.specs.Synced.{views_of}
+use Rattle.sr_session_script.specs.Works.{Work}
+use Rattle.sr_session_script.specs.declared.refusal.Refusal.{Refusal}
+use Rattle.sr_session_script.specs.declared.refusal.Stop.{Stop}
 use Rattle.sr_site.specs.Seen.{Seen}
-use Rattle.sr_session.specs.Faults.{fault_of_stop}
-use Rattle.sr_session.specs.Ready.{work_of}
-use Rattle.sr_session.specs.Steps.{Took}
+use Rattle.sr_session.specs.Inner.Faults.{fault_of_stop}
+use Rattle.sr_session.specs.Inner.Ready.{work_of}
+use Rattle.sr_session.specs.Inner.Steps.{Took}
 use Rattle.sr_session.specs.declared.fault.StepFault.{StepFault}
 use Rattle.sr_session.proofs.Catalogs.{none_refuses}
 use Rattle.sr_session.proofs.Quiet.{took_ok, took_stop}

@@ -4,34 +4,34 @@ use Rattle.std.specs.Prelude.{IsTrue}
 use Rattle.std.proofs.lemmas.List.{append-nil}
 use Rattle.sr_ast.specs.declared.stmt.Passthrough.{Passthrough}
 use Rattle.sr_ast.specs.declared.stmt.Stmt.{Stmt}
-use Rattle.sr_history.specs.Folds.{State}
-use Rattle.sr_history.specs.Recorded.{Recorded}
+use Rattle.sr_database_history.specs.Folds.{State}
+use Rattle.sr_database_history.specs.Recorded.{Recorded}
 use Rattle.sr_site.specs.Seen.{Seen}
 use Rattle.sr_site.specs.Streams.{Output}
 use Rattle.sr_database.specs.Views.{View, committed}
-use Rattle.sr_script.specs.Acts.{Act, commits, end_behind}
-use Rattle.sr_script.specs.Meaning.{Stepped, goes, stops, done_by}
-use Rattle.sr_script.specs.Scripts.{Ran as Script, going_on, ran_from, ran}
-use Rattle.sr_script.specs.Works.{Work, at_beginning}
+use Rattle.sr_session_script.specs.Acts.{ScriptAct, commits, end_behind}
+use Rattle.sr_session_script.specs.Meaning.{Stepped, goes, stops, done_by}
+use Rattle.sr_session_script.specs.Scripts.{ScriptRun as Script, going_on, ran_from, ran}
+use Rattle.sr_session_script.specs.Works.{Work, at_beginning}
 use Rattle.sr_session.specs.Due.{said_by, said_from, is_due, due, WroteInTime}
-use Rattle.sr_session.specs.Ready.{work_of}
-use Rattle.sr_session.specs.Running.{Under}
-use Rattle.sr_session.specs.Said.{IsFront}
-use Rattle.sr_session.specs.Steps.{acts_in, IsDoneStep}
-use Rattle.sr_session.proofs.Taking.{front_behind, front_longer}
+use Rattle.sr_session.specs.Inner.Ready.{work_of}
+use Rattle.sr_session.specs.Inner.Running.{Under}
+use Rattle.sr_session.specs.Said.{IsPrefix}
+use Rattle.sr_session.specs.Inner.Steps.{acts_in, IsDoneStep}
+use Rattle.sr_session.proofs.Taking.{prefix_behind, prefix_longer}
 
 -- ---- fronts
 
-front_on : (one two three : List ℕ) → IsFront one two → IsFront two three → IsFront one three
-front_on one two three first second = (first.0 ++ second.0, second.1 ∙ ap (λ l. l ++ second.0) first.1 ∙ append_assoc one first.0 second.0)
+prefix_on : (one two three : List ℕ) → IsPrefix one two → IsPrefix two three → IsPrefix one three
+prefix_on one two three first second = (first.0 ++ second.0, second.1 ∙ ap (λ l. l ++ second.0) first.1 ∙ append_assoc one first.0 second.0)
 
 -- more is written
-pub in_time_on : (s : State) (place : ℕ) (statements : List Stmt) (acts : List Act) (before middle now : List ℕ) → WroteInTime s place statements acts before middle → IsFront middle now
+pub in_time_on : (s : State) (place : ℕ) (statements : List Stmt) (acts : List ScriptAct) (before middle now : List ℕ) → WroteInTime s place statements acts before middle → IsPrefix middle now
     → WroteInTime s place statements acts before now
 in_time_on s place statements acts before middle now is more = record {
   done = is.done;
   begun = is.begun;
-  wrote = front_on (before ++ due [] (said_from place (at_beginning s) (take is.done statements))) middle now is.wrote more;
+  wrote = prefix_on (before ++ due [] (said_from place (at_beginning s) (take is.done statements))) middle now is.wrote more;
 }
 
 take_firsts : (firsts left : List Stmt) → take (length firsts) (firsts ++ left) ≡ firsts
@@ -74,25 +74,25 @@ due_written whole lines place w b more is = ap (λ c. whole ++ due_by c lines pl
 -- ---- where it ends
 
 -- the acts of one statement more, with the entry whose commit was refused
-pub one_front : (before acts : List Act) (broken : List Recorded) (number : ℕ) (rest : Work → Script) (meant : Stepped) → IsFront (acts ++ map commits broken) (acts_in meant)
-    → IsFront ((before ++ acts) ++ map commits broken) (before ++ (going_on number rest meant).acts)
-one_front before acts broken number rest (goes done w) front =
-    subst (λ (l : List Act). IsFront l (before ++ (done ++ (rest w).acts))) (sym (append_assoc before acts (map commits broken)))
-    (front_behind before (acts ++ map commits broken) (done ++ (rest w).acts) (front_longer (acts ++ map commits broken) done (rest w).acts front))
-one_front before acts broken number rest (stops done fault) front =
-    subst (λ (l : List Act). IsFront l (before ++ done)) (sym (append_assoc before acts (map commits broken))) (front_behind before (acts ++ map commits broken) done front)
+pub one_prefix : (before acts : List ScriptAct) (broken : List Recorded) (number : ℕ) (rest : Work → Script) (meant : Stepped) → IsPrefix (acts ++ map commits broken) (acts_in meant)
+    → IsPrefix ((before ++ acts) ++ map commits broken) (before ++ (going_on number rest meant).acts)
+one_prefix before acts broken number rest (goes done w) prefix =
+    subst (λ (l : List ScriptAct). IsPrefix l (before ++ (done ++ (rest w).acts))) (sym (append_assoc before acts (map commits broken)))
+    (prefix_behind before (acts ++ map commits broken) (done ++ (rest w).acts) (prefix_longer (acts ++ map commits broken) done (rest w).acts prefix))
+one_prefix before acts broken number rest (stops done fault) prefix =
+    subst (λ (l : List ScriptAct). IsPrefix l (before ++ done)) (sym (append_assoc before acts (map commits broken))) (prefix_behind before (acts ++ map commits broken) done prefix)
 
 pub timely : (old view : View) (first seen : Seen) (written taken : Output) (lines : List ℕ) (region : Option Passthrough) (all left : List Stmt)
-    → (under : Under old view first seen written taken lines region all left) → (acts : List Act) (now : List ℕ)
-    → IsFront acts (under.acts ++ (ran_from under.done (work_of view region) (take 1 left)).acts) → IsFront taken.taken now → IsTrue written.told
+    → (under : Under old view first seen written taken lines region all left) → (acts : List ScriptAct) (now : List ℕ)
+    → IsPrefix acts (under.acts ++ (ran_from under.done (work_of view region) (take 1 left)).acts) → IsPrefix taken.taken now → IsTrue written.observable
     → WroteInTime (committed old) old.log.end all acts written.taken now
-timely old view first seen written taken lines region all left under acts now front more told =
+timely old view first seen written taken lines region all left under acts now prefix more told =
     let begun : take (length under.firsts + 1) all ≡ under.firsts ++ take 1 left = ap (take (length under.firsts + 1)) under.all_are ∙ take_one_more under.firsts left in
     let done : take (length under.firsts) all ≡ under.firsts ++ [] = ap (take (length under.firsts)) under.all_are ∙ take_firsts under.firsts left ∙ sym (append-nil under.firsts) in
     let script = ap (λ (l : List Stmt). (ran (committed old) l).acts) begun ∙ ap (λ (r : Script). r.acts) (under.going (take 1 left)) in
     let dues = ap (λ (l : List Stmt). due [] (said_from old.log.end (at_beginning (committed old)) l)) done ∙ under.due_are [] ∙ append-nil under.whole in
     record {
       done = length under.firsts;
-      begun = subst (λ (l : List Act). IsFront acts l) (sym script) front;
-      wrote = subst (λ (l : List ℕ). IsFront l now) (under.wrote told ∙ ap (λ l. written.taken ++ l) (sym dues)) more;
+      begun = subst (λ (l : List ScriptAct). IsPrefix acts l) (sym script) prefix;
+      wrote = subst (λ (l : List ℕ). IsPrefix l now) (under.wrote told ∙ ap (λ l. written.taken ++ l) (sym dues)) more;
     }

@@ -6,20 +6,20 @@ use Rattle.std.proofs.lemmas.Bool.{eqb-true}
 use Rattle.std.proofs.lemmas.List.{nil_from_length}
 use Rattle.sr_ast.specs.declared.stmt.Passthrough.{Passthrough}
 use Rattle.sr_book.specs.Entries.{Name}
-use Rattle.sr_history.specs.Folds.{State, with_changes, next}
-use Rattle.sr_history.specs.Recorded.{Recorded, own}
+use Rattle.sr_database_history.specs.Folds.{State, with_changes, next}
+use Rattle.sr_database_history.specs.Recorded.{Recorded, own}
 use Rattle.sr_logform.specs.Outcomes.{IsShortChange}
 use Rattle.sr_logform.specs.declared.change.Change.{Change}
 use Rattle.sr_logform.specs.declared.entry.Entry.TheVariants.{Own}
 use Rattle.sr_site.specs.Seen.{Seen}
-use Rattle.sr_database.specs.Commits.{CanCommit, CanCommitSome}
+use Rattle.sr_database.specs.Inner.Commits.{CanCommit, CanCommitSome}
 use Rattle.sr_database.specs.Databases.{IsOf}
 use Rattle.sr_database.specs.Views.{View, committed}
-use Rattle.sr_script.specs.Acts.{nothing, rolled_back, line}
-use Rattle.sr_script.specs.Meaning.{Stepped, goes, enters, closing, committing, committed as committed_step, rolled}
-use Rattle.sr_script.specs.Works.{Work, closed}
-use Rattle.sr_session.specs.Ready.{work_of}
-use Rattle.sr_session.specs.Steps.{Took}
+use Rattle.sr_session_script.specs.Acts.{nothing, rolled_back, line}
+use Rattle.sr_session_script.specs.Meaning.{Stepped, goes, enters, closing, committing, committed as committed_step, rolled}
+use Rattle.sr_session_script.specs.Works.{Work, closed}
+use Rattle.sr_session.specs.Inner.Ready.{work_of}
+use Rattle.sr_session.specs.Inner.Steps.{Took}
 use Rattle.sr_session.specs.declared.fault.StepFault.{StepFault}
 use Rattle.sr_session.proofs.Commits.{came_none}
 use Rattle.sr_session.proofs.Quiet.{came_still}

@@ -2,12 +2,12 @@
 use Rattle.std.specs.Prelude.{ℕ, ◌+◌, Bool, true, false, cond, ◌||◌, nat_le, List, [], ◌∷◌, ◌++◌, length, take}
 use Rattle.sr_ast.specs.declared.stmt.Stmt.{Stmt}
 use Rattle.sr_ast.specs.declared.stmt.Stmt.TheVariants as stmt
-use Rattle.sr_history.specs.Folds.{State}
-use Rattle.sr_script.specs.Acts.{Act, text_from, end_behind}
-use Rattle.sr_script.specs.Meaning.{Stepped, goes, stops, done_by}
-use Rattle.sr_script.specs.Scripts.{ran}
-use Rattle.sr_script.specs.Works.{Work, at_beginning}
-use Rattle.sr_session.specs.Said.{IsFront}
+use Rattle.sr_database_history.specs.Folds.{State}
+use Rattle.sr_session_script.specs.Acts.{ScriptAct, text_from, end_behind}
+use Rattle.sr_session_script.specs.Meaning.{Stepped, goes, stops, done_by}
+use Rattle.sr_session_script.specs.Scripts.{ran}
+use Rattle.sr_session_script.specs.Works.{Work, at_beginning}
+use Rattle.sr_session.specs.Said.{IsPrefix}
 
 -- ---- what each statement says
 
@@ -37,7 +37,7 @@ due kept (said ∷ others) = cond (is_due said.0 (kept ++ said.1)) ((kept ++ sai
 
 -- the lines of a script were written in time: all that was done is of the first so many statements and of one more, and before that one was
 -- begun, the lines that were due behind the others were written. So behind a write that fails no statement is begun
-pub record WroteInTime (s : State) (place : ℕ) (statements : List Stmt) (acts : List Act) (before now : List ℕ) : Type 0 where
+pub record WroteInTime (s : State) (place : ℕ) (statements : List Stmt) (acts : List ScriptAct) (before now : List ℕ) : Type 0 where
   pub done : ℕ
-  pub begun : IsFront acts (ran s (take (done + 1) statements)).acts
-  pub wrote : IsFront (before ++ due [] (said_from place (at_beginning s) (take done statements))) now
+  pub begun : IsPrefix acts (ran s (take (done + 1) statements)).acts
+  pub wrote : IsPrefix (before ++ due [] (said_from place (at_beginning s) (take done statements))) now

@@ -1,26 +1,26 @@
 -- How a script ends.
 use Rattle.std.specs.Prelude.{◌≡◌, ℕ, List, [], ◌∷◌, ◌++◌, map, Result, Ok, Err}
-use Rattle.sr_history.specs.Recorded.{Recorded, entry_of}
+use Rattle.sr_database_history.specs.Recorded.{Recorded, entry_of}
 use Rattle.sr_database.specs.Causes.{IsTooFar, IsTooLong}
 use Rattle.sr_database.specs.Views.{View}
-use Rattle.sr_files.specs.declared.fault.DatabaseFault.{DatabaseFault}
-use Rattle.sr_files.specs.declared.fault.DatabaseFault.TheVariants as store
-use Rattle.sr_script.specs.Acts.{Act, commits}
-use Rattle.sr_script.specs.Scripts.{Ran, finished, refused}
+use Rattle.sr_database_files.specs.declared.fault.DatabaseFault.{DatabaseFault}
+use Rattle.sr_database_files.specs.declared.fault.DatabaseFault.TheVariants as store
+use Rattle.sr_session_script.specs.Acts.{ScriptAct, commits}
+use Rattle.sr_session_script.specs.Scripts.{ScriptRun, finished, refused}
 use Rattle.sr_site.specs.Causes.{Rose}
 use Rattle.sr_site.specs.Streams.{Output}
-use Rattle.sr_session.specs.Said.{IsFront, WroteFront}
+use Rattle.sr_session.specs.Said.{IsPrefix, WrotePrefix}
 use Rattle.sr_session.specs.declared.fault.SessionFault.{SessionFault}
 use Rattle.sr_session.specs.declared.fault.SessionFault.TheVariants.{Statement, Store, Sink, Memory}
 
 -- the next act is the commit of an entry, of which this holds
-pub record StopsAt (refuses : Recorded → Type 0) (acts whole : List Act) : Type 0 where
+pub record StopsAt (refuses : Recorded → Type 0) (acts whole : List ScriptAct) : Type 0 where
   pub entry : Recorded
-  pub front : IsFront (acts ++ commits entry ∷ []) whole
+  pub prefix : IsPrefix (acts ++ commits entry ∷ []) whole
   pub why : refuses entry
 
 -- why the next entry is not committed: the disk refused it, it has no room in the log, or it is too long
-abbrev pub StoreEnd : View → List Act → List Act → List Recorded → DatabaseFault → Type 0
+abbrev pub StoreEnd : View → List ScriptAct → List ScriptAct → List Recorded → DatabaseFault → Type 0
 StoreEnd new acts whole broken store.Missing = ⊥
 StoreEnd new acts whole broken store.Exists = ⊥
 StoreEnd new acts whole broken (store.Damaged file at) = ⊥
@@ -30,18 +30,18 @@ StoreEnd new acts whole broken (store.Long size limit) = (broken ≡ []) × Stop
 StoreEnd new acts whole broken store.Memory = ⊥
 
 -- all of its acts were done
-pub record IsDone (script : Ran) (acts : List Act) (broken : List Recorded) : Type 0 where
+pub record DidAllActs (script : ScriptRun) (acts : List ScriptAct) (broken : List Recorded) : Type 0 where
   pub acts_are : script.acts ≡ acts
   pub none : broken ≡ []
 
 -- how it ended, with these acts done: with its last statement; with the statement that is refused; at an entry that is not committed; by a
 -- sink that failed; for want of memory
-abbrev pub EndsAs : Ran → ℕ → View → List Act → List Recorded → Result ℕ SessionFault → Type 0
-EndsAs script count new acts broken (Ok number) = IsDone script acts broken × (script.end ≡ finished) × (number ≡ count)
-EndsAs script count new acts broken (Err (Statement number fault)) = IsDone script acts broken × (script.end ≡ refused number fault)
+abbrev pub EndsAs : ScriptRun → ℕ → View → List ScriptAct → List Recorded → Result ℕ SessionFault → Type 0
+EndsAs script count new acts broken (Ok number) = DidAllActs script acts broken × (script.end ≡ finished) × (number ≡ count)
+EndsAs script count new acts broken (Err (Statement number fault)) = DidAllActs script acts broken × (script.end ≡ refused number fault)
 EndsAs script count new acts broken (Err (Store fault)) = StoreEnd new acts script.acts broken fault
-EndsAs script count new acts broken (Err Sink) = IsFront (acts ++ map commits broken) script.acts
-EndsAs script count new acts broken (Err Memory) = (broken ≡ []) × IsFront acts script.acts
+EndsAs script count new acts broken (Err Sink) = IsPrefix (acts ++ map commits broken) script.acts
+EndsAs script count new acts broken (Err Memory) = (broken ≡ []) × IsPrefix acts script.acts
 
 -- the sink's count of faults rose exactly where it ended the script
 abbrev pub SinkEnd : Output → Output → Result ℕ SessionFault → Type 0
@@ -51,10 +51,10 @@ SinkEnd before now (Err (Store fault)) = now.faults ≡ before.faults
 SinkEnd before now (Err Sink) = Rose before.faults now.faults
 SinkEnd before now (Err Memory) = now.faults ≡ before.faults
 
--- what was written: the lines of what was done, or a front of them where the sink failed
+-- what was written: the lines of what was done, or a prefix of them where the sink failed
 abbrev pub Wrote : List ℕ → List ℕ → List ℕ → Result ℕ SessionFault → Type 0
 Wrote text old new (Ok number) = new ≡ old ++ text
 Wrote text old new (Err (Statement number fault)) = new ≡ old ++ text
 Wrote text old new (Err (Store fault)) = new ≡ old ++ text
-Wrote text old new (Err Sink) = WroteFront text old new
+Wrote text old new (Err Sink) = WrotePrefix text old new
 Wrote text old new (Err Memory) = new ≡ old ++ text

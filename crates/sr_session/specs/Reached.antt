@@ -1,14 +1,16 @@
 -- How far a script came on its database.
 use Rattle.std.specs.Prelude.{◌≡◌, true, false, List, [], ◌∷◌, ◌++◌, map, IsTrue}
 use Rattle.sr_book.specs.Entries.{Name}
-use Rattle.sr_history.specs.Recorded.{Recorded}
+use Rattle.sr_database_history.specs.Folds.{end_of}
+use Rattle.sr_database_history.specs.Recorded.{Recorded}
 use Rattle.sr_site.specs.Causes.{DiskStays, Rose}
 use Rattle.sr_site.specs.Seen.{Seen}
-use Rattle.sr_standing.specs.Items.{commit}
-use Rattle.sr_standing.specs.Trails.{Went}
+use Rattle.sr_database_meaning.specs.Events.{commit}
+use Rattle.sr_database_meaning.specs.Traces.{Went}
 use Rattle.sr_database.specs.Databases.{IsOf, IsDatabase}
+use Rattle.sr_database.specs.Rooms.{HaveRoom}
 use Rattle.sr_database.specs.Views.{View}
-use Rattle.sr_script.specs.Acts.{Act, entries_of, end_behind}
+use Rattle.sr_session_script.specs.Acts.{ScriptAct, entries_of, end_behind}
 
 -- the entry whose commit the disk refused, if it refused one: then the database is not used again
 abbrev pub IsBroken : List Recorded → View → Seen → Seen → Type 0
@@ -17,13 +19,14 @@ IsBroken (r ∷ []) new before now = (new.log.usable ≡ false) × Rose before.d
 IsBroken (r ∷ other ∷ rs) new before now = ⊥
 
 -- these acts were done, and then the commit of an entry was begun that the disk refused, if there is one: the database of a history is that
--- of the history with the acts' entries, and its site went through their commits
-pub record Reached (old new : View) (before now : Seen) (acts : List Act) (broken : List Recorded) : Type 0 where
+-- of the history with the acts' entries, each of which has room, and its site went through their commits
+pub record Reached (old new : View) (before now : Seen) (acts : List ScriptAct) (broken : List Recorded) : Type 0 where
   pub state : IsBroken broken new before now
+  pub room : (publisher : Name) (es : List Recorded) → IsOf old publisher es → HaveRoom old.log.base (end_of es) (entries_of acts)
   pub value : new.log.usable ≡ true → (publisher : Name) (es : List Recorded) → IsOf old publisher es → IsOf new publisher (es ++ entries_of acts)
   pub end : new.log.usable ≡ true → new.log.end ≡ end_behind old.log.end acts
-  pub database : IsTrue before.told → new.log.usable ≡ true → (publisher : Name) (es : List Recorded) → IsDatabase old publisher es before
+  pub database : IsTrue before.observable → new.log.usable ≡ true → (publisher : Name) (es : List Recorded) → IsDatabase old publisher es before
       → IsDatabase new publisher (es ++ entries_of acts) now
-  pub went : IsTrue before.told → (publisher : Name) (es : List Recorded) → IsDatabase old publisher es before
+  pub went : IsTrue before.observable → (publisher : Name) (es : List Recorded) → IsDatabase old publisher es before
       → Went before now publisher es (map commit (entries_of acts ++ broken))
   pub stays : DiskStays before now

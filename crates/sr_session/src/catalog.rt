@@ -3,10 +3,10 @@
 ghost use Rattle.std.specs.Prelude.{◌≡◌, ◌<◌, ◌^◌, [], length, Option, Some, IfOk};
 ghost use Rattle.sr_ast.specs.Layout.{printed};
 ghost use Rattle.sr_ast.specs.declared.stmt.Passthrough.{Passthrough as Region};
-ghost use Rattle.sr_history.specs.Recorded.{IsDdl};
-ghost use Rattle.sr_script.specs.Meaning.{changed};
-ghost use Rattle.sr_session.specs.Ready.{IsReady, work_of};
-ghost use Rattle.sr_session.specs.Steps.{Took};
+ghost use Rattle.sr_database_history.specs.Recorded.{IsDdl};
+ghost use Rattle.sr_session_script.specs.Meaning.{changed};
+ghost use Rattle.sr_session.specs.Inner.Ready.{IsReady, work_of};
+ghost use Rattle.sr_session.specs.Inner.Steps.{Took};
 
 use crate::entering::enter;
 use crate::fault::StepFault;
@@ -14,7 +14,7 @@ use sr_ast::{Stmt, print};
 use sr_base::{NoMemory, Text};
 use sr_database::Database;
 use sr_logform::Entry;
-use sr_script::{accept, is_done_already};
+use sr_session_script::{accept, is_done_already};
 use sr_site::Site;
 use std::alloc::{AllocError, Global};
 

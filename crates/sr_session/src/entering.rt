@@ -3,16 +3,16 @@
 ghost use Rattle.std.specs.Prelude.{◌≡◌, true, List, ℕ, IsTrue};
 ghost use Rattle.sr_ast.specs.declared.stmt.Passthrough.{Passthrough as Region};
 ghost use Rattle.std.specs.Prelude.{Option};
-ghost use Rattle.sr_history.specs.Recorded.{Recorded};
-ghost use Rattle.sr_database.specs.Commits.{CanCommit, CanCommitSome};
-ghost use Rattle.sr_script.specs.Meaning.{enters};
-ghost use Rattle.sr_session.specs.Ready.{IsReady, work_of};
-ghost use Rattle.sr_session.specs.Steps.{Took};
+ghost use Rattle.sr_database_history.specs.Recorded.{Recorded};
+ghost use Rattle.sr_database.specs.Inner.Commits.{CanCommit, CanCommitSome};
+ghost use Rattle.sr_session_script.specs.Meaning.{enters};
+ghost use Rattle.sr_session.specs.Inner.Ready.{IsReady, work_of};
+ghost use Rattle.sr_session.specs.Inner.Steps.{Took};
 
 use crate::fault::StepFault;
 use sr_database::Database;
 use sr_logform::Entry;
-use sr_script::{LONGEST_COMMITTED, push_committed};
+use sr_session_script::{LONGEST_COMMITTED, push_committed};
 use sr_site::Site;
 use std::alloc::Global;
 

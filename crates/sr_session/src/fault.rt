@@ -1,9 +1,9 @@
 ghost use Rattle.std.specs.Prelude.{◌≡◌};
-ghost use Rattle.sr_session.specs.Faults.{session_fault};
+ghost use Rattle.sr_session.specs.Inner.Faults.{session_fault};
 ghost use Rattle.sr_session.specs.declared.fault.StepFault.TheVariants.{Memory as memory};
 
 use sr_database::DatabaseFault;
-use sr_script::{Refusal, Stop};
+use sr_session_script::{Refusal, Stop};
 use std::alloc::{AllocError, AllocFailed};
 
 /// Why a script ended before its last statement.
@@ -44,7 +44,7 @@ impl<T: Drop> From<AllocFailed<T>> for StepFault {
 }
 
 impl From<Stop> for StepFault {
-    ghost use Rattle.sr_session.specs.Faults.{fault_of_stop};
+    ghost use Rattle.sr_session.specs.Inner.Faults.{fault_of_stop};
 
     ghost from_gives = { λ stop e. e ≡ fault_of_stop stop };
 
@@ -57,7 +57,7 @@ impl From<Stop> for StepFault {
 }
 
 impl From<DatabaseFault> for StepFault {
-    ghost use Rattle.sr_session.specs.Faults.{fault_of_store};
+    ghost use Rattle.sr_session.specs.Inner.Faults.{fault_of_store};
 
     ghost from_gives = { λ fault e. e ≡ fault_of_store fault };
 

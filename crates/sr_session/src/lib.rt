@@ -1,7 +1,7 @@
 //! A script run on a database: each statement in order, its entries committed, its lines written.
 //!
-//! It stands on sr_script for what a script means and on sr_database for commits. The contract that matters most is that of `run_script`: what was
-//! done is a front of the script's acts, all of them where it ended with its last statement or with the one that is refused.
+//! It stands on sr_session_script for what a script means and on sr_database for commits. The contract that matters most is that of `run_script`: what was
+//! done is a prefix of the script's acts, all of them where it ended with its last statement or with the one that is refused.
 #![tactic(auto)]
 
 mod catalog;

@@ -3,15 +3,15 @@
 ghost use Rattle.std.specs.Prelude.{◌≡◌, [], true, ℕ, Option, Some, List, OnOk, OnErr};
 ghost use Rattle.sr_ast.specs.declared.stmt.Stmt.TheVariants.{Dml as DmlStmt, Passthrough as PassthroughStmt};
 ghost use Rattle.sr_ast.specs.declared.stmt.Passthrough.{Passthrough as Region};
-ghost use Rattle.sr_dml.specs.FittingChanges.{ChangesFit};
-ghost use Rattle.sr_history.specs.Fitting.{IsAcceptedPass, MayHaveChanges};
-ghost use Rattle.sr_history.specs.Recorded.{IsCarried, IsDdl, pass};
+ghost use Rattle.sr_exec_dml.specs.FittingChanges.{ChangesFit};
+ghost use Rattle.sr_database_history.specs.Fitting.{IsAcceptedPass, MayHaveChanges};
+ghost use Rattle.sr_database_history.specs.Recorded.{IsCarried, IsDdl, pass};
 ghost use Rattle.sr_database.specs.Databases.{IsOfSome};
 ghost use Rattle.sr_database.specs.Views.{committed};
-ghost use Rattle.sr_script.specs.Meaning.{enters, passed, catalog_changes, row_changes, refused_in, began, ended};
+ghost use Rattle.sr_session_script.specs.Meaning.{enters, passed, catalog_changes, row_changes, refused_in, began, ended};
 ghost use Rattle.sr_site.specs.Seen.{Seen as SiteSeen};
-ghost use Rattle.sr_session.specs.Ready.{IsReady, AreUsers, work_of};
-ghost use Rattle.sr_session.specs.Steps.{Took};
+ghost use Rattle.sr_session.specs.Inner.Ready.{IsReady, AreUsers, work_of};
+ghost use Rattle.sr_session.specs.Inner.Steps.{Took};
 
 use crate::catalog::text_of;
 use crate::entering::enter;
@@ -21,7 +21,7 @@ use sr_ast::{Dml, Passthrough, Stmt};
 use sr_base::{Copied, Name, Seq};
 use sr_database::Database;
 use sr_logform::{Change, Entry};
-use sr_script::{
+use sr_session_script::{
     Refusal, accept, are_few, are_short, pass_on_catalog, pass_on_rows, region_of, uncarried,
 };
 use sr_site::Site;

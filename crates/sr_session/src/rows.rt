@@ -3,16 +3,16 @@
 ghost use Rattle.std.specs.Prelude.{◌≡◌, true, Option};
 ghost use Rattle.sr_ast.specs.declared.stmt.Passthrough.{Passthrough as Region};
 ghost use Rattle.sr_database.specs.Databases.{IsOfSome};
-ghost use Rattle.sr_script.specs.Meaning.{executed, answered};
+ghost use Rattle.sr_session_script.specs.Meaning.{executed, answered};
 ghost use Rattle.sr_site.specs.Seen.{Seen as SiteSeen};
-ghost use Rattle.sr_session.specs.Ready.{work_of};
-ghost use Rattle.sr_session.specs.Steps.{Took};
+ghost use Rattle.sr_session.specs.Inner.Ready.{work_of};
+ghost use Rattle.sr_session.specs.Inner.Steps.{Took};
 
 use crate::fault::StepFault;
 use sr_ast::{Dml, Select};
 use sr_database::Database;
 use sr_logform::Change;
-use sr_script::{answer, are_short, push_count, push_rows};
+use sr_session_script::{answer, are_short, push_count, push_rows};
 use std::alloc::Global;
 
 /// An INSERT, UPDATE or DELETE outside a region: its changes join the open transaction. Where they are its first ones and exec needs no
@@ -43,7 +43,7 @@ fn execute_reusing(
     requires some { IsOfSome db.old }
     ensures took { (seen : SiteSeen) (region : Option Region) → Took (executed (work_of db.old region) stmt.now) db.old db.new seen seen lines.old.items lines.new.items region result }
 {
-    let changes = sr_script::execute(alloc, db.catalog(), db.rows(), stmt, spare)?;
+    let changes = sr_session_script::execute(alloc, db.catalog(), db.rows(), stmt, spare)?;
     if !are_short(changes.list.as_slice()) {
         return Err(StepFault::Memory);
     }

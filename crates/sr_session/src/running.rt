@@ -6,9 +6,9 @@ ghost use Rattle.sr_ast.specs.NormalForms.{IsNormal};
 ghost use Rattle.sr_site.specs.Causes.{Rose};
 ghost use Rattle.sr_site.specs.Streams.{OutputStays};
 ghost use Rattle.sr_session.specs.Due.{is_due};
-ghost use Rattle.sr_session.specs.Ready.{IsReady};
-ghost use Rattle.sr_session.specs.Running.{Ran, RanStatements};
-ghost use Rattle.sr_session.specs.Said.{WroteFront};
+ghost use Rattle.sr_session.specs.Inner.Ready.{IsReady};
+ghost use Rattle.sr_session.specs.Inner.Running.{Ran, RanStatements};
+ghost use Rattle.sr_session.specs.Said.{WrotePrefix};
 ghost use Rattle.sr_session.specs.declared.fault.SessionFault.TheVariants.{Sink as sink_fault};
 ghost use Rattle.std.specs.Prelude.{◌++◌};
 
@@ -94,8 +94,8 @@ fn is_due(statement: &Stmt, session: &Session) -> bool
 fn flush<O: Sink>(session: &mut Session, sink: &mut O) -> Result<(), SessionFault>
     ensures region { session.new.region ≡ session.old.region }
     ensures kept { session.new.lines.items ≡ [] }
-    ensures said { IsTrue ((O.seen sink.old).told) → OnOk result ((O.seen sink.new).taken ≡ (O.seen sink.old).taken ++ session.old.lines.items) }
-    ensures front { IsTrue ((O.seen sink.old).told) → OnErr result (WroteFront session.old.lines.items ((O.seen sink.old).taken) ((O.seen sink.new).taken)) }
+    ensures said { IsTrue ((O.seen sink.old).observable) → OnOk result ((O.seen sink.new).taken ≡ (O.seen sink.old).taken ++ session.old.lines.items) }
+    ensures prefix { IsTrue ((O.seen sink.old).observable) → OnErr result (WrotePrefix session.old.lines.items ((O.seen sink.old).taken) ((O.seen sink.new).taken)) }
     ensures stays { OutputStays (O.seen sink.old) (O.seen sink.new) }
     ensures steady { OnOk result ((O.seen sink.new).faults ≡ (O.seen sink.old).faults) }
     ensures rose { OnErr result (Rose ((O.seen sink.old).faults) ((O.seen sink.new).faults)) }

@@ -4,11 +4,11 @@ ghost use Rattle.std.specs.Prelude.{◌≡◌, true, ◌&&◌, OnOk};
 ghost use Rattle.sr_ast.specs.Statements.{is_carried, is_ddl};
 ghost use Rattle.sr_ast.specs.declared.stmt.Stmt.TheVariants.{Dml as DmlStmt, Passthrough as PassthroughStmt, Synchronize as SynchronizeStmt};
 ghost use Rattle.sr_ast.specs.NormalForms.{IsNormal};
-ghost use Rattle.sr_history.specs.Recorded.{IsCarried, IsDdl};
+ghost use Rattle.sr_database_history.specs.Recorded.{IsCarried, IsDdl};
 ghost use Rattle.sr_database.specs.Views.{committed};
-ghost use Rattle.sr_script.specs.Meaning.{done_by, once_closed, on_catalog, on_rows, on_users, on_views, began, ended};
-ghost use Rattle.sr_session.specs.Ready.{IsReady, AreUsers, work_of};
-ghost use Rattle.sr_session.specs.Steps.{Took};
+ghost use Rattle.sr_session_script.specs.Meaning.{done_by, once_closed, on_catalog, on_rows, on_users, on_views, began, ended};
+ghost use Rattle.sr_session.specs.Inner.Ready.{IsReady, AreUsers, work_of};
+ghost use Rattle.sr_session.specs.Inner.Steps.{Took};
 
 use crate::catalog::change;
 use crate::fault::StepFault;
@@ -24,7 +24,7 @@ use sr_site::Site;
 use std::alloc::Global;
 
 /// Does one statement.
-#[tactic(auto, unfolding(sr_script::specs::Meaning::done_by))]
+#[tactic(auto, unfolding(sr_session_script::specs::Meaning::done_by))]
 pub(crate) fn step<S: Site>(
     alloc: Global,
     db: &mut Database,

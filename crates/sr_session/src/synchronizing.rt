@@ -3,15 +3,15 @@
 ghost use Rattle.std.specs.Prelude.{◌≡◌, [], Option, None, IfOk};
 ghost use Rattle.sr_ast.specs.declared.stmt.Stmt.TheVariants.{Synchronize as SynchronizeStmt};
 ghost use Rattle.sr_ast.specs.declared.stmt.Passthrough.{Passthrough as Region};
-ghost use Rattle.sr_change.specs.Changes.{refusal};
-ghost use Rattle.sr_history.specs.Recorded.{sync};
-ghost use Rattle.sr_logform.specs.Entries.{IsShortEntry};
+ghost use Rattle.sr_catalog_change.specs.Changes.{refusal};
+ghost use Rattle.sr_database_history.specs.Recorded.{sync};
+ghost use Rattle.sr_logform.specs.Inner.Entries.{IsShortEntry};
 ghost use Rattle.sr_logform.specs.declared.entry.Entry.TheVariants.{Sync as SyncEntry};
 ghost use Rattle.sr_database.specs.Views.{committed};
-ghost use Rattle.sr_script.specs.Meaning.{enters, synchronized};
-ghost use Rattle.sr_script.specs.Synced.{views_of};
-ghost use Rattle.sr_session.specs.Ready.{IsReady, work_of};
-ghost use Rattle.sr_session.specs.Steps.{Took};
+ghost use Rattle.sr_session_script.specs.Meaning.{enters, synchronized};
+ghost use Rattle.sr_session_script.specs.Synced.{views_of};
+ghost use Rattle.sr_session.specs.Inner.Ready.{IsReady, work_of};
+ghost use Rattle.sr_session.specs.Inner.Steps.{Took};
 
 use crate::entering::enter;
 use crate::fault::StepFault;
@@ -21,7 +21,7 @@ use sr_catalog::Catalog;
 use sr_database::Database;
 use sr_logform::Entry;
 use sr_rows::Rows;
-use sr_script::{accept, are_short_views, views_of};
+use sr_session_script::{accept, are_short_views, views_of};
 use sr_site::Site;
 use std::alloc::{AllocError, Global};
 

@@ -2,13 +2,13 @@
 
 ghost use Rattle.std.specs.Prelude.{◌≡◌, ◌≢◌, ◌∷◌, [], true, List, ℕ, Option, IfOk};
 ghost use Rattle.sr_ast.specs.declared.stmt.Passthrough.{Passthrough as Region};
-ghost use Rattle.sr_history.specs.Recorded.{own};
-ghost use Rattle.sr_script.specs.Meaning.{enters, goes, closing, committed, rolled};
-ghost use Rattle.sr_script.specs.Works.{closed};
+ghost use Rattle.sr_database_history.specs.Recorded.{own};
+ghost use Rattle.sr_session_script.specs.Meaning.{enters, goes, closing, committed, rolled};
+ghost use Rattle.sr_session_script.specs.Works.{closed};
 ghost use Rattle.sr_database.specs.Databases.{IsOfSome};
 ghost use Rattle.sr_site.specs.Seen.{Seen as SiteSeen};
-ghost use Rattle.sr_session.specs.Ready.{IsReady, work_of};
-ghost use Rattle.sr_session.specs.Steps.{Took};
+ghost use Rattle.sr_session.specs.Inner.Ready.{IsReady, work_of};
+ghost use Rattle.sr_session.specs.Inner.Steps.{Took};
 
 use crate::entering::enter;
 use crate::fault::StepFault;

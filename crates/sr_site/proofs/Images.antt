@@ -7,19 +7,19 @@ use Rattle.sr_site.specs.Files.{Files, bytes_of, with_bytes, overwritten, IsTorn
 
 pub written : (place : ℕ) (old bytes : List ℕ) → place ≤ length old → IsTorn place (length bytes) old (overwritten old place bytes)
 written place old bytes within =
-    let front : length (take place old) ≡ place = omega (arith, length-take place old) in
+    let prefix : length (take place old) ≡ place = omega (arith, length-take place old) in
     let tail = drop (place + length bytes) old in
-    let long : length (take place old ++ bytes) ≡ place + length bytes = length-append (take place old) bytes ∙ ap (λ (n : ℕ). n + length bytes) front in
+    let long : length (take place old ++ bytes) ≡ place + length bytes = length-append (take place old) bytes ∙ ap (λ (n : ℕ). n + length bytes) prefix in
     record {
-      before = ap (take place) (append_assoc (take place old) bytes tail) ∙ take_at (take place old) (bytes ++ tail) place front;
+      before = ap (take place) (append_assoc (take place old) bytes tail) ∙ take_at (take place old) (bytes ++ tail) place prefix;
       behind = drop_at (take place old ++ bytes) tail (place + length bytes) long;
       longer = omega (arith, long, length-append (take place old ++ bytes) tail, length-drop (place + length bytes) old);
     }
 
 pub cut : (to : ℕ) (old : List ℕ) → to ≤ length old → IsCutInPart to old (take to old)
 cut to old within =
-    let front : length (take to old) ≡ to = omega (arith, length-take to old) in
-    record { before = take_all (take to old) to front; least = omega arith; most = omega arith }
+    let prefix : length (take to old) ≡ to = omega (arith, length-take to old) in
+    record { before = take_all (take to old) to prefix; least = omega arith; most = omega arith }
   where
     take_all : (l : List ℕ) (n : ℕ) → length l ≡ n → take n l ≡ l
     take_all l n is = ap (λ (k : ℕ). take k l) (sym is) ∙ whole l

@@ -1,9 +1,10 @@
 -- Calls on one file leave the others in each image as they were in one before.
 use Rattle.std.proofs.Common.{◌≡◌, Bool, true, false, List, [], ◌∷◌, ◌++◌, ℕ, refl, sym, ◌∙◌, ap, subst, inl, inr, append_assoc}
 use Rattle.std.specs.List.{AllByRecursion}
-use Rattle.sr_site.specs.Calls.{Call, write, cut, sync, IsCallOn}
+use Rattle.sr_site.specs.Inner.Calls.{Call, write, cut, sync, IsCallOn}
 use Rattle.sr_site.specs.Files.{Files, bytes_of, with_bytes, OthersStay}
-use Rattle.sr_site.specs.Happenings.{Happening, happening, Made, Throughout}
+use Rattle.sr_site.specs.Happenings.{Happening, Throughout}
+use Rattle.sr_site.specs.Inner.Happenings.{happening, Made}
 use Rattle.sr_site.specs.Images.{MayLeave, KeepsOthers, RestsThroughout}
 use Rattle.sr_site.specs.Seen.{Seen}
 use Rattle.sr_site.specs.declared.file.File.{File}

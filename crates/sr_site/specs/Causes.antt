@@ -1,3 +1,4 @@
+-- Which device's count of faults rose, and which stayed.
 use Rattle.std.specs.Prelude.{◌≡◌, ℕ, ◌+◌, ◌-◌, ◌^◌, ◌≤◌, min}
 use Rattle.sr_site.specs.Happenings.{Grows, mail_in}
 use Rattle.sr_site.specs.Seen.{Seen}
@@ -8,7 +9,7 @@ Rose before now = min (before + 1) (2 ^ 64 - 1) ≤ now
 
 -- what every call leaves: whether the site tells, what stood at the beginning, what happened before, and counts that never fall
 pub record Stays (old new : Seen) : Type 0 where
-  pub told : new.told ≡ old.told
+  pub observable : new.observable ≡ old.observable
   pub first : new.first ≡ old.first
   pub grows : Grows old.happened new.happened
   pub disk : old.disk_faults ≤ new.disk_faults
@@ -16,7 +17,7 @@ pub record Stays (old new : Seen) : Type 0 where
 
 -- what a call of the disk leaves: besides, the mail as it was
 pub record DiskStays (old new : Seen) : Type 0 where
-  pub told : new.told ≡ old.told
+  pub observable : new.observable ≡ old.observable
   pub first : new.first ≡ old.first
   pub grows : Grows old.happened new.happened
   pub mail : mail_in new.happened ≡ mail_in old.happened
@@ -25,7 +26,7 @@ pub record DiskStays (old new : Seen) : Type 0 where
 
 -- what a call of the mail leaves: besides, the disk as it was
 pub record MailStays (old new : Seen) : Type 0 where
-  pub told : new.told ≡ old.told
+  pub observable : new.observable ≡ old.observable
   pub first : new.first ≡ old.first
   pub files : new.files ≡ old.files
   pub grows : Grows old.happened new.happened

@@ -1,5 +1,5 @@
-use Rattle.std.specs.Prelude.{◌≡◌, ◌⊎◌, ℕ, Bool, true, false, List, [], ◌∷◌, ◌++◌, Option, Result}
-use Rattle.sr_site.specs.Calls.{Call, write, cut, sync}
+-- What happened at a site: commits of files, and calls of the mail.
+use Rattle.std.specs.Prelude.{◌≡◌, ◌⊎◌, ℕ, Bool, List, [], ◌∷◌, ◌++◌, Option, Result}
 use Rattle.sr_site.specs.declared.file.File.{File}
 use Rattle.sr_site.specs.declared.mail.Listing.{Listing}
 use Rattle.sr_site.specs.declared.mail.MailFault.{MailFault}
@@ -15,17 +15,6 @@ pub data Happening : Type 0 where
   fetched : List ℕ → List ℕ → ℕ → Result (Option (List ℕ)) MailFault → Happening
   sent : List ℕ → List ℕ → List ℕ → Bool → Happening
   removed : List ℕ → List ℕ → Bool → Happening
-
--- a call of the disk as it happened
-abbrev pub happening : Call → Bool → List ℕ → Happening
-happening (write file place bytes) done after = wrote file place bytes done after
-happening (cut file to) done after = cut_to file to done after
-happening (sync file) done after = synced file done after
-
--- these calls were made one after the other: all of them succeeded, or the first that failed was the last
-abbrev pub Made : List Call → List Happening → List Happening → Bool → Type 0
-Made [] before now done = (now ≡ before) × (done ≡ true)
-Made (call ∷ calls) before now done = (after : List ℕ) × (((now ≡ happening call false after ∷ before) × (done ≡ false)) ⊎ Made calls (happening call true after ∷ before) now done)
 
 -- a list is a moment of what happened: all of it, or what stood before the last
 abbrev pub IsMoment : List Happening → List Happening → Type 0

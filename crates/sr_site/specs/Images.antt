@@ -1,4 +1,5 @@
-use Rattle.std.specs.Prelude.{◌≡◌, ◌⊎◌, true, false, List, [], ◌∷◌, ◌++◌, length}
+-- What a crash may leave of files.
+use Rattle.std.specs.Prelude.{◌≡◌, true, false, List, [], ◌∷◌, ◌++◌, length}
 use Rattle.sr_site.specs.Files.{Files, bytes_of, with_bytes, OthersStay, IsTorn, IsCutInPart}
 use Rattle.sr_site.specs.Happenings.{Happening, Throughout, attached, wrote, cut_to, synced, listed, fetched, sent, removed}
 use Rattle.sr_site.specs.Seen.{Seen}
@@ -27,10 +28,6 @@ IsImage seen image = MayLeave seen.first seen.happened image
 -- every crash leaves files for which this holds
 abbrev pub IsSettled : (Files → Type 0) → Seen → Type 0
 IsSettled holds seen = (image : Files) → IsImage seen image → holds image
-
--- a crash leaves files for which the one or the other holds
-abbrev pub RestsOn : (Files → Type 0) → (Files → Type 0) → Seen → Type 0
-RestsOn before after seen = (image : Files) → IsImage seen image → before image ⊎ after image
 
 -- from the one moment to the other every crash leaves files for which this holds
 pub record RestsThroughout (holds : Files → Type 0) (old new : Seen) : Type 0 where

@@ -1,10 +1,9 @@
-pub mod Calls
 pub mod Causes
 pub mod Files
-pub mod Growing
 pub mod Happenings
 pub mod Images
 pub mod Listings
 pub mod Reads
 pub mod Seen
 pub mod Streams
+pub mod Inner

@@ -17,9 +17,9 @@ use crate::held::{Failed, Held};
 pub trait Disk: Held {
     /// The file's length in bytes.
     fn length(&mut self, file: File) -> Result<u64, Failed>
-        ensures length { IsTrue (Self.seen self.old).told → IfOk result (λ n. n ≡ length (bytes_of (Self.seen self.old).files file)) }
-        ensures files { IsTrue (Self.seen self.old).told → (Self.seen self.new).files ≡ (Self.seen self.old).files }
-        ensures happened { IsTrue (Self.seen self.old).told → (Self.seen self.new).happened ≡ (Self.seen self.old).happened }
+        ensures length { IsTrue (Self.seen self.old).observable → IfOk result (λ n. n ≡ length (bytes_of (Self.seen self.old).files file)) }
+        ensures files { IsTrue (Self.seen self.old).observable → (Self.seen self.new).files ≡ (Self.seen self.old).files }
+        ensures happened { IsTrue (Self.seen self.old).observable → (Self.seen self.new).happened ≡ (Self.seen self.old).happened }
         ensures stays { DiskStays (Self.seen self.old) (Self.seen self.new) }
         ensures steady { OnOk result ((Self.seen self.new).disk_faults ≡ (Self.seen self.old).disk_faults) }
         ensures cause { OnErr result (Rose (Self.seen self.old).disk_faults (Self.seen self.new).disk_faults) };
@@ -28,39 +28,39 @@ pub trait Disk: Held {
     /// file's rest.
     fn read_at(&mut self, file: File, at: u64, buffer: &mut [u8]) -> Result<usize, Failed>
         ensures within { IfOk result (λ n. n ≤ length buffer.old) }
-        ensures read { IsTrue (Self.seen self.old).told → IfOk result (λ n. HasRead (bytes_of (Self.seen self.old).files file) at (length buffer.old) n buffer.new) }
-        ensures files { IsTrue (Self.seen self.old).told → (Self.seen self.new).files ≡ (Self.seen self.old).files }
-        ensures happened { IsTrue (Self.seen self.old).told → (Self.seen self.new).happened ≡ (Self.seen self.old).happened }
+        ensures read { IsTrue (Self.seen self.old).observable → IfOk result (λ n. HasRead (bytes_of (Self.seen self.old).files file) at (length buffer.old) n buffer.new) }
+        ensures files { IsTrue (Self.seen self.old).observable → (Self.seen self.new).files ≡ (Self.seen self.old).files }
+        ensures happened { IsTrue (Self.seen self.old).observable → (Self.seen self.new).happened ≡ (Self.seen self.old).happened }
         ensures stays { DiskStays (Self.seen self.old) (Self.seen self.new) }
         ensures steady { OnOk result ((Self.seen self.new).disk_faults ≡ (Self.seen self.old).disk_faults) }
         ensures cause { OnErr result (Rose (Self.seen self.old).disk_faults (Self.seen self.new).disk_faults) };
 
     /// Puts `bytes` at the place `at`, over what is there and past the end.
     fn write_at(&mut self, file: File, at: u64, bytes: &[u8]) -> Result<(), Failed>
-        requires { IsTrue (Self.seen self.old).told → at ≤ length (bytes_of (Self.seen self.old).files file) }
-        ensures written { IsTrue (Self.seen self.old).told → OnOk result ((Self.seen self.new).files ≡ with_bytes (Self.seen self.old).files file (overwritten (bytes_of (Self.seen self.old).files file) at bytes.now)) }
-        ensures torn { IsTrue (Self.seen self.old).told → OnErr result (IsTorn at (length bytes.now) (bytes_of (Self.seen self.old).files file) (bytes_of (Self.seen self.new).files file)) }
-        ensures others { IsTrue (Self.seen self.old).told → OthersStay file (Self.seen self.old).files (Self.seen self.new).files }
-        ensures happened { IsTrue (Self.seen self.old).told → (Self.seen self.new).happened ≡ wrote file at bytes.now (is_ok result) (bytes_of (Self.seen self.new).files file) ∷ (Self.seen self.old).happened }
+        requires { IsTrue (Self.seen self.old).observable → at ≤ length (bytes_of (Self.seen self.old).files file) }
+        ensures written { IsTrue (Self.seen self.old).observable → OnOk result ((Self.seen self.new).files ≡ with_bytes (Self.seen self.old).files file (overwritten (bytes_of (Self.seen self.old).files file) at bytes.now)) }
+        ensures torn { IsTrue (Self.seen self.old).observable → OnErr result (IsTorn at (length bytes.now) (bytes_of (Self.seen self.old).files file) (bytes_of (Self.seen self.new).files file)) }
+        ensures others { IsTrue (Self.seen self.old).observable → OthersStay file (Self.seen self.old).files (Self.seen self.new).files }
+        ensures happened { IsTrue (Self.seen self.old).observable → (Self.seen self.new).happened ≡ wrote file at bytes.now (is_ok result) (bytes_of (Self.seen self.new).files file) ∷ (Self.seen self.old).happened }
         ensures stays { DiskStays (Self.seen self.old) (Self.seen self.new) }
         ensures steady { OnOk result ((Self.seen self.new).disk_faults ≡ (Self.seen self.old).disk_faults) }
         ensures cause { OnErr result (Rose (Self.seen self.old).disk_faults (Self.seen self.new).disk_faults) };
 
     /// Cuts the file to its first `to` bytes.
     fn cut(&mut self, file: File, to: u64) -> Result<(), Failed>
-        requires { IsTrue (Self.seen self.old).told → to ≤ length (bytes_of (Self.seen self.old).files file) }
-        ensures cut { IsTrue (Self.seen self.old).told → OnOk result ((Self.seen self.new).files ≡ with_bytes (Self.seen self.old).files file (take to (bytes_of (Self.seen self.old).files file))) }
-        ensures torn { IsTrue (Self.seen self.old).told → OnErr result (IsCutInPart to (bytes_of (Self.seen self.old).files file) (bytes_of (Self.seen self.new).files file)) }
-        ensures others { IsTrue (Self.seen self.old).told → OthersStay file (Self.seen self.old).files (Self.seen self.new).files }
-        ensures happened { IsTrue (Self.seen self.old).told → (Self.seen self.new).happened ≡ cut_to file to (is_ok result) (bytes_of (Self.seen self.new).files file) ∷ (Self.seen self.old).happened }
+        requires { IsTrue (Self.seen self.old).observable → to ≤ length (bytes_of (Self.seen self.old).files file) }
+        ensures cut { IsTrue (Self.seen self.old).observable → OnOk result ((Self.seen self.new).files ≡ with_bytes (Self.seen self.old).files file (take to (bytes_of (Self.seen self.old).files file))) }
+        ensures torn { IsTrue (Self.seen self.old).observable → OnErr result (IsCutInPart to (bytes_of (Self.seen self.old).files file) (bytes_of (Self.seen self.new).files file)) }
+        ensures others { IsTrue (Self.seen self.old).observable → OthersStay file (Self.seen self.old).files (Self.seen self.new).files }
+        ensures happened { IsTrue (Self.seen self.old).observable → (Self.seen self.new).happened ≡ cut_to file to (is_ok result) (bytes_of (Self.seen self.new).files file) ∷ (Self.seen self.old).happened }
         ensures stays { DiskStays (Self.seen self.old) (Self.seen self.new) }
         ensures steady { OnOk result ((Self.seen self.new).disk_faults ≡ (Self.seen self.old).disk_faults) }
         ensures cause { OnErr result (Rose (Self.seen self.old).disk_faults (Self.seen self.new).disk_faults) };
 
     /// Makes the file's bytes durable: after it a crash leaves what a read gives.
     fn sync(&mut self, file: File) -> Result<(), Failed>
-        ensures files { IsTrue (Self.seen self.old).told → (Self.seen self.new).files ≡ (Self.seen self.old).files }
-        ensures happened { IsTrue (Self.seen self.old).told → (Self.seen self.new).happened ≡ synced file (is_ok result) (bytes_of (Self.seen self.old).files file) ∷ (Self.seen self.old).happened }
+        ensures files { IsTrue (Self.seen self.old).observable → (Self.seen self.new).files ≡ (Self.seen self.old).files }
+        ensures happened { IsTrue (Self.seen self.old).observable → (Self.seen self.new).happened ≡ synced file (is_ok result) (bytes_of (Self.seen self.old).files file) ∷ (Self.seen self.old).happened }
         ensures stays { DiskStays (Self.seen self.old) (Self.seen self.new) }
         ensures steady { OnOk result ((Self.seen self.new).disk_faults ≡ (Self.seen self.old).disk_faults) }
         ensures cause { OnErr result (Rose (Self.seen self.old).disk_faults (Self.seen self.new).disk_faults) };

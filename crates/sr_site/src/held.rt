@@ -14,5 +14,5 @@ pub struct Failed;
 pub trait Held {
     ghost seen: { Self → Seen };
 
-    ghost read_is_image: { (site : Self) → IsTrue (seen site).told → IsImage (seen site) (seen site).files };
+    ghost read_is_image: { (site : Self) → IsTrue (seen site).observable → IsImage (seen site) (seen site).files };
 }

@@ -1,8 +1,9 @@
 ghost use Rattle.std.specs.Prelude.{◌≡◌, ◌≤◌, [], ◌∷◌, ◌++◌, Bool, List, ℕ, length, take, true, IsTrue};
 ghost use Rattle.std.specs.List.{AllByRecursion};
-ghost use Rattle.sr_site.specs.Calls.{Call, IsCallOn};
+ghost use Rattle.sr_site.specs.Inner.Calls.{Call, IsCallOn};
 ghost use Rattle.sr_site.specs.Files.{Files, bytes_of, with_bytes, overwritten, IsTorn, IsCutInPart, OthersStay};
-ghost use Rattle.sr_site.specs.Happenings.{Happening, Grows, Made, wrote, cut_to, synced};
+ghost use Rattle.sr_site.specs.Happenings.{Happening, Grows, wrote, cut_to, synced};
+ghost use Rattle.sr_site.specs.Inner.Happenings.{Made};
 ghost use Rattle.sr_site.specs.Images.{MayLeave, IsImage, KeepsOthers, RestsThroughout};
 ghost use Rattle.sr_site.specs.Seen.{Seen};
 ghost use Rattle.sr_site.specs.declared.file.File.{File as file};
@@ -11,7 +12,7 @@ use crate::held::Held;
 
 /// What a site that tells its files gives of them to a read is an image: one of the things that a crash may leave at this moment.
 pub fn a_site_reads_an_image<S: Held>(_site: &S)
-    ensures image { IsTrue (S.seen _site.now).told → IsImage (S.seen _site.now) (S.seen _site.now).files }
+    ensures image { IsTrue (S.seen _site.now).observable → IsImage (S.seen _site.now) (S.seen _site.now).files }
 {}
 
 /// What a read gives is an image, and stays one: after a write, a cut and a sync, whether they succeed or fail.

@@ -35,7 +35,7 @@ pub trait Mail: Held {
     /// The names of the files in the folder of `address`: none where there is no such folder, else the first 65,536 in byte order.
     fn list(&mut self, alloc: Global, address: &Name) -> Result<Listing, MailFault>
         ensures listing { IfOk result IsListing }
-        ensures listed { IsTrue (Self.seen self.old).told → (folder : List (List ℕ)) × ((Self.seen self.new).happened ≡ listed address.now folder result ∷ (Self.seen self.old).happened) × IfOk result (Lists folder) }
+        ensures listed { IsTrue (Self.seen self.old).observable → (folder : List (List ℕ)) × ((Self.seen self.new).happened ≡ listed address.now folder result ∷ (Self.seen self.old).happened) × IfOk result (Lists folder) }
         ensures stays { MailStays (Self.seen self.old) (Self.seen self.new) }
         ensures steady { OnOk result ((Self.seen self.new).mail_faults ≡ (Self.seen self.old).mail_faults) }
         ensures short { IsErrOf result no_memory → (Self.seen self.new).mail_faults ≡ (Self.seen self.old).mail_faults }
@@ -50,7 +50,7 @@ pub trait Mail: Held {
         limit: usize,
     ) -> Result<Option<Vec<u8>>, MailFault>
         ensures within { IfOk result (λ found. IfSome found (λ bytes. length bytes.items ≤ limit)) }
-        ensures fetched { IsTrue (Self.seen self.old).told → (Self.seen self.new).happened ≡ fetched address.now name.now limit (result_map_both (option_map (λ bytes. bytes.items)) (λ fault. fault) result) ∷ (Self.seen self.old).happened }
+        ensures fetched { IsTrue (Self.seen self.old).observable → (Self.seen self.new).happened ≡ fetched address.now name.now limit (result_map_both (option_map (λ bytes. bytes.items)) (λ fault. fault) result) ∷ (Self.seen self.old).happened }
         ensures stays { MailStays (Self.seen self.old) (Self.seen self.new) }
         ensures steady { OnOk result ((Self.seen self.new).mail_faults ≡ (Self.seen self.old).mail_faults) }
         ensures short { IsErrOf result no_memory → (Self.seen self.new).mail_faults ≡ (Self.seen self.old).mail_faults }
@@ -64,7 +64,7 @@ pub trait Mail: Held {
         name: &Text,
         bytes: &[u8],
     ) -> Result<(), MailFault>
-        ensures put { IsTrue (Self.seen self.old).told → (Self.seen self.new).happened ≡ sent address.now name.now bytes.now (is_ok result) ∷ (Self.seen self.old).happened }
+        ensures put { IsTrue (Self.seen self.old).observable → (Self.seen self.new).happened ≡ sent address.now name.now bytes.now (is_ok result) ∷ (Self.seen self.old).happened }
         ensures stays { MailStays (Self.seen self.old) (Self.seen self.new) }
         ensures steady { OnOk result ((Self.seen self.new).mail_faults ≡ (Self.seen self.old).mail_faults) }
         ensures short { IsErrOf result no_memory → (Self.seen self.new).mail_faults ≡ (Self.seen self.old).mail_faults }
@@ -72,7 +72,7 @@ pub trait Mail: Held {
 
     /// Removes the file. That it is not there is no fault.
     fn remove(&mut self, alloc: Global, address: &Name, name: &Text) -> Result<(), MailFault>
-        ensures removed { IsTrue (Self.seen self.old).told → (Self.seen self.new).happened ≡ removed address.now name.now (is_ok result) ∷ (Self.seen self.old).happened }
+        ensures removed { IsTrue (Self.seen self.old).observable → (Self.seen self.new).happened ≡ removed address.now name.now (is_ok result) ∷ (Self.seen self.old).happened }
         ensures stays { MailStays (Self.seen self.old) (Self.seen self.new) }
         ensures steady { OnOk result ((Self.seen self.new).mail_faults ≡ (Self.seen self.old).mail_faults) }
         ensures short { IsErrOf result no_memory → (Self.seen self.new).mail_faults ≡ (Self.seen self.old).mail_faults }
@@ -84,8 +84,8 @@ pub trait Site: Disk + Mail {
     /// Names the database's files and the mail folder, and asks for the files' lock. It changes no content. `Failed` raises the count of disk
     /// faults, and no other answer does. For a command without a mail folder `mail` is the empty text.
     fn attach(&mut self, alloc: Global, name: &Text, mail: &Text) -> Result<(), MailFault>
-        ensures files { IsTrue (Self.seen self.old).told → (Self.seen self.new).files ≡ (Self.seen self.old).files }
-        ensures attached { IsTrue (Self.seen self.old).told → (Self.seen self.new).happened ≡ attached name.now mail.now (is_ok result) ∷ (Self.seen self.old).happened }
+        ensures files { IsTrue (Self.seen self.old).observable → (Self.seen self.new).files ≡ (Self.seen self.old).files }
+        ensures attached { IsTrue (Self.seen self.old).observable → (Self.seen self.new).happened ≡ attached name.now mail.now (is_ok result) ∷ (Self.seen self.old).happened }
         ensures stays { DiskStays (Self.seen self.old) (Self.seen self.new) }
         ensures steady { OnOk result ((Self.seen self.new).disk_faults ≡ (Self.seen self.old).disk_faults) }
         ensures short { IsErrOf result no_memory → (Self.seen self.new).disk_faults ≡ (Self.seen self.old).disk_faults }

@@ -13,9 +13,9 @@ pub trait Source {
     /// `Failed` comes only where its count rose, and leaves what was left; a call that succeeds leaves the count.
     fn read(&mut self, buffer: &mut [u8]) -> Result<usize, Failed>
         ensures within { IfOk result (λ n. n ≤ length buffer.old) }
-        ensures given { IsTrue (Self.seen self.old).told → IfOk result (λ n. (Self.seen self.old).left ≡ take n buffer.new ++ (Self.seen self.new).left) }
-        ensures end { IsTrue (Self.seen self.old).told → IfOk result (λ n. 0 < length buffer.old → n ≡ 0 → (Self.seen self.new).left ≡ []) }
-        ensures err { IsTrue (Self.seen self.old).told → OnErr result ((Self.seen self.new).left ≡ (Self.seen self.old).left) }
+        ensures given { IsTrue (Self.seen self.old).observable → IfOk result (λ n. (Self.seen self.old).left ≡ take n buffer.new ++ (Self.seen self.new).left) }
+        ensures end { IsTrue (Self.seen self.old).observable → IfOk result (λ n. 0 < length buffer.old → n ≡ 0 → (Self.seen self.new).left ≡ []) }
+        ensures err { IsTrue (Self.seen self.old).observable → OnErr result ((Self.seen self.new).left ≡ (Self.seen self.old).left) }
         ensures stays { InputStays (Self.seen self.old) (Self.seen self.new) }
         ensures steady { OnOk result ((Self.seen self.new).faults ≡ (Self.seen self.old).faults) }
         ensures cause { OnErr result (Rose (Self.seen self.old).faults (Self.seen self.new).faults) };
@@ -31,8 +31,8 @@ pub trait Sink {
     fn write(&mut self, bytes: &[u8]) -> Result<usize, Failed>
         ensures within { IfOk result (λ n. n ≤ length bytes.now) }
         ensures some { 0 < length bytes.now → IfOk result (λ n. 0 < n) }
-        ensures taken { IsTrue (Self.seen self.old).told → IfOk result (λ n. (Self.seen self.new).taken ≡ (Self.seen self.old).taken ++ take n bytes.now) }
-        ensures err { IsTrue (Self.seen self.old).told → OnErr result ((Self.seen self.new).taken ≡ (Self.seen self.old).taken) }
+        ensures taken { IsTrue (Self.seen self.old).observable → IfOk result (λ n. (Self.seen self.new).taken ≡ (Self.seen self.old).taken ++ take n bytes.now) }
+        ensures err { IsTrue (Self.seen self.old).observable → OnErr result ((Self.seen self.new).taken ≡ (Self.seen self.old).taken) }
         ensures stays { OutputStays (Self.seen self.old) (Self.seen self.new) }
         ensures steady { OnOk result ((Self.seen self.new).faults ≡ (Self.seen self.old).faults) }
         ensures cause { OnErr result (Rose (Self.seen self.old).faults (Self.seen self.new).faults) };

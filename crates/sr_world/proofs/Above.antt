@@ -10,38 +10,38 @@ use Rattle.sr_base.specs.Values.{value_spelling, offset_from}
 use Rattle.sr_base.specs.declared.value.Value.{Value as Cell}
 use Rattle.sr_base.specs.declared.value.Value.TheVariants.{Int}
 use Rattle.sr_book.specs.declared.note.Note.TheVariants.{Confirmed, Asked}
-use Rattle.sr_change.specs.Changes.{refusal, next as catalog_after}
-use Rattle.sr_ddl.specs.Publications.{absent_column, absent_in, is_bad_where, is_bad_article, key_outside, create_publication_causes, publication_of}
-use Rattle.sr_ddl.specs.Subscriptions.{create_subscription_causes, twice_subscribed, start_causes}
-use Rattle.sr_ddl.specs.Tables.{create_table_causes, table_of}
-use Rattle.sr_ddl.specs.Users.{grant_causes, user_of}
-use Rattle.sr_firing.specs.Firing.{fired}
-use Rattle.sr_history.specs.Fitting.{AreNamedRows, FitsState}
-use Rattle.sr_history.specs.Folds.{State, fresh, with_statement, next, size, state_of}
-use Rattle.sr_history.specs.Recorded.{conflict}
-use Rattle.sr_history.specs.Recorded.{own, taken, ddl, sync, pass, note}
-use Rattle.sr_history.specs.Sample.{cons, r1, table_t, column_id, create_t, create_u, inserted}
-use Rattle.sr_history.proofs.Kept.{fresh_holds}
+use Rattle.sr_catalog_change.specs.Changes.{refusal, next as catalog_after}
+use Rattle.sr_catalog_ddl.specs.Publications.{absent_column, absent_in, is_bad_where, is_bad_article, key_outside, create_publication_causes, publication_of}
+use Rattle.sr_catalog_ddl.specs.Subscriptions.{create_subscription_causes, twice_subscribed, start_causes}
+use Rattle.sr_catalog_ddl.specs.Tables.{create_table_causes, table_of}
+use Rattle.sr_catalog_ddl.specs.Users.{grant_causes, user_of}
+use Rattle.sr_resolve_triggers.specs.Firing.{fired}
+use Rattle.sr_database_history.specs.Fitting.{AreNamedRows, FitsState}
+use Rattle.sr_database_history.specs.Folds.{State, fresh, with_statement, next, size, state_of}
+use Rattle.sr_database_history.specs.Recorded.{conflict}
+use Rattle.sr_database_history.specs.Recorded.{own, taken, ddl, sync, pass, note}
+use Rattle.sr_database_history.specs.Inner.Sample.{cons, r1, table_t, column_id, create_t, create_u, inserted}
+use Rattle.sr_database_history.proofs.Kept.{fresh_holds}
 use Rattle.sr_logform.specs.Entries.{entry_spelling, flag_spelling, IsEntry}
 use Rattle.sr_logform.specs.Ops.{op_spelling}
 use Rattle.sr_logform.specs.Outcomes.{outcome_spelling, note_spelling, IsNote}
 use Rattle.sr_logform.specs.declared.op.Op.TheVariants.{Clear}
-use Rattle.sr_model.specs.Layers.{end_of}
-use Rattle.sr_publish.specs.Shares.{share_of}
+use Rattle.sr_world_model.specs.Layers.{end_of}
+use Rattle.sr_publish.specs.SubscribedTables.{subscribed_table_of}
 use Rattle.sr_publish.specs.Views.{seen}
 use Rattle.sr_resolve.specs.Judging.{judged_set, judged_update}
 use Rattle.sr_resolve.specs.Named.{names_key}
 use Rattle.sr_resolve.specs.Taking.{done_judged}
 use Rattle.sr_rows.specs.Marks.{Place, RowMap, place_cmp, rows_of_table}
 use Rattle.sr_rows.specs.Walks.{Entry, of_table}
-use Rattle.sr_scan.specs.Images.{told}
-use Rattle.sr_schema.specs.Causes.{first_fault}
-use Rattle.sr_schema.specs.declared.subscription.Subscription.{Subscription}
+use Rattle.sr_scan.specs.Inner.Images.{told}
+use Rattle.sr_catalog_schema.specs.Causes.{first_fault}
+use Rattle.sr_catalog_schema.specs.declared.subscription.Subscription.{Subscription}
 use Rattle.sr_world.specs.Real.{layers, LawfulHistory}
-use Rattle.sr_world.specs.Sample.{r2, name_p, name_q, create_p, create_q, grant, subscription}
-use Rattle.sr_world.specs.Sample.{first_row, updated, insert, insert_slim, slim_row, run_u, set, sent_to}
-use Rattle.sr_world.proofs.Lines.{Line, IsLine, AreLines, entries, lawful_front, end_told, end_front, state_end}
-use Rattle.sr_world.proofs.Lines.{each_told, all_told, given_front, ddl_line, note_line}
+use Rattle.sr_world.specs.Inner.Sample.{r2, name_p, name_q, create_p, create_q, grant, subscription}
+use Rattle.sr_world.specs.Inner.Sample.{first_row, updated, insert, insert_slim, slim_row, run_u, set, sent_to}
+use Rattle.sr_world.proofs.Lines.{Line, IsLine, AreLines, entries, lawful_prefix, end_told, end_prefix, state_end}
+use Rattle.sr_world.proofs.Lines.{each_told, all_told, given_prefix, ddl_line, note_line}
 use Rattle.sr_world.proofs.Named.{written_t, written_p, written_q, written_r1, written_r2, written_for_r1}
 use Rattle.sr_world.proofs.Named.{written_for_r2, started_for_r1, started_for_r2}
 use Rattle.sr_world.proofs.Grounds.{set_ok, conflict_outcome}
@@ -176,7 +176,7 @@ abbrev rows_seen : List (Place × List Cell) → List (List Cell)
 rows_seen held = filter_map (λ (e : Entry). seen (c_both c_rows5).catalog r2 table_t e.1) (of_table table_t held)
 
 viewed : rows_seen (entries_of c_rows5) ≡ slim_row ∷ []
-unfolding share_of
+unfolding subscribed_table_of
 viewed = ap rows_seen (entries_new (first_row 5))
 
 abbrev line11 : Line
@@ -335,24 +335,24 @@ cons_are : AreLines c0 cons_lines
 cons_are = (is1, (is2, (is3, (is4, (is5, (is6, (is7, (is8, (is9, (is10, later_are))))))))))
 
 cons_tell_r1 : each_told c0 r1 cons_lines ≡ map (λ (l : Line). l.to_one) cons_lines
-unfolding told share_of
+unfolding told subscribed_table_of
 cons_tell_r1 = refl
 
 cons_tell_r2 : each_told c0 r2 cons_lines ≡ map (λ (l : Line). l.to_other) cons_lines
-unfolding told share_of
+unfolding told subscribed_table_of
 cons_tell_r2 = refl
 
 pub cons_lawful : (n : ℕ) → LawfulHistory cons (entries (take n cons_lines))
-cons_lawful n = lawful_front c0 0 n cons_lines cons_are (omega arith)
+cons_lawful n = lawful_prefix c0 0 n cons_lines cons_are (omega arith)
 
 pub cons_ends : (n : ℕ) → end_of layers (entries (take n cons_lines)) ≡ end_told 0 (take n cons_lines)
-cons_ends n = end_front c0 0 n cons_lines cons_are
+cons_ends n = end_prefix c0 0 n cons_lines cons_are
 
 pub cons_gives_r1 : (n : ℕ) → layers.given cons r1 (entries (take n cons_lines)) ≡ all_told (λ l. l.to_one) 0 (take n cons_lines)
-cons_gives_r1 n = given_front c0 0 r1 (λ l. l.to_one) n cons_lines (fresh_holds cons) cons_are (omega arith) cons_tell_r1
+cons_gives_r1 n = given_prefix c0 0 r1 (λ l. l.to_one) n cons_lines (fresh_holds cons) cons_are (omega arith) cons_tell_r1
 
 pub cons_gives_r2 : (n : ℕ) → layers.given cons r2 (entries (take n cons_lines)) ≡ all_told (λ l. l.to_other) 0 (take n cons_lines)
-cons_gives_r2 n = given_front c0 0 r2 (λ l. l.to_other) n cons_lines (fresh_holds cons) cons_are (omega arith) cons_tell_r2
+cons_gives_r2 n = given_prefix c0 0 r2 (λ l. l.to_other) n cons_lines (fresh_holds cons) cons_are (omega arith) cons_tell_r2
 
 pub cons_row : rows_of_table (state_of cons (entries cons_lines)).rows table_t (Int (pos 1) ∷ []) ≡ Some (first_row 6)
 cons_row = ap (λ (s : State). get s.rows here) (state_end c0 cons_lines cons_are) ∙ held_next c_rows7 6

@@ -4,13 +4,13 @@ use Rattle.std.proofs.Math.Seq.{take-length}
 use Rattle.sr_book.specs.Entries.{Name}
 use Rattle.sr_book.specs.Histories.{taken_end, book_of}
 use Rattle.sr_book.specs.Rising.{top, offsets}
-use Rattle.sr_history.specs.Recorded.{Recorded}
+use Rattle.sr_database_history.specs.Recorded.{Recorded}
 use Rattle.sr_logform.specs.declared.op.Op.{Op}
-use Rattle.sr_model.specs.Layers.{end_of}
-use Rattle.sr_model.specs.Steps.{IsWhole, CanTake, HasSent}
-use Rattle.sr_model.specs.Truth.{members, IsTrueOf}
-use Rattle.sr_model.specs.Windows.{past, window}
-use Rattle.sr_model.proofs.Tests.{le_if, lt_if}
+use Rattle.sr_world_model.specs.Layers.{end_of}
+use Rattle.sr_world_model.specs.Steps.{HasAllFragments, CanTake, HasSent}
+use Rattle.sr_world_model.specs.Truth.{members, IsTrueOf}
+use Rattle.sr_world_model.specs.Windows.{past, window}
+use Rattle.sr_world_model.proofs.Tests.{le_if, lt_if}
 use Rattle.sr_msgform.specs.declared.message.Message.{Message}
 use Rattle.sr_world.specs.Real.{layers, HasSpelling}
 
@@ -41,7 +41,7 @@ told_true d es m txs end gave ends from ends_at stands start total body confirm 
 
 -- a transaction may be taken
 pub may_take : (messages : List Message) (d : Name) (es : List Recorded) (user : Name) (place : ℕ) (ops : List Op) (prev upto : ℕ)
-    (txs rest : List (ℕ × List Op)) → IsWhole messages user d prev upto (layers.encode txs) → All HasSpelling txs
+    (txs rest : List (ℕ × List Op)) → HasAllFragments messages user d prev upto (layers.encode txs) → All HasSpelling txs
     → nat_le prev (taken_end layers.sees user es) ≡ true → nat_lt (taken_end layers.sees user es) upto ≡ true
     → past (taken_end layers.sees user es) txs ≡ (place, ops) ∷ rest → CanTake layers HasSpelling messages d es user place ops
 may_take messages d es user place ops prev upto txs rest whole spelled reached ahead first = record {
@@ -58,7 +58,7 @@ may_take messages d es user place ops prev upto txs rest whole spelled reached a
 
 -- one message may be noted as sent, which has the window from what was sent to an offset that is given
 pub may_note : (messages : List Message) (d : Name) (es : List Recorded) (user : Name) (upto confirm : ℕ) (body : List ℕ) (txs : List (ℕ × List Op))
-    → layers.given d user es ≡ txs → IsWhole messages d user (book_of layers.sees user es).log_sent upto body
+    → layers.given d user es ≡ txs → HasAllFragments messages d user (book_of layers.sees user es).log_sent upto body
     → nat_lt (book_of layers.sees user es).log_sent upto ≡ true → Contains (offsets txs) upto → confirm ≡ (book_of layers.sees user es).log_received
     → HasSent layers messages d es user upto 1 confirm
 may_note messages d es user upto confirm body txs gave whole ahead there confirms = record {

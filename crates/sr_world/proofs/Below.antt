@@ -9,36 +9,36 @@ use Rattle.sr_ast.specs.declared.stmt.Stmt.TheVariants as stmt
 use Rattle.sr_base.specs.Values.{value_spelling, offset_from}
 use Rattle.sr_base.specs.declared.value.Value.TheVariants.{Int}
 use Rattle.sr_book.specs.declared.note.Note.TheVariants.{Raised}
-use Rattle.sr_change.specs.Changes.{refusal, next as catalog_after}
-use Rattle.sr_ddl.specs.Publications.{absent_column, absent_in, is_bad_where, is_bad_article, key_outside, create_publication_causes, publication_of}
-use Rattle.sr_ddl.specs.Subscriptions.{create_subscription_causes, twice_subscribed, start_causes}
-use Rattle.sr_ddl.specs.Tables.{create_table_causes, table_of}
-use Rattle.sr_ddl.specs.Users.{grant_causes, user_of}
-use Rattle.sr_history.specs.Fitting.{FitsState}
-use Rattle.sr_history.specs.Folds.{State, fresh, with_statement, next, size, state_of}
-use Rattle.sr_history.specs.Recorded.{plain, ran}
-use Rattle.sr_history.specs.Recorded.{own, taken, ddl, note}
-use Rattle.sr_history.specs.Sample.{cons, r1, table_t, table_u, create_t, create_u, inserted}
-use Rattle.sr_history.proofs.Kept.{fresh_holds}
+use Rattle.sr_catalog_change.specs.Changes.{refusal, next as catalog_after}
+use Rattle.sr_catalog_ddl.specs.Publications.{absent_column, absent_in, is_bad_where, is_bad_article, key_outside, create_publication_causes, publication_of}
+use Rattle.sr_catalog_ddl.specs.Subscriptions.{create_subscription_causes, twice_subscribed, start_causes}
+use Rattle.sr_catalog_ddl.specs.Tables.{create_table_causes, table_of}
+use Rattle.sr_catalog_ddl.specs.Users.{grant_causes, user_of}
+use Rattle.sr_database_history.specs.Fitting.{FitsState}
+use Rattle.sr_database_history.specs.Folds.{State, fresh, with_statement, next, size, state_of}
+use Rattle.sr_database_history.specs.Recorded.{plain, ran}
+use Rattle.sr_database_history.specs.Recorded.{own, taken, ddl, note}
+use Rattle.sr_database_history.specs.Inner.Sample.{cons, r1, table_t, table_u, create_t, create_u, inserted}
+use Rattle.sr_database_history.proofs.Kept.{fresh_holds}
 use Rattle.sr_logform.specs.Entries.{entry_spelling, IsEntry}
 use Rattle.sr_logform.specs.Ops.{op_spelling}
 use Rattle.sr_logform.specs.Outcomes.{outcome_spelling, note_spelling, IsNote}
 use Rattle.sr_logform.specs.declared.op.Op.TheVariants.{Clear}
-use Rattle.sr_model.specs.Layers.{end_of}
-use Rattle.sr_publish.specs.Shares.{share_of}
+use Rattle.sr_world_model.specs.Layers.{end_of}
+use Rattle.sr_publish.specs.SubscribedTables.{subscribed_table_of}
 use Rattle.sr_resolve.specs.Judging.{judged_insert, judged_set, judged_update, judged_clear, judged_exec}
 use Rattle.sr_resolve.specs.Named.{names_key}
 use Rattle.sr_resolve.specs.Taking.{done_judged}
 use Rattle.sr_rows.specs.Marks.{RowMap, place_cmp, rows_of_table}
-use Rattle.sr_scan.specs.Images.{told}
-use Rattle.sr_schema.specs.Causes.{first_fault}
-use Rattle.sr_schema.specs.Members.{table_name}
-use Rattle.sr_schema.specs.declared.subscription.Subscription.{Subscription}
+use Rattle.sr_scan.specs.Inner.Images.{told}
+use Rattle.sr_catalog_schema.specs.Causes.{first_fault}
+use Rattle.sr_catalog_schema.specs.Members.{table_name}
+use Rattle.sr_catalog_schema.specs.declared.subscription.Subscription.{Subscription}
 use Rattle.sr_world.specs.Real.{layers, LawfulHistory}
-use Rattle.sr_world.specs.Sample.{r2, name_p, create_slim, create_p, grant, subscription}
-use Rattle.sr_world.specs.Sample.{first_row, updated, insert, insert_slim, slim_row, run_u, set, sent_to}
-use Rattle.sr_world.proofs.Lines.{Line, IsLine, AreLines, entries, lawful_front, end_told, end_front, state_end}
-use Rattle.sr_world.proofs.Lines.{each_told, all_told, given_front, ddl_line, note_line}
+use Rattle.sr_world.specs.Inner.Sample.{r2, name_p, create_slim, create_p, grant, subscription}
+use Rattle.sr_world.specs.Inner.Sample.{first_row, updated, insert, insert_slim, slim_row, run_u, set, sent_to}
+use Rattle.sr_world.proofs.Lines.{Line, IsLine, AreLines, entries, lawful_prefix, end_told, end_prefix, state_end}
+use Rattle.sr_world.proofs.Lines.{each_told, all_told, given_prefix, ddl_line, note_line}
 use Rattle.sr_world.proofs.Named.{written_t, written_slim, written_p, written_above}
 use Rattle.sr_world.proofs.Named.{written_for_cons, started_for_cons}
 use Rattle.sr_world.proofs.Grounds.{set_ok, insert_ok, clear_ok, run_ok, slim_op_ok, new_outcome, no_outcome, slim_outcome, update_outcome}
@@ -193,17 +193,17 @@ r1_are : AreLines a0 r1_lines
 r1_are = (is_up1, (is_up2, (is_up3, (is_up4, (is_up5, (is_up6, (is_up7, (is_up8, (is_up9, (is_up10, (is_up11, (is_up12, tt))))))))))))
 
 r1_tell : each_told a0 cons r1_lines ≡ map (λ (l : Line). l.to_one) r1_lines
-unfolding told share_of
+unfolding told subscribed_table_of
 r1_tell = refl
 
 pub r1_lawful : (n : ℕ) → LawfulHistory r1 (entries (take n r1_lines))
-r1_lawful n = lawful_front a0 0 n r1_lines r1_are (omega arith)
+r1_lawful n = lawful_prefix a0 0 n r1_lines r1_are (omega arith)
 
 pub r1_ends : (n : ℕ) → end_of layers (entries (take n r1_lines)) ≡ end_told 0 (take n r1_lines)
-r1_ends n = end_front a0 0 n r1_lines r1_are
+r1_ends n = end_prefix a0 0 n r1_lines r1_are
 
 pub r1_gives : (n : ℕ) → layers.given r1 cons (entries (take n r1_lines)) ≡ all_told (λ l. l.to_one) 0 (take n r1_lines)
-r1_gives n = given_front a0 0 cons (λ l. l.to_one) n r1_lines (fresh_holds r1) r1_are (omega arith) r1_tell
+r1_gives n = given_prefix a0 0 cons (λ l. l.to_one) n r1_lines (fresh_holds r1) r1_are (omega arith) r1_tell
 
 pub r1_row : rows_of_table (state_of r1 (entries r1_lines)).rows table_t (Int (pos 1) ∷ []) ≡ Some (first_row 6)
 r1_row = ap (λ (s : State). get s.rows here) (state_end a0 r1_lines r1_are) ∙ held_next a_rows7 6
@@ -317,7 +317,7 @@ pub r2_tables : map table_name (state_of r2 (entries r2_lines)).catalog.tables �
 r2_tables = ap (λ (s : State). map table_name s.catalog.tables) (state_end b0 r2_lines r2_are)
 
 pub r2_lawful : (n : ℕ) → LawfulHistory r2 (entries (take n r2_lines))
-r2_lawful n = lawful_front b0 0 n r2_lines r2_are (omega arith)
+r2_lawful n = lawful_prefix b0 0 n r2_lines r2_are (omega arith)
 
 pub r2_ends : (n : ℕ) → end_of layers (entries (take n r2_lines)) ≡ end_told 0 (take n r2_lines)
-r2_ends n = end_front b0 0 n r2_lines r2_are
+r2_ends n = end_prefix b0 0 n r2_lines r2_are

@@ -4,10 +4,10 @@ use Rattle.std.specs.List.{AllByRecursion}
 use Rattle.std.proofs.lemmas.List.Elements.{All-nil, All-cons, All-head, All-tail}
 use Rattle.sr_logform.specs.declared.op.Op.{Op}
 use Rattle.sr_logform.specs.Ops.{IsTransaction}
-use Rattle.sr_cut.proofs.Parting.{body_once}
-use Rattle.sr_cut.specs.Bodies.{body_spelling}
-use Rattle.sr_model.specs.Layers.{transaction}
-use Rattle.sr_scan.specs.Laws.{HaveSpellings}
+use Rattle.sr_mail_cut.proofs.Parting.{body_once}
+use Rattle.sr_mail_cut.specs.Bodies.{body_spelling}
+use Rattle.sr_world_model.specs.Layers.{transaction}
+use Rattle.sr_scan.specs.Inner.Laws.{HaveSpellings}
 use Rattle.sr_world.specs.Real.{some_ops, transaction_at, HasSpelling}
 
 -- the transaction of an entry has a spelling, if there is one

@@ -11,12 +11,12 @@ use Rattle.sr_base.specs.declared.value.Kind.TheVariants as kind
 use Rattle.sr_base.specs.declared.value.Value.{Value as Cell}
 use Rattle.sr_base.specs.declared.value.Value.TheVariants.{Int}
 use Rattle.sr_book.specs.Entries.{Name}
-use Rattle.sr_firing.specs.Actions.{insertion}
-use Rattle.sr_history.specs.Fitting.{Knows, FitsState}
-use Rattle.sr_history.specs.Folds.{State, next, size}
-use Rattle.sr_history.specs.Recorded.{Done, plain}
-use Rattle.sr_history.specs.Recorded.{Recorded, own, taken}
-use Rattle.sr_history.specs.Sample.{cons, r1, table_t, table_u, column_id, column_n, inserted}
+use Rattle.sr_resolve_triggers.specs.Actions.{insertion}
+use Rattle.sr_database_history.specs.Fitting.{Knows, FitsState}
+use Rattle.sr_database_history.specs.Folds.{State, next, size}
+use Rattle.sr_database_history.specs.Recorded.{Done, plain}
+use Rattle.sr_database_history.specs.Recorded.{Recorded, own, taken}
+use Rattle.sr_database_history.specs.Inner.Sample.{cons, r1, table_t, table_u, column_id, column_n, inserted}
 use Rattle.sr_logform.specs.Entries.{entry_spelling, IsEntry}
 use Rattle.sr_logform.specs.Ops.{OpHas, IsOp}
 use Rattle.sr_logform.specs.Outcomes.{note_spelling, OutcomeHas, IsOutcome, IsNote}
@@ -28,23 +28,24 @@ use Rattle.sr_logform.specs.declared.outcome.Outcome.TheVariants.{Plain, Conflic
 use Rattle.sr_resolve.specs.Judging.{clash_if, clash_unless, judged_update, removal}
 use Rattle.sr_resolve.specs.Named.{with_news}
 use Rattle.sr_resolve.specs.Taking.{done_by, done_judged}
-use Rattle.sr_rows.specs.Marks.{Place, RowMap, place_cmp, place_cmp_total}
+use Rattle.sr_rows.specs.Marks.{Place, RowMap, place_cmp}
+use Rattle.sr_rows.specs.Inner.Marks.{place_cmp_total}
 use Rattle.sr_rows.specs.Walks.{Entry, of_table}
-use Rattle.sr_schema.specs.declared.publication.Publication.{Publication}
-use Rattle.sr_schema.specs.declared.subscription.Subscription.{Subscription}
-use Rattle.sr_schema.specs.declared.table.Table.{Table}
-use Rattle.sr_schema.specs.declared.user.User.{User}
-use Rattle.sr_world.specs.Sample.{r2, name_p, name_q}
-use Rattle.sr_world.specs.Sample.{first_row, updated, insert, insert_slim, slim_row, run_u, set, sent_to}
+use Rattle.sr_catalog_schema.specs.declared.publication.Publication.{Publication}
+use Rattle.sr_catalog_schema.specs.declared.subscription.Subscription.{Subscription}
+use Rattle.sr_catalog_schema.specs.declared.table.Table.{Table}
+use Rattle.sr_catalog_schema.specs.declared.user.User.{User}
+use Rattle.sr_world.specs.Inner.Sample.{r2, name_p, name_q}
+use Rattle.sr_world.specs.Inner.Sample.{first_row, updated, insert, insert_slim, slim_row, run_u, set, sent_to}
 use Rattle.sr_world.proofs.Lines.{Line, IsLine}
 use Rattle.sr_world.proofs.Lines.{note_line}
-use Rattle.sr_dml.specs.FittingChanges.{FitsAt, IsFitChange}
-use Rattle.sr_dml.specs.Statements.{table_named}
-use Rattle.sr_history.specs.Recorded.{IsNoExec}
+use Rattle.sr_exec_dml.specs.FittingChanges.{FitsAt, IsFitChange}
+use Rattle.sr_exec_dml.specs.Statements.{table_named}
+use Rattle.sr_database_history.specs.Recorded.{IsNoExec}
 use Rattle.sr_logform.specs.Outcomes.{IsChange}
 use Rattle.sr_resolve.specs.Judging.{IsStatementOf}
 use Rattle.sr_resolve.specs.Taking.{is_above}
-use Rattle.sr_schema.specs.Catalogs.{Lists}
+use Rattle.sr_catalog_schema.specs.Catalogs.{Lists}
 use Rattle.sr_world.proofs.Named.{text_u, int_ok, row_ok, slim_ok, new_ok, update_ok}
 
 -- ---- ops and outcomes

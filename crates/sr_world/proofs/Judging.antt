@@ -2,8 +2,8 @@
 use Rattle.std.proofs.Common.{◌≡◌, ℕ, Bool, List, [], ◌∷◌, map, refl, sym, ap, subst, ◌∙◌}
 use Rattle.sr_base.specs.declared.offset.Offset.{Offset}
 use Rattle.sr_book.specs.Entries.{Name, local, from_user, noted}
-use Rattle.sr_history.specs.Folds.{State, after_done, sees}
-use Rattle.sr_history.specs.Recorded.{Done, Recorded, own, taken, ddl, sync, pass, note}
+use Rattle.sr_database_history.specs.Folds.{State, after_done, sees}
+use Rattle.sr_database_history.specs.Recorded.{Done, Recorded, own, taken, ddl, sync, pass, note}
 use Rattle.sr_logform.specs.declared.op.Op.{Op}
 use Rattle.sr_resolve.specs.Judging.{IsStatementOf}
 use Rattle.sr_resolve.specs.Taking.{op_of, done_judged, IsDoneJudged, AreJudged, is_above}

@@ -3,25 +3,27 @@ use Rattle.std.proofs.Common.{◌≡◌, ◌↔◌, ℕ, ◌+◌, List, [], ◌�
 use Rattle.std.proofs.lemmas.List.Elements.{All-nil, All-append}
 use Rattle.sr_book.specs.declared.note.Note.{Note}
 use Rattle.sr_book.specs.Entries.{Name, local, from_user, noted}
-use Rattle.sr_history.specs.Fitting.{Knows, FitsState, stored_from}
-use Rattle.sr_history.specs.Folds.{State, fresh, next, size, sees, state_from, end_from}
-use Rattle.sr_history.specs.Folds as folds
-use Rattle.sr_history.specs.Laws.{Holds}
-use Rattle.sr_history.specs.Recorded.{Recorded, own, taken, ddl, sync, pass, note}
-use Rattle.sr_history.proofs.Granted.{stays_known}
-use Rattle.sr_history.proofs.Kept.{fresh_holds, stays_held}
+use Rattle.sr_database_history.specs.Fitting.{Knows, FitsState, stored_from}
+use Rattle.sr_database_history.specs.Folds.{State, fresh, next, size, sees, state_from, end_from}
+use Rattle.sr_database_history.specs.Folds as folds
+use Rattle.sr_database_history.specs.Inner.Laws.{Holds}
+use Rattle.sr_database_history.specs.Recorded.{Recorded, own, taken, ddl, sync, pass, note}
+use Rattle.sr_database_history.proofs.Granted.{stays_known}
+use Rattle.sr_database_history.proofs.Kept.{fresh_holds, stays_held}
 use Rattle.sr_logform.specs.declared.op.Op.{Op}
-use Rattle.sr_model.specs.Layers.{Laws, transaction}
-use Rattle.sr_model.specs.Layers as layered
-use Rattle.sr_model.specs.Machines.{GrantLaws, lawful_from, given_from}
-use Rattle.sr_model.specs.Machines as machines
-use Rattle.sr_model.proofs.Machinery.{given_from-more, lawful_from-more}
-use Rattle.sr_replay.proofs.Made.{new_made}
+use Rattle.sr_world_model.specs.Layers.{transaction}
+use Rattle.sr_world_model.specs.Inner.Layers.{Laws}
+use Rattle.sr_world_model.specs.Layers as layered
+use Rattle.sr_world_model.specs.Machines.{lawful_from, given_from}
+use Rattle.sr_world_model.specs.Inner.Machines.{GrantLaws}
+use Rattle.sr_world_model.specs.Machines as machines
+use Rattle.sr_world_model.proofs.Machinery.{given_from-more, lawful_from-more}
+use Rattle.sr_catalog_script_laws.proofs.Made.{new_made}
 use Rattle.sr_scan.proofs.Agreeing.{told_same}
 use Rattle.sr_scan.proofs.Spelling.{spelled_told}
 use Rattle.sr_scan.proofs.Strict.{IsGood, entry_good}
 use Rattle.sr_scan.specs.Given.{gives, with_transaction, given_from as gave_from}
-use Rattle.sr_scan.specs.Laws.{HaveSpellings}
+use Rattle.sr_scan.specs.Inner.Laws.{HaveSpellings}
 use Rattle.sr_world.specs.Lawful.{IsLawful}
 use Rattle.sr_world.specs.Real.{some_ops, machine, layers, HasSpelling, LawfulHistory}
 use Rattle.sr_world.proofs.Bodies.{one_fits, encoded_once}

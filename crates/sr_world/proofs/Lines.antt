@@ -6,23 +6,23 @@ use Rattle.sr_ast.specs.declared.stmt.Stmt.{Stmt}
 use Rattle.sr_base.specs.Fields.{IsText, IsName}
 use Rattle.sr_book.specs.declared.note.Note.{Note}
 use Rattle.sr_book.specs.Entries.{Name}
-use Rattle.sr_change.specs.Changes.{refusal}
+use Rattle.sr_catalog_change.specs.Changes.{refusal}
 use Rattle.sr_ast.specs.NormalForms.{IsNormal}
-use Rattle.sr_history.specs.Fitting.{Knows, IsDone, FitsState, Fits}
-use Rattle.sr_history.specs.Folds.{State, next, size, state_from}
-use Rattle.sr_history.specs.Laws.{Holds}
-use Rattle.sr_history.specs.Recorded.{Recorded, ddl, note, entry_of, IsRecorded}
-use Rattle.sr_history.proofs.Kept.{stays_held}
+use Rattle.sr_database_history.specs.Fitting.{Knows, RowsAllow, FitsState, Fits}
+use Rattle.sr_database_history.specs.Folds.{State, next, size, state_from}
+use Rattle.sr_database_history.specs.Inner.Laws.{Holds}
+use Rattle.sr_database_history.specs.Recorded.{Recorded, ddl, note, entry_of, IsRecorded}
+use Rattle.sr_database_history.proofs.Kept.{stays_held}
 use Rattle.sr_logform.specs.Entries.{IsEntry}
 use Rattle.sr_logform.specs.Limits.{longest_body}
 use Rattle.sr_logform.specs.Outcomes.{IsNote}
 use Rattle.sr_logform.specs.declared.op.Op.{Op}
-use Rattle.sr_model.specs.Layers.{transaction}
-use Rattle.sr_model.specs.Layers as layered
-use Rattle.sr_model.specs.Machines.{lawful_from, given_from}
+use Rattle.sr_world_model.specs.Layers.{transaction}
+use Rattle.sr_world_model.specs.Layers as layered
+use Rattle.sr_world_model.specs.Machines.{lawful_from, given_from}
 use Rattle.sr_scan.specs.Given.{gives}
-use Rattle.sr_scan.specs.Images.{told}
-use Rattle.sr_scan.specs.Meanings.{meant_by}
+use Rattle.sr_scan.specs.Inner.Images.{told}
+use Rattle.sr_scan.specs.Inner.Meanings.{meant_by}
 use Rattle.sr_scan.proofs.Agreeing.{told_same}
 use Rattle.sr_world.specs.Lawful.{SaysSo, IsLawful}
 use Rattle.sr_world.specs.Real.{some_ops, machine, layers}
@@ -62,12 +62,12 @@ end_later : (place : ℕ) (ls : List Line) → place ≤ end_told place ls
 end_later place [] = omega arith
 end_later place (l ∷ ls) = let later = end_later (place + (l.long + 5)) ls in omega (arith, later)
 
-pub end_front : (s : State) (place n : ℕ) (ls : List Line) → AreLines s ls
+pub end_prefix : (s : State) (place n : ℕ) (ls : List Line) → AreLines s ls
     → layered.end_from layers place (entries (take n ls)) ≡ end_told place (take n ls)
-end_front s place zero ls are = refl
-end_front s place (suc n) [] are = refl
-end_front s place (suc n) (l ∷ ls) are =
-    ap (λ (k : ℕ). layered.end_from layers (place + (k + 5)) (entries (take n ls))) are.0.size_is ∙ end_front l.after (place + (l.long + 5)) n ls are.1
+end_prefix s place zero ls are = refl
+end_prefix s place (suc n) [] are = refl
+end_prefix s place (suc n) (l ∷ ls) are =
+    ap (λ (k : ℕ). layered.end_from layers (place + (k + 5)) (entries (take n ls))) are.0.size_is ∙ end_prefix l.after (place + (l.long + 5)) n ls are.1
 
 -- ---- what state they leave
 
@@ -90,14 +90,14 @@ kept s place l ls is small = record {
   state = is.fits;
 }
 
-pub lawful_front : (s : State) (place n : ℕ) (ls : List Line) → AreLines s ls → end_told place ls ≤ 2 ^ 62
+pub lawful_prefix : (s : State) (place n : ℕ) (ls : List Line) → AreLines s ls → end_told place ls ≤ 2 ^ 62
     → lawful_from machine IsLawful s place (entries (take n ls))
-lawful_front s place zero ls are small = tt
-lawful_front s place (suc n) [] are small = tt
-lawful_front s place (suc n) (l ∷ ls) are small =
+lawful_prefix s place zero ls are small = tt
+lawful_prefix s place (suc n) [] are small = tt
+lawful_prefix s place (suc n) (l ∷ ls) are small =
     let behind = place + (l.long + 5) in
     let one : IsLawful s place l.entry = record { stored = kept s place l ls are.0 small; says_so = are.0.says_so } in
-    let rest : lawful_from machine IsLawful l.after behind (entries (take n ls)) = lawful_front l.after behind n ls are.1 small in (
+    let rest : lawful_from machine IsLawful l.after behind (entries (take n ls)) = lawful_prefix l.after behind n ls are.1 small in (
       one,
       subst (λ (k : ℕ). lawful_from machine IsLawful (next s l.entry) (place + (k + 5)) (entries (take n ls))) (sym are.0.size_is)
           (subst (λ (x : State). lawful_from machine IsLawful x behind (entries (take n ls))) (sym are.0.leaves) rest),
@@ -114,12 +114,12 @@ abbrev pub all_told : (Line → List Op) → ℕ → List Line → List (ℕ × 
 all_told ops place [] = []
 all_told ops place (l ∷ ls) = transaction (place + (l.long + 5)) (some_ops (ops l)) ++ all_told ops (place + (l.long + 5)) ls
 
-pub given_front : (s : State) (place : ℕ) (user : Name) (ops : Line → List Op) (n : ℕ) (ls : List Line) → Holds s → AreLines s ls
+pub given_prefix : (s : State) (place : ℕ) (user : Name) (ops : Line → List Op) (n : ℕ) (ls : List Line) → Holds s → AreLines s ls
     → end_told place ls ≤ 2 ^ 62 → each_told s user ls ≡ map ops ls
     → given_from machine s place user (entries (take n ls)) ≡ all_told ops place (take n ls)
-given_front s place user ops zero ls h are small tell = refl
-given_front s place user ops (suc n) [] h are small tell = refl
-given_front s place user ops (suc n) (l ∷ ls) h are small tell =
+given_prefix s place user ops zero ls h are small tell = refl
+given_prefix s place user ops (suc n) [] h are small tell = refl
+given_prefix s place user ops (suc n) (l ∷ ls) h are small tell =
     let behind = place + (l.long + 5) in
     let gives_now = λ (k : ℕ) (x : List Op) (after : State). transaction (place + (k + 5)) (some_ops x)
     ++ given_from machine after (place + (k + 5)) user (entries (take n ls)) in
@@ -129,7 +129,7 @@ given_front s place user ops (suc n) (l ∷ ls) h are small tell =
     let others : each_told l.after user ls ≡ map ops ls = cc in
     let gave : gives s l.entry user ≡ ops l = sym (told_same s place l.entry user h fits) ∙ tells in
     let holds : Holds l.after = subst Holds are.0.leaves (stays_held s place l.entry h fits) in
-    let rest = given_front l.after behind user ops n ls holds are.1 small others in
+    let rest = given_prefix l.after behind user ops n ls holds are.1 small others in
     ap (λ (k : ℕ). gives_now k (gives s l.entry user) (next s l.entry)) are.0.size_is
     ∙ ap (λ (x : List Op). gives_now l.long x (next s l.entry)) gave
     ∙ ap (λ (x : State). gives_now l.long (ops l) x) are.0.leaves
@@ -147,7 +147,7 @@ pub record IsWritten (statement : Stmt) (k : ℕ) : Type 0 where
 
 -- such a statement, where it is accepted
 pub ddl_line : (s after : State) (statement : Stmt) (k : ℕ) → IsWritten statement k → next s (ddl statement) ≡ after → refusal s.catalog statement ≡ None
-    → IsDone s statement → IsLine s (record { entry = ddl statement; long = k; after = after; to_one = []; to_other = [] })
+    → RowsAllow s statement → IsLine s (record { entry = ddl statement; long = k; after = after; to_one = []; to_other = [] })
 unfolding IsEntry FitsState
 ddl_line s after statement k written left accepted done = record {
   size_is = written.long;

@@ -24,12 +24,12 @@ use Rattle.sr_ast.specs.Normal.{IsPlain}
 use Rattle.sr_ast.specs.NormalForms.{IsNormal}
 use Rattle.sr_ast.specs.Keywords.{IsKeyword, named}
 use Rattle.sr_book.specs.Entries.{Name}
-use Rattle.sr_history.specs.Folds.{size}
-use Rattle.sr_history.specs.Recorded.{ddl}
-use Rattle.sr_history.specs.Sample.{cons, r1, table_t, table_u, column_id, column_n, create_t, create_u, inserted}
+use Rattle.sr_database_history.specs.Folds.{size}
+use Rattle.sr_database_history.specs.Recorded.{ddl}
+use Rattle.sr_database_history.specs.Inner.Sample.{cons, r1, table_t, table_u, column_id, column_n, create_t, create_u, inserted}
 use Rattle.sr_logform.specs.Entries.{entry_spelling}
 use Rattle.sr_logform.specs.Outcomes.{IsChange}
-use Rattle.sr_world.specs.Sample.{r2, name_p, name_q, create_slim, create_p, create_q, grant, subscription, first_row, slim_row, updated}
+use Rattle.sr_world.specs.Inner.Sample.{r2, name_p, name_q, create_slim, create_p, create_q, grant, subscription, first_row, slim_row, updated}
 use Rattle.sr_world.proofs.Lines.{IsWritten}
 
 -- ---- names that are no key words

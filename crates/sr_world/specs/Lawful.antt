@@ -5,10 +5,10 @@ use Rattle.sr_base.specs.declared.value.Value.{Value as Cell}
 use Rattle.sr_ast.specs.declared.stmt.Stmt.{Stmt}
 use Rattle.sr_ast.specs.declared.stmt.Stmt.TheVariants as stmt
 use Rattle.sr_book.specs.Entries.{Name}
-use Rattle.sr_dml.specs.Statements.{done}
-use Rattle.sr_history.specs.Fitting.{Fits}
-use Rattle.sr_history.specs.Folds.{State}
-use Rattle.sr_history.specs.Recorded.{Recorded, own, taken, ddl, sync, pass, note}
+use Rattle.sr_exec_dml.specs.Statements.{done}
+use Rattle.sr_database_history.specs.Fitting.{Fits}
+use Rattle.sr_database_history.specs.Folds.{State}
+use Rattle.sr_database_history.specs.Recorded.{Recorded, own, taken, ddl, sync, pass, note}
 use Rattle.sr_logform.specs.declared.change.Change.{Change}
 use Rattle.sr_publish.specs.Views.{seen}
 use Rattle.sr_resolve.specs.Taking.{AreJudged, is_above}

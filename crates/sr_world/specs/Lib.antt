@@ -1,3 +1,3 @@
 pub mod Lawful
 pub mod Real
-pub mod Sample
+pub mod Inner

@@ -1,18 +1,18 @@
 -- The layers as they are: what the world is made of.
 use Rattle.std.specs.Prelude.{ℕ, List, [], ◌∷◌, map, Option, Some, None}
 use Rattle.sr_book.specs.Entries.{Name}
-use Rattle.sr_cut.specs.Bodies.{body_spelling}
-use Rattle.sr_history.specs.Folds.{State, fresh as new_state, next as next_state, size as size_of, sees as sight_of}
-use Rattle.sr_history.specs.Recorded.{Recorded}
+use Rattle.sr_mail_cut.specs.Bodies.{body_spelling}
+use Rattle.sr_database_history.specs.Folds.{State, fresh as new_state, next as next_state, size as size_of, sees as sight_of}
+use Rattle.sr_database_history.specs.Recorded.{Recorded}
 use Rattle.sr_logform.specs.declared.op.Op.{Op}
 use Rattle.sr_logform.specs.declared.op.Transaction.{Transaction}
 use Rattle.sr_logform.specs.Ops.{IsTransaction}
 use Rattle.sr_msgform.specs.declared.message.Message.{Message}
-use Rattle.sr_model.specs.Layers.{Layers}
-use Rattle.sr_model.specs.Machines.{Machine, layers_of, lawful_by}
-use Rattle.sr_model.specs.Runs.{Run, AreRuns}
-use Rattle.sr_model.specs.Steps.{Deed, CanDoAll}
-use Rattle.sr_model.specs.Worlds.{World, Act, IsAllowed, AreAllowed, IsGood}
+use Rattle.sr_world_model.specs.Layers.{Layers}
+use Rattle.sr_world_model.specs.Machines.{Machine, layers_of, lawful_by}
+use Rattle.sr_world_model.specs.Steps.{DatabaseStep, CanDoAll}
+use Rattle.sr_world_model.specs.Worlds.{World, IsGood}
+use Rattle.sr_world_model.specs.Runs.{WorldRun, AreWorldRuns}
 use Rattle.sr_scan.specs.Given.{gives as ops_given}
 use Rattle.sr_world.specs.Lawful.{IsLawful}
 
@@ -52,18 +52,10 @@ LawfulHistory d rs = lawful_by machine IsLawful d rs
 abbrev pub IsGoodWorld : World Recorded → Type 0
 IsGoodWorld w = IsGood layers LawfulHistory w
 
--- a step that a database may make in a world
-abbrev pub IsStep : World Recorded → Act Recorded → Type 0
-IsStep w act = IsAllowed layers HasSpelling LawfulHistory w act
-
--- steps, each in the world that those before it leave
-abbrev pub AreSteps : World Recorded → List (Act Recorded) → Type 0
-AreSteps w acts = AreAllowed layers HasSpelling LawfulHistory w acts
-
--- deeds that a history and some messages allow a database
-abbrev pub MayDo : List Message → Name → List Recorded → List (Deed Recorded) → Type 0
-MayDo messages d rs deeds = CanDoAll layers HasSpelling LawfulHistory messages d rs deeds
+-- steps that a history and some messages allow a database
+abbrev pub MayDo : List Message → Name → List Recorded → List (DatabaseStep Recorded) → Type 0
+MayDo messages d rs database_steps = CanDoAll layers HasSpelling LawfulHistory messages d rs database_steps
 
 -- runs, each where its last fetch was
-abbrev pub AreRunsIn : World Recorded → List (Run Recorded) → Type 0
-AreRunsIn w runs = AreRuns layers HasSpelling LawfulHistory w runs
+abbrev pub AreRunsIn : World Recorded → List (WorldRun Recorded) → Type 0
+AreRunsIn w runs = AreWorldRuns layers HasSpelling LawfulHistory w runs

@@ -2,17 +2,19 @@
 
 ghost use Rattle.std.specs.Prelude.{◌≡◌, ◌↔◌, ℕ, List, [], ◌∷◌, ◌++◌};
 ghost use Rattle.sr_book.specs.Entries.{Name};
-ghost use Rattle.sr_history.specs.Fitting.{Knows, Stored};
-ghost use Rattle.sr_history.specs.Recorded.{Recorded};
+ghost use Rattle.sr_database_history.specs.Fitting.{Knows, Stored};
+ghost use Rattle.sr_database_history.specs.Recorded.{Recorded};
 ghost use Rattle.sr_logform.specs.declared.op.Op.{Op as AnOp};
-ghost use Rattle.sr_model.specs.Layers.{Laws, end_of};
-ghost use Rattle.sr_model.specs.Machines.{GrantLaws, state_of};
+ghost use Rattle.sr_world_model.specs.Layers.{end_of};
+ghost use Rattle.sr_world_model.specs.Inner.Layers.{Laws};
+ghost use Rattle.sr_world_model.specs.Machines.{state_of};
+ghost use Rattle.sr_world_model.specs.Inner.Machines.{GrantLaws};
 ghost use Rattle.sr_scan.specs.Given.{given_of};
-ghost use Rattle.sr_history.specs.Folds as folds;
+ghost use Rattle.sr_database_history.specs.Folds as folds;
 ghost use Rattle.sr_world.specs.Lawful.{IsLawful};
 ghost use Rattle.sr_world.specs.Real.{machine, layers, HasSpelling, LawfulHistory};
 
-use sr_model::Rules;
+use sr_world_model::Rules;
 
 /// Stands for the entries of real databases and their rules.
 pub struct Real;

@@ -1,7 +1,7 @@
 //! The world of real databases: what each does keeps every world good, whatever the others do and whichever messages are lost, repeated,
 //! late or out of order.
 //!
-//! It joins sr_model, which knows entries and messages alone, with what entries, outcomes, views and bodies are. It has no run time: each
+//! It joins sr_world_model, which knows entries and messages alone, with what entries, outcomes, views and bodies are. It has no run time: each
 //! function carries laws as its clauses. Those that matter most are `every_step_keeps_a_world_good` and `the_layers_keep_the_laws`; that they
 //! are not empty is `a_real_world_goes`.
 #![tactic(auto)]

@@ -3,20 +3,22 @@
 ghost use Rattle.std.specs.Prelude.{◌≡◌, [], ◌∷◌, length, map, pos, Some};
 ghost use Rattle.sr_base.specs.declared.value.Value.TheVariants.{Int as IntCell};
 ghost use Rattle.sr_book.specs.Histories.{taken as taken_from, book_of};
-ghost use Rattle.sr_history.specs.Folds.{state_of};
-ghost use Rattle.sr_history.specs.Sample.{cons, r1, table_t, table_u};
-ghost use Rattle.sr_model.specs.Layers.{end_of};
-ghost use Rattle.sr_model.specs.Worlds.{history};
+ghost use Rattle.sr_database_history.specs.Folds.{state_of};
+ghost use Rattle.sr_database_history.specs.Inner.Sample.{cons, r1, table_t, table_u};
+ghost use Rattle.sr_world_model.specs.Layers.{end_of};
+ghost use Rattle.sr_world_model.specs.Worlds.{history};
 ghost use Rattle.sr_msgform.specs.declared.message.Message.{Message};
 ghost use Rattle.sr_rows.specs.Marks.{rows_of_table};
-ghost use Rattle.sr_schema.specs.Members.{table_name};
-ghost use Rattle.sr_world.specs.Real.{layers, IsGoodWorld, AreSteps, AreRunsIn};
-ghost use Rattle.sr_world.specs.Sample.{real_world, real_runs, real_acts, reached, r2, first_row};
-ghost use Rattle.sr_world.specs.Sample.{gave_insert, gave_slim, gave_statement, gave_update, gave_other, gave_back};
-ghost use Rattle.sr_world.specs.Sample.{lost, for_r2, second, resent, answer, returned};
+ghost use Rattle.sr_catalog_schema.specs.Members.{table_name};
+ghost use Rattle.sr_world.specs.Real.{layers, IsGoodWorld};
+ghost use Rattle.sr_world.specs.Real.{AreRunsIn};
+ghost use Rattle.sr_world.specs.Inner.Real.{AreSteps};
+ghost use Rattle.sr_world.specs.Inner.Sample.{real_world, real_runs, real_acts, reached, r2, first_row};
+ghost use Rattle.sr_world.specs.Inner.Sample.{gave_insert, gave_slim, gave_statement, gave_update, gave_other, gave_back};
+ghost use Rattle.sr_world.specs.Inner.Sample.{lost, for_r2, second, resent, answer, returned};
 
 use crate::layers::Real;
-use sr_model::{always_good, runs_good};
+use sr_world_model::{always_good, runs_good};
 
 /// Three databases, eight runs, 44 steps. cons has a table and publishes it whole to r1, and its key alone to r2; it commits a row, and then
 /// synchronizes r2 and passes a statement on to it. r1 never finds the window with the row but only the next one: it asks, cons notes the

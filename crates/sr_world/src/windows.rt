@@ -4,22 +4,24 @@ ghost use Rattle.std.specs.Prelude.{◌≡◌, ◌<◌, ◌≤◌, ℕ, List, �
 ghost use Rattle.sr_book.specs.Entries.{Name, from_user};
 ghost use Rattle.sr_book.specs.Histories.{taken as taken_from, taken_end};
 ghost use Rattle.sr_book.specs.Rising.{Rises, top, offsets};
-ghost use Rattle.sr_history.specs.Recorded.{Recorded};
+ghost use Rattle.sr_database_history.specs.Recorded.{Recorded};
 ghost use Rattle.sr_logform.specs.declared.op.Op.{Op as AnOp};
-ghost use Rattle.sr_model.specs.Steps.{append, IsWhole, Chain, Covers, Take, AreLawfulAfter};
-ghost use Rattle.sr_model.specs.Windows.{past, window};
-ghost use Rattle.sr_model.specs.Worlds.{World, history};
+ghost use Rattle.sr_world_model.specs.Steps.{append, HasAllFragments, Chain, Covers};
+ghost use Rattle.sr_world_model.specs.Inner.Steps.{Take, AreLawfulAfter};
+ghost use Rattle.sr_world_model.specs.Windows.{past, window};
+ghost use Rattle.sr_world_model.specs.Worlds.{World, history};
 ghost use Rattle.sr_msgform.specs.declared.message.Message.{Message};
-ghost use Rattle.sr_world.specs.Real.{layers, HasSpelling, LawfulHistory, IsGoodWorld, IsStep, MayDo};
+ghost use Rattle.sr_world.specs.Real.{layers, HasSpelling, LawfulHistory, IsGoodWorld, MayDo};
+ghost use Rattle.sr_world.specs.Inner.Real.{IsStep};
 
 use crate::layers::Real;
-use sr_model::{chain_covers, one_take, window_taken};
+use sr_world_model::{chain_covers, one_take, window_taken};
 
 /// A whole window that begins at what was taken, or before it, is taken to its end, transaction by transaction, where each history on
 /// the way keeps every rule. And in a good world the windows of a chain have, without gap or overlap, what the sender gives the receiver there.
 pub fn windows_are_taken()
     ensures allowed { (messages : List Message) (d user : Name) (prev upto : ℕ) (txs : List (ℕ × List AnOp)) (rs new : List Recorded)
-        → IsWhole messages user d prev upto (layers.encode txs) → All HasSpelling txs → Rises prev (offsets txs) → top prev (offsets txs) ≤ upto
+        → HasAllFragments messages user d prev upto (layers.encode txs) → All HasSpelling txs → Rises prev (offsets txs) → top prev (offsets txs) ≤ upto
         → prev ≤ taken_end layers.sees user rs → Take layers user (past (taken_end layers.sees user rs) txs) new
         → AreLawfulAfter LawfulHistory d rs new → MayDo messages d rs (map append new) }
     ensures taken { (user : Name) (txs : List (ℕ × List AnOp)) (rs new : List Recorded) → Take layers user txs new
@@ -35,7 +37,7 @@ pub fn windows_are_taken()
 pub fn one_take_of_a_window()
     ensures { (w : World Recorded) (d user : Name) (e f : Recorded) (place place' : ℕ) (ops ops' : List AnOp) → IsGoodWorld w
         → layers.sees e ≡ from_user user place ops → layers.sees f ≡ from_user user place' ops'
-        → IsStep w (record { owner = d; deed = append e }) → IsStep w (record { owner = d; deed = append f }) → e ≡ f }
+        → IsStep w (record { owner = d; database_step = append e }) → IsStep w (record { owner = d; database_step = append f }) → e ≡ f }
 {
     one_take::<Real>();
 }

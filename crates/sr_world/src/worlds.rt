@@ -2,15 +2,19 @@
 
 ghost use Rattle.std.specs.Prelude.{◌≡◌, ◌≢◌, List, [], ◌∷◌, ◌++◌};
 ghost use Rattle.sr_book.specs.Entries.{Name};
-ghost use Rattle.sr_history.specs.Recorded.{Recorded};
-ghost use Rattle.sr_model.specs.Runs.{Run, after_runs, acts_of_runs};
-ghost use Rattle.sr_model.specs.Steps.{Deed};
-ghost use Rattle.sr_model.specs.Worlds.{World, Act, fresh_world, history, happens, after_all, acts_by, AreAmong, IsNamed};
+ghost use Rattle.sr_database_history.specs.Recorded.{Recorded};
+ghost use Rattle.sr_world_model.specs.Runs.{WorldRun, after_world_runs};
+ghost use Rattle.sr_world_model.specs.Inner.Runs.{acts_of_runs};
+ghost use Rattle.sr_world_model.specs.Steps.{DatabaseStep};
+ghost use Rattle.sr_world_model.specs.Worlds.{World, WorldStep, history, happens, after_all, acts_by, IsNamed};
+ghost use Rattle.sr_world_model.specs.Worlds.{fresh_world, AreAmong};
 ghost use Rattle.sr_msgform.specs.declared.message.Message.{Message};
-ghost use Rattle.sr_world.specs.Real.{layers, IsGoodWorld, IsStep, AreSteps, MayDo, AreRunsIn};
+ghost use Rattle.sr_world.specs.Real.{layers, IsGoodWorld, MayDo};
+ghost use Rattle.sr_world.specs.Real.{AreRunsIn};
+ghost use Rattle.sr_world.specs.Inner.Real.{IsStep, AreSteps};
 
 use crate::layers::Real;
-use sr_model::{
+use sr_world_model::{
     always_good, fresh_is_good, run_good, run_still_allowed, runs_good, stays_good, still_allowed,
 };
 
@@ -19,9 +23,9 @@ use sr_model::{
 /// order and each once; no offset is confirmed past what was taken; and every message is true of its sender's history.
 pub fn every_step_keeps_a_world_good()
     ensures fresh { (names : List Name) → IsGoodWorld (fresh_world names) }
-    ensures step { (w : World Recorded) (act : Act Recorded) → IsGoodWorld w → IsStep w act → IsGoodWorld (happens w act) }
-    ensures steps { (w : World Recorded) (acts : List (Act Recorded)) → IsGoodWorld w → AreSteps w acts → IsGoodWorld (after_all w acts) }
-    ensures always { (names : List Name) (acts : List (Act Recorded)) → AreSteps (fresh_world names) acts → IsGoodWorld (after_all (fresh_world names) acts) }
+    ensures step { (w : World Recorded) (act : WorldStep Recorded) → IsGoodWorld w → IsStep w act → IsGoodWorld (happens w act) }
+    ensures steps { (w : World Recorded) (acts : List (WorldStep Recorded)) → IsGoodWorld w → AreSteps w acts → IsGoodWorld (after_all w acts) }
+    ensures always { (names : List Name) (acts : List (WorldStep Recorded)) → AreSteps (fresh_world names) acts → IsGoodWorld (after_all (fresh_world names) acts) }
 {
     fresh_is_good::<Real>();
     stays_good::<Real>();
@@ -30,27 +34,27 @@ pub fn every_step_keeps_a_world_good()
 
 /// A step stays allowed when another database steps first, and so does all that a run does by what it knew when it fetched last.
 pub fn what_is_allowed_stays_so()
-    ensures step { (w : World Recorded) (other act : Act Recorded) → act.owner ≢ other.owner → IsStep w act → IsStep (happens w other) act }
-    ensures run { (fewer messages : List Message) (d : Name) (rs : List Recorded) (deeds : List (Deed Recorded)) → AreAmong fewer messages
-        → MayDo fewer d rs deeds → MayDo messages d rs deeds }
+    ensures step { (w : World Recorded) (other act : WorldStep Recorded) → act.owner ≢ other.owner → IsStep w act → IsStep (happens w other) act }
+    ensures run { (fewer messages : List Message) (d : Name) (rs : List Recorded) (database_steps : List (DatabaseStep Recorded)) → AreAmong fewer messages
+        → MayDo fewer d rs database_steps → MayDo messages d rs database_steps }
 {
     still_allowed::<Real>();
     run_still_allowed::<Real>();
 }
 
-/// What a database's own history and some messages allow it to do, one deed after the other, are allowed steps of each world that has this
+/// What a database's own history and some messages allow it to do, one step after the other, are allowed steps of each world that has this
 /// history and these messages among others; so runs, each by what it knew when it fetched last, leave a good world good, also where the
 /// last breaks off anywhere.
 pub fn runs_keep_a_world_good()
-    ensures allowed { (messages : List Message) (d : Name) (rs : List Recorded) (deeds : List (Deed Recorded)) (w : World Recorded) → IsNamed w d
-        → history w d ≡ rs → AreAmong messages w.messages → MayDo messages d rs deeds → AreSteps w (acts_by d deeds) }
-    ensures good { (messages : List Message) (d : Name) (rs : List Recorded) (deeds : List (Deed Recorded)) (w : World Recorded) → IsNamed w d
-        → history w d ≡ rs → AreAmong messages w.messages → MayDo messages d rs deeds → IsGoodWorld w → IsGoodWorld (after_all w (acts_by d deeds)) }
-    ensures runs { (w : World Recorded) (runs : List (Run Recorded)) → IsGoodWorld w → AreRunsIn w runs → IsGoodWorld (after_runs w runs) }
-    ensures broken_off { (w : World Recorded) (runs : List (Run Recorded)) (owner : Name) (known : List Message) (deeds more : List (Deed Recorded))
-        → IsGoodWorld w → AreRunsIn w (runs ++ record { owner = owner; known = known; deeds = deeds ++ more } ∷ [])
-        → IsGoodWorld (after_runs w (runs ++ record { owner = owner; known = known; deeds = deeds } ∷ [])) }
-    ensures steps { (w : World Recorded) (runs : List (Run Recorded)) → AreRunsIn w runs → AreSteps w (acts_of_runs runs) }
+    ensures allowed { (messages : List Message) (d : Name) (rs : List Recorded) (database_steps : List (DatabaseStep Recorded)) (w : World Recorded) → IsNamed w d
+        → history w d ≡ rs → AreAmong messages w.messages → MayDo messages d rs database_steps → AreSteps w (acts_by d database_steps) }
+    ensures good { (messages : List Message) (d : Name) (rs : List Recorded) (database_steps : List (DatabaseStep Recorded)) (w : World Recorded) → IsNamed w d
+        → history w d ≡ rs → AreAmong messages w.messages → MayDo messages d rs database_steps → IsGoodWorld w → IsGoodWorld (after_all w (acts_by d database_steps)) }
+    ensures runs { (w : World Recorded) (runs : List (WorldRun Recorded)) → IsGoodWorld w → AreRunsIn w runs → IsGoodWorld (after_world_runs w runs) }
+    ensures broken_off { (w : World Recorded) (runs : List (WorldRun Recorded)) (owner : Name) (known : List Message) (database_steps more : List (DatabaseStep Recorded))
+        → IsGoodWorld w → AreRunsIn w (runs ++ record { owner = owner; known = known; database_steps = database_steps ++ more } ∷ [])
+        → IsGoodWorld (after_world_runs w (runs ++ record { owner = owner; known = known; database_steps = database_steps } ∷ [])) }
+    ensures steps { (w : World Recorded) (runs : List (WorldRun Recorded)) → AreRunsIn w runs → AreSteps w (acts_of_runs runs) }
 {
     run_good::<Real>();
     runs_good::<Real>();

@@ -8,8 +8,8 @@ impl Disk for MemorySite {
     ghost use Rattle.sr_site.specs.Files.{bytes_of, with_bytes, overwritten, OthersStay};
     ghost use Rattle.sr_site.specs.Causes.{DiskStays, Rose};
     ghost use Rattle.sr_site.specs.Reads.{HasRead};
-    ghost use Rattle.sr_memsite.specs.Meaning.{seen_of, folders_of, numbering_of, wanted_of};
-    ghost use Rattle.sr_memsite.specs.Numbering.{fails, counted};
+    ghost use Rattle.sr_memsite.specs.Inner.Meaning.{seen_of, folders_of, numbering_of, wanted_of};
+    ghost use Rattle.sr_memsite.specs.Inner.Numbering.{fails, counted};
 
     fn length(&mut self, file: File) -> Result<u64, Failed>
         ensures length { IfOk result (λ n. n ≡ length (bytes_of (seen_of self.old).files file)) }

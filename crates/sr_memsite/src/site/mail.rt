@@ -2,11 +2,12 @@ ghost use Rattle.std.specs.Prelude.{◌≡◌, ◌≤◌, length, take, IsTrue, 
 ghost use Rattle.std.specs.Option.{option_map};
 ghost use Rattle.sr_site.specs.Listings.{IsListing, Lists};
 ghost use Rattle.sr_site.specs.declared.mail.MailFault.TheVariants.{Failed as failed_mail, Memory as no_memory};
-ghost use Rattle.sr_memmail.specs.Folders.{place, file_at, after_put, after_remove, names_in};
+ghost use Rattle.sr_memsite_mail.specs.Folders.{place};
+ghost use Rattle.sr_memsite_mail.specs.Inner.Folders.{file_at, after_put, after_remove, names_in};
 
 use super::MemorySite;
 use sr_base::{Name, Text};
-use sr_memmail::SharedMail;
+use sr_memsite_mail::SharedMail;
 use sr_site::{Listing, Mail, MailFault};
 use std::alloc::{AllocError, Global};
 
@@ -18,9 +19,10 @@ impl Mail for MemorySite {
     ghost use Rattle.sr_site.specs.Happenings.{listed, fetched, sent, removed};
     ghost use Rattle.sr_site.specs.Listings.{IsListing, Lists};
     ghost use Rattle.sr_site.specs.declared.mail.MailFault.TheVariants.{Failed as failed_mail, Memory as no_memory};
-    ghost use Rattle.sr_memsite.specs.Meaning.{seen_of, folders_of, numbering_of, wanted_of};
-    ghost use Rattle.sr_memsite.specs.Numbering.{fails, counted};
-    ghost use Rattle.sr_memmail.specs.Folders.{place, file_at, after_put, after_remove, names_in};
+    ghost use Rattle.sr_memsite.specs.Inner.Meaning.{seen_of, folders_of, numbering_of, wanted_of};
+    ghost use Rattle.sr_memsite.specs.Inner.Numbering.{fails, counted};
+    ghost use Rattle.sr_memsite_mail.specs.Folders.{place};
+    ghost use Rattle.sr_memsite_mail.specs.Inner.Folders.{file_at, after_put, after_remove, names_in};
 
     fn list(&mut self, alloc: Global, address: &Name) -> Result<Listing, MailFault>
         ensures listing { IfOk result IsListing }

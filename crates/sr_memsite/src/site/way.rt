@@ -7,12 +7,13 @@ use std::alloc::Global;
 
 impl MemorySite {
     ghost use Rattle.std.specs.Prelude.{◌≡◌, IfOk, OnOk, OnErr, is_some};
-    ghost use Rattle.sr_memsite.specs.Meaning.{seen_of, folders_of, numbering_of, wanted_of};
-    ghost use Rattle.sr_memmail.specs.Folders.{place, letter_at, without_file, with_copy};
+    ghost use Rattle.sr_memsite.specs.Inner.Meaning.{seen_of, folders_of, numbering_of, wanted_of};
+    ghost use Rattle.sr_memsite_mail.specs.Folders.{place, without_file};
+    ghost use Rattle.sr_memsite_mail.specs.Inner.Folders.{stored_file_at, with_copy};
 
     /// Loses a file, held back or not. `false` says that there is no such file.
     pub fn lose(&mut self, address: &Name, name: &Text) -> bool
-        ensures there { result ≡ is_some (letter_at (folders_of self.old) (place address.now name.now)) }
+        ensures there { result ≡ is_some (stored_file_at (folders_of self.old) (place address.now name.now)) }
         ensures folders { folders_of self.new ≡ without_file (folders_of self.old) (place address.now name.now) }
         ensures seen { seen_of self.new ≡ seen_of self.old }
         ensures numbering { numbering_of self.new ≡ numbering_of self.old }
@@ -30,8 +31,8 @@ impl MemorySite {
         name: &Text,
         as_name: &Text,
     ) -> Result<bool, NoMemory>
-        ensures there { IfOk result (λ there. there ≡ is_some (letter_at (folders_of self.old) (place address.now name.now))) }
-        ensures folders { OnOk result (folders_of self.new ≡ with_copy (folders_of self.old) (place address.now as_name.now) (letter_at (folders_of self.old) (place address.now name.now))) }
+        ensures there { IfOk result (λ there. there ≡ is_some (stored_file_at (folders_of self.old) (place address.now name.now))) }
+        ensures folders { OnOk result (folders_of self.new ≡ with_copy (folders_of self.old) (place address.now as_name.now) (stored_file_at (folders_of self.old) (place address.now name.now))) }
         ensures err { OnErr result (folders_of self.new ≡ folders_of self.old) }
         ensures seen { seen_of self.new ≡ seen_of self.old }
         ensures numbering { numbering_of self.new ≡ numbering_of self.old }

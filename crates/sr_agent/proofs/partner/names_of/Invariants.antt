@@ -1,6 +1,6 @@
 use Rattle.std.proofs.Common.{◌≡◌, ◌++◌, length}
 use Rattle.std.specs.Prelude.{map}
-use Rattle.sr_schema.specs.Members.{user_name}
+use Rattle.sr_catalog_schema.specs.Members.{user_name}
 use Rattle.sr_agent.proofs.partner.names_of.Given as goal
 
 -- the names that were copied, and those of the users that are left

@@ -1,7 +1,7 @@
 use Rattle.std.proofs.Common.{List, ◌∷◌, subst}
 use Rattle.std.specs.List.{AllByRecursion}
 use Rattle.sr_book.specs.Entries.{Name}
-use Rattle.sr_agent.specs.Steps.{IsUser, TurnsBroken}
+use Rattle.sr_agent.specs.Inner.Steps.{IsUser, PartnerPassesBroken}
 use Rattle.sr_agent.proofs.OrderSteps.{turning_more, turning_start}
 use Rattle.sr_agent.proofs.OrderStops.{turning_stop}
 use Rattle.sr_agent.proofs.Ordering.{IsTurning}
@@ -26,7 +26,7 @@ returns-in_err-receive_from-clause-broken g c =
     let fault = c.in_err-receive_from.field-0.0 in
     let so : IsTurning old db before seen c.args.names.now (c.in-Some.user.now ∷ c.in-Some.rest.now) c.args.bag.now c.partners.bag c.args.purges c.args.progress.now c.partners.progress written written' =
     subst (λ (l : List Name). IsTurning old db before seen c.args.names.now l c.args.bag.now c.partners.bag c.args.purges c.args.progress.now c.partners.progress written written') c.in-Some.ensures.cases.0 c.partners.invariant in
-    if_err (TurnsBroken old new before now c.args.names.now c.args.bag.now c.args.purges written written'') fault c.from_residual.result c.from_residual.ensures.1
+    if_err (PartnerPassesBroken old new before now c.args.names.now c.args.bag.now c.args.purges written written'') fault c.from_residual.result c.from_residual.ensures.1
     (turning_stop old db new before seen now c.args.names.now c.in-Some.user.now c.in-Some.rest.now c.args.bag.now c.partners.bag c.args.purges c.args.progress.now c.partners.progress written written' written'' fault so
     c.in_err-receive_from.ensures.broken)
 

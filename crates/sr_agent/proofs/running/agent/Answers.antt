@@ -5,4 +5,4 @@ use Rattle.sr_agent.proofs.running.agent.Goals as goal
 pub returns-in_err-names : goal.returns-in_err-names
 returns-in_err-names g c =
     let p = err_from_is_err_and c.from_residual.result c.from_residual.ensures.1 in
-    rw (p.1, p.2) (record { ran = ran_none c.args.db.now (g.S.Held.seen c.args.site.now) (g.O.Sink.seen c.args.sink.now) c.args.options.now c.requires.pending })
+    rw (p.1, p.2) (record { ran = ran_none c.args.db.now (g.S.Held.seen c.args.site.now) (g.O.Sink.seen c.args.sink.now) c.args.options.now c.requires.usable c.requires.pending })

@@ -1,7 +1,7 @@
 use Rattle.std.proofs.Common.{◌≡◌, List, refl, sym, subst}
 use Rattle.std.specs.List.{AllByRecursion}
 use Rattle.std.proofs.lemmas.Result.{err_from_is_err_and}
-use Rattle.sr_agent.specs.Steps.{MaySendTo, SendingDone, SendingBroken}
+use Rattle.sr_agent.specs.Inner.Steps.{MaySendTo, SendingDone, SendingBroken}
 use Rattle.sr_agent.specs.declared.partner.Partner.{Partner}
 use Rattle.sr_agent.proofs.Made.{are_users, made_where}
 use Rattle.sr_agent.proofs.Ran.{ran_broken, ran_stopped, ran_whole}

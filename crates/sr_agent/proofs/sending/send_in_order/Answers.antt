@@ -1,6 +1,6 @@
 use Rattle.std.proofs.Common.{List, subst}
 use Rattle.std.specs.List.{AllByRecursion}
-use Rattle.sr_agent.specs.Steps.{MaySendTo}
+use Rattle.sr_agent.specs.Inner.Steps.{MaySendTo}
 use Rattle.sr_agent.specs.declared.partner.Partner.{Partner}
 use Rattle.sr_agent.proofs.InOrder.{walk_begins, walk_breaks, walk_next}
 use Rattle.sr_agent.proofs.sending.send_in_order.Goals as goal

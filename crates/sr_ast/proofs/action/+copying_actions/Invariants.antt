@@ -1,5 +1,5 @@
 use Rattle.std.proofs.Common.{◌≡◌, ◌+◌, ◌*◌, [], ◌∷◌, take}
-use Rattle.sr_ast.specs.Chains.{chain_size}
+use Rattle.sr_ast.specs.Inner.Chains.{chain_size}
 use Rattle.sr_ast.proofs.Sizes.{size_of}
 use Rattle.sr_ast.proofs.action.+copying_actions.Given as goal
 

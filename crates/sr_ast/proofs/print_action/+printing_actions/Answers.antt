@@ -1,5 +1,5 @@
 use Rattle.std.proofs.Common.{◌≡◌, ◌≤◌, [], ◌∷◌, ap, sym, subst, arith}
-use Rattle.sr_ast.specs.Chains.{chain_size}
+use Rattle.sr_ast.specs.Inner.Chains.{chain_size}
 use Rattle.sr_ast.specs.declared.action.Action.{Action}
 use Rattle.sr_ast.proofs.Sizes.{size_of, item-le}
 use Rattle.sr_ast.proofs.print_action.+printing_actions.Goals as goal

@@ -1,5 +1,5 @@
 use Rattle.std.proofs.Common.{◌≡◌, ◌+◌, ◌*◌, [], ◌∷◌, drop}
-use Rattle.sr_ast.specs.Chains.{chain_size}
+use Rattle.sr_ast.specs.Inner.Chains.{chain_size}
 use Rattle.sr_ast.specs.Actions.{chain_of}
 use Rattle.sr_ast.specs.Pages.{put_all}
 use Rattle.sr_ast.specs.Printing.{chain_pieces}

@@ -1,5 +1,5 @@
 use Rattle.std.proofs.Common.{◌≡◌, ◌∷◌, ◌++◌, length}
-use Rattle.sr_dates.specs.Literals.{quotes_doubled}
+use Rattle.sr_base_dates.specs.Literals.{quotes_doubled}
 use Rattle.sr_ast.proofs.print_expr.quoted_bytes.Given as goal
 
 abbrev pub invariant-bytes : goal.invariant-bytes

@@ -1,7 +1,7 @@
-use Rattle.sr_base.specs.ListLaws.{list_format}
-use Rattle.sr_base.specs.NumberLaws.{format32, format64}
-use Rattle.sr_base.specs.TextLaws.{name_format, text_format}
-use Rattle.sr_base.specs.ValueLaws.{value_format}
+use Rattle.sr_base.specs.Inner.ListLaws.{list_format}
+use Rattle.sr_base.specs.Inner.NumberLaws.{format32, format64}
+use Rattle.sr_base.specs.Inner.TextLaws.{name_format, text_format}
+use Rattle.sr_base.specs.Inner.ValueLaws.{value_format}
 use Rattle.sr_base.proofs.Formats.{reads_again}
 use Rattle.sr_base.proofs.laws.what_is_spelled_is_read.Goals as goal
 

@@ -1,4 +1,4 @@
-use Rattle.sr_base.specs.Order.{key_cmp_total}
+use Rattle.sr_base.specs.Inner.Order.{key_cmp_total}
 use Rattle.sr_base.proofs.Exact.{keys_tie}
 use Rattle.sr_base.proofs.ordering.order.Goals as goal
 

@@ -1,6 +1,6 @@
 use Rattle.std.proofs.Common.{◌∙◌}
 use Rattle.std.proofs.lemmas.Result.{err_from_is_err_and}
-use Rattle.sr_files.proofs.Quiet.{synced_then}
+use Rattle.sr_database_files.proofs.Quiet.{synced_then}
 use Rattle.sr_database.proofs.Refused.{root_cause, snapshot_cause, log_refused}
 use Rattle.sr_database.proofs.Reopened.{opened_database}
 use Rattle.sr_database.proofs.opening.open_files.Goals as goal

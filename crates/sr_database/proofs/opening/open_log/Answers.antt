@@ -2,8 +2,8 @@ use Rattle.std.proofs.Common.{sym, subst}
 use Rattle.std.specs.Prelude.{IsTrue}
 use Rattle.std.proofs.lemmas.Result.{err_from_is_err_and}
 use Rattle.sr_site.specs.Files.{Files, bytes_of}
-use Rattle.sr_files.specs.Openings.{IsWhole}
-use Rattle.sr_files.proofs.Quiet.{OnOk-always, told_then, synced_then, read_synced, settled_then}
+use Rattle.sr_database_files.specs.Inner.Openings.{IsWholeLog}
+use Rattle.sr_database_files.proofs.Quiet.{OnOk-always, told_then, synced_then, read_synced, settled_then}
 use Rattle.sr_database.proofs.Refused.{shape_cause, entries_refused}
 use Rattle.sr_database.proofs.Reopened.{opened_before}
 use Rattle.sr_database.proofs.opening.open_log.Goals as goal
@@ -15,8 +15,8 @@ returns-in_err-open_records-clause-cause g c =
 
 pub read_entries-requires-clause-whole : goal.read_entries-requires-clause-whole
 read_entries-requires-clause-whole g c told =
-    let before = subst IsTrue c.open_records.ensures.synced.stays.told told in
-    subst (λ (f : Files). IsWhole (bytes_of f c.args.log)) (sym (c.open_records.ensures.synced.only before).files) (c.in_ok-open_records.ensures.whole before)
+    let before = subst IsTrue c.open_records.ensures.synced.stays.observable told in
+    subst (λ (f : Files). IsWholeLog (bytes_of f c.args.log)) (sym (c.open_records.ensures.synced.only before).files) (c.in_ok-open_records.ensures.whole before)
 
 pub returns-clause-opened : goal.returns-clause-opened
 returns-clause-opened g c = opened_before c.args.log c.args.publisher _ _ c.open_records.ensures.synced _ c.read_entries.ensures.opened

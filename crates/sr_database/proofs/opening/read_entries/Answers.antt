@@ -3,9 +3,9 @@ use Rattle.std.specs.Prelude.{IsTrue}
 use Rattle.sr_logfile.specs.Records.{HasHeader}
 use Rattle.sr_site.specs.Files.{Files, bytes_of}
 use Rattle.sr_database.proofs.Looped.{size_now, replay_cause_before}
-use Rattle.sr_files.proofs.Quiet.{told_then, read_alone, read_then}
+use Rattle.sr_database_files.proofs.Quiet.{told_then, read_alone, read_then}
 use Rattle.sr_database.proofs.Reopened.{replayed_behind, opened_of}
-use Rattle.sr_files.proofs.Shapes.{whole_header}
+use Rattle.sr_database_files.proofs.Shapes.{whole_header}
 use Rattle.sr_database.proofs.opening.read_entries.Goals as goal
 
 pub replay_all-requires-clause-size : goal.replay_all-requires-clause-size
@@ -13,7 +13,7 @@ replay_all-requires-clause-size g c = size_now c.args.log _ _ _ (read_alone _ _ 
 
 pub replay_all-requires-clause-header : goal.replay_all-requires-clause-header
 replay_all-requires-clause-header g c told =
-    let before = subst IsTrue c.length.ensures.stays.told told in
+    let before = subst IsTrue c.length.ensures.stays.observable told in
     subst (λ (f : Files). HasHeader 0 (bytes_of f c.args.log)) (sym (c.length.ensures.files before)) (whole_header _ (c.requires.whole before))
 
 pub database_of-requires-clause-replayed : goal.database_of-requires-clause-replayed

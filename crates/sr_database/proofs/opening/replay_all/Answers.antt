@@ -1,6 +1,6 @@
 use Rattle.std.proofs.lemmas.Result.{err_from_is_err_and}
 use Rattle.sr_database.proofs.Looped.{reading_on, reading_end, reading_cause}
-use Rattle.sr_files.proofs.Quiet.{read_then}
+use Rattle.sr_database_files.proofs.Quiet.{read_then}
 use Rattle.sr_database.proofs.opening.replay_all.Goals as goal
 
 pub entries-preserved : goal.entries-preserved

@@ -1,4 +1,4 @@
-use Rattle.sr_files.proofs.Quiet.{read_alone, read_then}
+use Rattle.sr_database_files.proofs.Quiet.{read_alone, read_then}
 use Rattle.sr_database.proofs.ReadRecords.{gate_cause}
 use Rattle.sr_database.proofs.replaying.next_entry.Goals as goal
 

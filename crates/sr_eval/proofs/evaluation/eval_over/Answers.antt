@@ -1,6 +1,6 @@
 use Rattle.std.proofs.Common.{sym}
 use Rattle.sr_ast.specs.Exprs.{term_of}
-use Rattle.sr_eval.specs.Bounds.{columns_of, values_of}
+use Rattle.sr_eval.specs.Inner.Bounds.{columns_of, values_of}
 use Rattle.sr_eval.proofs.Sources.{row_of_all}
 use Rattle.sr_eval.proofs.Typed.{gives_no_truth}
 use Rattle.sr_eval.proofs.evaluation.eval_over.Goals as goal

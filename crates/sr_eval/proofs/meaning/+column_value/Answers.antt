@@ -1,6 +1,6 @@
 use Rattle.std.proofs.Common.{rules, ap, sym, ◌∙◌, ◌≡◌, ◌∷◌}
 use Rattle.std.specs.Prelude.{unwrap_or}
-use Rattle.sr_eval.specs.Bounds.{columns_of, values_of}
+use Rattle.sr_eval.specs.Inner.Bounds.{columns_of, values_of}
 use Rattle.sr_eval.specs.Meanings.{value_at}
 use Rattle.sr_eval.proofs.Sources.{value_among}
 use Rattle.sr_eval.proofs.meaning.+column_value.Goals as goal

@@ -1,6 +1,6 @@
 use Rattle.std.proofs.Common.{◌≡◌, length}
-use Rattle.sr_rows.specs.Steps.{GoesOn}
-use Rattle.sr_dml.specs.Applying.{applied}
+use Rattle.sr_rows.specs.Inner.Steps.{GoesOn}
+use Rattle.sr_exec_dml.specs.Applying.{applied}
 use Rattle.sr_exec.proofs.applying.apply_each.Given as goal
 
 abbrev pub invariant-changes : goal.invariant-changes

@@ -1,5 +1,5 @@
 use Rattle.std.proofs.Common.{◌≡◌, length}
-use Rattle.sr_lex.specs.Reading.{after_gap}
+use Rattle.sr_lex.specs.Inner.Reading.{after_gap}
 use Rattle.sr_lex.proofs.gap.after_gap.Given as goal
 
 abbrev pub invariant-bytes : goal.invariant-bytes

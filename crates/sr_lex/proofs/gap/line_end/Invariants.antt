@@ -1,5 +1,5 @@
 use Rattle.std.proofs.Common.{◌≡◌, ◌≤◌, length}
-use Rattle.sr_lex.specs.Reading.{after_line}
+use Rattle.sr_lex.specs.Inner.Reading.{after_line}
 use Rattle.sr_lex.proofs.gap.line_end.Given as goal
 
 abbrev pub invariant-bytes : goal.invariant-bytes

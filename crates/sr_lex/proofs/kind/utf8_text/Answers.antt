@@ -1,7 +1,7 @@
 use Rattle.std.proofs.Common.{◌≡◌, ◌∙◌, Some, ap, string_bytes}
 use Rattle.std.proofs.lemmas.Bool.{false≢true}
 use Rattle.std.proofs.lemmas.Str.{IsUtf8-string_bytes}
-use Rattle.sr_lex.specs.Reading.{utf8_text}
+use Rattle.sr_lex.specs.Inner.Reading.{utf8_text}
 use Rattle.sr_lex.proofs.Texts.{utf8_text-yes, utf8_text-no}
 use Rattle.sr_lex.proofs.kind.utf8_text.Goals as goal
 

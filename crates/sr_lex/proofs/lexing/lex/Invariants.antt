@@ -1,10 +1,10 @@
 use Rattle.std.proofs.Common.{◌≡◌, length}
-use Rattle.sr_lex.specs.Fronts.{IsFront}
+use Rattle.sr_lex.specs.Inner.Prefixes.{IsPrefix}
 use Rattle.sr_lex.proofs.lexing.lex.Given as goal
 
 abbrev pub invariant-tokens : goal.invariant-tokens
 invariant-tokens l = record {
-  front : IsFront l.lexer l.tokens.items;
+  prefix : IsPrefix l.lexer l.tokens.items;
   text : l.lexer.0 ≡ l.fn.text;
 }
 

@@ -1,5 +1,5 @@
 use Rattle.std.proofs.Common.{◌≡◌, length, ◌≤◌}
-use Rattle.sr_lex.specs.Reading.{text_rest}
+use Rattle.sr_lex.specs.Inner.Reading.{text_rest}
 use Rattle.sr_lex.proofs.Texts.{in_front}
 use Rattle.sr_lex.proofs.quoted.text_rest.Given as goal
 

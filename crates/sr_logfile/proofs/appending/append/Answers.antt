@@ -13,24 +13,24 @@ returns-in_err-write_at-clause-part g c told =
 
 pub returns-in_err-sync-clause-part : goal.returns-in_err-sync-clause-part
 returns-in_err-sync-clause-part g c told =
-    let at = subst IsTrue (sym c.write_at.ensures.stays.told) told in
+    let at = subst IsTrue (sym c.write_at.ensures.stays.observable) told in
     let wrote = ap (λ (files : Files). bytes_of files c.args.file) (c.in_ok-write_at.ensures.written told) ∙ bytes_of-with_bytes _ c.args.file _ in
     let stood = ap (λ (files : Files). bytes_of files c.args.file) (c.sync.ensures.files at) in
     OnErr-always _ (first_written _ _ _ _ (stood ∙ wrote))
 
 pub returns-in_err-write_at-2-clause-part : goal.returns-in_err-write_at-2-clause-part
 returns-in_err-write_at-2-clause-part g c told =
-    let at = subst IsTrue (sym c.write_at.ensures.stays.told) told in
-    let then = subst IsTrue (sym c.sync.ensures.stays.told) at in
+    let at = subst IsTrue (sym c.write_at.ensures.stays.observable) told in
+    let then = subst IsTrue (sym c.sync.ensures.stays.observable) at in
     let wrote = ap (λ (files : Files). bytes_of files c.args.file) (c.in_ok-write_at.ensures.written told) ∙ bytes_of-with_bytes _ c.args.file _ in
     let stood = ap (λ (files : Files). bytes_of files c.args.file) (c.sync.ensures.files at) in
     OnErr-always _ (second_torn _ _ _ _ _ (stood ∙ wrote) (c.in_err-write_at-2.ensures.torn then))
 
 pub returns-in_err-sync-2-clause-part : goal.returns-in_err-sync-2-clause-part
 returns-in_err-sync-2-clause-part g c told =
-    let at = subst IsTrue (sym c.write_at.ensures.stays.told) told in
-    let then = subst IsTrue (sym c.sync.ensures.stays.told) at in
-    let last = subst IsTrue (sym c.write_at-2.ensures.stays.told) then in
+    let at = subst IsTrue (sym c.write_at.ensures.stays.observable) told in
+    let then = subst IsTrue (sym c.sync.ensures.stays.observable) at in
+    let last = subst IsTrue (sym c.write_at-2.ensures.stays.observable) then in
     let wrote = ap (λ (files : Files). bytes_of files c.args.file) (c.in_ok-write_at.ensures.written told) ∙ bytes_of-with_bytes _ c.args.file _ in
     let stood = ap (λ (files : Files). bytes_of files c.args.file) (c.sync.ensures.files at) in
     let opened = ap (λ (files : Files). bytes_of files c.args.file) (c.in_ok-write_at-2.ensures.written then) ∙ bytes_of-with_bytes _ c.args.file _ in
@@ -39,9 +39,9 @@ returns-in_err-sync-2-clause-part g c told =
 
 pub returns-clause-bytes : goal.returns-clause-bytes
 returns-clause-bytes g c told =
-    let at = subst IsTrue (sym c.write_at.ensures.stays.told) told in
-    let then = subst IsTrue (sym c.sync.ensures.stays.told) at in
-    let last = subst IsTrue (sym c.write_at-2.ensures.stays.told) then in
+    let at = subst IsTrue (sym c.write_at.ensures.stays.observable) told in
+    let then = subst IsTrue (sym c.sync.ensures.stays.observable) at in
+    let last = subst IsTrue (sym c.write_at-2.ensures.stays.observable) then in
     let wrote = ap (λ (files : Files). bytes_of files c.args.file) (c.in_ok-write_at.ensures.written told) ∙ bytes_of-with_bytes _ c.args.file _ in
     let stood = ap (λ (files : Files). bytes_of files c.args.file) (c.sync.ensures.files at) in
     let opened = ap (λ (files : Files). bytes_of files c.args.file) (c.in_ok-write_at-2.ensures.written then) ∙ bytes_of-with_bytes _ c.args.file _ in
@@ -53,27 +53,27 @@ returns-in_err-write_at-clause-happened g c told = commit_stops_1 c.args.file c.
 
 pub returns-in_err-sync-clause-happened : goal.returns-in_err-sync-clause-happened
 returns-in_err-sync-clause-happened g c told =
-    let at = subst IsTrue (sym c.write_at.ensures.stays.told) told in
+    let at = subst IsTrue (sym c.write_at.ensures.stays.observable) told in
     commit_stops_2 c.args.file c.args.gate c.args.framed.now _ _ _ [] [] _ _ [] [] _ _ true true _ (c.write_at.ensures.happened told) (search rules) (c.sync.ensures.happened at) (search rules) (search rules)
 
 pub returns-in_err-write_at-2-clause-happened : goal.returns-in_err-write_at-2-clause-happened
 returns-in_err-write_at-2-clause-happened g c told =
-    let at = subst IsTrue (sym c.write_at.ensures.stays.told) told in
-    let then = subst IsTrue (sym c.sync.ensures.stays.told) at in
+    let at = subst IsTrue (sym c.write_at.ensures.stays.observable) told in
+    let then = subst IsTrue (sym c.sync.ensures.stays.observable) at in
     commit_stops_3 c.args.file c.args.gate c.args.framed.now _ _ _ _ [] _ _ _ [] _ _ _ true _ (c.write_at.ensures.happened told) (search rules) (c.sync.ensures.happened at) (search rules) (c.write_at-2.ensures.happened then) (search rules) (search rules)
 
 pub returns-in_err-sync-2-clause-happened : goal.returns-in_err-sync-2-clause-happened
 returns-in_err-sync-2-clause-happened g c told =
-    let at = subst IsTrue (sym c.write_at.ensures.stays.told) told in
-    let then = subst IsTrue (sym c.sync.ensures.stays.told) at in
-    let last = subst IsTrue (sym c.write_at-2.ensures.stays.told) then in
+    let at = subst IsTrue (sym c.write_at.ensures.stays.observable) told in
+    let then = subst IsTrue (sym c.sync.ensures.stays.observable) at in
+    let last = subst IsTrue (sym c.write_at-2.ensures.stays.observable) then in
     commit_made c.args.file c.args.gate c.args.framed.now _ _ _ _ _ _ _ _ _ _ _ _ _ _ (c.write_at.ensures.happened told) (search rules) (c.sync.ensures.happened at) (search rules) (c.write_at-2.ensures.happened then) (search rules) (c.sync-2.ensures.happened last) (search rules)
 
 pub returns-clause-happened : goal.returns-clause-happened
 returns-clause-happened g c told =
-    let at = subst IsTrue (sym c.write_at.ensures.stays.told) told in
-    let then = subst IsTrue (sym c.sync.ensures.stays.told) at in
-    let last = subst IsTrue (sym c.write_at-2.ensures.stays.told) then in
+    let at = subst IsTrue (sym c.write_at.ensures.stays.observable) told in
+    let then = subst IsTrue (sym c.sync.ensures.stays.observable) at in
+    let last = subst IsTrue (sym c.write_at-2.ensures.stays.observable) then in
     commit_made c.args.file c.args.gate c.args.framed.now _ _ _ _ _ _ _ _ _ _ _ _ _ _ (c.write_at.ensures.happened told) (search rules) (c.sync.ensures.happened at) (search rules) (c.write_at-2.ensures.happened then) (search rules) (c.sync-2.ensures.happened last) (search rules)
 
 pub returns-in_err-write_at-clause-moments : goal.returns-in_err-write_at-clause-moments
@@ -81,21 +81,21 @@ returns-in_err-write_at-clause-moments g c told = moments_1 c.args.gate c.args.f
 
 pub returns-in_err-sync-clause-moments : goal.returns-in_err-sync-clause-moments
 returns-in_err-sync-clause-moments g c told =
-    let at = subst IsTrue (sym c.write_at.ensures.stays.told) told in
+    let at = subst IsTrue (sym c.write_at.ensures.stays.observable) told in
     moments_2 c.args.gate c.args.framed.now c.args.file (g.S.Held.seen c.args.site.now) (g.S.Held.seen c.sync.new.self) _ _ _ _ _ (c.write_at.ensures.happened told) (c.sync.ensures.happened at) (search rules)
 
 pub returns-in_err-write_at-2-clause-moments : goal.returns-in_err-write_at-2-clause-moments
 returns-in_err-write_at-2-clause-moments g c told =
-    let at = subst IsTrue (sym c.write_at.ensures.stays.told) told in
-    let then = subst IsTrue (sym c.sync.ensures.stays.told) at in
+    let at = subst IsTrue (sym c.write_at.ensures.stays.observable) told in
+    let then = subst IsTrue (sym c.sync.ensures.stays.observable) at in
     let wrote = ap (λ (files : Files). bytes_of files c.args.file) (c.in_ok-write_at.ensures.written told) ∙ bytes_of-with_bytes _ c.args.file _ in
     moments_3 c.args.gate c.args.framed.now c.args.file (g.S.Held.seen c.args.site.now) (g.S.Held.seen c.write_at-2.new.self) _ _ _ _ _ _ _ _ (c.write_at.ensures.happened told) (c.sync.ensures.happened at) (search rules) (c.write_at-2.ensures.happened then) wrote
 
 pub returns-in_err-sync-2-clause-moments : goal.returns-in_err-sync-2-clause-moments
 returns-in_err-sync-2-clause-moments g c told =
-    let at = subst IsTrue (sym c.write_at.ensures.stays.told) told in
-    let then = subst IsTrue (sym c.sync.ensures.stays.told) at in
-    let last = subst IsTrue (sym c.write_at-2.ensures.stays.told) then in
+    let at = subst IsTrue (sym c.write_at.ensures.stays.observable) told in
+    let then = subst IsTrue (sym c.sync.ensures.stays.observable) at in
+    let last = subst IsTrue (sym c.write_at-2.ensures.stays.observable) then in
     let wrote = ap (λ (files : Files). bytes_of files c.args.file) (c.in_ok-write_at.ensures.written told) ∙ bytes_of-with_bytes _ c.args.file _ in
     let stood = ap (λ (files : Files). bytes_of files c.args.file) (c.sync.ensures.files at) in
     let opened = ap (λ (files : Files). bytes_of files c.args.file) (c.in_ok-write_at-2.ensures.written then) ∙ bytes_of-with_bytes _ c.args.file _ in
@@ -104,9 +104,9 @@ returns-in_err-sync-2-clause-moments g c told =
 
 pub returns-clause-moments : goal.returns-clause-moments
 returns-clause-moments g c told =
-    let at = subst IsTrue (sym c.write_at.ensures.stays.told) told in
-    let then = subst IsTrue (sym c.sync.ensures.stays.told) at in
-    let last = subst IsTrue (sym c.write_at-2.ensures.stays.told) then in
+    let at = subst IsTrue (sym c.write_at.ensures.stays.observable) told in
+    let then = subst IsTrue (sym c.sync.ensures.stays.observable) at in
+    let last = subst IsTrue (sym c.write_at-2.ensures.stays.observable) then in
     let wrote = ap (λ (files : Files). bytes_of files c.args.file) (c.in_ok-write_at.ensures.written told) ∙ bytes_of-with_bytes _ c.args.file _ in
     let stood = ap (λ (files : Files). bytes_of files c.args.file) (c.sync.ensures.files at) in
     let opened = ap (λ (files : Files). bytes_of files c.args.file) (c.in_ok-write_at-2.ensures.written then) ∙ bytes_of-with_bytes _ c.args.file _ in

@@ -1,5 +1,5 @@
 use Rattle.std.proofs.Common.{arith}
-use Rattle.sr_logfile.proofs.Fronts.{has_length}
+use Rattle.sr_logfile.proofs.Prefixes.{has_length}
 use Rattle.sr_logfile.proofs.head.head_of.Goals as goal
 use Rattle.sr_logfile.proofs.head.head_of.Goals.{else-count-gt0-via-then-count-gt0+else-gate-ne1, else-count-gt0-via-else-count-gt0}
 

@@ -1,7 +1,7 @@
 use Rattle.std.proofs.Common.{ℕ, subst, arith}
 use Rattle.sr_site.specs.Files.{bytes_of}
 use Rattle.sr_site.specs.Reads.{HasRead}
-use Rattle.sr_logfile.proofs.Fronts.{has_header}
+use Rattle.sr_logfile.proofs.Prefixes.{has_header}
 use Rattle.sr_logfile.proofs.opening.base_of.Goals as goal
 
 pub returns-in-Some-clause-header : goal.returns-in-Some-clause-header

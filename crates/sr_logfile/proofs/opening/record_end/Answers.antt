@@ -2,7 +2,7 @@ use Rattle.std.proofs.Common.{◌≡◌, ◌+◌, ◌-◌, ℕ, List, length, dr
 use Rattle.std.proofs.lemmas.List.{length-drop}
 use Rattle.sr_site.specs.Files.{bytes_of}
 use Rattle.sr_logfile.specs.declared.head.Head.{Head}
-use Rattle.sr_logfile.specs.Heads.{IsHead, HasWhole}
+use Rattle.sr_logfile.specs.Inner.Heads.{IsHead, HasWhole}
 use Rattle.sr_logfile.proofs.Ends.{has_whole, broken_length}
 use Rattle.sr_logfile.proofs.opening.record_end.Goals as goal
 

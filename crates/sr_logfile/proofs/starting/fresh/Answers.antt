@@ -1,6 +1,6 @@
 use Rattle.std.proofs.Common.{ℕ, List, length, true, [], ◌∙◌, ap, sym, subst, rules, arith}
 use Rattle.std.specs.Prelude.{IsTrue}
-use Rattle.sr_site.specs.Growing.{disk_stays_on}
+use Rattle.sr_site.specs.Inner.Growing.{disk_stays_on}
 use Rattle.sr_logfile.proofs.Makings.{fresh_stops_1, fresh_stops_2, fresh_made}
 use Rattle.sr_site.specs.Files.{Files, bytes_of, overwritten}
 use Rattle.sr_logfile.proofs.Appends.{bytes_of-with_bytes}
@@ -20,19 +20,19 @@ returns-in_err-cut-clause-happened g c told = fresh_stops_1 c.args.file c.args.b
 
 pub returns-in_err-write_at-clause-happened : goal.returns-in_err-write_at-clause-happened
 returns-in_err-write_at-clause-happened g c told =
-    let at = subst IsTrue (sym c.cut.ensures.stays.told) told in
+    let at = subst IsTrue (sym c.cut.ensures.stays.observable) told in
     fresh_stops_2 c.args.file c.args.base.0 _ c.fresh_log-bytes.ensures _ _ _ [] _ _ [] _ _ true _ (c.cut.ensures.happened told) (search rules) (c.write_at.ensures.happened at) (search rules) (search rules)
 
 pub returns-in_err-sync-clause-happened : goal.returns-in_err-sync-clause-happened
 returns-in_err-sync-clause-happened g c told =
-    let at = subst IsTrue (sym c.cut.ensures.stays.told) told in
-    let then = subst IsTrue (sym c.write_at.ensures.stays.told) at in
+    let at = subst IsTrue (sym c.cut.ensures.stays.observable) told in
+    let then = subst IsTrue (sym c.write_at.ensures.stays.observable) at in
     fresh_made c.args.file c.args.base.0 _ c.fresh_log-bytes.ensures _ _ _ _ _ _ _ _ _ _ _ (c.cut.ensures.happened told) (search rules) (c.write_at.ensures.happened at) (search rules) (c.sync.ensures.happened then) (search rules)
 
 pub returns-clause-happened : goal.returns-clause-happened
 returns-clause-happened g c told =
-    let at = subst IsTrue (sym c.cut.ensures.stays.told) told in
-    let then = subst IsTrue (sym c.write_at.ensures.stays.told) at in
+    let at = subst IsTrue (sym c.cut.ensures.stays.observable) told in
+    let then = subst IsTrue (sym c.write_at.ensures.stays.observable) at in
     fresh_made c.args.file c.args.base.0 _ c.fresh_log-bytes.ensures _ _ _ _ _ _ _ _ _ _ _ (c.cut.ensures.happened told) (search rules) (c.write_at.ensures.happened at) (search rules) (c.sync.ensures.happened then) (search rules)
 
 pub returns-in_err-write_at-clause-stays : goal.returns-in_err-write_at-clause-stays
@@ -49,14 +49,14 @@ returns-in_err-cut-clause-moments g c told = fresh_1 c.args.file (g.S.Held.seen 
 
 pub returns-in_err-write_at-clause-moments : goal.returns-in_err-write_at-clause-moments
 returns-in_err-write_at-clause-moments g c told =
-    let at = subst IsTrue (sym c.cut.ensures.stays.told) told in
+    let at = subst IsTrue (sym c.cut.ensures.stays.observable) told in
     let long = ap (λ (l : List ℕ). length l) c.fresh_log-bytes.ensures in
     fresh_2 c.args.file (g.S.Held.seen c.args.site.now) (g.S.Held.seen c.write_at.new.self) _ _ _ _ _ _ long (c.cut.ensures.happened told) (c.write_at.ensures.happened at)
 
 pub returns-in_err-sync-clause-moments : goal.returns-in_err-sync-clause-moments
 returns-in_err-sync-clause-moments g c told =
-    let at = subst IsTrue (sym c.cut.ensures.stays.told) told in
-    let then = subst IsTrue (sym c.write_at.ensures.stays.told) at in
+    let at = subst IsTrue (sym c.cut.ensures.stays.observable) told in
+    let then = subst IsTrue (sym c.write_at.ensures.stays.observable) at in
     let long = ap (λ (l : List ℕ). length l) c.fresh_log-bytes.ensures in
     let empty = ap (λ (files : Files). bytes_of files c.args.file) (c.in_ok-cut.ensures.cut told) ∙ bytes_of-with_bytes _ c.args.file _ in
     let wrote = ap (λ (files : Files). bytes_of files c.args.file) (c.in_ok-write_at.ensures.written at) ∙ bytes_of-with_bytes _ c.args.file _ in
@@ -66,8 +66,8 @@ returns-in_err-sync-clause-moments g c told =
 
 pub returns-clause-moments : goal.returns-clause-moments
 returns-clause-moments g c told =
-    let at = subst IsTrue (sym c.cut.ensures.stays.told) told in
-    let then = subst IsTrue (sym c.write_at.ensures.stays.told) at in
+    let at = subst IsTrue (sym c.cut.ensures.stays.observable) told in
+    let then = subst IsTrue (sym c.write_at.ensures.stays.observable) at in
     let long = ap (λ (l : List ℕ). length l) c.fresh_log-bytes.ensures in
     let empty = ap (λ (files : Files). bytes_of files c.args.file) (c.in_ok-cut.ensures.cut told) ∙ bytes_of-with_bytes _ c.args.file _ in
     let wrote = ap (λ (files : Files). bytes_of files c.args.file) (c.in_ok-write_at.ensures.written at) ∙ bytes_of-with_bytes _ c.args.file _ in

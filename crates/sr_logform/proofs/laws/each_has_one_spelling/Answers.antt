@@ -1,6 +1,6 @@
-use Rattle.sr_logform.specs.EntryLaws.{entry_format}
-use Rattle.sr_logform.specs.OpLaws.{op_format, transaction_format}
-use Rattle.sr_logform.specs.OutcomeLaws.{change_format, outcome_format}
+use Rattle.sr_logform.specs.Inner.EntryLaws.{entry_format}
+use Rattle.sr_logform.specs.Inner.OpLaws.{op_format, transaction_format}
+use Rattle.sr_logform.specs.Inner.OutcomeLaws.{change_format, outcome_format}
 use Rattle.sr_logform.proofs.Once.{spells_once}
 use Rattle.sr_logform.proofs.laws.each_has_one_spelling.Goals as goal
 

@@ -1,6 +1,6 @@
 -- The names are distinct exactly where those that are left are, and none of these was passed.
 use Rattle.std.proofs.Common.{◌≡◌, map, length}
-use Rattle.sr_logform.specs.Rules.{are_distinct}
+use Rattle.sr_logform.specs.Inner.Rules.{are_distinct}
 use Rattle.sr_logform.proofs.Distinct.{are_left}
 use Rattle.sr_logform.proofs.names.are_distinct.Given as goal
 

@@ -1,7 +1,7 @@
 use Rattle.std.proofs.Common.{◌∷◌, ◌++◌, [], ap, ◌∙◌, append_assoc, arith}
 use Rattle.std.specs.List.{AllByRecursion}
 use Rattle.sr_mail.specs.Assembled.{IsItsPiece}
-use Rattle.sr_cut.proofs.Lists.{AllByRecursion-front, AllByRecursion-back}
+use Rattle.sr_mail_cut.proofs.Lists.{AllByRecursion-prefix, AllByRecursion-back}
 use Rattle.sr_mail.proofs.Looping.{written_more}
 use Rattle.sr_mail.proofs.assembling.fill.Goals as goal
 
@@ -14,7 +14,7 @@ pieces-preserved c =
     let done = c.pieces.invariant.written in
     record {
       long = omega (arith, c.overwrite.auto.bytes, c.pieces.invariant.long);
-      own = AllByRecursion-front IsItsPiece before (pair ∷ []) own;
+      own = AllByRecursion-prefix IsItsPiece before (pair ∷ []) own;
       written = (
         pair ∷ done.0,
         done.1 ∙ ap (λ x. x ++ done.0) cons ∙ append_assoc before (pair ∷ []) done.0,

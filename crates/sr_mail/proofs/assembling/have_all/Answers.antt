@@ -1,7 +1,7 @@
 use Rattle.std.proofs.Common.{map, arith}
 use Rattle.std.proofs.lemmas.Bool.{leb-true, le-leb}
 use Rattle.std.proofs.lemmas.List.{take_all}
-use Rattle.sr_mail.specs.Tracking.{Follows}
+use Rattle.sr_mail.specs.Inner.Tracking.{Follows}
 use Rattle.sr_mail.proofs.Following.{covers_all, reaches_all}
 use Rattle.sr_mail.proofs.assembling.have_all.Goals as goal
 

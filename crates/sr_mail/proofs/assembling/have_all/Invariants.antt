@@ -1,5 +1,5 @@
 use Rattle.std.proofs.Common.{map, take}
-use Rattle.sr_mail.specs.Tracking.{Follows, IsSettled}
+use Rattle.sr_mail.specs.Inner.Tracking.{Follows, IsSettled}
 use Rattle.sr_mail.proofs.assembling.have_all.Given as goal
 
 abbrev pub invariant-loop-piece : goal.invariant-loop-piece

@@ -1,7 +1,7 @@
 use Rattle.std.proofs.Common.{◌≡◌, ◌∷◌, ◌++◌, [], get_or, sym, ap, ◌∙◌, append_assoc, subst}
 use Rattle.std.specs.List.{AllByRecursion, Contains}
-use Rattle.sr_mail.specs.Spans.{SpanOf}
-use Rattle.sr_cut.proofs.Lists.{AllByRecursion-append}
+use Rattle.sr_mail.specs.Inner.Spans.{SpanOf}
+use Rattle.sr_mail_cut.proofs.Lists.{AllByRecursion-append}
 use Rattle.sr_mail.proofs.Looping.{own_piece, copied_more}
 use Rattle.sr_mail.proofs.covering.copies.Goals as goal
 

@@ -1,7 +1,7 @@
 use Rattle.std.proofs.Common.{◌≡◌, ◌++◌, ℕ, List, length}
 use Rattle.std.specs.List.{AllByRecursion, Contains, list_any}
 use Rattle.sr_mail.specs.Seen.{covers}
-use Rattle.sr_mail.specs.Spans.{Span, SpanOf, has_place}
+use Rattle.sr_mail.specs.Inner.Spans.{Span, SpanOf, has_place}
 use Rattle.sr_mail.proofs.covering.copies.Given as goal
 
 abbrev pub invariant-spans : goal.invariant-spans

@@ -1,6 +1,6 @@
 use Rattle.std.proofs.Common.{◌∷◌, arith}
 use Rattle.sr_mail.proofs.Spanning.{so_far_first, so_far_farther, so_far_same}
-use Rattle.sr_mail.specs.Spans.{IsSoFar}
+use Rattle.sr_mail.specs.Inner.Spans.{IsSoFar}
 use Rattle.sr_mail.proofs.covering.farthest_from.Goals as goal
 
 pub spans-init : goal.spans-init

@@ -1,5 +1,5 @@
 use Rattle.std.proofs.Common.{◌∷◌, length}
-use Rattle.sr_mail.specs.Spans.{IsSoFar}
+use Rattle.sr_mail.specs.Inner.Spans.{IsSoFar}
 use Rattle.sr_mail.proofs.covering.farthest_from.Given as goal
 
 abbrev pub invariant-spans : goal.invariant-spans

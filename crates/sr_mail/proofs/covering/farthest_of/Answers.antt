@@ -1,5 +1,5 @@
 use Rattle.std.proofs.Common.{List, sym, subst}
-use Rattle.sr_mail.specs.Spans.{Span, IsSoFar}
+use Rattle.sr_mail.specs.Inner.Spans.{Span, IsSoFar}
 use Rattle.sr_mail.proofs.covering.farthest_of.Goals as goal
 
 pub returns-else-reached-first-clause-found : goal.returns-else-reached-first-clause-found

@@ -1,7 +1,7 @@
 use Rattle.std.proofs.Common.{◌≡◌, ◌+◌, false, [], get_or, sym, ◌∙◌, arith}
 use Rattle.std.specs.Ordering.{nat_cmp, ordering_then, is_lt}
 use Rattle.std.proofs.lemmas.List.Sorted.{list_any-IsPermutation}
-use Rattle.sr_mail.specs.Spans.{spans_from, has_place, SpanOf}
+use Rattle.sr_mail.specs.Inner.Spans.{spans_from, has_place, SpanOf}
 use Rattle.sr_mail.proofs.Looping.{All-moved, not_less, sorted_from}
 use Rattle.sr_mail.proofs.Spanning.{spans-own, spans-cover}
 use Rattle.sr_mail.proofs.covering.sorted_spans.Goals as goal

@@ -1,5 +1,5 @@
 use Rattle.std.proofs.Common.{◌≡◌, take}
-use Rattle.sr_mail.specs.Spans.{spans_from}
+use Rattle.sr_mail.specs.Inner.Spans.{spans_from}
 use Rattle.sr_mail.proofs.covering.spans_of.Given as goal
 
 abbrev pub invariant-loop-number : goal.invariant-loop-number

@@ -1,6 +1,6 @@
 use Rattle.std.proofs.Common.{◌<◌, ◌+◌, length, take, drop, ◌∙◌}
 use Rattle.sr_mail.specs.Seen.{window_of}
-use Rattle.sr_mail.specs.Shelves.{AllBefore, AllBehind, all_of}
+use Rattle.sr_mail.specs.Inner.Shelves.{AllBefore, AllBehind, all_of}
 use Rattle.sr_mail.proofs.Shelved.{added_on}
 use Rattle.sr_mail.proofs.inbox.add_piece.Goals as goal
 

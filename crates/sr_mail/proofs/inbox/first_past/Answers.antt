@@ -1,6 +1,6 @@
 use Rattle.std.proofs.Common.{rules, ◌∷◌, ◌++◌, [], sym, ap, ◌∙◌, append_assoc}
 use Rattle.std.specs.List.{AllByRecursion}
-use Rattle.sr_mail.specs.Shelves.{EndsPast}
+use Rattle.sr_mail.specs.Inner.Shelves.{EndsPast}
 use Rattle.sr_mail.proofs.Shelved.{first_on_shelf, passed_shelf}
 use Rattle.sr_mail.proofs.inbox.first_past.Goals as goal
 

@@ -1,5 +1,5 @@
 use Rattle.std.proofs.Common.{◌+◌, ap, ◌∙◌}
-use Rattle.sr_mail.specs.Shelves.{all_of}
+use Rattle.sr_mail.specs.Inner.Shelves.{all_of}
 use Rattle.sr_mail.proofs.Shelved.{all_of-insert}
 use Rattle.sr_mail.proofs.inbox.part.Goals as goal
 

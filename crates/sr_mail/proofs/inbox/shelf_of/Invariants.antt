@@ -1,5 +1,5 @@
 use Rattle.std.proofs.Common.{◌-◌, ◌<◌, length, take}
-use Rattle.sr_mail.specs.Shelves.{AllBefore, all_of}
+use Rattle.sr_mail.specs.Inner.Shelves.{AllBefore, all_of}
 use Rattle.sr_mail.proofs.inbox.shelf_of.Given as goal
 
 abbrev pub invariant-shelves : goal.invariant-shelves

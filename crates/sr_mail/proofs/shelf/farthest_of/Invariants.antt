@@ -1,5 +1,5 @@
 use Rattle.std.proofs.Common.{take}
-use Rattle.sr_mail.specs.Shelves.{EndBy}
+use Rattle.sr_mail.specs.Inner.Shelves.{EndBy}
 use Rattle.sr_mail.proofs.shelf.farthest_of.Given as goal
 
 abbrev pub invariant-loop-held : goal.invariant-loop-held

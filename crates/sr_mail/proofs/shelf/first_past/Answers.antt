@@ -1,7 +1,7 @@
 use Rattle.std.proofs.Common.{◌∷◌, ◌++◌, [], sym, ap, ◌∙◌, append_assoc}
 use Rattle.std.proofs.lemmas.Bool.{iff_false}
-use Rattle.sr_mail.specs.Shelves.{EndsPast}
-use Rattle.sr_cut.proofs.Lists.{AllByRecursion-append}
+use Rattle.sr_mail.specs.Inner.Shelves.{EndsPast}
+use Rattle.sr_mail_cut.proofs.Lists.{AllByRecursion-append}
 use Rattle.sr_mail.proofs.shelf.first_past.Goals as goal
 
 pub windows-preserved : goal.windows-preserved

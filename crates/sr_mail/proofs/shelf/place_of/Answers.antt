@@ -1,5 +1,5 @@
 use Rattle.std.proofs.Common.{◌≡◌, ◌∷◌, true, drop, sym, ap, ◌∙◌, arith}
-use Rattle.sr_mail.specs.Shelves.{is_before}
+use Rattle.sr_mail.specs.Inner.Shelves.{is_before}
 use Rattle.sr_mail.proofs.Shelved.{drop_parts, before_more}
 use Rattle.sr_mail.proofs.shelf.place_of.Goals as goal
 

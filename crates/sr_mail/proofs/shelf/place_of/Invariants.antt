@@ -1,5 +1,5 @@
 use Rattle.std.proofs.Common.{◌≡◌, ◌≤◌, length, take, drop}
-use Rattle.sr_mail.specs.Shelves.{AllBefore}
+use Rattle.sr_mail.specs.Inner.Shelves.{AllBefore}
 use Rattle.sr_mail.proofs.shelf.place_of.Given as goal
 
 abbrev pub invariant-windows : goal.invariant-windows

@@ -1,5 +1,5 @@
 use Rattle.std.proofs.Common.{take}
-use Rattle.sr_memsite.specs.Numbering.{IsSetOf}
+use Rattle.sr_memsite.specs.Inner.Numbering.{IsSetOf}
 use Rattle.sr_memsite.proofs.turns.set_of.Given as goal
 
 -- the numbers so far

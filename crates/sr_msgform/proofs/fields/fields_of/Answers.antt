@@ -1,6 +1,6 @@
 use Rattle.std.proofs.lemmas.Result.{err_from_is_err_and}
-use Rattle.sr_base.specs.Fields.{bytes_at}
-use Rattle.sr_msgform.specs.Messages.{head_at, tail_at, message_of, fields_at}
+use Rattle.sr_base.specs.Inner.Fields.{bytes_at}
+use Rattle.sr_msgform.specs.Inner.Messages.{head_at, tail_at, message_of, fields_at}
 use Rattle.sr_msgform.proofs.Parts.{all_read, first_fails, second_fails, third_fails}
 use Rattle.sr_msgform.proofs.fields.fields_of.Goals as goal
 

@@ -1,11 +1,11 @@
 use Rattle.std.proofs.Common.{rules, arith, refl}
-use Rattle.sr_grammar.specs.Going.{action_starts}
-use Rattle.sr_grammar.specs.Triggers.{IsActions}
+use Rattle.sr_parse_grammar.specs.Inner.Going.{action_starts}
+use Rattle.sr_parse_grammar.specs.Triggers.{IsActions}
 use Rattle.sr_ast.specs.Actions.{chain_of}
-use Rattle.sr_reader.proofs.Parts.{then, cast, recast, handed, no_memory, valued}
-use Rattle.sr_reader.proofs.Constants.{stayed}
-use Rattle.sr_reader.proofs.Starts.{word_read}
-use Rattle.sr_reader.proofs.Loops.{filed_begun, filed_on, filed_missed, filed_done}
+use Rattle.sr_parse_reader.proofs.Parts.{then, cast, recast, handed, no_memory, valued}
+use Rattle.sr_parse_reader.proofs.Constants.{stayed}
+use Rattle.sr_parse_reader.proofs.Starts.{word_read}
+use Rattle.sr_parse_reader.proofs.Loops.{filed_begun, filed_on, filed_missed, filed_done}
 use Rattle.sr_parse.proofs.Acted.{set_reads, insert_reads, act_full, if_read, if_missed, test_missed, then_missed, if_rest, taken_missed, other_missed, other_ended, taken_ended, ended_missed, semicolon_missed, ended_read, actions_to, actions_back, begins_on, no_act}
 use Rattle.sr_parse.proofs.acting.+acting.Goals as goal
 

@@ -1,6 +1,6 @@
 use Rattle.std.proofs.Common.{◌+◌, ◌*◌, ◌≤◌, length}
-use Rattle.sr_grammar.specs.Going.{Stop, action_starts}
-use Rattle.sr_reader.proofs.Loops.{Filed}
+use Rattle.sr_parse_grammar.specs.Inner.Going.{Stop, action_starts}
+use Rattle.sr_parse_reader.proofs.Loops.{Filed}
 use Rattle.sr_parse.proofs.Acted.{Ended}
 use Rattle.sr_parse.proofs.acting.+acting.Given as goal
 

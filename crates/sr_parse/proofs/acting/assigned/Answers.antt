@@ -1,7 +1,7 @@
 use Rattle.std.proofs.Common.{rules}
-use Rattle.sr_reader.specs.Productions.{Assigned}
-use Rattle.sr_reader.proofs.Parts.{then, first_fails, recast, handed}
-use Rattle.sr_reader.proofs.Starts.{expr_sample}
+use Rattle.sr_parse_reader.specs.Inner.Productions.{Assigned}
+use Rattle.sr_parse_reader.proofs.Parts.{then, first_fails, recast, handed}
+use Rattle.sr_parse_reader.proofs.Starts.{expr_sample}
 use Rattle.sr_parse.proofs.Acted.{assigned_of, assigned_to, assigned_back, before_equal, equal_sample}
 use Rattle.sr_parse.proofs.acting.assigned.Goals as goal
 

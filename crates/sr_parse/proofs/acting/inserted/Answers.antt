@@ -1,6 +1,6 @@
 use Rattle.std.proofs.Common.{rules}
-use Rattle.sr_reader.specs.Productions.{Inserted}
-use Rattle.sr_reader.proofs.Parts.{then, first_fails, recast, handed}
+use Rattle.sr_parse_reader.specs.Inner.Productions.{Inserted}
+use Rattle.sr_parse_reader.proofs.Parts.{then, first_fails, recast, handed}
 use Rattle.sr_parse.proofs.Acted.{inserted_of, inserted_to, inserted_back, before_values, given_sample, values_sample, columns_sample, table_sample}
 use Rattle.sr_parse.proofs.acting.inserted.Goals as goal
 

@@ -1,12 +1,12 @@
 use Rattle.std.proofs.Common.{rules}
 use Rattle.sr_ast.specs.declared.keyword.Keyword.TheVariants as key
-use Rattle.sr_grammar.specs.Symbols.{IsTextAt}
-use Rattle.sr_grammar.specs.Parts.{IsBehind}
-use Rattle.sr_grammar.specs.Going.{Ends}
-use Rattle.sr_grammar.proofs.Parts.{behind, text_proper}
+use Rattle.sr_parse_grammar.specs.Symbols.{IsTextAt}
+use Rattle.sr_parse_grammar.specs.Parts.{IsBehind}
+use Rattle.sr_parse_grammar.specs.Inner.Going.{Ends}
+use Rattle.sr_parse_grammar.proofs.Parts.{behind, text_proper}
 use Rattle.sr_parse.proofs.Grants.{address_read}
-use Rattle.sr_reader.proofs.Parts.{spelled, handed}
-use Rattle.sr_reader.proofs.Optionals.{behind_word, behind_ends, led_absent}
+use Rattle.sr_parse_reader.proofs.Parts.{spelled, handed}
+use Rattle.sr_parse_reader.proofs.Optionals.{behind_word, behind_ends, led_absent}
 use Rattle.sr_parse.proofs.creating.address.Goals as goal
 
 pub returns-then-not-takes-clause-reads : goal.returns-then-not-takes-clause-reads

@@ -1,10 +1,10 @@
 use Rattle.std.proofs.Common.{rules, arith, refl, ◌∙◌, sym}
 use Rattle.std.proofs.lemmas.Grind.{common_steps}
 use Rattle.sr_parse.proofs.Aliased.{apart_more}
-use Rattle.sr_reader.proofs.Parts.{handed, no_memory}
-use Rattle.sr_reader.proofs.Loops.{filed_begun, filed_on, filed_done}
+use Rattle.sr_parse_reader.proofs.Parts.{handed, no_memory}
+use Rattle.sr_parse_reader.proofs.Loops.{filed_begun, filed_on, filed_done}
 use Rattle.sr_parse.proofs.Aliases.{alias_read, image_goes, no_alias_next, apart_read, image_refused, as_missed, name_refused, name_unread}
-use Rattle.sr_reader.proofs.Parts.{spelled}
+use Rattle.sr_parse_reader.proofs.Parts.{spelled}
 use Rattle.sr_parse.proofs.creating.aliases.Goals as goal
 
 pub more-init : goal.more-init

@@ -1,8 +1,8 @@
 use Rattle.sr_ast.specs.NormalForms.{Differ}
 use Rattle.std.proofs.Common.{◌≤◌, length, AllPairs}
-use Rattle.sr_grammar.specs.Triggers.{IsAlias}
-use Rattle.sr_grammar.specs.Going.{Stop, is_image}
-use Rattle.sr_reader.proofs.Loops.{Filed}
+use Rattle.sr_parse_grammar.specs.Triggers.{IsAlias}
+use Rattle.sr_parse_grammar.specs.Inner.Going.{Stop, is_image}
+use Rattle.sr_parse_reader.proofs.Loops.{Filed}
 use Rattle.sr_parse.proofs.creating.aliases.Given as goal
 
 abbrev pub invariant-more : goal.invariant-more

@@ -1,6 +1,6 @@
 use Rattle.std.proofs.Common.{rules}
-use Rattle.sr_grammar.specs.Catalog.{IsArticle}
-use Rattle.sr_reader.proofs.Parts.{then, first_fails, recast, handed}
+use Rattle.sr_parse_grammar.specs.Catalog.{IsArticle}
+use Rattle.sr_parse_reader.proofs.Parts.{then, first_fails, recast, handed}
 use Rattle.sr_parse.proofs.Articles.{article_of, article_to, article_back, subscribed_sample, selected_sample, columned_sample, tabled_sample, columns_end, condition_end}
 use Rattle.sr_parse.proofs.creating.article.Goals as goal
 

@@ -1,11 +1,11 @@
 use Rattle.std.proofs.Common.{rules, arith, refl, inl, inr}
 use Rattle.std.proofs.lemmas.Grind.{common_steps}
-use Rattle.sr_grammar.specs.Going.{is_comma}
-use Rattle.sr_grammar.proofs.Steps.{Stop-at}
-use Rattle.sr_grammar.specs.declared.symbol.Sign.TheVariants as mark
-use Rattle.sr_reader.specs.Reading.{BeforeSign}
-use Rattle.sr_reader.proofs.Parts.{narrow, handed, no_memory, valued}
-use Rattle.sr_reader.proofs.Loops.{along_begun, along_on, along_done, along_missed, along_unread}
+use Rattle.sr_parse_grammar.specs.Inner.Going.{is_comma}
+use Rattle.sr_parse_grammar.proofs.Steps.{Stop-at}
+use Rattle.sr_parse_grammar.specs.declared.symbol.Sign.TheVariants as mark
+use Rattle.sr_parse_reader.specs.Inner.Reading.{BeforeSign}
+use Rattle.sr_parse_reader.proofs.Parts.{narrow, handed, no_memory, valued}
+use Rattle.sr_parse_reader.proofs.Loops.{along_begun, along_on, along_done, along_missed, along_unread}
 use Rattle.sr_parse.proofs.creating.articles.Goals as goal
 
 pub more-init : goal.more-init

@@ -1,7 +1,7 @@
 use Rattle.std.proofs.Common.{◌≤◌, length}
-use Rattle.sr_grammar.specs.Catalog.{IsArticle}
-use Rattle.sr_grammar.specs.Going.{Closes}
-use Rattle.sr_reader.proofs.Loops.{Along}
+use Rattle.sr_parse_grammar.specs.Catalog.{IsArticle}
+use Rattle.sr_parse_grammar.specs.Inner.Going.{Closes}
+use Rattle.sr_parse_reader.proofs.Loops.{Along}
 use Rattle.sr_parse.proofs.creating.articles.Given as goal
 
 abbrev pub invariant-more : goal.invariant-more

@@ -1,6 +1,6 @@
 use Rattle.std.proofs.Common.{rules}
 use Rattle.std.proofs.lemmas.List.{nil_from_length}
-use Rattle.sr_reader.proofs.Parts.{then, first_fails, handed_mapped, no_memory_mapped}
+use Rattle.sr_parse_reader.proofs.Parts.{then, first_fails, handed_mapped, no_memory_mapped}
 use Rattle.sr_parse.proofs.Rulings.{typed_sample, rules_sample, column_read, column_missed, key_named, key_stays, with_key}
 use Rattle.sr_parse.proofs.creating.column_rule.Goals as goal
 

@@ -1,7 +1,7 @@
 use Rattle.std.proofs.Common.{rules, arith}
 use Rattle.std.proofs.lemmas.Grind.{common_steps}
 use Rattle.std.proofs.lemmas.List.{nil_from_length}
-use Rattle.sr_reader.proofs.Parts.{handed_mapped, no_memory_mapped}
+use Rattle.sr_parse_reader.proofs.Parts.{handed_mapped, no_memory_mapped}
 use Rattle.sr_parse.proofs.Keyings.{columns_begun, columns_unread, columns_on, columns_missed, columns_done, key_refused, key_read, key_unread}
 use Rattle.sr_parse.proofs.creating.columns.Goals as goal
 

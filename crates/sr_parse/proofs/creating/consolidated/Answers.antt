@@ -1,6 +1,6 @@
 use Rattle.std.proofs.Common.{rules}
 use Rattle.sr_parse.proofs.Grants.{consolidated_read, grant_sample}
-use Rattle.sr_reader.proofs.Parts.{then, first_fails, handed}
+use Rattle.sr_parse_reader.proofs.Parts.{then, first_fails, handed}
 use Rattle.sr_parse.proofs.creating.consolidated.Goals as goal
 
 pub returns-in_err-keyword-clause-reads : goal.returns-in_err-keyword-clause-reads

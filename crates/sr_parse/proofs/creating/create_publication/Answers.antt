@@ -1,10 +1,10 @@
 use Rattle.std.proofs.Common.{rules}
 use Rattle.std.proofs.Common.{[]}
-use Rattle.sr_grammar.specs.declared.symbol.Sign.TheVariants as mark
-use Rattle.sr_grammar.specs.Catalog.{IsPublication}
-use Rattle.sr_reader.specs.Productions.{Mark}
-use Rattle.sr_reader.proofs.Parts.{then, first_fails, goes_first, recast, handed}
-use Rattle.sr_reader.proofs.Starts.{sign_sample}
+use Rattle.sr_parse_grammar.specs.declared.symbol.Sign.TheVariants as mark
+use Rattle.sr_parse_grammar.specs.Catalog.{IsPublication}
+use Rattle.sr_parse_reader.specs.Inner.Productions.{Mark}
+use Rattle.sr_parse_reader.proofs.Parts.{then, first_fails, goes_first, recast, handed}
+use Rattle.sr_parse_reader.proofs.Starts.{sign_sample}
 use Rattle.sr_parse.proofs.Articles.{publication_of, publication_to, publication_back, articles_closed_sample, articles_close}
 use Rattle.sr_parse.proofs.creating.create_publication.Goals as goal
 

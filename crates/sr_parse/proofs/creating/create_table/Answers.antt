@@ -1,11 +1,11 @@
 use Rattle.std.proofs.Common.{rules, ◌≡◌, ◌∙◌}
-use Rattle.sr_grammar.proofs.Columns.{table_same, normals_once}
+use Rattle.sr_parse_grammar.proofs.Columns.{table_same, normals_once}
 use Rattle.std.proofs.Common.{[], refl}
-use Rattle.sr_grammar.specs.declared.symbol.Sign.TheVariants as mark
-use Rattle.sr_grammar.specs.Tables.{IsTable}
-use Rattle.sr_reader.specs.Productions.{Mark}
-use Rattle.sr_reader.proofs.Parts.{then, first_fails, goes_first, recast, handed, no_memory, valued}
-use Rattle.sr_reader.proofs.Starts.{sign_sample}
+use Rattle.sr_parse_grammar.specs.declared.symbol.Sign.TheVariants as mark
+use Rattle.sr_parse_grammar.specs.Tables.{IsTable}
+use Rattle.sr_parse_reader.specs.Inner.Productions.{Mark}
+use Rattle.sr_parse_reader.proofs.Parts.{then, first_fails, goes_first, recast, handed, no_memory, valued}
+use Rattle.sr_parse_reader.proofs.Starts.{sign_sample}
 use Rattle.sr_parse.proofs.Keyings.{table_of, table_to, table_back, normals_are, keyed_closed_sample, keyed_close}
 use Rattle.sr_parse.proofs.creating.create_table.Goals as goal
 

@@ -1,8 +1,8 @@
 use Rattle.std.proofs.Common.{rules}
-use Rattle.sr_grammar.specs.Triggers.{IsTrigger}
+use Rattle.sr_parse_grammar.specs.Triggers.{IsTrigger}
 use Rattle.sr_ast.specs.declared.keyword.Keyword.TheVariants as key
-use Rattle.sr_reader.proofs.Parts.{then, first_fails, recast, handed}
-use Rattle.sr_reader.proofs.Starts.{word_sample}
+use Rattle.sr_parse_reader.proofs.Parts.{then, first_fails, recast, handed}
+use Rattle.sr_parse_reader.proofs.Starts.{word_sample}
 use Rattle.sr_parse.proofs.Triggers.{trigger_of, trigger_to, trigger_back, columns_end, aliases_end, variables_end, actions_end, from_resolve, from_columns, from_on, from_table, from_referencing, from_aliases, from_each, from_variables, from_actions}
 use Rattle.sr_parse.proofs.creating.create_trigger.Goals as goal
 

@@ -1,8 +1,8 @@
 use Rattle.std.proofs.Common.{rules}
 use Rattle.sr_ast.specs.declared.keyword.Keyword.TheVariants as key
-use Rattle.sr_reader.specs.Productions.{EachRow}
-use Rattle.sr_reader.proofs.Parts.{then, first_fails, recast, handed}
-use Rattle.sr_reader.proofs.Starts.{word_sample}
+use Rattle.sr_parse_reader.specs.Inner.Productions.{EachRow}
+use Rattle.sr_parse_reader.proofs.Parts.{then, first_fails, recast, handed}
+use Rattle.sr_parse_reader.proofs.Starts.{word_sample}
 use Rattle.sr_parse.proofs.Triggers.{each_to, each_back, each_sample, begin_sample}
 use Rattle.sr_parse.proofs.creating.for_each_row.Goals as goal
 

@@ -1,8 +1,8 @@
 use Rattle.std.proofs.Common.{rules}
-use Rattle.sr_grammar.specs.declared.symbol.Sign.TheVariants as mark
+use Rattle.sr_parse_grammar.specs.declared.symbol.Sign.TheVariants as mark
 use Rattle.sr_parse.proofs.Grants.{given_none, given_read}
-use Rattle.sr_reader.proofs.Parts.{then, first_fails, handed}
-use Rattle.sr_reader.proofs.Starts.{sign_read, sign_sample}
+use Rattle.sr_parse_reader.proofs.Parts.{then, first_fails, handed}
+use Rattle.sr_parse_reader.proofs.Starts.{sign_read, sign_sample}
 use Rattle.sr_parse.proofs.creating.given_value.Goals as goal
 
 pub returns-then-not-takes_sign-clause-reads : goal.returns-then-not-takes_sign-clause-reads

@@ -1,8 +1,8 @@
 use Rattle.std.proofs.Common.{rules}
-use Rattle.sr_grammar.proofs.Granted.{address_proper, user_proper}
+use Rattle.sr_parse_grammar.proofs.Granted.{address_proper, user_proper}
 use Rattle.sr_parse.proofs.Grants.{grant_read}
-use Rattle.sr_reader.proofs.Parts.{then_on, ends_at, spelled, handed}
-use Rattle.sr_reader.proofs.Optionals.{behind_word, behind_ends}
+use Rattle.sr_parse_reader.proofs.Parts.{then_on, ends_at, spelled, handed}
+use Rattle.sr_parse_reader.proofs.Optionals.{behind_word, behind_ends}
 use Rattle.sr_parse.proofs.creating.granted.Goals as goal
 
 pub returns-in_err-keyword-clause-reads : goal.returns-in_err-keyword-clause-reads

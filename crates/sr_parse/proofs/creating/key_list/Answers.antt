@@ -1,11 +1,11 @@
 use Rattle.std.proofs.Common.{rules, []}
 use Rattle.sr_ast.specs.declared.keyword.Keyword.TheVariants as key
-use Rattle.sr_grammar.specs.declared.symbol.Sign.TheVariants as mark
-use Rattle.sr_grammar.specs.Tables.{IsKeyWords}
-use Rattle.sr_reader.specs.Productions.{Word}
-use Rattle.sr_reader.proofs.Parts.{then, first_fails, goes_first, recast, handed_mapped}
-use Rattle.sr_reader.proofs.Starts.{word_sample, sign_sample}
-use Rattle.sr_reader.proofs.Names.{NameParts, names_close, names_closed_sample}
+use Rattle.sr_parse_grammar.specs.declared.symbol.Sign.TheVariants as mark
+use Rattle.sr_parse_grammar.specs.Tables.{IsKeyWords}
+use Rattle.sr_parse_reader.specs.Inner.Productions.{Word}
+use Rattle.sr_parse_reader.proofs.Parts.{then, first_fails, goes_first, recast, handed_mapped}
+use Rattle.sr_parse_reader.proofs.Starts.{word_sample, sign_sample}
+use Rattle.sr_parse_reader.proofs.Names.{NameParts, names_close, names_closed_sample}
 use Rattle.sr_parse.proofs.Keyings.{key_of, key_to, key_back, name_parts_sample}
 use Rattle.sr_parse.proofs.creating.key_list.Goals as goal
 

@@ -1,12 +1,12 @@
 use Rattle.std.proofs.Common.{rules, [], refl, inl, inr, sym, ◌∙◌}
 use Rattle.sr_base.specs.declared.value.Kind.TheVariants as kind
 use Rattle.sr_ast.specs.declared.keyword.Keyword.TheVariants as key
-use Rattle.sr_grammar.specs.declared.symbol.Sign.TheVariants as mark
-use Rattle.sr_grammar.specs.Catalog.{IsLength}
-use Rattle.sr_reader.specs.Productions.{Mark}
+use Rattle.sr_parse_grammar.specs.declared.symbol.Sign.TheVariants as mark
+use Rattle.sr_parse_grammar.specs.Catalog.{IsLength}
+use Rattle.sr_parse_reader.specs.Inner.Productions.{Mark}
 use Rattle.sr_parse.proofs.Typing.{kind_read, varchar_read, length_sample}
-use Rattle.sr_reader.proofs.Parts.{then, first_fails, goes_first, handed}
-use Rattle.sr_reader.proofs.Starts.{sign_sample}
+use Rattle.sr_parse_reader.proofs.Parts.{then, first_fails, goes_first, handed}
+use Rattle.sr_parse_reader.proofs.Starts.{sign_sample}
 use Rattle.sr_parse.proofs.creating.kind.Goals as goal
 
 pub returns-then-takes-clause-reads : goal.returns-then-takes-clause-reads

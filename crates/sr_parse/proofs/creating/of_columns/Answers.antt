@@ -1,6 +1,6 @@
 use Rattle.std.proofs.Common.{rules}
-use Rattle.sr_reader.proofs.Parts.{then, cast, handed}
-use Rattle.sr_reader.proofs.Starts.{word_read}
+use Rattle.sr_parse_reader.proofs.Parts.{then, cast, handed}
+use Rattle.sr_parse_reader.proofs.Starts.{word_read}
 use Rattle.sr_parse.proofs.Triggers.{of_cast, of_absent}
 use Rattle.sr_parse.proofs.creating.of_columns.Goals as goal
 

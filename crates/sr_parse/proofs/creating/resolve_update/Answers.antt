@@ -1,8 +1,8 @@
 use Rattle.std.proofs.Common.{rules}
 use Rattle.sr_ast.specs.declared.keyword.Keyword.TheVariants as key
-use Rattle.sr_reader.specs.Productions.{TwoWords}
-use Rattle.sr_reader.proofs.Parts.{then, first_fails, recast, handed}
-use Rattle.sr_reader.proofs.Starts.{word_sample}
+use Rattle.sr_parse_reader.specs.Inner.Productions.{TwoWords}
+use Rattle.sr_parse_reader.proofs.Parts.{then, first_fails, recast, handed}
+use Rattle.sr_parse_reader.proofs.Starts.{word_sample}
 use Rattle.sr_parse.proofs.Triggers.{two_to, two_back}
 use Rattle.sr_parse.proofs.creating.resolve_update.Goals as goal
 

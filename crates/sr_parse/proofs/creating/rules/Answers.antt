@@ -1,7 +1,7 @@
 use Rattle.std.proofs.Common.{rules, inl, inr}
-use Rattle.sr_reader.proofs.Parts.{handed_mapped}
+use Rattle.sr_parse_reader.proofs.Parts.{handed_mapped}
 use Rattle.sr_parse.proofs.Rulings.{ended, rules_begun, rules_bar, rules_let, rules_key, bar_missed, key_missed, rules_done}
-use Rattle.sr_reader.proofs.Parts.{spelled, unspelled}
+use Rattle.sr_parse_reader.proofs.Parts.{spelled, unspelled}
 use Rattle.sr_parse.proofs.creating.rules.Goals as goal
 use Rattle.sr_parse.proofs.creating.rules.Goals.{else-not-not_null-via-then-not-not_null+else-is_keyword, else-not-not_null-via-else-not-not_null}
 use Rattle.sr_parse.proofs.creating.rules.Goals.{else-not-null-via-then-not-null+else-is_keyword-2, else-not-null-via-else-not-null}

@@ -1,7 +1,7 @@
 use Rattle.std.proofs.Common.{rules, refl}
 use Rattle.sr_parse.proofs.Grants.{literal_read, signed_read, negative_read, negative_missed}
-use Rattle.sr_reader.proofs.Parts.{then, handed}
-use Rattle.sr_reader.proofs.Starts.{sign_read}
+use Rattle.sr_parse_reader.proofs.Parts.{then, handed}
+use Rattle.sr_parse_reader.proofs.Starts.{sign_read}
 use Rattle.sr_parse.proofs.creating.signed_literal.Goals as goal
 
 pub returns-in_err-value-clause-reads : goal.returns-in_err-value-clause-reads

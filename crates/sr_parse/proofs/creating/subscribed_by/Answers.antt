@@ -1,6 +1,6 @@
 use Rattle.std.proofs.Common.{rules}
-use Rattle.sr_reader.proofs.Parts.{then, first_fails, handed}
-use Rattle.sr_reader.proofs.Starts.{word_read, expr_sample}
+use Rattle.sr_parse_reader.proofs.Parts.{then, first_fails, handed}
+use Rattle.sr_parse_reader.proofs.Starts.{word_read, expr_sample}
 use Rattle.sr_parse.proofs.Articles.{subscribed_none, subscribed_read}
 use Rattle.sr_parse.proofs.creating.subscribed_by.Goals as goal
 

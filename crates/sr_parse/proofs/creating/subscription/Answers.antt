@@ -1,12 +1,12 @@
 use Rattle.std.proofs.Common.{rules, [], refl}
-use Rattle.sr_grammar.specs.Going.{is_open}
-use Rattle.sr_grammar.proofs.Steps.{Stop-at}
+use Rattle.sr_parse_grammar.specs.Inner.Going.{is_open}
+use Rattle.sr_parse_grammar.proofs.Steps.{Stop-at}
 use Rattle.sr_ast.specs.declared.keyword.Keyword.TheVariants as key
-use Rattle.sr_grammar.specs.Catalog.{IsSubscription}
-use Rattle.sr_reader.specs.Productions.{Word}
+use Rattle.sr_parse_grammar.specs.Catalog.{IsSubscription}
+use Rattle.sr_parse_reader.specs.Inner.Productions.{Word}
 use Rattle.sr_parse.proofs.Grants.{subscription_of, subscription_to, subscription_back, for_sample, valued_sample, published_sample}
-use Rattle.sr_reader.proofs.Parts.{then, first_fails, goes_first, recast, handed}
-use Rattle.sr_reader.proofs.Starts.{word_sample, name_sample}
+use Rattle.sr_parse_reader.proofs.Parts.{then, first_fails, goes_first, recast, handed}
+use Rattle.sr_parse_reader.proofs.Starts.{word_sample, name_sample}
 use Rattle.sr_parse.proofs.creating.subscription.Goals as goal
 
 pub returns-in_err-keyword-clause-reads : goal.returns-in_err-keyword-clause-reads

@@ -1,8 +1,8 @@
 use Rattle.std.proofs.Common.{rules}
-use Rattle.sr_reader.proofs.Parts.{then, first_fails, recast, handed}
-use Rattle.sr_reader.proofs.Starts.{sign_sample}
-use Rattle.sr_grammar.specs.Triggers.{IsVariable}
-use Rattle.sr_grammar.specs.declared.symbol.Sign.TheVariants as mark
+use Rattle.sr_parse_reader.proofs.Parts.{then, first_fails, recast, handed}
+use Rattle.sr_parse_reader.proofs.Starts.{sign_sample}
+use Rattle.sr_parse_grammar.specs.Triggers.{IsVariable}
+use Rattle.sr_parse_grammar.specs.declared.symbol.Sign.TheVariants as mark
 use Rattle.sr_parse.proofs.Triggers.{variable_of, variable_to, variable_back, named_sample, typed_sample}
 use Rattle.sr_parse.proofs.creating.variable.Goals as goal
 

@@ -1,7 +1,7 @@
 use Rattle.std.proofs.Common.{rules, arith, refl}
 use Rattle.std.proofs.lemmas.Grind.{common_steps}
-use Rattle.sr_reader.proofs.Parts.{handed, no_memory, valued}
-use Rattle.sr_reader.proofs.Loops.{filed_begun, filed_on, filed_done, filed_missed}
+use Rattle.sr_parse_reader.proofs.Parts.{handed, no_memory, valued}
+use Rattle.sr_parse_reader.proofs.Loops.{filed_begun, filed_on, filed_done, filed_missed}
 use Rattle.sr_parse.proofs.Triggers.{declare_goes, no_variable}
 use Rattle.sr_parse.proofs.creating.variables.Goals as goal
 

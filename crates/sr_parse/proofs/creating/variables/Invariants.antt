@@ -1,7 +1,7 @@
 use Rattle.std.proofs.Common.{◌≤◌, length}
-use Rattle.sr_grammar.specs.Triggers.{IsVariable}
-use Rattle.sr_grammar.specs.Going.{Stop, is_declare}
-use Rattle.sr_reader.proofs.Loops.{Filed}
+use Rattle.sr_parse_grammar.specs.Triggers.{IsVariable}
+use Rattle.sr_parse_grammar.specs.Inner.Going.{Stop, is_declare}
+use Rattle.sr_parse_reader.proofs.Loops.{Filed}
 use Rattle.sr_parse.proofs.creating.variables.Given as goal
 
 abbrev pub invariant-more : goal.invariant-more

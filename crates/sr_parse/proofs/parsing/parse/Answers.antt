@@ -1,9 +1,9 @@
 use Rattle.std.proofs.Common.{◌≡◌, refl, inl, subst, arith, ap, ◌∙◌, length}
 use Rattle.std.proofs.lemmas.List.{length-reverse}
-use Rattle.sr_reader.specs.declared.reader.Broken.TheVariants.{Memory}
-use Rattle.sr_grammar.proofs.Meaning.{written_once, read_whole, written_by}
-use Rattle.sr_grammar.specs.Places.{IsRefusedAt}
-use Rattle.sr_reader.proofs.Parts.{spelled_only, unspelled}
+use Rattle.sr_parse_reader.specs.declared.reader.Broken.TheVariants.{Memory}
+use Rattle.sr_parse_grammar.proofs.Meaning.{written_once, read_whole, written_by}
+use Rattle.sr_parse_grammar.specs.Places.{IsRefusedAt}
+use Rattle.sr_parse_reader.proofs.Parts.{spelled_only, unspelled}
 use Rattle.sr_parse.proofs.Stuck.{refused_by, script_read}
 use Rattle.sr_parse.proofs.parsing.parse.Goals as goal
 

@@ -1,6 +1,6 @@
 use Rattle.std.proofs.Common.{rules, arith, inr}
 use Rattle.std.proofs.lemmas.Grind.{common_steps}
-use Rattle.sr_reader.proofs.Parts.{handed_mapped, no_memory_mapped, valued}
+use Rattle.sr_parse_reader.proofs.Parts.{handed_mapped, no_memory_mapped, valued}
 use Rattle.sr_parse.proofs.Pieces.{ends_empty, ends_not, no_piece, piece_read}
 use Rattle.sr_parse.proofs.parsing.piece.Goals.{then-left-eq0-via-then-left-eq0, then-left-eq0-via-else-left-eq0+then-is_sign}
 use Rattle.sr_parse.proofs.parsing.piece.Goals as goal

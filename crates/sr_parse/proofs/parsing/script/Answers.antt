@@ -1,5 +1,5 @@
 use Rattle.std.proofs.Common.{rules, arith}
-use Rattle.sr_reader.proofs.Parts.{handed, valued}
+use Rattle.sr_parse_reader.proofs.Parts.{handed, valued}
 use Rattle.sr_parse.proofs.Pieces.{told_begun, told_piece, told_sign, told_missed, told_over, told_left}
 use Rattle.sr_parse.proofs.parsing.script.Goals as goal
 

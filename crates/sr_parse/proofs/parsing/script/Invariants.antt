@@ -1,5 +1,5 @@
 use Rattle.std.proofs.Common.{◌≤◌, length}
-use Rattle.sr_grammar.specs.Scripts.Stage.{opened}
+use Rattle.sr_parse_grammar.specs.Scripts.Stage.{opened}
 use Rattle.sr_parse.proofs.Pieces.{Told}
 use Rattle.sr_parse.proofs.parsing.script.Given as goal
 

@@ -1,6 +1,6 @@
 use Rattle.std.proofs.Common.{rules, refl}
-use Rattle.sr_reader.proofs.Optionals.{moved}
-use Rattle.sr_reader.proofs.Parts.{handed}
+use Rattle.sr_parse_reader.proofs.Optionals.{moved}
+use Rattle.sr_parse_reader.proofs.Parts.{handed}
 use Rattle.sr_parse.proofs.FirstWords.{stated, none_stated}
 use Rattle.sr_parse.proofs.parsing.statement.Goals as goal
 

@@ -1,6 +1,6 @@
 use Rattle.std.proofs.Common.{◌≡◌, ◌++◌, filter_map, length}
-use Rattle.sr_schema.specs.Members.{column_name}
-use Rattle.sr_schema.specs.Names.{named}
+use Rattle.sr_catalog_schema.specs.Members.{column_name}
+use Rattle.sr_catalog_schema.specs.Names.{named}
 use Rattle.sr_publish.proofs.articles.columns_of.Given as goal
 
 abbrev pub invariant-names : goal.invariant-names

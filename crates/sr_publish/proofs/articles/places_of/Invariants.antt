@@ -1,6 +1,6 @@
 use Rattle.std.proofs.Common.{◌≡◌, ◌++◌, filter_map, length}
-use Rattle.sr_schema.specs.Members.{column_name}
-use Rattle.sr_schema.specs.Names.{place_of}
+use Rattle.sr_catalog_schema.specs.Members.{column_name}
+use Rattle.sr_catalog_schema.specs.Names.{place_of}
 use Rattle.sr_publish.proofs.articles.places_of.Given as goal
 
 abbrev pub invariant-names : goal.invariant-names

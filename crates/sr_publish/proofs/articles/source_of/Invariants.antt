@@ -1,6 +1,6 @@
 use Rattle.std.proofs.Common.{◌≡◌, length}
-use Rattle.sr_schema.specs.Firsts.{first_among}
-use Rattle.sr_publish.specs.Shares.{source_in, source_of}
+use Rattle.sr_catalog_schema.specs.Firsts.{first_among}
+use Rattle.sr_publish.specs.SubscribedTables.{source_in, source_of}
 use Rattle.sr_publish.proofs.articles.source_of.Given as goal
 
 abbrev pub invariant-subscriptions : goal.invariant-subscriptions

@@ -1,5 +1,5 @@
 use Rattle.std.proofs.Common.{◌≡◌, ◌++◌, filter_map, length}
-use Rattle.sr_publish.specs.Shares.{value_in}
+use Rattle.sr_publish.specs.SubscribedTables.{value_in}
 use Rattle.sr_publish.proofs.subscribed.values_of.Given as goal
 
 abbrev pub invariant-subscriptions : goal.invariant-subscriptions

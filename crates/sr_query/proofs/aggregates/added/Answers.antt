@@ -1,7 +1,7 @@
 use Rattle.std.proofs.Common.{◌*◌, pos, neg_ℤ, ◌≤ℤ◌, FitsSigned, rules, subst, arith}
 use Rattle.std.proofs.lemmas.Int.{ints}
 use Rattle.std.specs.Int.{w64}
-use Rattle.sr_query.specs.Rows.{IsBounded}
+use Rattle.sr_query.specs.Inner.Rows.{IsBounded}
 use Rattle.sr_query.proofs.aggregates.added.Goals as goal
 
 pub returns-clause-bounded : goal.returns-clause-bounded

@@ -1,8 +1,8 @@
 use Rattle.std.proofs.Common.{◌≡◌, length}
-use Rattle.sr_dml.specs.Edits.{prefixed}
-use Rattle.sr_dml.specs.Sequences.{each}
+use Rattle.sr_exec_dml.specs.Inner.Edits.{prefixed}
+use Rattle.sr_exec_dml.specs.Sequences.{each}
 use Rattle.sr_query.specs.Rows.{aggregate}
-use Rattle.sr_query.specs.Walks.{found}
+use Rattle.sr_query.specs.Inner.Walks.{found}
 use Rattle.sr_query.proofs.aggregates.aggregates.Given as goal
 
 abbrev pub invariant-items : goal.invariant-items

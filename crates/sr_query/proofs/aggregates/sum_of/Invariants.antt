@@ -1,5 +1,6 @@
 use Rattle.std.proofs.Common.{◌≡◌, ◌+◌, None, length}
-use Rattle.sr_query.specs.Rows.{sum_from, IsBounded}
+use Rattle.sr_query.specs.Rows.{sum_from}
+use Rattle.sr_query.specs.Inner.Rows.{IsBounded}
 use Rattle.sr_query.proofs.aggregates.sum_of.Given as goal
 
 abbrev pub invariant-values : goal.invariant-values

@@ -1,9 +1,9 @@
 use Rattle.std.proofs.Common.{◌≡◌, drop}
-use Rattle.sr_dml.specs.Edits.{prefixed}
-use Rattle.sr_dml.specs.Sequences.{each}
-use Rattle.sr_eval.specs.Resolving.{resolution_of}
-use Rattle.sr_query.specs.Preparing.{value_by}
-use Rattle.sr_query.specs.Walks.{found}
+use Rattle.sr_exec_dml.specs.Inner.Edits.{prefixed}
+use Rattle.sr_exec_dml.specs.Sequences.{each}
+use Rattle.sr_eval.specs.Inner.Resolving.{resolution_of}
+use Rattle.sr_query.specs.Inner.Preparing.{value_by}
+use Rattle.sr_query.specs.Inner.Walks.{found}
 use Rattle.sr_query.proofs.aggregates.values_by.Given as goal
 
 abbrev pub invariant-kept : goal.invariant-kept

@@ -1,14 +1,16 @@
 use Rattle.std.proofs.Common.{◌≡◌, ◌∷◌, ◌++◌, map, Some, rules, arith, refl, sym, ap, subst, ◌∙◌}
 use Rattle.std.proofs.lemmas.Result.{err_from_is_err_and}
-use Rattle.sr_eval.specs.Bounds.{IsRowOf, AreRows, columns_of, values_of}
+use Rattle.sr_eval.specs.Bounds.{IsRowOf}
+use Rattle.sr_eval.specs.Inner.Bounds.{AreRows, columns_of, values_of}
 use Rattle.sr_rows.specs.Walks.{Entry}
 use Rattle.sr_rows.proofs.Cursors.{AreHeld, table_held}
-use Rattle.sr_dml.specs.Edits.{prefixed}
-use Rattle.sr_query.specs.Combinations.{combinations, kept, over_each, Keeps}
-use Rattle.sr_query.specs.Equations.{equations}
-use Rattle.sr_query.specs.Lookups.{fixed_key}
+use Rattle.sr_exec_dml.specs.Inner.Edits.{prefixed}
+use Rattle.sr_query.specs.Combinations.{combinations, kept, over_each}
+use Rattle.sr_query.specs.Inner.Combinations.{Keeps}
+use Rattle.sr_query.specs.Inner.Equations.{equations}
+use Rattle.sr_query.specs.Inner.Lookups.{fixed_key}
 use Rattle.sr_query.specs.Sources.{conditions_of}
-use Rattle.sr_query.specs.Walks.{AreJoined, columns_left, found, seen}
+use Rattle.sr_query.specs.Inner.Walks.{AreJoined, columns_left, found, seen}
 use Rattle.sr_query.proofs.Combined.{columns_on, values_on, fit_on, begins_walk, goes_on, row_of_source}
 use Rattle.sr_query.proofs.OtherRows.{keeps_all}
 use Rattle.sr_query.proofs.combining.+walking.Goals as goal

@@ -1,12 +1,12 @@
 use Rattle.std.proofs.Common.{◌≡◌, ◌+◌, ◌*◌, ◌++◌, List, map, length}
 use Rattle.sr_base.specs.declared.value.Value.{Value}
-use Rattle.sr_eval.specs.Bounds.{values_of}
+use Rattle.sr_eval.specs.Inner.Bounds.{values_of}
 use Rattle.sr_rows.specs.Walks.{Entry}
 use Rattle.sr_rows.proofs.Cursors.{AreHeld}
-use Rattle.sr_dml.specs.Edits.{prefixed}
+use Rattle.sr_exec_dml.specs.Inner.Edits.{prefixed}
 use Rattle.sr_query.specs.Combinations.{combinations, kept, over_each}
 use Rattle.sr_query.specs.Sources.{conditions_of, rows_by_key}
-use Rattle.sr_query.specs.Walks.{found, seen}
+use Rattle.sr_query.specs.Inner.Walks.{found, seen}
 use Rattle.sr_query.proofs.combining.+walking.Given as goal
 
 abbrev pub decreases-walk : goal.decreases-walk

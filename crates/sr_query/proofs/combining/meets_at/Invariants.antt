@@ -1,7 +1,7 @@
 use Rattle.std.proofs.Common.{◌≡◌, map, length}
-use Rattle.sr_eval.specs.Bounds.{values_of}
-use Rattle.sr_eval.specs.Resolving.{resolution_of}
-use Rattle.sr_query.specs.Preparing.{meets_at}
+use Rattle.sr_eval.specs.Inner.Bounds.{values_of}
+use Rattle.sr_eval.specs.Inner.Resolving.{resolution_of}
+use Rattle.sr_query.specs.Inner.Preparing.{meets_at}
 use Rattle.sr_query.proofs.combining.meets_at.Given as goal
 
 abbrev pub invariant-conditions : goal.invariant-conditions

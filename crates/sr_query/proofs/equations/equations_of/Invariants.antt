@@ -1,6 +1,6 @@
 use Rattle.std.proofs.Common.{◌≡◌, ◌++◌, map, length}
 use Rattle.sr_ast.specs.declared.query.Join.{Join}
-use Rattle.sr_query.specs.Equations.{equation_of, equations}
+use Rattle.sr_query.specs.Inner.Equations.{equation_of, equations}
 use Rattle.sr_query.specs.Sources.{conditions_of, where_of}
 use Rattle.sr_query.proofs.equations.equations_of.Given as goal
 

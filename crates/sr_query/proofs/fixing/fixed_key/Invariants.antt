@@ -1,8 +1,8 @@
 use Rattle.std.proofs.Common.{◌≡◌, map, length}
-use Rattle.sr_eval.specs.Bounds.{values_of}
-use Rattle.sr_dml.specs.Fixing.{after_values}
-use Rattle.sr_query.specs.Equations.{equation_of}
-use Rattle.sr_query.specs.Lookups.{fixed_key}
+use Rattle.sr_eval.specs.Inner.Bounds.{values_of}
+use Rattle.sr_exec_dml.specs.Inner.Fixing.{after_values}
+use Rattle.sr_query.specs.Inner.Equations.{equation_of}
+use Rattle.sr_query.specs.Inner.Lookups.{fixed_key}
 use Rattle.sr_query.proofs.fixing.fixed_key.Given as goal
 
 abbrev pub invariant-places : goal.invariant-places

@@ -1,8 +1,8 @@
 use Rattle.std.proofs.Common.{◌≡◌, drop}
-use Rattle.sr_dml.specs.Edits.{prefixed}
-use Rattle.sr_dml.specs.Sequences.{each}
-use Rattle.sr_query.specs.Preparing.{placed_row, resolutions_of}
-use Rattle.sr_query.specs.Walks.{found}
+use Rattle.sr_exec_dml.specs.Inner.Edits.{prefixed}
+use Rattle.sr_exec_dml.specs.Sequences.{each}
+use Rattle.sr_query.specs.Inner.Preparing.{placed_row, resolutions_of}
+use Rattle.sr_query.specs.Inner.Walks.{found}
 use Rattle.sr_query.proofs.items.placed_rows.Given as goal
 
 abbrev pub invariant-kept : goal.invariant-kept

@@ -1,6 +1,6 @@
 use Rattle.std.proofs.Common.{◌≡◌, ◌++◌, length}
-use Rattle.sr_eval.specs.Bounds.{values_of}
-use Rattle.sr_query.specs.Orders.{ranks_at}
+use Rattle.sr_eval.specs.Inner.Bounds.{values_of}
+use Rattle.sr_query.specs.Inner.Orders.{ranks_at}
 use Rattle.sr_query.proofs.items.rank_list.Given as goal
 
 abbrev pub invariant-places : goal.invariant-places

@@ -1,10 +1,10 @@
 use Rattle.std.proofs.Common.{◌≡◌, map, drop}
-use Rattle.sr_dml.specs.Edits.{prefixed}
-use Rattle.sr_dml.specs.Sequences.{each}
-use Rattle.sr_eval.specs.Bounds.{values_of}
-use Rattle.sr_eval.specs.Resolving.{resolution_of}
-use Rattle.sr_query.specs.Preparing.{value_by}
-use Rattle.sr_query.specs.Walks.{bounds_of}
+use Rattle.sr_exec_dml.specs.Inner.Edits.{prefixed}
+use Rattle.sr_exec_dml.specs.Sequences.{each}
+use Rattle.sr_eval.specs.Inner.Bounds.{values_of}
+use Rattle.sr_eval.specs.Inner.Resolving.{resolution_of}
+use Rattle.sr_query.specs.Inner.Preparing.{value_by}
+use Rattle.sr_query.specs.Inner.Walks.{bounds_of}
 use Rattle.sr_query.proofs.items.values_of_several.Given as goal
 
 abbrev pub invariant-parts : goal.invariant-parts

@@ -1,8 +1,8 @@
 use Rattle.std.proofs.Common.{◌≡◌, ◌∷◌, List, map, rules, sym, ap, subst, ◌∙◌}
 use Rattle.sr_ast.specs.declared.query.Join.{Join}
-use Rattle.sr_dml.specs.Edits.{prefixed}
+use Rattle.sr_exec_dml.specs.Inner.Edits.{prefixed}
 use Rattle.sr_query.specs.Sources.{origins_of}
-use Rattle.sr_query.specs.Walks.{AreJoined, seen}
+use Rattle.sr_query.specs.Inner.Walks.{AreJoined, seen}
 use Rattle.sr_query.proofs.Combined.{joined_one, one_more}
 use Rattle.sr_query.proofs.joining.joined_sources.Goals as goal
 

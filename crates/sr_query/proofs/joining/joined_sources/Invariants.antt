@@ -1,8 +1,8 @@
 use Rattle.std.proofs.Common.{◌≡◌, map, length}
 use Rattle.sr_ast.specs.declared.query.Join.{Join}
-use Rattle.sr_dml.specs.Edits.{prefixed}
+use Rattle.sr_exec_dml.specs.Inner.Edits.{prefixed}
 use Rattle.sr_query.specs.Sources.{origins_of, sources_of}
-use Rattle.sr_query.specs.Walks.{AreJoined, seen}
+use Rattle.sr_query.specs.Inner.Walks.{AreJoined, seen}
 use Rattle.sr_query.proofs.joining.joined_sources.Given as goal
 
 abbrev pub invariant-joins : goal.invariant-joins

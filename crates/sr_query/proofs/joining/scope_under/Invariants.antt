@@ -1,6 +1,6 @@
 use Rattle.std.proofs.Common.{◌≡◌, ◌++◌, map, length}
 use Rattle.std.specs.Prelude.{Some}
-use Rattle.sr_schema.specs.declared.table.Column.{Column}
+use Rattle.sr_catalog_schema.specs.declared.table.Column.{Column}
 use Rattle.sr_query.proofs.joining.scope_under.Given as goal
 
 abbrev pub invariant-columns : goal.invariant-columns

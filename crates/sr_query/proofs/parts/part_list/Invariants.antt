@@ -1,6 +1,6 @@
 use Rattle.std.proofs.Common.{◌≡◌, ◌++◌, map, length}
-use Rattle.sr_eval.specs.Resolving.{resolution_of}
-use Rattle.sr_query.specs.Preparing.{resolved_item}
+use Rattle.sr_eval.specs.Inner.Resolving.{resolution_of}
+use Rattle.sr_query.specs.Inner.Preparing.{resolved_item}
 use Rattle.sr_query.proofs.parts.part_list.Given as goal
 
 abbrev pub invariant-items : goal.invariant-items

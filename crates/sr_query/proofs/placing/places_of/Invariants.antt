@@ -1,5 +1,5 @@
 use Rattle.std.proofs.Common.{◌≡◌, ◌++◌, map, length}
-use Rattle.sr_query.specs.Orders.{placed_in}
+use Rattle.sr_query.specs.Inner.Orders.{placed_in}
 use Rattle.sr_query.proofs.placing.places_of.Given as goal
 
 abbrev pub invariant-order : goal.invariant-order

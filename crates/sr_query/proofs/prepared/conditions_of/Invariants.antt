@@ -1,7 +1,7 @@
 use Rattle.std.proofs.Common.{◌≡◌, ◌++◌, map, length}
 use Rattle.sr_ast.specs.declared.query.Join.{Join}
-use Rattle.sr_eval.specs.Resolving.{resolution_of}
-use Rattle.sr_query.specs.Preparing.{resolved_in}
+use Rattle.sr_eval.specs.Inner.Resolving.{resolution_of}
+use Rattle.sr_query.specs.Inner.Preparing.{resolved_in}
 use Rattle.sr_query.specs.Sources.{conditions_of, where_of}
 use Rattle.sr_query.proofs.prepared.conditions_of.Given as goal
 

@@ -2,7 +2,7 @@ use Rattle.std.proofs.Common.{[], Ok, map, ap, ◌∙◌}
 use Rattle.std.proofs.lemmas.List.{append-nil}
 use Rattle.std.proofs.lemmas.Result.{err_from_is_err_and}
 use Rattle.sr_query.specs.Sources.{conditions_of}
-use Rattle.sr_query.specs.Walks.{found, seen}
+use Rattle.sr_query.specs.Inner.Walks.{found, seen}
 use Rattle.sr_query.proofs.Whole.{from_nothing}
 use Rattle.sr_query.proofs.selecting.kept.Goals as goal
 

@@ -1,15 +1,15 @@
 use Rattle.std.proofs.Common.{◌≡◌, ◌≢◌, List, [], true, false, cond, None, Some, Result, Ok, Err, MatchResult, map, rules, sym, ap, subst, ◌∙◌}
 use Rattle.std.proofs.lemmas.Result.{err_from_is_err_and}
-use Rattle.sr_schema.specs.declared.fault.DmlFault.{DmlFault}
-use Rattle.sr_schema.specs.declared.fault.DmlFault.TheVariants.{BadValue, Memory}
-use Rattle.sr_dml.specs.Sequences.{followed}
-use Rattle.sr_dml.specs.Statements.{in_order}
+use Rattle.sr_catalog_schema.specs.declared.fault.DmlFault.{DmlFault}
+use Rattle.sr_catalog_schema.specs.declared.fault.DmlFault.TheVariants.{BadValue, Memory}
+use Rattle.sr_exec_dml.specs.Sequences.{followed}
+use Rattle.sr_exec_dml.specs.Statements.{in_order}
 use Rattle.sr_query.specs.Checks.{is_good, unknown_in_select}
 use Rattle.sr_query.specs.Combinations.{combinations, kept}
 use Rattle.sr_query.specs.Rows.{listed}
 use Rattle.sr_query.specs.Selecting.{bad_in_select}
 use Rattle.sr_query.specs.Sources.{conditions_of}
-use Rattle.sr_query.specs.Walks.{columns_left, found, seen}
+use Rattle.sr_query.specs.Inner.Walks.{columns_left, found, seen}
 use Rattle.sr_query.specs.declared.rank.Listed.{Listed}
 use Rattle.sr_query.proofs.Whole.{by_sources}
 use Rattle.sr_query.proofs.selecting.selected.Goals as goal

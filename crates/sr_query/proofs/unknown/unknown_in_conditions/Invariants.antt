@@ -1,8 +1,8 @@
 use Rattle.std.proofs.Common.{◌≡◌, ◌++◌, map, length}
 use Rattle.sr_ast.specs.declared.query.Join.{Join}
-use Rattle.sr_dml.specs.Sequences.{first_in}
+use Rattle.sr_exec_dml.specs.Sequences.{first_in}
 use Rattle.sr_query.specs.Sources.{conditions_of, where_of}
-use Rattle.sr_dml.specs.Checks.{unknown_in}
+use Rattle.sr_exec_dml.specs.Checks.{unknown_in}
 use Rattle.sr_query.proofs.unknown.unknown_in_conditions.Given as goal
 
 abbrev pub invariant-joins : goal.invariant-joins

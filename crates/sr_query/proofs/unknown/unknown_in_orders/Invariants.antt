@@ -1,5 +1,5 @@
 use Rattle.std.proofs.Common.{◌≡◌, length}
-use Rattle.sr_dml.specs.Sequences.{first_in}
+use Rattle.sr_exec_dml.specs.Sequences.{first_in}
 use Rattle.sr_query.specs.Checks.{unknown_in_order}
 use Rattle.sr_query.proofs.unknown.unknown_in_orders.Given as goal
 

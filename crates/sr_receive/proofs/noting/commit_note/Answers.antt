@@ -1,4 +1,4 @@
-use Rattle.sr_history.specs.Recorded.{note}
+use Rattle.sr_database_history.specs.Recorded.{note}
 use Rattle.sr_receive.proofs.Notes.{note_can, note_can_some}
 use Rattle.sr_receive.proofs.noting.commit_note.Goals as goal
 

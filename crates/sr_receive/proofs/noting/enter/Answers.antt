@@ -1,7 +1,8 @@
 use Rattle.std.proofs.Common.{Result, [], ◌∷◌, sym, subst}
 use Rattle.std.specs.Prelude.{IfErr, OnOk}
-use Rattle.sr_receive.specs.Entering.{CommitStop, IsReady, Reached}
-use Rattle.sr_gather.specs.declared.fault.ReceiveFault.{ReceiveFault}
+use Rattle.sr_receive.specs.Entering.{IsReady, Reached}
+use Rattle.sr_receive.specs.Inner.Entering.{CommitStop}
+use Rattle.sr_receive_gather.specs.declared.fault.ReceiveFault.{ReceiveFault}
 use Rattle.sr_receive.proofs.Committing.{CommitSays, entered, ready_after, stopped}
 use Rattle.sr_receive.proofs.noting.enter.Goals as goal
 

@@ -1,6 +1,7 @@
 use Rattle.std.proofs.Common.{List, [], IfErr, OnOk, subst}
 use Rattle.sr_book.specs.declared.note.Note.{Note}
-use Rattle.sr_receive.specs.Entering.{NotesStop, Reached}
+use Rattle.sr_receive.specs.Entering.{Reached}
+use Rattle.sr_receive.specs.Inner.Entering.{NotesStop}
 use Rattle.sr_receive.specs.Passes.{note_entries}
 use Rattle.sr_receive.proofs.receiving.note_confirm.Goals as goal
 

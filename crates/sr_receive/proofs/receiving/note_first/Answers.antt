@@ -1,5 +1,5 @@
-use Rattle.sr_site.specs.Growing.{disk_stays_on}
-use Rattle.sr_gather.specs.Greatest.{asks, confirms}
+use Rattle.sr_site.specs.Inner.Growing.{disk_stays_on}
+use Rattle.sr_receive_gather.specs.Greatest.{asks, confirms}
 use Rattle.sr_receive.specs.Passes.{note_entries}
 use Rattle.sr_receive.proofs.Faulting.{fault_then, notes_why, notes_why_answer, reached_steady}
 use Rattle.sr_receive.proofs.Joins.{known_answer, known_then}

@@ -1,4 +1,4 @@
-use Rattle.sr_gather.specs.Greatest.{raises}
+use Rattle.sr_receive_gather.specs.Greatest.{raises}
 use Rattle.sr_receive.specs.Passes.{note_entries}
 use Rattle.sr_receive.proofs.Faulting.{raise_why}
 use Rattle.sr_receive.proofs.Passing.{raise_among}

@@ -1,7 +1,7 @@
 use Rattle.std.proofs.Common.{◌≡◌, List, subst}
 use Rattle.std.specs.Prelude.{IfOk}
-use Rattle.sr_receive.specs.Entering.{CommitStop}
-use Rattle.sr_gather.specs.declared.report.Report.{Report}
+use Rattle.sr_receive.specs.Inner.Entering.{CommitStop}
+use Rattle.sr_receive_gather.specs.declared.report.Report.{Report}
 use Rattle.sr_receive.proofs.Notes.{nothing_moved, nothing_reached}
 use Rattle.sr_receive.proofs.Taken.{through_ok, through_err}
 use Rattle.sr_receive.proofs.taking.enter_told.Goals as goal

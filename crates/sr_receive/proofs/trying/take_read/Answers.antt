@@ -5,32 +5,32 @@ use Rattle.sr_receive.proofs.Tried.{begun_left, begun_stopped, begun_tried, torn
 use Rattle.sr_receive.proofs.trying.take_read.Goals as goal
 
 pub returns-in-None-clause-tried : goal.returns-in-None-clause-tried
-returns-in-None-clause-tried g c pairs middle from before letters first acts all stands idle holds trial =
-    torn_tried from c.args.db.now before middle (g.S.Held.seen c.args.site.now) c.args.user.now letters first acts c.args.progress.now all c.args.reports.now.items c.push_torn.new.reports.items c.args.window pairs None c.args.inbox.now c.lose.new.inbox
+returns-in-None-clause-tried g c pairs middle from before message_files first acts all stands idle holds trial =
+    torn_tried from c.args.db.now before middle (g.S.Held.seen c.args.site.now) c.args.user.now message_files first acts c.args.progress.now all c.args.reports.now.items c.push_torn.new.reports.items c.args.window pairs None c.args.inbox.now c.lose.new.inbox
     c.push_torn.result refl stands idle holds (rw c.in-None.is at trial) c.lose.ensures.pieces c.lose.ensures.dropped c.push_torn.ensures.torn
 
 pub returns-in-None-clause-cause : goal.returns-in-None-clause-cause
-returns-in-None-clause-cause g c pairs middle from before letters first acts all stands idle holds trial =
-    torn_stopped from c.args.db.now before middle (g.S.Held.seen c.args.site.now) c.args.user.now letters first acts c.args.progress.now all c.args.reports.now.items c.push_torn.new.reports.items c.args.window pairs None c.args.inbox.now c.lose.new.inbox
+returns-in-None-clause-cause g c pairs middle from before message_files first acts all stands idle holds trial =
+    torn_stopped from c.args.db.now before middle (g.S.Held.seen c.args.site.now) c.args.user.now message_files first acts c.args.progress.now all c.args.reports.now.items c.push_torn.new.reports.items c.args.window pairs None c.args.inbox.now c.lose.new.inbox
     c.push_torn.result refl stands holds (rw c.in-None.is at trial) c.lose.ensures.pieces c.lose.ensures.dropped c.push_torn.ensures.err c.push_torn.ensures.memory
 
 pub returns-in-Some-clause-tried : goal.returns-in-Some-clause-tried
-returns-in-Some-clause-tried g c pairs middle from before letters first acts all stands idle holds trial =
+returns-in-Some-clause-tried g c pairs middle from before message_files first acts all stands idle holds trial =
     let now = g.S.Held.seen c.args.site.now in
     let txs = c.in-Some.transactions.items in
-    let there = stands_begun from c.args.db.now before middle now c.args.user.now letters first acts c.args.progress.now all c.args.reports.now.items c.args.window pairs txs stands (rw c.in-Some.is at trial) in
-    begun_tried from c.take_all-outcome.new.db before (g.S.Held.seen c.take_all-outcome.new.site) c.args.user.now letters first acts c.args.window pairs txs c.take_all-outcome.new.progress all c.take_all-outcome.new.reports.items c.args.inbox.now
+    let there = stands_begun from c.args.db.now before middle now c.args.user.now message_files first acts c.args.progress.now all c.args.reports.now.items c.args.window pairs txs stands (rw c.in-Some.is at trial) in
+    begun_tried from c.take_all-outcome.new.db before (g.S.Held.seen c.take_all-outcome.new.site) c.args.user.now message_files first acts c.args.window pairs txs c.take_all-outcome.new.progress all c.take_all-outcome.new.reports.items c.args.inbox.now
     c.take_all-outcome.result
-    (c.take_all-outcome.ensures.taken from before letters first (begun c.args.window pairs txs ∷ acts) all there
-    (begun_left from c.args.db.now before middle c.args.user.now letters first acts c.args.progress.now all c.args.reports.now.items c.args.window pairs txs c.as_slice-ts.result.now stands c.as_slice-ts.ensures.value))
+    (c.take_all-outcome.ensures.taken from before message_files first (begun c.args.window pairs txs ∷ acts) all there
+    (begun_left from c.args.db.now before middle c.args.user.now message_files first acts c.args.progress.now all c.args.reports.now.items c.args.window pairs txs c.as_slice-ts.result.now stands c.as_slice-ts.ensures.value))
     holds
 
 pub returns-in-Some-clause-cause : goal.returns-in-Some-clause-cause
-returns-in-Some-clause-cause g c pairs middle from before letters first acts all stands idle holds trial =
+returns-in-Some-clause-cause g c pairs middle from before message_files first acts all stands idle holds trial =
     let now = g.S.Held.seen c.args.site.now in
     let txs = c.in-Some.transactions.items in
-    let there = stands_begun from c.args.db.now before middle now c.args.user.now letters first acts c.args.progress.now all c.args.reports.now.items c.args.window pairs txs stands (rw c.in-Some.is at trial) in
-    begun_stopped from c.take_all-outcome.new.db before (g.S.Held.seen c.take_all-outcome.new.site) c.args.user.now letters first acts c.args.window pairs txs all c.take_all-outcome.new.reports.items c.args.inbox.now c.take_all-outcome.result
-    (c.take_all-outcome.ensures.cause from before letters first (begun c.args.window pairs txs ∷ acts) all there
-    (begun_left from c.args.db.now before middle c.args.user.now letters first acts c.args.progress.now all c.args.reports.now.items c.args.window pairs txs c.as_slice-ts.result.now stands c.as_slice-ts.ensures.value))
+    let there = stands_begun from c.args.db.now before middle now c.args.user.now message_files first acts c.args.progress.now all c.args.reports.now.items c.args.window pairs txs stands (rw c.in-Some.is at trial) in
+    begun_stopped from c.take_all-outcome.new.db before (g.S.Held.seen c.take_all-outcome.new.site) c.args.user.now message_files first acts c.args.window pairs txs all c.take_all-outcome.new.reports.items c.args.inbox.now c.take_all-outcome.result
+    (c.take_all-outcome.ensures.cause from before message_files first (begun c.args.window pairs txs ∷ acts) all there
+    (begun_left from c.args.db.now before middle c.args.user.now message_files first acts c.args.progress.now all c.args.reports.now.items c.args.window pairs txs c.as_slice-ts.result.now stands c.as_slice-ts.ensures.value))
     holds

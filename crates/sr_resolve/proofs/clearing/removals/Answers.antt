@@ -1,5 +1,6 @@
 use Rattle.std.proofs.Common.{◌++◌, map, None, ap, ◌∙◌}
-use Rattle.sr_rows.specs.Walks.{Entry, table_rows, past}
+use Rattle.sr_rows.specs.Walks.{Entry, table_rows}
+use Rattle.sr_rows.specs.Inner.Walks.{past}
 use Rattle.sr_rows.proofs.Listing.{past-None}
 use Rattle.sr_resolve.specs.Judging.{removal}
 use Rattle.sr_resolve.proofs.clearing.removals.Goals as goal

@@ -1,6 +1,7 @@
 use Rattle.std.proofs.Common.{◌≡◌, ◌++◌, length, map}
 use Rattle.std.specs.Option.{option_copied}
-use Rattle.sr_rows.specs.Walks.{Entry, table_rows, past}
+use Rattle.sr_rows.specs.Walks.{Entry, table_rows}
+use Rattle.sr_rows.specs.Inner.Walks.{past}
 use Rattle.sr_resolve.specs.Judging.{removal}
 use Rattle.sr_resolve.proofs.clearing.removals.Given as goal
 

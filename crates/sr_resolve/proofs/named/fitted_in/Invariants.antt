@@ -1,5 +1,5 @@
 use Rattle.std.proofs.Common.{◌≡◌, length, Some}
-use Rattle.sr_history.specs.Fitting.{fitted_in}
+use Rattle.sr_database_history.specs.Fitting.{fitted_in}
 use Rattle.sr_resolve.proofs.named.fitted_in.Given as goal
 
 abbrev pub invariant-values : goal.invariant-values

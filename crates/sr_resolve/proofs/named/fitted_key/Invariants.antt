@@ -1,5 +1,5 @@
 use Rattle.std.proofs.Common.{◌≡◌, length}
-use Rattle.sr_firing.specs.Actions.{after_items}
+use Rattle.sr_resolve_triggers.specs.Inner.Actions.{after_items}
 use Rattle.sr_resolve.specs.Named.{fitted_at, fitted_key}
 use Rattle.sr_resolve.proofs.named.fitted_key.Given as goal
 

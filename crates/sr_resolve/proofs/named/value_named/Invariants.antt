@@ -1,5 +1,5 @@
 use Rattle.std.proofs.Common.{◌≡◌, length}
-use Rattle.sr_schema.specs.Names.{named}
+use Rattle.sr_catalog_schema.specs.Names.{named}
 use Rattle.sr_resolve.proofs.named.value_named.Given as goal
 
 abbrev pub invariant-values : goal.invariant-values

@@ -1,5 +1,5 @@
 use Rattle.std.proofs.Common.{Some, sym, ap, ◌∙◌}
-use Rattle.sr_rows.specs.Gathered.{gathered, filled}
+use Rattle.sr_rows.specs.Inner.Gathered.{gathered, filled}
 use Rattle.sr_rows.proofs.Keeping.{filled-swept}
 use Rattle.sr_rows.proofs.rows.sweep.Goals as goal
 

@@ -1,7 +1,7 @@
 use Rattle.std.proofs.Common.{rules, ap, sym, ◌∙◌}
 use Rattle.std.specs.FinMap as map
 use Rattle.std.proofs.lemmas.Result.{IfOk-weaker, on_err_weaker}
-use Rattle.sr_rows.specs.Gathered.{row_of}
+use Rattle.sr_rows.specs.Inner.Gathered.{row_of}
 use Rattle.sr_rows.proofs.Filling.{fills_gathered}
 use Rattle.sr_rows.proofs.Gathering.{get-gone, place_at-held, gathered-same}
 use Rattle.sr_rows.proofs.tables.fill_at.Goals as goal

@@ -1,6 +1,6 @@
 use Rattle.std.proofs.Common.{rules, subst, IsSome, ◌∙◌}
 use Rattle.std.specs.FinMap as map
-use Rattle.sr_rows.specs.Gathered.{gathered}
+use Rattle.sr_rows.specs.Inner.Gathered.{gathered}
 use Rattle.sr_rows.proofs.Entries.{there_not_none}
 use Rattle.sr_rows.proofs.Gathering.{get-held, get-gone, place_at-held, gathered-inserted}
 use Rattle.sr_rows.proofs.tables.set_at.Goals as goal

@@ -1,6 +1,6 @@
 -- the first filled entry is among those that are left
 use Rattle.std.proofs.Common.{◌≡◌}
-use Rattle.sr_rows.specs.Gathered.{first_filled}
+use Rattle.sr_rows.specs.Inner.Gathered.{first_filled}
 use Rattle.sr_rows.proofs.tree.first_filled.Given as goal
 
 abbrev pub invariant-loop-key : goal.invariant-loop-key

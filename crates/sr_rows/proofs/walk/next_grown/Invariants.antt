@@ -1,6 +1,6 @@
 -- the rows of the places that are left are those at the start: what was passed held none
 use Rattle.std.proofs.Common.{◌≡◌, length}
-use Rattle.sr_rows.specs.Gathered.{filled_rows}
+use Rattle.sr_rows.specs.Inner.Gathered.{filled_rows}
 use Rattle.sr_rows.proofs.walk.next_grown.Given as goal
 
 abbrev pub invariant-places : goal.invariant-places

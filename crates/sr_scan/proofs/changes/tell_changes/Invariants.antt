@@ -1,7 +1,7 @@
 use Rattle.std.proofs.Common.{◌≡◌, ◌++◌, length}
 use Rattle.std.specs.BTreeMap as tree
 use Rattle.sr_base.specs.Order.{name_cmp}
-use Rattle.sr_scan.specs.Images.{changes_told}
+use Rattle.sr_scan.specs.Inner.Images.{changes_told}
 use Rattle.sr_scan.proofs.changes.tell_changes.Given as goal
 
 abbrev pub invariant-changes : goal.invariant-changes

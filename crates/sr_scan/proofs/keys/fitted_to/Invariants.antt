@@ -1,5 +1,5 @@
 use Rattle.std.proofs.Common.{◌≡◌, Some, length}
-use Rattle.sr_history.specs.Fitting.{fitted_in}
+use Rattle.sr_database_history.specs.Fitting.{fitted_in}
 use Rattle.sr_scan.proofs.keys.fitted_to.Given as goal
 
 abbrev pub invariant-columns : goal.invariant-columns

@@ -1,5 +1,5 @@
 use Rattle.std.proofs.Common.{rules, ◌≡◌, ◌∷◌, Some, slice_get}
-use Rattle.sr_history.specs.Fitting.{fitted_in}
+use Rattle.sr_database_history.specs.Fitting.{fitted_in}
 use Rattle.sr_scan.proofs.Prefixes.{one_more}
 use Rattle.sr_scan.proofs.keys.key_meant.Goals as goal
 

@@ -1,6 +1,6 @@
 use Rattle.std.proofs.Common.{◌≡◌, map, slice_get, length}
-use Rattle.sr_history.specs.Fitting.{fitted_in}
-use Rattle.sr_scan.specs.Images.{all_of}
+use Rattle.sr_database_history.specs.Fitting.{fitted_in}
+use Rattle.sr_scan.specs.Inner.Images.{all_of}
 use Rattle.sr_scan.proofs.Prefixes.{behind}
 use Rattle.sr_scan.proofs.keys.key_meant.Given as goal
 

@@ -1,12 +1,12 @@
 use Rattle.std.proofs.Common.{◌+◌, ◌∷◌, [], List, length, refl, ap, subst, ◌∙◌}
 use Rattle.std.specs.List.{AllByRecursion}
-use Rattle.sr_cut.specs.Cuts.{bodyless}
+use Rattle.sr_mail_cut.specs.Cuts.{bodyless}
 use Rattle.sr_msgform.specs.Messages.{IsMessage}
 use Rattle.sr_msgform.specs.declared.message.Message.{Message}
-use Rattle.sr_send.specs.Faults.{fault_of_cut}
-use Rattle.sr_send.specs.Letters.{letters}
-use Rattle.sr_send.specs.Posting.{Posted}
-use Rattle.sr_send.specs.Stops.{IsPartSent}
+use Rattle.sr_send.specs.Inner.Faults.{fault_of_cut}
+use Rattle.sr_send.specs.PutFiles.{put_files}
+use Rattle.sr_send.specs.Inner.Posting.{Posted}
+use Rattle.sr_send.specs.Inner.Stops.{IsPartSent}
 use Rattle.sr_send.specs.declared.fault.SendFault.{SendFault}
 use Rattle.sr_send.proofs.Cutting.{bodyless_may}
 use Rattle.sr_send.proofs.Endings.{bodyless_refused}
@@ -33,7 +33,7 @@ returns-in-Ok-clause-put g c =
     record {
       count = c.in-Ok.ensures.count ∙ ap (λ (l : List Message). c.args.post.now.put + length l) is;
       end_is = refl;
-      posted = subst (λ (l : List Message). Posted before now (letters aim.address (aim.count + c.args.post.now.put) l)) is c.in-Ok.ensures.posted;
+      posted = subst (λ (l : List Message). Posted before now (put_files aim.address (aim.count + c.args.post.now.put) l)) is c.in-Ok.ensures.posted;
       spelled = subst (λ (l : List Message). AllByRecursion IsMessage l) is c.in-Ok.ensures.spelled;
       steady = c.in-Ok.ensures.steady;
     }

@@ -2,9 +2,9 @@ use Rattle.std.proofs.Common.{◌+◌, List, length, refl, ap, subst, ◌∙◌}
 use Rattle.std.specs.List.{AllByRecursion}
 use Rattle.sr_msgform.specs.Messages.{IsMessage}
 use Rattle.sr_msgform.specs.declared.message.Message.{Message}
-use Rattle.sr_send.specs.Letters.{letters}
-use Rattle.sr_send.specs.Posting.{Posted}
-use Rattle.sr_send.specs.Stops.{IsPartSent, HeldStop}
+use Rattle.sr_send.specs.PutFiles.{put_files}
+use Rattle.sr_send.specs.Inner.Posting.{Posted}
+use Rattle.sr_send.specs.Inner.Stops.{IsPartSent, HeldStop}
 use Rattle.sr_send.specs.declared.fault.SendFault.TheVariants.{Memory}
 use Rattle.sr_send.proofs.Endings.{held_may, emptied_so, held_short, held_stopped}
 use Rattle.sr_send.proofs.Results.{if_fault}
@@ -27,7 +27,7 @@ returns-in-Ok-clause-emptied g c =
     let now = g.S.Held.seen c.put_all-outcome.new.site in
     emptied_so aim c.args.post.now _ c.in_ok-closed.closed.items before now c.in_ok-closed.ensures.cut
     (c.in-Ok.ensures.count ∙ ap (λ (l : List Message). c.args.post.now.put + length l) c.as_slice.ensures.value) refl
-    (subst (λ (l : List Message). Posted before now (letters aim.address (aim.count + c.args.post.now.put) l)) c.as_slice.ensures.value c.in-Ok.ensures.posted)
+    (subst (λ (l : List Message). Posted before now (put_files aim.address (aim.count + c.args.post.now.put) l)) c.as_slice.ensures.value c.in-Ok.ensures.posted)
     (subst (λ (l : List Message). AllByRecursion IsMessage l) c.as_slice.ensures.value c.in-Ok.ensures.spelled)
     c.in-Ok.ensures.steady
 

@@ -1,5 +1,5 @@
-use Rattle.sr_send.specs.Steps.{IsDueAlone}
-use Rattle.sr_send.specs.Stops.{LastStop}
+use Rattle.sr_send.specs.Inner.Steps.{IsDueAlone}
+use Rattle.sr_send.specs.Inner.Stops.{LastStop}
 use Rattle.sr_send.proofs.Endings.{not_due, is_due, held_last, completed_cut, completed_answer, last_answer}
 use Rattle.sr_send.proofs.Results.{if_fault}
 use Rattle.sr_send.proofs.finishing.put_rest.Goals as goal

@@ -1,6 +1,6 @@
 use Rattle.std.proofs.Common.{sym, ap, ◌∙◌}
 use Rattle.std.specs.Option.{option_copied}
-use Rattle.sr_send.specs.Letters.{address_of}
+use Rattle.sr_send.specs.PutFiles.{address_of}
 use Rattle.sr_send.proofs.heading.address_of.Goals as goal
 
 pub returns : goal.returns

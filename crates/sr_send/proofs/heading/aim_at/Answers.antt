@@ -1,8 +1,8 @@
 use Rattle.std.proofs.Common.{◌≡◌, ap, ◌∙◌}
 use Rattle.sr_base.specs.Values.{offset_from}
 use Rattle.sr_book.specs.Entries.{Name}
-use Rattle.sr_schema.specs.Catalogs.{Lists}
-use Rattle.sr_send.specs.Letters.{head_of, address_in}
+use Rattle.sr_catalog_schema.specs.Catalogs.{Lists}
+use Rattle.sr_send.specs.PutFiles.{head_of, address_in}
 use Rattle.sr_send.proofs.Heads.{good_at}
 use Rattle.sr_send.proofs.heading.aim_at.Goals as goal
 

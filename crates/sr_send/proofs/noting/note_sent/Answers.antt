@@ -1,14 +1,12 @@
-use Rattle.std.proofs.Common.{Result, refl, sym, subst}
-use Rattle.std.specs.Prelude.{IfErr, OnOk}
+use Rattle.std.proofs.Common.{refl, sym, subst}
 use Rattle.sr_base.specs.Values.{offset_from}
 use Rattle.sr_book.specs.declared.note.Note.TheVariants.{Sent as sent_up_to}
-use Rattle.sr_database.specs.Commits.{CanCommitSome}
-use Rattle.sr_history.specs.Recorded.{note}
+use Rattle.sr_database.specs.Inner.Commits.{CanCommitSome}
+use Rattle.sr_database_history.specs.Recorded.{note}
 use Rattle.sr_logform.specs.declared.entry.Entry.{Entry}
-use Rattle.sr_send.specs.Notes.{Noted, NoteCause}
-use Rattle.sr_send.specs.declared.fault.SendFault.{SendFault}
+use Rattle.sr_send.specs.Inner.Notes.{NoteCause}
 use Rattle.sr_send.specs.declared.fault.SendFault.TheVariants.{Memory}
-use Rattle.sr_send.proofs.NoteEnds.{can_note_some, CommitSays, noted_answer, cause_answer}
+use Rattle.sr_send.proofs.NoteEnds.{can_note_some, CommitSays, note_refused, noted_answer, cause_answer}
 use Rattle.sr_send.proofs.Results.{if_fault}
 use Rattle.sr_send.proofs.noting.note_sent.Goals as goal
 
@@ -22,6 +20,11 @@ pub commit-outcome-requires-clause-entry : goal.commit-outcome-requires-clause-e
 commit-outcome-requires-clause-entry g c =
     subst (λ (e : Entry). CanCommitSome c.args.db.now e) (sym c.in_ok-entry.ensures.entry)
     (can_note_some c.args.db.now c.args.user.now (sent_up_to c.args.sent.end c.args.sent.put (offset_from c.args.confirm)) c.requires.pending c.requires.user)
+
+pub answered-requires : goal.answered-requires
+answered-requires g c = record {
+  refusal = note_refused c.args.db.now c.commit-outcome.new.self (g.S.Held.seen c.args.site.now) (g.S.Held.seen c.commit-outcome.new.site) c.in_ok-entry.entry c.commit-outcome.result c.in_ok-entry.ensures.short c.commit-outcome.ensures.cause;
+}
 
 pub returns-clause-noted : goal.returns-clause-noted
 returns-clause-noted g c =
@@ -38,8 +41,7 @@ returns-clause-noted g c =
       steady = c.commit-outcome.ensures.steady;
       cause = c.commit-outcome.ensures.cause;
     } in
-    subst (λ (r : Result (Unit {0}) SendFault). OnOk r (Noted c.args.db.now new before now (note c.args.user.now what))) (sym c.answered.ensures)
-    (noted_answer c.args.db.now new before now c.args.user.now what c.in_ok-entry.entry c.commit-outcome.result c.requires.pending c.requires.user c.in_ok-entry.ensures.entry says)
+    noted_answer c.args.db.now new before now c.args.user.now what c.in_ok-entry.entry c.commit-outcome.result c.answered.result c.requires.pending c.requires.user c.in_ok-entry.ensures.entry says c.answered.ensures.noted
 
 pub returns-clause-cause : goal.returns-clause-cause
 returns-clause-cause g c =
@@ -56,5 +58,4 @@ returns-clause-cause g c =
       steady = c.commit-outcome.ensures.steady;
       cause = c.commit-outcome.ensures.cause;
     } in
-    subst (λ (r : Result (Unit {0}) SendFault). IfErr r (NoteCause c.args.db.now new before now (note c.args.user.now what))) (sym c.answered.ensures)
-    (cause_answer c.args.db.now new before now c.args.user.now what c.in_ok-entry.entry c.commit-outcome.result c.requires.pending c.requires.user c.in_ok-entry.ensures.entry says)
+    cause_answer c.args.db.now new before now c.args.user.now what c.in_ok-entry.entry c.commit-outcome.result c.answered.result c.requires.pending c.requires.user c.in_ok-entry.ensures.entry says c.answered.ensures.noted

@@ -1,7 +1,7 @@
 use Rattle.std.proofs.Common.{◌≡◌, None, length}
 use Rattle.std.specs.Prelude.{map}
 use Rattle.std.specs.List.{AllByRecursion}
-use Rattle.sr_scan.specs.Meanings.{text_done}
+use Rattle.sr_scan.specs.Inner.Meanings.{text_done}
 use Rattle.sr_send.proofs.passing.ran_nothing.Given as goal
 
 -- of all none ran where of those that are left none did

@@ -1,6 +1,6 @@
 use Rattle.std.proofs.Common.{ℕ, ◌+◌, ◌%◌, ◌^◌, ◌∷◌, List, ap, subst}
 use Rattle.sr_msgform.specs.declared.message.Message.{Message}
-use Rattle.sr_send.specs.Stops.{IsPartSent}
+use Rattle.sr_send.specs.Inner.Stops.{IsPartSent}
 use Rattle.sr_send.proofs.Numbers.{IsPutting, putting_start, putting_more, putting_short, putting_stop}
 use Rattle.sr_send.proofs.Results.{if_fault}
 use Rattle.sr_send.proofs.posting.put_all.Goals as goal

@@ -1,5 +1,5 @@
 use Rattle.std.proofs.Common.{Err, refl, sym, subst, ◌∙◌}
-use Rattle.sr_send.specs.Stops.{IsPartPut}
+use Rattle.sr_send.specs.Inner.Stops.{IsPartPut}
 use Rattle.sr_send.specs.declared.fault.SendFault.{SendFault}
 use Rattle.sr_send.specs.declared.fault.SendFault.TheVariants.{Memory}
 use Rattle.sr_send.proofs.Posts.{steady_put, ends_put, put_as, not_begun, part_begun}

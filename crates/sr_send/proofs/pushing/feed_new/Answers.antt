@@ -1,7 +1,7 @@
 use Rattle.std.proofs.Common.{Option, subst}
 use Rattle.sr_logform.specs.declared.op.Transaction.{Transaction}
-use Rattle.sr_scan.specs.Scanners.{IsFed}
-use Rattle.sr_send.specs.Stops.{FeedStop}
+use Rattle.sr_scan.specs.Inner.Scanners.{IsFed}
+use Rattle.sr_send.specs.Inner.Stops.{FeedStop}
 use Rattle.sr_send.specs.declared.fault.SendFault.TheVariants.{Memory}
 use Rattle.sr_send.proofs.Pushes.{found_at, fed_nothing, fed_answer, feed_short, feed_answer, later_at}
 use Rattle.sr_send.proofs.Results.{if_fault}

@@ -1,5 +1,5 @@
 use Rattle.std.proofs.Common.{sym, ◌∙◌}
-use Rattle.sr_send.specs.Stops.{FeedStop}
+use Rattle.sr_send.specs.Inner.Stops.{FeedStop}
 use Rattle.sr_send.specs.declared.fault.SendFault.TheVariants.{Memory}
 use Rattle.sr_send.proofs.Pushes.{fed_old, feed_short}
 use Rattle.sr_send.proofs.Results.{if_fault}

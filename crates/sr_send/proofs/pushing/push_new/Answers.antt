@@ -1,5 +1,5 @@
 use Rattle.std.proofs.Common.{Some, sym, ◌∙◌, ltb-true}
-use Rattle.sr_send.specs.Steps.{newer}
+use Rattle.sr_send.specs.Inner.Steps.{newer}
 use Rattle.sr_send.proofs.Pushes.{pushed_old, new_pushed, new_end, new_stopped, stopped_short}
 use Rattle.sr_send.proofs.pushing.push_new.Goals as goal
 

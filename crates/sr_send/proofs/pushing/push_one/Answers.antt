@@ -2,10 +2,10 @@ use Rattle.std.proofs.Common.{◌+◌, ◌∷◌, [], List, length, refl, ap, su
 use Rattle.std.specs.List.{AllByRecursion}
 use Rattle.sr_msgform.specs.Messages.{IsMessage}
 use Rattle.sr_msgform.specs.declared.message.Message.{Message}
-use Rattle.sr_send.specs.Faults.{fault_of_cut}
-use Rattle.sr_send.specs.Letters.{letters}
-use Rattle.sr_send.specs.Posting.{Posted}
-use Rattle.sr_send.specs.Stops.{IsPartSent, PushStop}
+use Rattle.sr_send.specs.Inner.Faults.{fault_of_cut}
+use Rattle.sr_send.specs.PutFiles.{put_files}
+use Rattle.sr_send.specs.Inner.Posting.{Posted}
+use Rattle.sr_send.specs.Inner.Stops.{IsPartSent, PushStop}
 use Rattle.sr_send.proofs.Pushes.{IsCutBy, closed_may, pushed_one, stopped_long, stopped_putting}
 use Rattle.sr_send.proofs.Results.{if_fault}
 use Rattle.sr_send.proofs.pushing.push_one.Goals as goal
@@ -44,7 +44,7 @@ returns-in-Ok-clause-pushed g c =
     } in
     pushed_one aim c.args.post.now _ c.args.transaction.now closed before now c.requires.later by refl
     (c.in-Ok.ensures.count ∙ ap (λ (l : List Message). c.args.post.now.put + length l) c.as_slice.ensures.value)
-    (subst (λ (l : List Message). Posted before now (letters aim.address (aim.count + c.args.post.now.put) l)) c.as_slice.ensures.value c.in-Ok.ensures.posted)
+    (subst (λ (l : List Message). Posted before now (put_files aim.address (aim.count + c.args.post.now.put) l)) c.as_slice.ensures.value c.in-Ok.ensures.posted)
     (subst (λ (l : List Message). AllByRecursion IsMessage l) c.as_slice.ensures.value c.in-Ok.ensures.spelled)
     c.in-Ok.ensures.steady
 

@@ -1,7 +1,7 @@
 use Rattle.std.proofs.Common.{Option, refl, subst}
 use Rattle.sr_base.specs.declared.offset.Offset.{Offset}
-use Rattle.sr_send.specs.Steps.{DoneStep}
-use Rattle.sr_send.specs.Stops.{ReadStop}
+use Rattle.sr_send.specs.Inner.Steps.{DoneStep}
+use Rattle.sr_send.specs.Inner.Stops.{ReadStop}
 use Rattle.sr_send.proofs.Loops.{some_made, under_step, loop_end, under_stopped}
 use Rattle.sr_send.proofs.Starts.{under_begun, unbegun}
 use Rattle.sr_send.proofs.Results.{if_fault}

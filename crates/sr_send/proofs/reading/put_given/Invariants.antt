@@ -1,5 +1,5 @@
 use Rattle.std.proofs.Common.{◌-◌}
-use Rattle.sr_send.specs.Steps.{UnderWay}
+use Rattle.sr_send.specs.Inner.Steps.{UnderWay}
 use Rattle.sr_send.proofs.reading.put_given.Given as goal
 
 -- what the entries read so far give is put

@@ -1,10 +1,10 @@
 use Rattle.std.proofs.Common.{◌≤◌, ◌<◌, Option, Result, refl, sym, subst}
 use Rattle.std.specs.Prelude.{IfOk, IfErr, IfSome}
 use Rattle.sr_base.specs.declared.offset.Offset.{Offset}
-use Rattle.sr_database.specs.Entries.{IsEntryAfter}
+use Rattle.sr_database.specs.Inner.Entries.{IsEntryAfter}
 use Rattle.sr_logform.specs.declared.entry.Entry.{Entry}
-use Rattle.sr_send.specs.Steps.{DoneStep}
-use Rattle.sr_send.specs.Stops.{StepStop}
+use Rattle.sr_send.specs.Inner.Steps.{DoneStep}
+use Rattle.sr_send.specs.Inner.Stops.{StepStop}
 use Rattle.sr_send.specs.declared.fault.SendFault.{SendFault}
 use Rattle.sr_send.proofs.Loops.{done_answer, stop_answer, step_unread}
 use Rattle.sr_send.proofs.Results.{if_fault}

@@ -1,4 +1,4 @@
-use Rattle.sr_send.specs.Stops.{PutStop}
+use Rattle.sr_send.specs.Inner.Stops.{PutStop}
 use Rattle.sr_send.specs.declared.fault.SendFault.{SendFault}
 use Rattle.sr_send.specs.declared.fault.SendFault.TheVariants.{Memory}
 use Rattle.sr_send.proofs.Endings.{nothing_put}

@@ -1,8 +1,8 @@
 use Rattle.std.proofs.Common.{ap, sym, subst}
 use Rattle.std.specs.Prelude.{IfOk, IfErr}
-use Rattle.sr_send.specs.Aims.{IsAim, aim_at}
-use Rattle.sr_send.specs.Steps.{PutAll}
-use Rattle.sr_send.specs.Stops.{PutStop}
+use Rattle.sr_send.specs.Inner.Aims.{IsAim, aim_at}
+use Rattle.sr_send.specs.Inner.Steps.{PutAll}
+use Rattle.sr_send.specs.Inner.Stops.{PutStop}
 use Rattle.sr_send.specs.declared.aim.Aim.{Aim}
 use Rattle.sr_send.specs.declared.fault.SendFault.{SendFault}
 use Rattle.sr_send.specs.declared.fault.SendFault.TheVariants.{Memory}

@@ -1,5 +1,5 @@
 use Rattle.std.proofs.Common.{inl}
-use Rattle.sr_send.specs.Stops.{PutStop}
+use Rattle.sr_send.specs.Inner.Stops.{PutStop}
 use Rattle.sr_send.specs.declared.fault.SendFault.{SendFault}
 use Rattle.sr_send.proofs.Endings.{all_put, rest_stopped}
 use Rattle.sr_send.proofs.Results.{if_fault}

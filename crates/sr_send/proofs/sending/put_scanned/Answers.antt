@@ -1,8 +1,8 @@
 use Rattle.std.proofs.Common.{subst, ◌∙◌}
 use Rattle.std.specs.Prelude.{IfOk, IfErr}
 use Rattle.sr_book.specs.Entries.{Name}
-use Rattle.sr_send.specs.Steps.{PutAll}
-use Rattle.sr_send.specs.Stops.{PutStop}
+use Rattle.sr_send.specs.Inner.Steps.{PutAll}
+use Rattle.sr_send.specs.Inner.Stops.{PutStop}
 use Rattle.sr_send.specs.declared.fault.SendFault.{SendFault}
 use Rattle.sr_send.specs.declared.fault.SendFault.TheVariants.{Memory}
 use Rattle.sr_send.proofs.Endings.{nothing_put}

@@ -1,5 +1,5 @@
 use Rattle.std.proofs.Common.{◌∙◌}
-use Rattle.sr_send.specs.Starts.{BeginStop}
+use Rattle.sr_send.specs.Inner.Starts.{BeginStop}
 use Rattle.sr_send.specs.declared.fault.SendFault.TheVariants.{Memory}
 use Rattle.sr_send.proofs.Results.{if_fault}
 use Rattle.sr_send.proofs.Starts.{begun_here, begun_base, later_stopped, begin_short}

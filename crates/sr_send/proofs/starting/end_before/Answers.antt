@@ -1,8 +1,9 @@
 use Rattle.std.proofs.Common.{Option, ◌<◌, ◌≤◌, subst}
-use Rattle.std.specs.Prelude.{IfSome}
+use Rattle.std.specs.Prelude.{◌≢◌, IfSome}
 use Rattle.sr_base.specs.declared.offset.Offset.{Offset}
-use Rattle.sr_database.specs.Entries.{IsNextEnd}
-use Rattle.sr_send.specs.Starts.{BeginStop}
+use Rattle.sr_database.specs.Inner.Entries.{IsNextEnd}
+use Rattle.sr_send.specs.Inner.Starts.{BeginStop}
+use Rattle.sr_send.specs.declared.fault.SendFault.TheVariants.{Memory}
 use Rattle.sr_send.proofs.Results.{if_fault}
 use Rattle.sr_send.proofs.Starts.{walk_start, walk_on, walk_end, begin_stopped}
 use Rattle.sr_send.proofs.starting.end_before.Goals as goal
@@ -20,6 +21,9 @@ returns-in_err-end-clause-cause g c =
     let now = g.S.Held.seen c.next_end.new.site in
     if_fault (BeginStop first now) c.in_err-end.field-0.0 c.from_residual.result c.from_residual.ensures.1
     (begin_stopped first before now c.in_err-end.field-0.0 c.ends.invariant.posted c.ends.invariant.steady c.next_end.ensures.posted c.next_end.ensures.mail c.in_err-end.ensures.cause)
+
+pub returns-in_err-end-clause-memory : goal.returns-in_err-end-clause-memory
+returns-in_err-end-clause-memory g c = if_fault (λ fault. fault ≢ Memory) c.in_err-end.field-0.0 c.from_residual.result c.from_residual.ensures.1 c.in_err-end.ensures.memory
 
 pub ends-preserved : goal.ends-preserved
 ends-preserved g c =

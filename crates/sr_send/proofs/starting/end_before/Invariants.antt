@@ -1,5 +1,5 @@
 use Rattle.std.proofs.Common.{◌-◌}
-use Rattle.sr_send.specs.Starts.{Walked}
+use Rattle.sr_send.specs.Inner.Starts.{Walked}
 use Rattle.sr_send.proofs.starting.end_before.Given as goal
 
 -- the ends up to here were read

@@ -1,7 +1,7 @@
 use Rattle.std.proofs.Common.{Option, ◌<◌, ◌≤◌, subst, ◌∙◌, eqb-true}
 use Rattle.std.specs.Prelude.{IfSome}
 use Rattle.sr_base.specs.declared.offset.Offset.{Offset}
-use Rattle.sr_send.specs.Starts.{IsStillEnd, BeginStop}
+use Rattle.sr_send.specs.Inner.Starts.{IsStillEnd, BeginStop}
 use Rattle.sr_send.proofs.Results.{if_fault}
 use Rattle.sr_send.proofs.Starts.{look_start, look_on, look_end, begin_stopped, read_on}
 use Rattle.sr_send.proofs.Posts.{steady_on}

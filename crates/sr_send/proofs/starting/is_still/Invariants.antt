@@ -1,5 +1,5 @@
 use Rattle.std.proofs.Common.{◌-◌}
-use Rattle.sr_send.specs.Starts.{Looked}
+use Rattle.sr_send.specs.Inner.Starts.{Looked}
 use Rattle.sr_send.proofs.starting.is_still.Given as goal
 
 -- no statement ran up to here

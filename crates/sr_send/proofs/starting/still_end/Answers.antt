@@ -1,6 +1,6 @@
 use Rattle.std.proofs.Common.{ℕ, ◌++◌, Option, subst}
 use Rattle.sr_base.specs.declared.offset.Offset.{Offset}
-use Rattle.sr_database.specs.Entries.{IsKindAfter}
+use Rattle.sr_database.specs.Inner.Entries.{IsKindAfter}
 use Rattle.sr_send.proofs.Posts.{posted_database, told_then}
 use Rattle.sr_send.proofs.Starts.{kind_still, later_next, read_on}
 use Rattle.sr_send.proofs.starting.still_end.Goals as goal

@@ -1,10 +1,10 @@
 use Rattle.std.proofs.Common.{◌≡◌, Ok, ap, sym, subst, ◌∙◌}
-use Rattle.sr_schema.specs.Catalogs.{Lists}
-use Rattle.sr_history.specs.Recorded.{ddl}
-use Rattle.sr_script.specs.Answers.{IsStop}
-use Rattle.sr_script.specs.Meaning.{accepted, changed, is_done_already}
-use Rattle.sr_session.specs.Faults.{fault_of_stop}
-use Rattle.sr_session.specs.Ready.{work_of}
+use Rattle.sr_catalog_schema.specs.Catalogs.{Lists}
+use Rattle.sr_database_history.specs.Recorded.{ddl}
+use Rattle.sr_session_script.specs.Inner.Answers.{IsStop}
+use Rattle.sr_session_script.specs.Meaning.{accepted, changed, is_done_already}
+use Rattle.sr_session.specs.Inner.Faults.{fault_of_stop}
+use Rattle.sr_session.specs.Inner.Ready.{work_of}
 use Rattle.sr_session.proofs.Catalogs.{can_ddl, can_ddl_some, changed_already, changed_entry, changed_stop}
 use Rattle.sr_session.proofs.Results.{took_err, took_memory}
 use Rattle.sr_session.proofs.catalog.change.Goals as goal

@@ -1,9 +1,9 @@
 use Rattle.std.proofs.Common.{◌++◌, codes, ap, ◌∙◌}
 use Rattle.std.specs.Fmt.{decimal}
-use Rattle.sr_script.specs.Acts.{line}
-use Rattle.sr_script.specs.Meaning.{enters}
-use Rattle.sr_session.specs.Faults.{fault_of_store}
-use Rattle.sr_session.specs.Ready.{work_of}
+use Rattle.sr_session_script.specs.Acts.{line}
+use Rattle.sr_session_script.specs.Meaning.{enters}
+use Rattle.sr_session.specs.Inner.Faults.{fault_of_store}
+use Rattle.sr_session.specs.Inner.Ready.{work_of}
 use Rattle.sr_session.proofs.Commits.{Committed, NotCommitted, entered, not_entered}
 use Rattle.sr_session.proofs.Results.{took_fault, took_memory}
 use Rattle.sr_session.proofs.entering.enter.Goals as goal
@@ -25,6 +25,7 @@ returns-in-Ok g c =
       value = c.in-Ok.ensures.value;
       database = c.in-Ok.ensures.database;
       went = λ told publisher es r database can. c.in-Ok.ensures.went told publisher es r database can tt;
+      room = c.in-Ok.ensures.room;
       stays = c.in-Ok.ensures.stays;
       steady = c.in-Ok.ensures.steady;
     } in

@@ -1,5 +1,5 @@
-use Rattle.sr_script.specs.Meaning.{ended}
-use Rattle.sr_session.specs.Ready.{work_of}
+use Rattle.sr_session_script.specs.Meaning.{ended}
+use Rattle.sr_session.specs.Inner.Ready.{work_of}
 use Rattle.sr_session.proofs.Regions.{end_done}
 use Rattle.sr_session.proofs.Results.{took_memory}
 use Rattle.sr_session.proofs.region.end.Goals as goal

@@ -1,11 +1,11 @@
 use Rattle.std.proofs.Common.{◌<◌, ◌^◌, List, Some, length, subst}
 use Rattle.sr_base.specs.Fields.{IsListOf}
 use Rattle.sr_book.specs.Entries.{Name}
-use Rattle.sr_history.specs.Recorded.{pass}
+use Rattle.sr_database_history.specs.Recorded.{pass}
 use Rattle.sr_logform.specs.Outcomes.{IsShortChange}
 use Rattle.sr_logform.specs.declared.change.Change.{Change}
-use Rattle.sr_script.specs.Meaning.{enters}
-use Rattle.sr_session.specs.Ready.{work_of}
+use Rattle.sr_session_script.specs.Meaning.{enters}
+use Rattle.sr_session.specs.Inner.Ready.{work_of}
 use Rattle.sr_session.proofs.Commits.{took_none}
 use Rattle.sr_session.proofs.Regions.{can_pass, can_pass_some}
 use Rattle.sr_session.proofs.Results.{took_memory}

@@ -1,14 +1,14 @@
 use Rattle.std.proofs.Common.{◌≡◌, Some, Ok, sym, subst}
 use Rattle.sr_ast.specs.declared.stmt.Stmt.{Stmt}
 use Rattle.sr_ast.specs.declared.stmt.Stmt.TheVariants as stmt
-use Rattle.sr_dml.specs.Conditions.{RowsFit}
-use Rattle.sr_history.specs.Fitting.{IsAcceptedPass, MayHaveChanges}
-use Rattle.sr_history.specs.Folds.{State}
-use Rattle.sr_script.specs.Answers.{IsStop}
-use Rattle.sr_script.specs.Meaning.{row_changes, passed}
+use Rattle.sr_exec_dml.specs.Inner.Conditions.{RowsFit}
+use Rattle.sr_database_history.specs.Fitting.{IsAcceptedPass, MayHaveChanges}
+use Rattle.sr_database_history.specs.Folds.{State}
+use Rattle.sr_session_script.specs.Inner.Answers.{IsStop}
+use Rattle.sr_session_script.specs.Meaning.{row_changes, passed}
 use Rattle.sr_database.specs.Views.{committed}
-use Rattle.sr_session.specs.Faults.{fault_of_stop}
-use Rattle.sr_session.specs.Ready.{work_of}
+use Rattle.sr_session.specs.Inner.Faults.{fault_of_stop}
+use Rattle.sr_session.specs.Inner.Ready.{work_of}
 use Rattle.sr_session.proofs.Passing.{MayPass, rows_pass, passed_entry, passed_stop}
 use Rattle.sr_session.proofs.Results.{took_err}
 use Rattle.sr_session.proofs.States.{shown, shown_committed, committed_present}

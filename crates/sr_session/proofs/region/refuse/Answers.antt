@@ -1,7 +1,7 @@
 use Rattle.std.proofs.Common.{Some, ap, ◌∙◌}
-use Rattle.sr_schema.specs.Catalogs.{Lists}
-use Rattle.sr_script.specs.Meaning.{refused_in, uncarried}
-use Rattle.sr_session.specs.Ready.{work_of}
+use Rattle.sr_catalog_schema.specs.Catalogs.{Lists}
+use Rattle.sr_session_script.specs.Meaning.{refused_in, uncarried}
+use Rattle.sr_session.specs.Inner.Ready.{work_of}
 use Rattle.sr_session.proofs.Regions.{uncarried_refused}
 use Rattle.sr_session.proofs.Results.{took_memory}
 use Rattle.sr_session.proofs.region.refuse.Goals as goal

@@ -1,8 +1,8 @@
 use Rattle.std.proofs.Common.{subst}
 use Rattle.sr_database.specs.Views.{View}
-use Rattle.sr_script.specs.Meaning.{executed}
-use Rattle.sr_session.specs.Ready.{work_of}
-use Rattle.sr_session.specs.Steps.{Took}
+use Rattle.sr_session_script.specs.Meaning.{executed}
+use Rattle.sr_session.specs.Inner.Ready.{work_of}
+use Rattle.sr_session.specs.Inner.Steps.{Took}
 use Rattle.sr_session.proofs.rows.execute.Goals as goal
 
 pub returns : goal.returns

@@ -1,10 +1,11 @@
 use Rattle.std.proofs.Common.{◌≡◌, Ok, ap, subst}
-use Rattle.sr_history.specs.Folds.{State}
-use Rattle.sr_script.specs.Answers.{IsStop}
-use Rattle.sr_script.specs.Meaning.{executed, changes_by}
-use Rattle.sr_database.specs.Views.{View, present}
-use Rattle.sr_session.specs.Faults.{fault_of_stop}
-use Rattle.sr_session.specs.Ready.{work_of}
+use Rattle.sr_database_history.specs.Folds.{State}
+use Rattle.sr_session_script.specs.Inner.Answers.{IsStop}
+use Rattle.sr_session_script.specs.Meaning.{executed, changes_by}
+use Rattle.sr_database.specs.Views.{View}
+use Rattle.sr_database.specs.Inner.Views.{present}
+use Rattle.sr_session.specs.Inner.Faults.{fault_of_stop}
+use Rattle.sr_session.specs.Inner.Ready.{work_of}
 use Rattle.sr_session.specs.declared.fault.StepFault.TheVariants.{Memory}
 use Rattle.sr_session.proofs.Commits.{took_none}
 use Rattle.sr_session.proofs.Results.{took_err}

@@ -1,12 +1,12 @@
 use Rattle.std.proofs.Common.{◌≡◌, ◌++◌, List, Ok, ap, subst, ◌∙◌}
 use Rattle.sr_base.specs.declared.value.Value.{Value as Cell}
-use Rattle.sr_history.specs.Folds.{State}
-use Rattle.sr_script.specs.Acts.{text_from}
-use Rattle.sr_script.specs.Answers.{IsStop}
-use Rattle.sr_script.specs.Meaning.{answered, listing, rows_by}
-use Rattle.sr_database.specs.Views.{present}
-use Rattle.sr_session.specs.Faults.{fault_of_stop}
-use Rattle.sr_session.specs.Ready.{work_of}
+use Rattle.sr_database_history.specs.Folds.{State}
+use Rattle.sr_session_script.specs.Acts.{text_from}
+use Rattle.sr_session_script.specs.Inner.Answers.{IsStop}
+use Rattle.sr_session_script.specs.Meaning.{answered, listing, rows_by}
+use Rattle.sr_database.specs.Inner.Views.{present}
+use Rattle.sr_session.specs.Inner.Faults.{fault_of_stop}
+use Rattle.sr_session.specs.Inner.Ready.{work_of}
 use Rattle.sr_session.proofs.Results.{took_err, took_memory}
 use Rattle.sr_session.proofs.States.{shown, shown_is}
 use Rattle.sr_session.proofs.Statements.{answered_stop, answered_done}

@@ -1,9 +1,9 @@
 use Rattle.std.proofs.Common.{◌≡◌, ◌++◌, [], List, ℕ, Result, not, length, ap, sym, subst, ◌∙◌}
 use Rattle.sr_ast.specs.declared.stmt.Stmt.{Stmt}
 use Rattle.sr_database.specs.Views.{View}
-use Rattle.sr_session.specs.Running.{Ran, IsNoSink, counted}
+use Rattle.sr_session.specs.Inner.Running.{Ran, IsNoSink, counted}
 use Rattle.sr_session.specs.Runs.{RanScript}
-use Rattle.sr_session.specs.Said.{WroteFront}
+use Rattle.sr_session.specs.Said.{WrotePrefix}
 use Rattle.sr_session.specs.declared.fault.SessionFault.{SessionFault}
 use Rattle.sr_session.proofs.Ending.{IsKept, Wrote, Failed, ran_none, ended, ended_already, ended_sink}
 use Rattle.sr_session.proofs.run.run_script.Goals as goal
@@ -82,7 +82,7 @@ returns g c =
     let taken' = g.O.Sink.seen c.say.new.sink in
     let no : IsNoSink c.run_to_end-outcome.result = c.is_of_sink.ensures.other (ap not c.if-is_of_sink.false) in
     let failed : Failed kept taken taken' = record {
-      front = λ told. subst (λ (l : List ℕ). WroteFront l taken.taken taken'.taken) c.as_slice.ensures.value (c.in-Err.ensures.front told);
+      prefix = λ told. subst (λ (l : List ℕ). WrotePrefix l taken.taken taken'.taken) c.as_slice.ensures.value (c.in-Err.ensures.prefix told);
       stays = c.in-Err.ensures.stays;
       rose = c.in-Err.ensures.cause;
     } in

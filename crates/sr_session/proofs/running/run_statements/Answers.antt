@@ -1,7 +1,7 @@
 use Rattle.std.proofs.Common.{◌∷◌, ◌-◌, [], List, ℕ, Option, Err, length, refl, sym, subst, ◌∙◌}
 use Rattle.sr_ast.specs.declared.stmt.Passthrough.{Passthrough}
 use Rattle.sr_ast.specs.declared.stmt.Stmt.{Stmt}
-use Rattle.sr_session.specs.Running.{Under, Ran}
+use Rattle.sr_session.specs.Inner.Running.{Under, Ran}
 use Rattle.sr_session.specs.declared.fault.SessionFault.{SessionFault}
 use Rattle.sr_session.proofs.Stretches.{under_start, under_step, under_flush, ran_fault, ran_sink, stopped_by_sink}
 use Rattle.sr_session.proofs.running.run_statements.Goals as goal
@@ -56,7 +56,7 @@ returns-in_err-flush g c =
     record {
       ran =
           stopped_by_sink old new first now written taken' kept c.flush.new.session.region all c.in_err-flush.field-0.0 c.from_residual.result c.from_residual.ensures.1 c.in_err-flush.ensures.cause
-          (ran_sink old view new first seen now written taken taken' lines lines' kept region region' all rest c.in-Some.statement.now under c.in-Ok.ensures.took c.in_err-flush.ensures.front
+          (ran_sink old view new first seen now written taken taken' lines lines' kept region region' all rest c.in-Some.statement.now under c.in-Ok.ensures.took c.in_err-flush.ensures.prefix
           c.in_err-flush.ensures.stays c.in_err-flush.ensures.rose);
     }
 

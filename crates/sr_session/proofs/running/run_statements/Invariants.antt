@@ -1,5 +1,5 @@
 use Rattle.std.proofs.Common.{length}
-use Rattle.sr_session.specs.Running.{Under}
+use Rattle.sr_session.specs.Inner.Running.{Under}
 use Rattle.sr_session.proofs.running.run_statements.Given as goal
 
 -- the statements before those that are left are done

@@ -7,7 +7,7 @@ use Rattle.sr_session.proofs.saying.say.Given as goal
 -- what was written so far, and what is left
 abbrev pub invariant-pieces : goal.invariant-pieces
 invariant-pieces g l = record {
-  said : IsTrue ((g.O.Sink.seen l.fn.sink).told) → Said l.fn.bytes l.rest ((g.O.Sink.seen l.fn.sink).taken) ((g.O.Sink.seen l.sink).taken);
+  said : IsTrue ((g.O.Sink.seen l.fn.sink).observable) → Said l.fn.bytes l.rest ((g.O.Sink.seen l.fn.sink).taken) ((g.O.Sink.seen l.sink).taken);
   stays : OutputStays (g.O.Sink.seen l.fn.sink) (g.O.Sink.seen l.sink);
   steady : (g.O.Sink.seen l.sink).faults ≡ (g.O.Sink.seen l.fn.sink).faults;
 }

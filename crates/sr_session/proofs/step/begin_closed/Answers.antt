@@ -1,7 +1,7 @@
-use Rattle.sr_script.specs.Meaning.{goes, closing, once_closed, began}
-use Rattle.sr_script.specs.Works.{closed}
-use Rattle.sr_session.specs.Ready.{work_of}
-use Rattle.sr_session.specs.Steps.{IsDoneStep}
+use Rattle.sr_session_script.specs.Meaning.{goes, closing, once_closed, began}
+use Rattle.sr_session_script.specs.Works.{closed}
+use Rattle.sr_session.specs.Inner.Ready.{work_of}
+use Rattle.sr_session.specs.Inner.Steps.{IsDoneStep}
 use Rattle.sr_session.proofs.Dispatch.{closed_then, not_closed, closed_ready}
 use Rattle.sr_session.proofs.Results.{took_err}
 use Rattle.sr_session.proofs.step.begin_closed.Goals as goal

@@ -1,10 +1,10 @@
 use Rattle.std.proofs.Common.{Option, None, sym, subst}
 use Rattle.sr_ast.specs.declared.stmt.Passthrough.{Passthrough}
-use Rattle.sr_script.specs.Meaning.{goes, closing, once_closed, on_catalog}
-use Rattle.sr_script.specs.Works.{closed}
+use Rattle.sr_session_script.specs.Meaning.{goes, closing, once_closed, on_catalog}
+use Rattle.sr_session_script.specs.Works.{closed}
 use Rattle.sr_database.specs.Views.{committed}
-use Rattle.sr_session.specs.Ready.{AreUsers, work_of}
-use Rattle.sr_session.specs.Steps.{IsDoneStep, Took}
+use Rattle.sr_session.specs.Inner.Ready.{AreUsers, work_of}
+use Rattle.sr_session.specs.Inner.Steps.{IsDoneStep, Took}
 use Rattle.sr_session.proofs.Dispatch.{closed_then, closed_pending, not_closed, closed_ready, closed_users, users_behind}
 use Rattle.sr_session.proofs.Results.{took_err}
 use Rattle.sr_session.proofs.step.on_catalog.Goals as goal

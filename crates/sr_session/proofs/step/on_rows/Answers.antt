@@ -3,11 +3,11 @@ use Rattle.std.specs.Prelude.{OnOk}
 use Rattle.sr_ast.specs.declared.stmt.Passthrough.{Passthrough}
 use Rattle.sr_ast.specs.declared.stmt.Stmt.{Stmt}
 use Rattle.sr_ast.specs.declared.stmt.Stmt.TheVariants as stmt
-use Rattle.sr_script.specs.Meaning.{goes, closing, once_closed, on_rows, passed, row_changes}
-use Rattle.sr_script.specs.Works.{Work, closed}
+use Rattle.sr_session_script.specs.Meaning.{goes, closing, once_closed, on_rows, passed, row_changes}
+use Rattle.sr_session_script.specs.Works.{Work, closed}
 use Rattle.sr_database.specs.Views.{committed}
-use Rattle.sr_session.specs.Ready.{AreUsers, work_of}
-use Rattle.sr_session.specs.Steps.{IsDoneStep, Took}
+use Rattle.sr_session.specs.Inner.Ready.{AreUsers, work_of}
+use Rattle.sr_session.specs.Inner.Steps.{IsDoneStep, Took}
 use Rattle.sr_session.proofs.Dispatch.{closed_then, closed_pending, not_closed, closed_ready, closed_users, users_behind}
 use Rattle.sr_session.proofs.Results.{took_err}
 use Rattle.sr_session.proofs.step.on_rows.Goals as goal

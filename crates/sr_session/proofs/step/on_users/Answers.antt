@@ -1,9 +1,9 @@
 use Rattle.std.proofs.Common.{Option, None, sym, subst}
 use Rattle.sr_ast.specs.declared.stmt.Passthrough.{Passthrough}
-use Rattle.sr_script.specs.Meaning.{goes, closing, once_closed, on_users}
-use Rattle.sr_script.specs.Works.{closed}
-use Rattle.sr_session.specs.Ready.{work_of}
-use Rattle.sr_session.specs.Steps.{IsDoneStep, Took}
+use Rattle.sr_session_script.specs.Meaning.{goes, closing, once_closed, on_users}
+use Rattle.sr_session_script.specs.Works.{closed}
+use Rattle.sr_session.specs.Inner.Ready.{work_of}
+use Rattle.sr_session.specs.Inner.Steps.{IsDoneStep, Took}
 use Rattle.sr_session.proofs.Dispatch.{closed_then, closed_pending, not_closed, closed_ready, closed_users, in_any}
 use Rattle.sr_session.proofs.Results.{took_err}
 use Rattle.sr_session.proofs.step.on_users.Goals as goal

@@ -1,8 +1,8 @@
-use Rattle.sr_history.specs.Recorded.{sync}
+use Rattle.sr_database_history.specs.Recorded.{sync}
 use Rattle.sr_database.specs.Views.{committed}
-use Rattle.sr_script.specs.Meaning.{enters}
-use Rattle.sr_script.specs.Synced.{views_of}
-use Rattle.sr_session.specs.Ready.{work_of}
+use Rattle.sr_session_script.specs.Meaning.{enters}
+use Rattle.sr_session_script.specs.Synced.{views_of}
+use Rattle.sr_session.specs.Inner.Ready.{work_of}
 use Rattle.sr_session.proofs.Results.{took_memory}
 use Rattle.sr_session.proofs.States.{shown, shown_committed}
 use Rattle.sr_session.proofs.Synced.{can_sync, can_sync_some}

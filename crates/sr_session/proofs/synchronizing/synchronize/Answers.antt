@@ -1,6 +1,6 @@
-use Rattle.sr_session.specs.Faults.{fault_of_stop}
-use Rattle.sr_script.specs.Meaning.{synchronized}
-use Rattle.sr_session.specs.Ready.{work_of}
+use Rattle.sr_session.specs.Inner.Faults.{fault_of_stop}
+use Rattle.sr_session_script.specs.Meaning.{synchronized}
+use Rattle.sr_session.specs.Inner.Ready.{work_of}
 use Rattle.sr_session.proofs.Results.{took_err}
 use Rattle.sr_session.proofs.Synced.{not_refused, synced_stop, synced_entry}
 use Rattle.sr_session.proofs.synchronizing.synchronize.Goals as goal

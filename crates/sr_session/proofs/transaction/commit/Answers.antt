@@ -1,8 +1,8 @@
 use Rattle.std.proofs.Common.{◌≡◌, [], List, subst}
 use Rattle.std.specs.Prelude.{◌≢◌}
 use Rattle.sr_logform.specs.declared.change.Change.{Change}
-use Rattle.sr_script.specs.Meaning.{committed}
-use Rattle.sr_session.specs.Ready.{work_of}
+use Rattle.sr_session_script.specs.Meaning.{committed}
+use Rattle.sr_session.specs.Inner.Ready.{work_of}
 use Rattle.sr_session.proofs.Results.{took_memory}
 use Rattle.sr_session.proofs.Transactions.{is_none, is_some, committed_none, committed_some}
 use Rattle.sr_session.proofs.transaction.commit.Goals as goal

@@ -1,8 +1,8 @@
 use Rattle.std.proofs.Common.{◌≡◌, ◌<◌, ◌^◌, List, length, subst, ◌∙◌}
-use Rattle.sr_history.specs.Recorded.{own}
+use Rattle.sr_database_history.specs.Recorded.{own}
 use Rattle.sr_logform.specs.declared.change.Change.{Change}
-use Rattle.sr_script.specs.Meaning.{enters}
-use Rattle.sr_session.specs.Ready.{work_of}
+use Rattle.sr_session_script.specs.Meaning.{enters}
+use Rattle.sr_session.specs.Inner.Ready.{work_of}
 use Rattle.sr_session.proofs.Commits.{took_none}
 use Rattle.sr_session.proofs.Results.{took_memory}
 use Rattle.sr_session.proofs.Transactions.{can_own, can_own_some, took_own}

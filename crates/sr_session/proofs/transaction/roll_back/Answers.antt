@@ -1,7 +1,7 @@
 use Rattle.std.proofs.Common.{ap}
-use Rattle.sr_script.specs.Meaning.{rolled}
+use Rattle.sr_session_script.specs.Meaning.{rolled}
 use Rattle.sr_database.specs.Views.{View, committed}
-use Rattle.sr_session.specs.Ready.{work_of}
+use Rattle.sr_session.specs.Inner.Ready.{work_of}
 use Rattle.sr_session.proofs.Results.{took_memory}
 use Rattle.sr_session.proofs.Transactions.{rolled_back_step}
 use Rattle.sr_session.proofs.transaction.roll_back.Goals as goal

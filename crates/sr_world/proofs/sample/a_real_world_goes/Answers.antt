@@ -1,7 +1,7 @@
 use Rattle.std.proofs.Common.{◌∷◌, []}
-use Rattle.sr_history.specs.Sample.{cons, r1}
+use Rattle.sr_database_history.specs.Inner.Sample.{cons, r1}
 use Rattle.sr_world.specs.Real.{layers}
-use Rattle.sr_world.specs.Sample.{r2, real_world, real_runs, real_acts}
+use Rattle.sr_world.specs.Inner.Sample.{r2, real_world, real_runs, real_acts}
 use Rattle.sr_world.proofs.Keeping.{real_laws}
 use Rattle.sr_world.proofs.Above.{cons_ends, cons_gives_r1, cons_gives_r2, cons_row}
 use Rattle.sr_world.proofs.Below.{r1_ends, r1_gives, r1_row, r2_ends, r2_tables}

@@ -1,5 +1,5 @@
 use Rattle.std.proofs.Common.{◌≡◌, None}
-use Rattle.sr_change.specs.Changes.{refusal}
+use Rattle.sr_catalog_change.specs.Changes.{refusal}
 use Rattle.sr_catalog.proofs.Spelling.{spelled_either}
 use Rattle.sr_catalog.proofs.catalog.Catalog.apply.Goals as goal
 

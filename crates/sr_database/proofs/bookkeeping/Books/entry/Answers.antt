@@ -1,6 +1,6 @@
 use Rattle.std.proofs.Common.{sym, ap, ◌∙◌}
 use Rattle.std.specs.FinMap as map
-use Rattle.sr_base.specs.Order.{name_cmp_total}
+use Rattle.sr_base.specs.Inner.Order.{name_cmp_total}
 use Rattle.sr_rows.proofs.Entries.{get-lookup}
 use Rattle.sr_database.proofs.bookkeeping.Books.entry.Goals as goal
 

@@ -1,7 +1,7 @@
 use Rattle.std.proofs.Common.{ap, ◌∙◌}
 use Rattle.std.specs.FinMap as map
 use Rattle.std.proofs.lemmas.Map.Lookups.{exact_bytes}
-use Rattle.sr_base.specs.Order.{name_cmp_total}
+use Rattle.sr_base.specs.Inner.Order.{name_cmp_total}
 use Rattle.sr_rows.proofs.Entries.{from_entries-given}
 use Rattle.sr_database.proofs.bookkeeping.Books.put.Goals as goal
 

@@ -1,7 +1,8 @@
 use Rattle.std.proofs.Common.{◌≡◌, rules, sym, ap, ◌∙◌}
 use Rattle.std.specs.FinMap as map
 use Rattle.std.proofs.lemmas.Map.Lookups.{exact_bytes}
-use Rattle.sr_base.specs.Order.{name_cmp, name_cmp_total}
+use Rattle.sr_base.specs.Order.{name_cmp}
+use Rattle.sr_base.specs.Inner.Order.{name_cmp_total}
 use Rattle.sr_database.specs.declared.bookkeeping.Books.TheInside.{Inside}
 use Rattle.sr_rows.proofs.Entries.{get-lookup, from_entries-given, there_not_none}
 use Rattle.sr_database.proofs.bookkeeping.Books.set.Goals as goal

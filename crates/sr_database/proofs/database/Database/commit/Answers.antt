@@ -1,8 +1,9 @@
 use Rattle.std.proofs.Common.{◌≡◌, List, refl, sym, subst}
 use Rattle.sr_logform.specs.declared.change.Change.{Change}
-use Rattle.sr_database.specs.Commits.{CanCommit, CanCommitSome, IsPrepared}
+use Rattle.sr_database.specs.Commits.{IsPrepared}
+use Rattle.sr_database.specs.Inner.Commits.{CanCommit, CanCommitSome}
 use Rattle.sr_database.specs.Databases.{IsOf, IsOfSome, IsDatabase, HasDatabase}
-use Rattle.sr_database.specs.Taking.{Takes}
+use Rattle.sr_database.specs.Inner.Taking.{Takes}
 use Rattle.sr_database.specs.Views.{View}
 use Rattle.sr_database.proofs.Added.{Added, value_added, some_added, database_added, went_longer, went_spent}
 use Rattle.sr_database.proofs.Commits.{has_log}

@@ -1,5 +1,5 @@
-use Rattle.sr_files.proofs.Attaches.{synced_attaches}
-use Rattle.sr_files.proofs.Syncs.{synced_moments}
+use Rattle.sr_database_files.proofs.Attaches.{synced_attaches}
+use Rattle.sr_database_files.proofs.Syncs.{synced_moments}
 use Rattle.sr_database.proofs.Refused.{stood}
 use Rattle.sr_database.proofs.database.Database.open.Goals as goal
 

@@ -1,6 +1,6 @@
 use Rattle.std.proofs.Common.{◌≡◌, ◌++◌, List, sym, ap, subst, ◌∙◌}
-use Rattle.sr_dml.specs.Applying.{applied}
-use Rattle.sr_dml.specs.FittingChanges.{ChangesFit}
+use Rattle.sr_exec_dml.specs.Applying.{applied}
+use Rattle.sr_exec_dml.specs.FittingChanges.{ChangesFit}
 use Rattle.sr_logform.specs.declared.change.Change.{Change}
 use Rattle.sr_database.specs.Databases.{IsOf}
 use Rattle.sr_database.specs.Views.{View}

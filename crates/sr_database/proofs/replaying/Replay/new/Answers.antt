@@ -1,5 +1,5 @@
 use Rattle.std.proofs.Common.{ap, ◌∙◌}
-use Rattle.sr_schema.specs.Catalogs.{nothing_but}
+use Rattle.sr_catalog_schema.specs.Catalogs.{nothing_but}
 use Rattle.sr_database.proofs.Reopened.{replayed_none}
 use Rattle.sr_database.proofs.replaying.Replay.new.Goals as goal
 

@@ -1,5 +1,5 @@
 use Rattle.std.proofs.Common.{◌≡◌, length, ap, arith}
-use Rattle.sr_lex.specs.Reading.{after_gap}
+use Rattle.sr_lex.specs.Inner.Reading.{after_gap}
 use Rattle.sr_lex.proofs.Gaps.{after_gap-le}
 use Rattle.sr_lex.proofs.Walk.{begins_with, after_gap-again}
 use Rattle.sr_lex.proofs.lexer.Lexer.new.Goals as goal

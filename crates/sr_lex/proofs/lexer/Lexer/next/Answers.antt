@@ -1,24 +1,24 @@
 use Rattle.std.proofs.Common.{◌≡◌, ◌≢◌, ◌-◌, ℕ, List, [], length, Some, None, ap, sym, ◌∙◌, subst, arith}
-use Rattle.sr_lex.specs.Fronts.{IsFront, IsRefused}
-use Rattle.sr_lex.specs.Reading.{token_at, after_gap}
+use Rattle.sr_lex.specs.Inner.Prefixes.{IsPrefix, IsRefused}
+use Rattle.sr_lex.specs.Inner.Reading.{token_at, after_gap}
 use Rattle.sr_lex.proofs.Gaps.{after_gap-le}
-use Rattle.sr_lex.proofs.Walk.{goes_on, token_fits, front_all, front_refused, after_gap-again, nothing_left, something_left}
+use Rattle.sr_lex.proofs.Walk.{goes_on, token_fits, prefix_all, prefix_refused, after_gap-again, nothing_left, something_left}
 use Rattle.sr_lex.proofs.lexer.Lexer.next.Goals as goal
 
 pub returns-then-is_empty-clause-goes : goal.returns-then-is_empty-clause-goes
 returns-then-is_empty-clause-goes c = λ done f.
     let none : c.self.inside.rest.now ≡ [] = nothing_left c.is_empty.result c.self.inside.rest.now c.is_empty.ensures c.if-is_empty.true in
     let left : c.args.self.now.1 ≡ [] = ap (λ (v : List ℕ × List ℕ). v.1) (sym c.self.view_is) ∙ none in
-    front_all c.args.self.now.0 _ done c.args.self.now.1 f left
+    prefix_all c.args.self.now.0 _ done c.args.self.now.1 f left
 
 pub returns-in_default-clause-goes : goal.returns-in_default-clause-goes
 returns-in_default-clause-goes c = λ done f.
     let lacks : token_at c.self.inside.rest.now ≡ None = sym c.in_ok-kind.ensures ∙ c.in_default.is in
     let some : c.self.inside.rest.now ≢ [] = something_left c.is_empty.result c.self.inside.rest.now c.is_empty.ensures c.if-is_empty.false in
     let view : c.args.self.now ≡ (c.self.inside.text.now, c.self.inside.rest.now) = sym c.self.view_is in
-    let here : IsFront (c.self.inside.text.now, c.self.inside.rest.now) done = subst (λ (v : List ℕ × List ℕ). IsFront v done) view f in
+    let here : IsPrefix (c.self.inside.text.now, c.self.inside.rest.now) done = subst (λ (v : List ℕ × List ℕ). IsPrefix v done) view f in
     subst (λ (v : List ℕ × List ℕ). IsRefused v.0 (length c.self.inside.text.now - length c.self.inside.rest.now)) (sym view)
-    (front_refused c.self.inside.text.now _ done c.self.inside.rest.now here some lacks)
+    (prefix_refused c.self.inside.text.now _ done c.self.inside.rest.now here some lacks)
 
 pub overflow_add-end : goal.overflow_add-end
 overflow_add-end c =
@@ -43,7 +43,7 @@ pub returns-clause-goes : goal.returns-clause-goes
 returns-clause-goes c = λ done f.
     let found : token_at c.self.inside.rest.now ≡ Some (c.in-Some.kind, c.in-Some.length) = sym c.in_ok-kind.ensures ∙ c.in-Some.is in
     let view : c.args.self.now ≡ (c.self.inside.text.now, c.self.inside.rest.now) = sym c.self.view_is in
-    let here : IsFront (c.self.inside.text.now, c.self.inside.rest.now) done = subst (λ (v : List ℕ × List ℕ). IsFront v done) view f in
+    let here : IsPrefix (c.self.inside.text.now, c.self.inside.rest.now) done = subst (λ (v : List ℕ × List ℕ). IsPrefix v done) view f in
     goes_on c.self.inside.text.now c.self.inside.rest.now c.split_at.result.1.now c.after_gap-self-inside.result.now _ c.in-Some.length done c.in-Some.kind here found c.split_at.ensures.back c.after_gap-self-inside.ensures
 
 pub returns-clause-shorter : goal.returns-clause-shorter

@@ -1,18 +1,20 @@
 -- The record counts, seen through the fields of the log.
 use Rattle.std.proofs.Common.{refl, inl, ◌≡◌, ◌⊎◌, ◌+◌, [], ◌∷◌, ◌++◌, List, ℕ, Bool, true, length, sym, ap, ◌∙◌, subst, arith, rules}
 use Rattle.std.specs.Prelude.{is_ok}
-use Rattle.sr_site.specs.Happenings.{Happening, Made}
-use Rattle.sr_logfile.specs.Calls.{commit_calls}
+use Rattle.sr_site.specs.Happenings.{Happening}
+use Rattle.sr_site.specs.Inner.Happenings.{Made}
+use Rattle.sr_logfile.specs.Inner.Calls.{commit_calls}
 use Rattle.sr_site.specs.Files.{bytes_of}
 use Rattle.sr_logfile.specs.Log.{Log}
-use Rattle.sr_logfile.specs.Logs.{IsLog, gate_of}
+use Rattle.sr_logfile.specs.Logs.{gate_of}
+use Rattle.sr_logfile.specs.Inner.Logs.{IsLog}
 use Rattle.sr_logfile.specs.Records.{Spells, body_of}
 use Rattle.sr_logfile.proofs.Appends.{OnErr-always}
 use Rattle.sr_logfile.proofs.Commits.{part_committed, record_committed}
 use Rattle.sr_site.specs.Images.{IsSettled, KeepsOthers, RestsThroughout}
 use Rattle.sr_site.proofs.Others.{rests}
 use Rattle.sr_site.proofs.Images.{with_same}
-use Rattle.sr_logfile.specs.Moments.{HasOrLacks}
+use Rattle.sr_logfile.specs.Inner.Moments.{HasOrLacks}
 use Rattle.sr_logfile.proofs.Moments.{has_or_lacks}
 use Rattle.sr_logfile.proofs.log.LogFile.commit.Goals as goal
 

@@ -65,9 +65,9 @@ returns-clause-step g c told done left at =
     let before : c.args.after.0 < log.end = omega arith in
     let next = has_next log c.args.after.0 done files left at before in
     let is = length_read log c.args.after.0 c.base-base.result.0 done left files c.file.result c.base-base.ensures.base c.file.ensures.file next c.in_ok-length.field-0 c.in-Open.length (c.in_ok-length.ensures.head told) c.in-Open.is in
-    let now = subst IsTrue (sym c.head_at.ensures.stays.told) told in
-    let wants : length c.split_at_mut-front.result.0.now ≡ c.in-Open.length = omega arith in
-    let long : length c.read_at.new.buffer ≡ length c.split_at_mut-front.result.0.now = omega arith in
+    let now = subst IsTrue (sym c.head_at.ensures.stays.observable) told in
+    let wants : length c.split_at_mut-prefix.result.0.now ≡ c.in-Open.length = omega arith in
+    let long : length c.read_at.new.buffer ≡ length c.split_at_mut-prefix.result.0.now = omega arith in
     let prior = c.head_at.ensures.files told in
     let stands = c.read_at.ensures.files now ∙ prior in
-    record_step log c.args.after.0 c.base-base.result.0 done left files c.file-2.result c.base-base.ensures.base c.file-2.ensures.file next (g.S.Held.seen c.head_at.new.site).files (g.S.Held.seen c.read_at.new.self).files c.in-Open.length (length c.split_at_mut-front.result.0.now) c.in_ok-count.count c.read_at.new.buffer c.split_at_mut-front.result.1.now prior stands is wants long (c.in_ok-count.ensures.read now)
+    record_step log c.args.after.0 c.base-base.result.0 done left files c.file-2.result c.base-base.ensures.base c.file-2.ensures.file next (g.S.Held.seen c.head_at.new.site).files (g.S.Held.seen c.read_at.new.self).files c.in-Open.length (length c.split_at_mut-prefix.result.0.now) c.in_ok-count.count c.read_at.new.buffer c.split_at_mut-prefix.result.1.now prior stands is wants long (c.in_ok-count.ensures.read now)

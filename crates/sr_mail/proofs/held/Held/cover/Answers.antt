@@ -1,7 +1,7 @@
 use Rattle.std.proofs.Common.{◌≡◌}
 use Rattle.std.specs.List.{Contains}
 use Rattle.sr_mail.specs.Seen.{window_of}
-use Rattle.sr_cut.proofs.Lists.{if_ok_map, AllByRecursion-map}
+use Rattle.sr_mail_cut.proofs.Lists.{if_ok_map, AllByRecursion-map}
 use Rattle.sr_mail.proofs.Spanning.{All-at}
 use Rattle.sr_mail.proofs.held.Held.cover.Goals as goal
 

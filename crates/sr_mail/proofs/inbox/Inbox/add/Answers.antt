@@ -1,6 +1,6 @@
 use Rattle.std.proofs.Common.{ap, ◌∙◌}
 use Rattle.sr_mail.specs.Seen.{piece_of}
-use Rattle.sr_mail.specs.Shelves.{all_of, added}
+use Rattle.sr_mail.specs.Inner.Shelves.{all_of, added}
 use Rattle.sr_mail.proofs.Shelved.{inbox_more, inbox_shows}
 use Rattle.sr_mail.proofs.inbox.Inbox.add.Goals as goal
 

@@ -1,6 +1,6 @@
 use Rattle.std.proofs.Common.{◌≡◌, ◌<◌, ◌+◌, length, take, drop, set, sym, subst}
 use Rattle.sr_mail.specs.declared.window.Window.{Window}
-use Rattle.sr_mail.specs.Shelves.{AllBefore, AllBehind, all_of, without, IsInbox}
+use Rattle.sr_mail.specs.Inner.Shelves.{AllBefore, AllBehind, all_of, without, IsInbox}
 use Rattle.sr_mail.proofs.Shelved.{dropped_on, inbox-without, drops_shown}
 use Rattle.sr_mail.proofs.inbox.Inbox.drop_window.Goals as goal
 

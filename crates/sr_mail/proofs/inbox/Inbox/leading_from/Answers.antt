@@ -1,5 +1,5 @@
 use Rattle.std.proofs.Common.{◌≤◌, ◌<◌}
-use Rattle.sr_mail.specs.Shelves.{all_of, IsFirstPast}
+use Rattle.sr_mail.specs.Inner.Shelves.{all_of, IsFirstPast}
 use Rattle.sr_mail.proofs.Shelved.{leading, none_leading, later_leading}
 use Rattle.sr_mail.proofs.inbox.Inbox.leading_from.Goals as goal
 

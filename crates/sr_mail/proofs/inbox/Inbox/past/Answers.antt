@@ -1,5 +1,5 @@
 use Rattle.std.proofs.Common.{arith}
-use Rattle.sr_mail.specs.Shelves.{all_of}
+use Rattle.sr_mail.specs.Inner.Shelves.{all_of}
 use Rattle.sr_mail.proofs.Shelved.{seen_first, seen_ends}
 use Rattle.sr_mail.proofs.inbox.Inbox.past.Goals as goal
 

@@ -1,6 +1,6 @@
 use Rattle.std.proofs.Common.{List, length}
 use Rattle.sr_mail.specs.declared.piece.Piece.{Piece}
-use Rattle.sr_mail.specs.Tracking.{Follows}
+use Rattle.sr_mail.specs.Inner.Tracking.{Follows}
 use Rattle.sr_mail.proofs.reach.Reach.settle.Given as goal
 
 abbrev pub invariant-waiting : goal.invariant-waiting

@@ -1,7 +1,7 @@
 use Rattle.std.proofs.Common.{take, ◌∙◌}
 use Rattle.std.proofs.lemmas.Result.{on_ok_weaker}
 use Rattle.sr_mail.specs.Seen.{window_of}
-use Rattle.sr_mail.specs.Shelves.{AllBefore}
+use Rattle.sr_mail.specs.Inner.Shelves.{AllBefore}
 use Rattle.sr_mail.proofs.Shelved.{adds_at}
 use Rattle.sr_mail.proofs.shelf.Shelf.add.Goals as goal
 

@@ -2,7 +2,7 @@ use Rattle.std.proofs.Common.{◌≡◌, ◌<◌, ◌≤◌, ◌++◌, length, t
 use Rattle.std.proofs.lemmas.List.{get_or-set_same}
 use Rattle.sr_mail.specs.Inboxes.{Gathered}
 use Rattle.sr_mail.specs.Seen.{window_of}
-use Rattle.sr_mail.specs.Shelves.{AreInOrder, EndBy, IsReady, StandsFirst, added}
+use Rattle.sr_mail.specs.Inner.Shelves.{AreInOrder, EndBy, IsReady, StandsFirst, added}
 use Rattle.sr_mail.proofs.Shelved.{unchanged_set, stands_within, order-set, ends-set, grows}
 use Rattle.sr_mail.proofs.shelf.Shelf.add_at.Goals as goal
 

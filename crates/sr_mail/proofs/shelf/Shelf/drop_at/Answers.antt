@@ -1,6 +1,6 @@
 use Rattle.std.proofs.Common.{◌≡◌, ◌<◌, List, ◌++◌, length, take, drop, set, sym, ap, subst}
 use Rattle.sr_mail.specs.Inboxes.{Gathered}
-use Rattle.sr_mail.specs.Shelves.{first_dropped}
+use Rattle.sr_mail.specs.Inner.Shelves.{first_dropped}
 use Rattle.sr_mail.proofs.Shelved.{order-set, drops}
 use Rattle.sr_mail.proofs.shelf.Shelf.drop_at.Goals as goal
 

@@ -1,6 +1,6 @@
 use Rattle.std.proofs.Common.{take, drop, ◌∙◌, subst}
 use Rattle.std.proofs.lemmas.Bool.{iff_false}
-use Rattle.sr_mail.specs.Shelves.{AllBefore, BeginsBehind, AreInOrder}
+use Rattle.sr_mail.specs.Inner.Shelves.{AllBefore, BeginsBehind, AreInOrder}
 use Rattle.sr_mail.proofs.Shelved.{drops_at, drops_none}
 use Rattle.sr_mail.proofs.shelf.Shelf.drop_window.Goals as goal
 

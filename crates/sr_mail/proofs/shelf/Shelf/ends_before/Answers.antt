@@ -1,6 +1,6 @@
 use Rattle.std.proofs.Common.{◌≡◌, ◌-◌, true, Some, length, sym, ap, ◌∙◌, arith}
 use Rattle.std.specs.Prelude.{slice_get}
-use Rattle.sr_mail.specs.Shelves.{is_before}
+use Rattle.sr_mail.specs.Inner.Shelves.{is_before}
 use Rattle.sr_mail.proofs.Shelved.{last_before, some_get}
 use Rattle.sr_mail.proofs.shelf.Shelf.ends_before.Goals as goal
 

@@ -1,5 +1,5 @@
 use Rattle.std.proofs.Common.{◌∙◌, ap}
-use Rattle.sr_memdisk.specs.Store.{Store}
+use Rattle.sr_memsite_disk.specs.Store.{Store}
 use Rattle.sr_memsite.proofs.Crashes.{bytes_seen}
 use Rattle.sr_memsite.proofs.disk.MemoryDisk.bytes.Goals as goal
 

@@ -1,6 +1,7 @@
 use Rattle.std.proofs.Common.{◌≡◌, [], ◌∙◌, ap}
-use Rattle.sr_memsite.specs.Steps.{first_of, happened_of}
-use Rattle.sr_memdisk.specs.Stores.{Stores, files_of, outcomes}
+use Rattle.sr_memsite.specs.Inner.Steps.{first_of, happened_of}
+use Rattle.sr_memsite_disk.specs.Stores.{Stores}
+use Rattle.sr_memsite_disk.specs.Inner.Stores.{files_of, outcomes}
 use Rattle.sr_memsite.proofs.Crashes.{begun_as, crashed_as}
 use Rattle.sr_memsite.proofs.disk.MemoryDisk.crash.Goals as goal
 

@@ -1,10 +1,10 @@
 use Rattle.std.proofs.Common.{◌≡◌, ◌∙◌, List, ℕ, ap, refl, take, true, false}
 use Rattle.sr_site.specs.Files.{Files, bytes_of, with_bytes}
 use Rattle.sr_site.specs.Happenings.{cut_to}
-use Rattle.sr_memdisk.specs.Store.{Store}
-use Rattle.sr_memdisk.proofs.Backing.{cut_done, cut_failed}
-use Rattle.sr_memdisk.proofs.Standing.{standing_cut, standing_cut_failed}
-use Rattle.sr_memsite.specs.Steps.{first_of, happened_of}
+use Rattle.sr_memsite_disk.specs.Store.{Store}
+use Rattle.sr_memsite_disk.proofs.Backing.{cut_done, cut_failed}
+use Rattle.sr_memsite_disk.proofs.Standing.{standing_cut, standing_cut_failed}
+use Rattle.sr_memsite.specs.Inner.Steps.{first_of, happened_of}
 use Rattle.sr_memsite.proofs.Crashes.{done_by, within_of, within_seen, files_by, happened_by}
 use Rattle.sr_memsite.proofs.disk.MemoryDisk.cut.Goals as goal
 

@@ -1,10 +1,10 @@
 use Rattle.std.proofs.Common.{◌∙◌, List, ℕ, ap}
 use Rattle.sr_site.specs.Files.{Files, with_bytes}
-use Rattle.sr_memdisk.specs.Picks.{standing}
-use Rattle.sr_memdisk.proofs.Standing.{standing_sync}
-use Rattle.sr_memsite.specs.Steps.{first_of, happened_of}
-use Rattle.sr_memdisk.specs.Store.{Store}
-use Rattle.sr_memdisk.specs.Stores.{with_store}
+use Rattle.sr_memsite_disk.specs.Picks.{standing}
+use Rattle.sr_memsite_disk.proofs.Standing.{standing_sync}
+use Rattle.sr_memsite.specs.Inner.Steps.{first_of, happened_of}
+use Rattle.sr_memsite_disk.specs.Store.{Store}
+use Rattle.sr_memsite_disk.specs.Inner.Stores.{with_store}
 use Rattle.sr_memsite.proofs.Crashes.{done_by, sync_as, files_by}
 use Rattle.sr_memsite.proofs.disk.MemoryDisk.set.Goals as goal
 

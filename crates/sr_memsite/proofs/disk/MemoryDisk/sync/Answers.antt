@@ -1,10 +1,12 @@
 use Rattle.std.proofs.Common.{◌≡◌, ◌∙◌, ap, refl, List, ℕ, true, false}
 use Rattle.sr_site.specs.Files.{Files}
 use Rattle.sr_site.specs.Happenings.{synced}
-use Rattle.sr_memsite.specs.Steps.{first_of, happened_of}
-use Rattle.sr_memdisk.specs.Store.{Store, settled_on}
-use Rattle.sr_memdisk.specs.Stores.{Stores, store_of}
-use Rattle.sr_memdisk.proofs.Standing.{standing_sync_failed}
+use Rattle.sr_memsite.specs.Inner.Steps.{first_of, happened_of}
+use Rattle.sr_memsite_disk.specs.Store.{Store}
+use Rattle.sr_memsite_disk.specs.Inner.Store.{settled_on}
+use Rattle.sr_memsite_disk.specs.Stores.{Stores}
+use Rattle.sr_memsite_disk.specs.Inner.Stores.{store_of}
+use Rattle.sr_memsite_disk.proofs.Standing.{standing_sync_failed}
 use Rattle.sr_memsite.proofs.Crashes.{seen, done_by, sync_as, sync_stays, store_there, bytes_seen, files_by, noted_by}
 use Rattle.sr_memsite.proofs.disk.MemoryDisk.sync.Goals as goal
 

@@ -1,11 +1,13 @@
 use Rattle.std.proofs.Common.{◌≡◌, ◌∙◌, List, ℕ, ap, refl, sym, subst, rules, true, false}
 use Rattle.sr_site.specs.Files.{Files, bytes_of, with_bytes, overwritten}
 use Rattle.sr_site.specs.Happenings.{wrote}
-use Rattle.sr_memdisk.specs.Store.{Store, after_write}
-use Rattle.sr_memdisk.specs.Stores.{Stores, AreBacked, store_of, with_store}
-use Rattle.sr_memdisk.proofs.Backing.{write_done, write_failed}
-use Rattle.sr_memdisk.proofs.Standing.{standing_write, standing_write_failed}
-use Rattle.sr_memsite.specs.Steps.{first_of, happened_of}
+use Rattle.sr_memsite_disk.specs.Store.{Store}
+use Rattle.sr_memsite_disk.specs.Inner.Store.{after_write}
+use Rattle.sr_memsite_disk.specs.Stores.{Stores}
+use Rattle.sr_memsite_disk.specs.Inner.Stores.{AreBacked, store_of, with_store}
+use Rattle.sr_memsite_disk.proofs.Backing.{write_done, write_failed}
+use Rattle.sr_memsite_disk.proofs.Standing.{standing_write, standing_write_failed}
+use Rattle.sr_memsite.specs.Inner.Steps.{first_of, happened_of}
 use Rattle.sr_memsite.proofs.Crashes.{Steps, seen, done_by, within_of, within_seen, files_by, happened_by}
 use Rattle.sr_memsite.proofs.disk.MemoryDisk.write.Goals as goal
 use Rattle.sr_memsite.proofs.disk.MemoryDisk.write.Goals.{then-fails-via-then-fails, then-fails-via-else-fails+then-is_err}

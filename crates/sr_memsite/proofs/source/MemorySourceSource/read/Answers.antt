@@ -8,5 +8,5 @@ returns-clause-given c =
     let count = c.fill-count.result in
     let left = drop c.args.self.now.given c.args.self.now.bytes.items in
     let given : take count c.fill-count.new.buffer ≡ take count left = search rules in
-    sym (take-append-drop count left) ∙ ap (λ front. front ++ drop count left) (sym given)
+    sym (take-append-drop count left) ∙ ap (λ prefix. prefix ++ drop count left) (sym given)
     ∙ ap (λ rest. take count c.fill-count.new.buffer ++ rest) (drop-drop count c.args.self.now.given c.args.self.now.bytes.items)

@@ -1,10 +1,10 @@
 use Rattle.std.proofs.Common.{◌≡◌, rules, sym, ap, subst, ◌∙◌}
 use Rattle.std.specs.BTreeMap as tree
 use Rattle.sr_base.specs.Order.{name_cmp}
-use Rattle.sr_rows.specs.Gathered.{gathered}
-use Rattle.sr_rows.specs.Hands.{with_hand}
+use Rattle.sr_rows.specs.Inner.Gathered.{gathered}
+use Rattle.sr_rows.specs.Inner.Hands.{with_hand}
 use Rattle.sr_rows.specs.Marks.{OneAtHand}
-use Rattle.sr_rows.specs.Undoing.{seen, Undoable}
+use Rattle.sr_rows.specs.Inner.Undoing.{seen, Undoable}
 use Rattle.sr_rows.proofs.Entries.{there_not_none}
 use Rattle.sr_rows.proofs.Hands.{hand_given}
 use Rattle.sr_rows.proofs.at_hand.AtHand.give_back.Goals as goal

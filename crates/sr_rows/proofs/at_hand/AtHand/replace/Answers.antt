@@ -2,11 +2,11 @@ use Rattle.std.proofs.Common.{◌≡◌, Some, is_some, true, false, cond, refl,
 use Rattle.std.specs.Cmp.{tied_itself}
 use Rattle.std.specs.FinMap as map
 use Rattle.std.specs.Ordering.{is_eq}
-use Rattle.sr_base.specs.Order.{key_cmp_total}
+use Rattle.sr_base.specs.Inner.Order.{key_cmp_total}
 use Rattle.sr_rows.specs.declared.undo.Undo.{Undo}
-use Rattle.sr_rows.specs.Hands.{seen_at_hand, Replaces}
+use Rattle.sr_rows.specs.Inner.Hands.{seen_at_hand, Replaces}
 use Rattle.sr_rows.specs.Marks.{OneAtHand}
-use Rattle.sr_rows.specs.Steps.{GoesOn}
+use Rattle.sr_rows.specs.Inner.Steps.{GoesOn}
 use Rattle.sr_rows.proofs.Going.{GoesOn-same}
 use Rattle.sr_rows.proofs.Hands.{hand_missing, hand_undoable, hand_replaced, hand_undoable_again, hand_again}
 use Rattle.sr_rows.proofs.at_hand.AtHand.replace.Goals as goal

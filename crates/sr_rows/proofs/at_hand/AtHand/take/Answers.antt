@@ -1,9 +1,9 @@
 use Rattle.std.proofs.Common.{◌≡◌, rules, Some, is_some, sym, ap, subst, ◌∙◌}
 use Rattle.std.specs.BTreeMap as tree
 use Rattle.sr_base.specs.Order.{name_cmp}
-use Rattle.sr_rows.specs.Gathered.{gathered}
-use Rattle.sr_rows.specs.Hands.{with_hand}
-use Rattle.sr_rows.specs.Undoing.{seen, Undoable}
+use Rattle.sr_rows.specs.Inner.Gathered.{gathered}
+use Rattle.sr_rows.specs.Inner.Hands.{with_hand}
+use Rattle.sr_rows.specs.Inner.Undoing.{seen, Undoable}
 use Rattle.sr_rows.proofs.Hands.{hand_taken}
 use Rattle.sr_rows.proofs.at_hand.AtHand.take.Goals as goal
 use Rattle.sr_rows.proofs.at_hand.AtHand.take.Goals.{After-replace-table}

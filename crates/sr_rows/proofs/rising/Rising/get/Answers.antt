@@ -1,7 +1,8 @@
 use Rattle.std.proofs.Common.{sym, ap, subst, ◌∙◌}
 use Rattle.std.specs.FinMap as map
-use Rattle.sr_base.specs.Order.{key_cmp, key_cmp_total}
-use Rattle.sr_rows.specs.Searches.{InOrder}
+use Rattle.sr_base.specs.Order.{key_cmp}
+use Rattle.sr_base.specs.Inner.Order.{key_cmp_total}
+use Rattle.sr_rows.specs.Inner.Searches.{InOrder}
 use Rattle.sr_rows.proofs.Entries.{get-lookup}
 use Rattle.sr_rows.proofs.Searching.{at_place, at_gap}
 use Rattle.sr_rows.proofs.rising.Rising.get.Goals as goal

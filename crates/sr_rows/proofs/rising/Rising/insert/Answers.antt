@@ -1,6 +1,6 @@
 use Rattle.std.proofs.Common.{◌≡◌, IfOk, OnOk, length, sym, ap, subst, ◌∙◌}
 use Rattle.std.specs.FinMap as map
-use Rattle.sr_rows.specs.Searches.{InOrder}
+use Rattle.sr_rows.specs.Inner.Searches.{InOrder}
 use Rattle.sr_rows.proofs.Searching.{get_placed, get_missed, order_placed, map_placed, order_grown, map_grown}
 use Rattle.sr_rows.proofs.rising.Rising.insert.Goals as goal
 use Rattle.sr_rows.proofs.rising.Rising.insert.Goals.{in-Ok-push, in-Err-push}

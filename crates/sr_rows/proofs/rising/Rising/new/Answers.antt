@@ -1,5 +1,5 @@
 use Rattle.std.proofs.Common.{sym, subst}
-use Rattle.sr_rows.specs.Searches.{InOrder}
+use Rattle.sr_rows.specs.Inner.Searches.{InOrder}
 use Rattle.sr_rows.proofs.Searching.{order_none}
 use Rattle.sr_rows.proofs.rising.Rising.new.Goals as goal
 

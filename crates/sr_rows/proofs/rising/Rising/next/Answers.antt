@@ -4,8 +4,8 @@ use Rattle.std.specs.Option.{option_copied}
 use Rattle.std.specs.Ordering.{is_lt}
 use Rattle.sr_base.specs.declared.value.Value.{Value}
 use Rattle.sr_base.specs.Order.{key_cmp}
-use Rattle.sr_rows.specs.Gathered.{row_of, first_filled, filled_rows}
-use Rattle.sr_rows.specs.Marks.{IsNext, IsLast}
+use Rattle.sr_rows.specs.Inner.Gathered.{row_of, first_filled, filled_rows}
+use Rattle.sr_rows.specs.Inner.Marks.{IsNext, IsLast}
 use Rattle.sr_rows.proofs.Searching.{taken_first, all_kept, less}
 use Rattle.sr_rows.proofs.Walking.{next_is}
 use Rattle.sr_rows.proofs.rising.Rising.next.Goals as goal

@@ -1,8 +1,8 @@
 use Rattle.std.proofs.Common.{rules, ◌≡◌, ◌+◌, ◌<◌, ◌≤◌, [], ◌∷◌, ◌++◌, length, arith, sym, ap, subst, ◌∙◌}
 use Rattle.std.proofs.lemmas.List.{length-append}
-use Rattle.sr_rows.specs.Gathered.{gathered, filled}
-use Rattle.sr_rows.specs.Steps.{back}
-use Rattle.sr_rows.specs.Undoing.{put_back, seen, Undoable, trail_of}
+use Rattle.sr_rows.specs.Inner.Gathered.{gathered, filled}
+use Rattle.sr_rows.specs.Inner.Steps.{back}
+use Rattle.sr_rows.specs.Inner.Undoing.{put_back, seen, Undoable, trail_of}
 use Rattle.sr_rows.proofs.Going.{back-step, back-all}
 use Rattle.sr_rows.proofs.Keeping.{Undoable-before, seen-snoc, length-trail}
 use Rattle.sr_rows.proofs.rows.Rows.back_to.Goals as goal

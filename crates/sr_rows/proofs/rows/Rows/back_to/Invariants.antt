@@ -1,8 +1,8 @@
 -- the changes that are left can be taken back, and lead to where all of them would
 use Rattle.std.proofs.Common.{◌≡◌, vec_len}
-use Rattle.sr_rows.specs.Gathered.{gathered}
-use Rattle.sr_rows.specs.Steps.{back}
-use Rattle.sr_rows.specs.Undoing.{seen, Undoable}
+use Rattle.sr_rows.specs.Inner.Gathered.{gathered}
+use Rattle.sr_rows.specs.Inner.Steps.{back}
+use Rattle.sr_rows.specs.Inner.Undoing.{seen, Undoable}
 use Rattle.sr_rows.proofs.rows.Rows.back_to.Given as goal
 
 abbrev pub invariant-changes : goal.invariant-changes

@@ -1,5 +1,5 @@
 use Rattle.std.proofs.Common.{ap, ◌∙◌}
-use Rattle.sr_rows.specs.Gathered.{gathered}
+use Rattle.sr_rows.specs.Inner.Gathered.{gathered}
 use Rattle.sr_rows.specs.Marks.{Marked}
 use Rattle.sr_rows.specs.Steps.{without_table}
 use Rattle.sr_rows.proofs.Keeping.{undoable-fresh, seen-fresh, filled-without}

@@ -2,7 +2,7 @@ use Rattle.std.proofs.Common.{sym, ap, ◌∙◌}
 use Rattle.std.specs.Option.{option_copied}
 use Rattle.std.specs.FinMap as map
 use Rattle.sr_rows.specs.Marks.{Place, Marked}
-use Rattle.sr_rows.specs.Gathered.{gathered, row_of}
+use Rattle.sr_rows.specs.Inner.Gathered.{gathered, row_of}
 use Rattle.sr_rows.proofs.Keeping.{get-filled}
 use Rattle.sr_rows.proofs.rows.Rows.get.Goals as goal
 

@@ -1,6 +1,6 @@
 -- the rows are the ones before
 use Rattle.std.proofs.Common.{◌≡◌, vec_len}
-use Rattle.sr_rows.specs.Gathered.{gathered, filled}
+use Rattle.sr_rows.specs.Inner.Gathered.{gathered, filled}
 use Rattle.sr_rows.proofs.rows.Rows.mark.Given as goal
 
 abbrev pub invariant-loop-change : goal.invariant-loop-change

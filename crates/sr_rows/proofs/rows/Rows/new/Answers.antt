@@ -1,6 +1,6 @@
 use Rattle.std.proofs.Common.{ap, ◌∙◌}
-use Rattle.sr_rows.specs.Gathered.{gathered, filled}
-use Rattle.sr_rows.specs.Undoing.{undone}
+use Rattle.sr_rows.specs.Inner.Gathered.{gathered, filled}
+use Rattle.sr_rows.specs.Inner.Undoing.{undone}
 use Rattle.sr_rows.proofs.Keeping.{filled-none}
 use Rattle.sr_rows.proofs.rows.Rows.new.Goals as goal
 

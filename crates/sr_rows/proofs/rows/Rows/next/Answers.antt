@@ -2,8 +2,9 @@ use Rattle.std.proofs.Common.{◌≡◌, sym, ap, subst, MatchOption, List, Opti
 use Rattle.std.specs.Option.{option_copied}
 use Rattle.std.specs.FinMap as map
 use Rattle.sr_base.specs.declared.value.Value.{Value}
-use Rattle.sr_rows.specs.Gathered.{gathered, row_of}
-use Rattle.sr_rows.specs.Marks.{Marked, rows_of_table, IsNext, IsLast}
+use Rattle.sr_rows.specs.Inner.Gathered.{gathered, row_of}
+use Rattle.sr_rows.specs.Marks.{Marked, rows_of_table}
+use Rattle.sr_rows.specs.Inner.Marks.{IsNext, IsLast}
 use Rattle.sr_rows.proofs.Gathering.{get-held, get-gone}
 use Rattle.sr_rows.proofs.Keeping.{get-filled}
 use Rattle.sr_rows.proofs.Listing.{goes_along}

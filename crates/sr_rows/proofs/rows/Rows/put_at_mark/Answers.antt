@@ -1,6 +1,6 @@
 use Rattle.std.proofs.Common.{Some, ap, ◌∙◌}
 use Rattle.std.specs.FinMap as map
-use Rattle.sr_rows.specs.Gathered.{gathered, filled}
+use Rattle.sr_rows.specs.Inner.Gathered.{gathered, filled}
 use Rattle.sr_rows.specs.Marks.{Place, Marked}
 use Rattle.sr_rows.proofs.Keeping.{undoable-fresh, seen-fresh, filled-insert}
 use Rattle.sr_rows.proofs.rows.Rows.put_at_mark.Goals as goal

@@ -1,6 +1,6 @@
 use Rattle.std.proofs.Common.{[]}
 use Rattle.std.proofs.lemmas.Result.{IfOk-weaker}
-use Rattle.sr_rows.specs.Gathered.{gathered}
+use Rattle.sr_rows.specs.Inner.Gathered.{gathered}
 use Rattle.sr_rows.proofs.Filling.{fills_rows}
 use Rattle.sr_rows.proofs.Keeping.{undoable-fresh}
 use Rattle.sr_rows.proofs.rows.Rows.put_new_at_mark.Goals as goal

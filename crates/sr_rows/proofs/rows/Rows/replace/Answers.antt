@@ -1,6 +1,6 @@
 use Rattle.std.proofs.Common.{Some, false, sym, ap}
 use Rattle.sr_rows.specs.Marks.{Marked}
-use Rattle.sr_rows.specs.Gathered.{gathered}
+use Rattle.sr_rows.specs.Inner.Gathered.{gathered}
 use Rattle.sr_rows.specs.declared.undo.Undo.{Undo}
 use Rattle.sr_rows.proofs.Entries.{on_err-intro}
 use Rattle.sr_rows.proofs.Going.{GoesOn-step, GoesOn-same}

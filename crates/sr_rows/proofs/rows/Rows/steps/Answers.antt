@@ -1,5 +1,5 @@
 use Rattle.std.proofs.Common.{length, sym, ap, ◌∙◌}
-use Rattle.sr_rows.specs.Gathered.{gathered}
+use Rattle.sr_rows.specs.Inner.Gathered.{gathered}
 use Rattle.sr_rows.specs.Marks.{Marked}
 use Rattle.sr_rows.proofs.Keeping.{length-trail}
 use Rattle.sr_rows.proofs.rows.Rows.steps.Goals as goal

@@ -1,6 +1,6 @@
 use Rattle.std.proofs.Common.{sym, ap, ◌∙◌}
 use Rattle.std.specs.FinMap as map
-use Rattle.sr_rows.specs.Gathered.{gathered, filled, row_of}
+use Rattle.sr_rows.specs.Inner.Gathered.{gathered, filled, row_of}
 use Rattle.sr_rows.specs.Marks.{Place, Marked}
 use Rattle.sr_rows.proofs.Entries.{none_of_test}
 use Rattle.sr_rows.proofs.Keeping.{undoable-fresh, seen-fresh, filled-removed, get-filled, remove-none}

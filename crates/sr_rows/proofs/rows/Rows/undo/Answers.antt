@@ -1,6 +1,6 @@
 use Rattle.std.proofs.Common.{sym, ap, subst, ◌∙◌}
-use Rattle.sr_rows.specs.Gathered.{gathered, filled}
-use Rattle.sr_rows.specs.Undoing.{undone, Undoable}
+use Rattle.sr_rows.specs.Inner.Gathered.{gathered, filled}
+use Rattle.sr_rows.specs.Inner.Undoing.{undone, Undoable}
 use Rattle.sr_rows.proofs.Keeping.{undone-snoc, Undoable-before}
 use Rattle.sr_rows.proofs.rows.Rows.undo.Goals as goal
 

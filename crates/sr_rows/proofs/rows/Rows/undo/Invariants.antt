@@ -1,7 +1,7 @@
 -- the changes that are left can be taken back, and lead back to the mark
 use Rattle.std.proofs.Common.{◌≡◌, vec_len}
-use Rattle.sr_rows.specs.Gathered.{gathered, filled}
-use Rattle.sr_rows.specs.Undoing.{undone, Undoable}
+use Rattle.sr_rows.specs.Inner.Gathered.{gathered, filled}
+use Rattle.sr_rows.specs.Inner.Undoing.{undone, Undoable}
 use Rattle.sr_rows.proofs.rows.Rows.undo.Given as goal
 
 abbrev pub invariant-loop-change : goal.invariant-loop-change

@@ -1,7 +1,7 @@
 use Rattle.std.proofs.Common.{Some, None, true, sym, ap, ◌∙◌}
 use Rattle.std.specs.FinMap as map
 use Rattle.sr_rows.specs.Marks.{Place, Marked}
-use Rattle.sr_rows.specs.Gathered.{gathered, row_of}
+use Rattle.sr_rows.specs.Inner.Gathered.{gathered, row_of}
 use Rattle.sr_rows.specs.declared.undo.Undo.{Undo}
 use Rattle.sr_rows.proofs.Entries.{on_err-intro, none_of_test}
 use Rattle.sr_rows.proofs.Going.{GoesOn-step, GoesOn-same}

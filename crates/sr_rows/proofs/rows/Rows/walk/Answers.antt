@@ -1,7 +1,7 @@
 use Rattle.std.proofs.Common.{◌≡◌, sym, ap, List, None, ◌∙◌}
 use Rattle.std.specs.FinMap as map
 use Rattle.sr_base.specs.declared.value.Value.{Value}
-use Rattle.sr_rows.specs.Gathered.{gathered, row_of, filled_rows}
+use Rattle.sr_rows.specs.Inner.Gathered.{gathered, row_of, filled_rows}
 use Rattle.sr_rows.specs.Marks.{Marked, rows_of_table}
 use Rattle.sr_rows.proofs.Cursors.{filled_none, filled_table}
 use Rattle.sr_rows.proofs.Gathering.{get-held, get-gone}

@@ -1,6 +1,6 @@
 use Rattle.std.proofs.Common.{sym, ap, ◌∙◌}
 use Rattle.std.specs.FinMap as map
-use Rattle.sr_base.specs.Order.{key_cmp_total}
+use Rattle.sr_base.specs.Inner.Order.{key_cmp_total}
 use Rattle.sr_base.proofs.Exact.{exact_keys}
 use Rattle.sr_rows.proofs.Entries.{get-lookup, from_entries-given}
 use Rattle.sr_rows.proofs.tree.Tree.insert.Goals as goal

@@ -2,7 +2,8 @@ use Rattle.std.proofs.Common.{IsTrue, sym, ap, subst, ◌∙◌}
 use Rattle.std.specs.BTreeMap as tree
 use Rattle.std.specs.FinMap as map
 use Rattle.std.specs.Ordering.{is_lt}
-use Rattle.sr_base.specs.Order.{key_cmp, key_cmp_total}
+use Rattle.sr_base.specs.Order.{key_cmp}
+use Rattle.sr_base.specs.Inner.Order.{key_cmp_total}
 use Rattle.sr_rows.proofs.Entries.{get-lookup, none_past}
 use Rattle.sr_rows.proofs.tree.Tree.is_past.Goals as goal
 

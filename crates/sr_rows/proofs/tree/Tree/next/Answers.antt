@@ -4,8 +4,8 @@ use Rattle.std.specs.Ordering.{is_lt}
 use Rattle.std.specs.FinMap as map
 use Rattle.sr_base.specs.declared.value.Value.{Value}
 use Rattle.sr_base.specs.Order.{key_cmp}
-use Rattle.sr_rows.specs.Gathered.{row_of, first_filled}
-use Rattle.sr_rows.specs.Marks.{IsNext, IsLast}
+use Rattle.sr_rows.specs.Inner.Gathered.{row_of, first_filled}
+use Rattle.sr_rows.specs.Inner.Marks.{IsNext, IsLast}
 use Rattle.sr_rows.proofs.Walking.{next_is, less_tells}
 use Rattle.sr_rows.proofs.tree.Tree.next.Goals as goal
 

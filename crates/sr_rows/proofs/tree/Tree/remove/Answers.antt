@@ -1,6 +1,6 @@
 use Rattle.std.proofs.Common.{ap, ◌∙◌}
 use Rattle.std.specs.FinMap as map
-use Rattle.sr_base.specs.Order.{key_cmp_total}
+use Rattle.sr_base.specs.Inner.Order.{key_cmp_total}
 use Rattle.sr_base.proofs.Exact.{exact_keys}
 use Rattle.sr_rows.proofs.Entries.{from_entries-removed}
 use Rattle.sr_rows.proofs.tree.Tree.remove.Goals as goal

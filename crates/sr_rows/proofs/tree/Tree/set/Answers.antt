@@ -1,6 +1,7 @@
 use Rattle.std.proofs.Common.{◌≡◌, rules, sym, ap, ◌∙◌, Some}
 use Rattle.std.specs.FinMap as map
-use Rattle.sr_base.specs.Order.{key_cmp, key_cmp_total}
+use Rattle.sr_base.specs.Order.{key_cmp}
+use Rattle.sr_base.specs.Inner.Order.{key_cmp_total}
 use Rattle.sr_base.proofs.Exact.{exact_keys}
 use Rattle.sr_rows.specs.declared.tree.Tree.TheInside.{Inside}
 use Rattle.sr_rows.proofs.Entries.{get-lookup, from_entries-given, there_not_none}

@@ -1,0 +1,18 @@
+-- What orders may be.
+use Rattle.std.specs.Prelude.{◌≡◌, ◌≤◌, ◌||◌, ⊤, IsTrue, false}
+use Rattle.sr_agent.specs.declared.options.Options.{Options}
+use Rattle.dbremote_command.specs.declared.order.Order.{Order}
+use Rattle.dbremote_command.specs.declared.order.Order.TheVariants.{Init, Sql, Agent, Show}
+
+-- what options may be: one pass at least is made, no log is restarted, and a message has a length that it may have
+pub record MayRun (options : Options) : Type 0 where
+  pub some_pass : IsTrue (options.receive || options.send)
+  pub no_restart : options.restart ≡ false
+  pub least : 10000 ≤ options.length
+  pub most : options.length ≤ 1048576
+
+abbrev pub MayOrder : Order → Type 0
+MayOrder (Init name user) = ⊤
+MayOrder (Sql name) = ⊤
+MayOrder (Show name) = ⊤
+MayOrder (Agent name mail options) = MayRun options

@@ -1,0 +1,14 @@
+pub mod Agents
+pub mod CaughtUp
+pub mod Complete
+pub mod Counts
+pub mod Faults
+pub mod Limits
+pub mod Making
+pub mod Outside
+pub mod Reports
+pub mod Running
+pub mod Runs
+pub mod Showing
+pub mod Streams
+pub mod Inner

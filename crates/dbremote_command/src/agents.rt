@@ -1,0 +1,64 @@
+ghost use Rattle.std.specs.Prelude.{◌≡◌, ◌≢◌, ◌≤◌, ◌||◌, false, IfErr, IfOk, IfSome, IsTrue};
+ghost use Rattle.dbremote_command.specs.Agents.{AgentStopped};
+ghost use Rattle.dbremote_command.specs.Inner.Agents.{AgentRanSome};
+ghost use Rattle.dbremote_command.specs.Inner.Kept.{IsKept};
+ghost use Rattle.dbremote_command.specs.Outside.{outside, IsAttachTried};
+ghost use Rattle.sr_site.specs.Causes.{Stays};
+ghost use Rattle.sr_site.specs.Streams.{Input};
+
+use crate::fault::Fault;
+use crate::running::{keep, open};
+use sr_agent::{Options, agent};
+use sr_base::Text;
+use sr_database::Database;
+use sr_site::{Sink, Site};
+use std::alloc::Global;
+
+/// `agent NAME --mail FOLDER`: opens the database and runs the agent on it once. Answers how many lines told of something amiss. Where no fault ended
+/// it, the database is kept open.
+pub fn run_agent<S: Site, O: Sink>(
+    alloc: Global,
+    name: &Text,
+    mail: &Text,
+    options: &Options,
+    kept: &mut Option<Database>,
+    site: &mut S,
+    output: &mut O,
+    now: i64,
+) -> Result<u32, Fault>
+    requires some_pass { IsTrue (options.now.receive || options.now.send) }
+    requires no_restart { options.now.restart ≡ false }
+    requires least { 10000 ≤ options.now.length }
+    requires most { options.now.length ≤ 1048576 }
+    requires kept { IfSome kept.old (λ db. IsKept db (S.seen site.old)) }
+    ensures ran { (input : Input) → IfOk result (AgentRanSome name.now mail.now options.now (outside (S.seen site.old) input (O.seen output.old)) (outside (S.seen site.new) input (O.seen output.new))) }
+    ensures stopped { (input : Input) → IfErr result (AgentStopped name.now mail.now options.now (outside (S.seen site.old) input (O.seen output.old)) (outside (S.seen site.new) input (O.seen output.new))) }
+    ensures kept { IsTrue (S.seen site.new).observable → IfSome kept.new (λ db. IsKept db (S.seen site.new)) }
+    ensures tried { IsAttachTried name.now mail.now (S.seen site.old) (S.seen site.new) }
+    ensures stays { Stays (S.seen site.old) (S.seen site.new) }
+{
+    match open(alloc, name, mail, kept.take(), site) {
+        Ok(mut database) => {
+            let ran = agent(alloc, &mut database, site, options, now, output);
+            match ran {
+                Ok(count) => {
+                    keep(kept, database);
+                    Ok(count)
+                }
+                Err(fault) => {
+                    drop(database);
+                    Err(Fault::from(fault))
+                }
+            }
+        }
+        Err(fault) => Err(Fault::Database(fault)),
+    }
+}
+
+/// The exit status of a run of the agent that no fault ended.
+pub fn status_of_alarms(count: u32) -> u8
+    ensures none { count ≡ 0 → result ≡ 0 }
+    ensures some { count ≢ 0 → result ≡ 1 }
+{
+    if count == 0 { 0 } else { 1 }
+}

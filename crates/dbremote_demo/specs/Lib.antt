@@ -1,0 +1,5 @@
+pub mod Courses
+pub mod Demonstrations
+pub mod Runs
+pub mod Scripts
+pub mod Inner

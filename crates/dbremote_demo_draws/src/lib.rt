@@ -1,0 +1,27 @@
+//! What the demonstration draws and counts: statements, lost messages, what became of what was taken, and how far two databases differ.
+//!
+//! Nothing runs here: the demonstration's runs are made of it by the crate above. The contract that matters most is that of `differing`: at how
+//! many keys what a view shows of the rows above is not what is held below.
+#![tactic(auto)]
+
+mod agreeing;
+mod counting;
+mod demo_site;
+mod drawing;
+mod draws;
+mod keys;
+mod losing;
+mod statements;
+mod summary;
+mod sums;
+
+pub use agreeing::{count_rows, differing};
+pub use counting::{Outcomes, outcomes_of};
+pub use demo_site::{DemoSite, name_in};
+pub use drawing::{Scripts, scripts_of};
+pub use draws::Draws;
+pub use keys::Keys;
+pub use losing::lose_some;
+pub use statements::{Drawn, DrawnStatement};
+pub use summary::{Part, Parts, Summary, lines_of};
+pub use sums::{sum, sum_of_four};

@@ -1,0 +1,118 @@
+-- What a run keeps of the partners of a database, of what it puts, of what is decided, of what its history says, and of the steps that it makes.
+use Rattle.std.proofs.Common.{ℕ, List, [], ◌∷◌, ◌++◌, Option, inl, inr}
+use Rattle.std.specs.Prelude.{IsTrue}
+use Rattle.sr_book.specs.Entries.{Name}
+use Rattle.sr_database_files.specs.Fresh.{IsThere}
+use Rattle.sr_database_history.specs.Fitting.{Stored}
+use Rattle.sr_database_history.specs.Recorded.{Recorded}
+use Rattle.sr_world_model.specs.Truth.{IsTrueOf}
+use Rattle.sr_world_model.specs.Worlds.{World, history}
+use Rattle.sr_msgform.specs.declared.message.Message.{Message}
+use Rattle.sr_site.specs.Causes.{Stays}
+use Rattle.sr_site.specs.Files.{Files}
+use Rattle.sr_site.specs.Images.{IsImage, IsSettled, RestsThroughout}
+use Rattle.sr_site.specs.Seen.{Seen}
+use Rattle.sr_database_meaning.specs.Standing.{StandsAs}
+use Rattle.sr_database_meaning.proofs.Standing.{missing_is_none}
+use Rattle.sr_world.specs.Real.{layers}
+use Rattle.sr_world_prefix.specs.Decided.{KeepsDecided, StandDecided}
+use Rattle.sr_world_prefix.specs.Forging.{NoneForged}
+use Rattle.sr_world_prefix.specs.Good.{KeepsGood, StandGood}
+use Rattle.sr_world_prefix.specs.Keeping.{KeepsPartner}
+use Rattle.sr_world_prefix.specs.Partners.{StandInStep}
+use Rattle.sr_world_prefix.specs.Puts.{BacksPuts, PutsTrue}
+use Rattle.sr_world_prefix.specs.Truths.{IsTrueInPart}
+use Rattle.sr_world_runs.specs.Worlds.{AllKnown, IsFaithfulThroughout, MakesSteps, Rests, on_one, on_two}
+use Rattle.sr_world_runs.proofs.AgentSteps.{agent_steps}
+use Rattle.sr_world_prefix.proofs.Deciders.{agent_decided, script_decided, untouched_decided}
+use Rattle.sr_world_prefix.proofs.Goodness.{agent_good, script_good, untouched_good}
+use Rattle.sr_world_prefix.proofs.Opened.{agent_kept, script_run_kept, untouched_kept}
+use Rattle.sr_world_prefix.proofs.Silent.{agent_true, script_true, untouched_true}
+use Rattle.sr_world_runs.proofs.WorldSteps.{script_steps, untouched_steps}
+use Rattle.dbremote_command.specs.Outside.{Outside}
+use Rattle.dbremote_run.specs.Runs.{RanProgram}
+use Rattle.dbremote_run.proofs.Cases.{run_holds}
+use Rattle.dbremote_words.specs.declared.asked.Asked.{Asked}
+
+-- files that stand for a history are there
+some_there : (publisher : Name) (es : List Recorded) (files : Files) → StandsAs publisher es files → IsThere files
+some_there publisher es files stands = missing_is_none publisher es stands.base files stands.stands
+
+pub partners_kept : (wanted : Option Asked) (old new : Outside) (status : ℕ) → RanProgram wanted old new status → Stays old.site new.site → (publisher user : Name) (us : List Recorded)
+    → IsTrue old.site.observable → Stored user us → KeepsPartner publisher user us old.site new.site
+partners_kept wanted old new status ran stays publisher user us told stored settled =
+    run_holds old new told stays (λ image there. let stood = settled image there in some_there publisher stood.es image stood.stands)
+    (λ (s : Seen). NoneForged publisher user us old.site s → RestsThroughout (StandInStep publisher user us) old.site s)
+    (record {
+      still = λ now still quiet. untouched_kept publisher user us old.site now still settled;
+      agent = λ owner es options view view' opened now written written' result on still quiet database did.
+          agent_kept publisher user owner es us options view view' old.site opened now written written' result told on still database stored did settled;
+      script = λ owner es view view' opened now written written' statements result on still quiet database did.
+          script_run_kept publisher user owner es us view view' old.site opened now written written' statements result told on still database did settled;
+    }) wanted status ran
+
+puts_hold : (Holds : Name → List Recorded → Message → Type 0) (wanted : Option Asked) (old new : Outside) (status : ℕ) → RanProgram wanted old new status → Stays old.site new.site → (publisher : Name)
+    → IsTrue old.site.observable → IsSettled IsThere old.site → ((now : Seen) → PutsTrue publisher old.site now → BacksPuts Holds publisher old.site now) → BacksPuts Holds publisher old.site new.site
+puts_hold Holds wanted old new status ran stays publisher told there kept =
+    run_holds old new told stays there (λ (s : Seen). BacksPuts Holds publisher old.site s)
+    (record {
+      still = λ now still quiet. kept now (untouched_true publisher old.site now still quiet);
+      agent = λ owner es options view view' opened now written written' result on still quiet database did.
+          kept now (agent_true publisher owner es options view view' old.site opened now written written' result told on still quiet database did);
+      script = λ owner es view view' opened now written written' statements result on still quiet database did.
+          kept now (script_true publisher owner es view view' old.site opened now written written' statements result told on still quiet database did);
+    }) wanted status ran
+
+pub puts_true : (wanted : Option Asked) (old new : Outside) (status : ℕ) → RanProgram wanted old new status → Stays old.site new.site → (publisher : Name) → IsTrue old.site.observable → PutsTrue publisher old.site new.site
+puts_true wanted old new status ran stays publisher told = record {
+  whole = λ settled.
+      puts_hold (IsTrueOf layers) wanted old new status ran stays publisher told (λ image there. let stood = settled image there in some_there publisher stood.es image stood.stands)
+      (λ now puts. puts.whole settled);
+  in_part = λ settled.
+      puts_hold IsTrueInPart wanted old new status ran stays publisher told (λ image there. let stood = settled image there in some_there publisher stood.es image stood.stands)
+      (λ now puts. puts.in_part settled);
+}
+
+pub decided_kept : (wanted : Option Asked) (old new : Outside) (status : ℕ) → RanProgram wanted old new status → Stays old.site new.site → (publisher : Name) → IsTrue old.site.observable
+    → KeepsDecided publisher old.site new.site
+decided_kept wanted old new status ran stays publisher told settled =
+    run_holds old new told stays (λ image there. let stood = settled image there in some_there publisher stood.es image stood.stands) (λ (s : Seen). RestsThroughout (StandDecided publisher) old.site s)
+    (record {
+      still = λ now still quiet. untouched_decided publisher old.site now still settled;
+      agent = λ owner es options view view' opened now written written' result on still quiet database did.
+          agent_decided publisher owner es options view view' old.site opened now written written' result told on still database did settled;
+      script = λ owner es view view' opened now written written' statements result on still quiet database did.
+          script_decided publisher owner es view view' old.site opened now written written' statements result told on still database did settled;
+    }) wanted status ran
+
+pub good_kept : (wanted : Option Asked) (old new : Outside) (status : ℕ) → RanProgram wanted old new status → Stays old.site new.site → (publisher : Name) → IsTrue old.site.observable
+    → KeepsGood publisher old.site new.site
+good_kept wanted old new status ran stays publisher told settled =
+    run_holds old new told stays (λ image there. let stood = settled image there in some_there publisher stood.es image stood.stands) (λ (s : Seen). RestsThroughout (StandGood publisher) old.site s)
+    (record {
+      still = λ now still quiet. untouched_good publisher old.site now still settled;
+      agent = λ owner es options view view' opened now written written' result on still quiet database did.
+          agent_good publisher owner es options view view' old.site opened now written written' result told on still database did settled;
+      script = λ owner es view view' opened now written written' statements result on still quiet database did.
+          script_good publisher owner es view view' old.site opened now written written' statements result told on still database did settled;
+    }) wanted status ran
+
+rested_there : (messages : List Message) (publisher : Name) (es : List Recorded) (seen : Seen) → Rests messages publisher es (IsImage seen) → (image : Files) → IsImage seen image → IsThere image
+rested_there messages publisher es seen (on_one all) image there = some_there publisher es image (all image there)
+rested_there messages publisher es seen (on_two r each) image there = elim (each image there) [
+  | inl short ↦ some_there publisher es image short
+  | inr long ↦ some_there publisher (es ++ r ∷ []) image long.stands
+]
+
+pub steps_made : (wanted : Option Asked) (old new : Outside) (status : ℕ) → RanProgram wanted old new status → Stays old.site new.site → (w : World Recorded) (publisher : Name) → IsTrue old.site.observable
+    → MakesSteps w publisher old.site new.site
+steps_made wanted old new status ran stays w publisher told good named rested =
+    run_holds old new told stays (rested_there w.messages publisher (history w publisher) old.site rested)
+    (λ (s : Seen). AllKnown w.messages publisher old.site s → IsFaithfulThroughout w publisher old.site s)
+    (record {
+      still = λ now still quiet. untouched_steps w publisher old.site now still quiet good named rested;
+      agent = λ owner es options view view' opened now written written' result on still quiet database did.
+          agent_steps w publisher owner es options view view' old.site opened now written written' result told on still quiet database did good named rested;
+      script = λ owner es view view' opened now written written' statements result on still quiet database did.
+          script_steps w publisher owner es view view' old.site opened now written written' statements result told on still quiet database did good named rested;
+    }) wanted status ran

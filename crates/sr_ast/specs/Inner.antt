@@ -1,0 +1,6 @@
+pub mod ActionFalls
+pub mod Chains
+pub mod Classes
+pub mod Falls
+pub mod Statements
+pub mod Terms

@@ -1,0 +1,14 @@
+pub mod Cells
+pub mod Codes
+pub mod Fields
+pub mod Held
+pub mod Laws
+pub mod ListLaws
+pub mod NumberLaws
+pub mod Order
+pub mod PartLaws
+pub mod Reading
+pub mod Refusals
+pub mod TextLaws
+pub mod ValueLaws
+pub mod Values

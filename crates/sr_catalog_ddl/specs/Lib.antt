@@ -1,0 +1,5 @@
+pub mod Publications
+pub mod Subscriptions
+pub mod Tables
+pub mod Users
+pub mod Inner

@@ -1,0 +1,42 @@
+use Rattle.std.proofs.Common.{arith}
+use Rattle.std.proofs.lemmas.Grind.{common_steps}
+use Rattle.sr_catalog_schema.proofs.listed.Listed.push.Goals as goal
+
+pub returns-in_err-key-clause-ok : goal.returns-in_err-key-clause-ok
+returns-in_err-key-clause-ok c = grind (arith, common_steps)
+
+pub returns-in_err-key-clause-err : goal.returns-in_err-key-clause-err
+returns-in_err-key-clause-err c = grind (arith, common_steps)
+
+pub invariant_of-self : goal.invariant_of-self
+invariant_of-self c = grind (arith, common_steps)
+
+pub returns-in_err-reserve-clause-ok : goal.returns-in_err-reserve-clause-ok
+returns-in_err-reserve-clause-ok c = grind (arith, common_steps)
+
+pub returns-in_err-reserve-clause-err : goal.returns-in_err-reserve-clause-err
+returns-in_err-reserve-clause-err c = grind (arith, common_steps)
+
+pub invariant_of-self-in_err-insert : goal.invariant_of-self-in_err-insert
+invariant_of-self-in_err-insert c = grind (arith, common_steps)
+
+pub returns-in_err-insert-clause-ok : goal.returns-in_err-insert-clause-ok
+returns-in_err-insert-clause-ok c = grind (arith, common_steps)
+
+pub returns-in_err-insert-clause-err : goal.returns-in_err-insert-clause-err
+returns-in_err-insert-clause-err c = grind (arith, common_steps)
+
+pub invariant_of-self-then-not-branch : goal.invariant_of-self-then-not-branch
+invariant_of-self-then-not-branch c = grind (arith, common_steps)
+
+pub returns-then-not-branch-clause-err : goal.returns-then-not-branch-clause-err
+returns-then-not-branch-clause-err c = grind (arith, common_steps)
+
+pub invariant_of-self-2 : goal.invariant_of-self-2
+invariant_of-self-2 c = grind (arith, common_steps)
+
+pub returns-clause-ok : goal.returns-clause-ok
+returns-clause-ok c = grind (arith, common_steps)
+
+pub returns-clause-err : goal.returns-clause-err
+returns-clause-err c = grind (arith, common_steps)

@@ -1,5 +1,0 @@
-use Rattle.sr_cut.proofs.Parting.{body_once}
-use Rattle.sr_cut.proofs.laws.a_body_is_spelled_once.Goals as goal
-
-pub returns : goal.returns
-returns c = body_once

@@ -1,0 +1,179 @@
+-- A log that is read again from its beginning, entry by entry.
+use Rattle.std.specs.Prelude.{◌≡◌, ◌≢◌, ℕ, ◌+◌, ◌≤◌, ◌<◌, ◌^◌, ⊤, Bool, true, false, List, [], ◌∷◌, ◌++◌, length, take, drop, Option, Some, None, IsTrue}
+use Rattle.sr_base.specs.Fields.{IsName}
+use Rattle.sr_book.specs.Entries.{Name}
+use Rattle.sr_database_history.specs.Fitting.{Fits, Stored}
+use Rattle.sr_database_history.specs.Folds.{state_of, end_of, books_of}
+use Rattle.sr_database_history.specs.Recorded.{Recorded, entry_of}
+use Rattle.sr_logfile.specs.Inner.Heads.{IsClosed}
+use Rattle.sr_logfile.specs.Records.{header, record_of, open_records, Spells}
+use Rattle.sr_logform.specs.Entries.{entry_spelling, IsEntry}
+use Rattle.sr_logform.specs.declared.entry.Entry.{Entry}
+use Rattle.sr_rows.specs.Marks.{Marked}
+use Rattle.sr_rows.specs.Inner.Steps.{at_mark}
+use Rattle.sr_catalog_schema.specs.Catalogs.{Lists, nothing_but}
+use Rattle.sr_site.specs.Causes.{Rose}
+use Rattle.sr_site.specs.Seen.{Seen}
+use Rattle.sr_site.specs.Files.{bytes_of}
+use Rattle.sr_site.specs.declared.file.File.{File}
+use Rattle.sr_database_meaning.specs.Damage.{BeginsEntry}
+use Rattle.sr_database_meaning.specs.Standing.{body, bodies}
+use Rattle.sr_database.specs.Books.{BookMap, book_in}
+use Rattle.sr_database.specs.Databases.{IsOf}
+use Rattle.sr_database.specs.Views.{View}
+use Rattle.sr_database_files.specs.declared.fault.DatabaseFault.{DatabaseFault}
+use Rattle.sr_database_files.specs.declared.fault.DatabaseFault.TheVariants.{Missing, Exists, Damaged, Disk, Full, Long, Memory}
+
+-- what was read up to a position is this history
+pub record IsReplayed (catalog : Lists) (rows : Marked) (books : BookMap) (position : ℕ) (publisher : Name) (es : List Recorded) : Type 0 where
+  pub name : IsName publisher
+  pub stored : Stored publisher es
+  pub catalog_is : catalog ≡ (state_of publisher es).catalog
+  pub rows_are : rows ≡ at_mark (state_of publisher es).rows
+  pub books_are : (user : Name) → book_in books user ≡ books_of user es
+  pub position_is : position ≡ end_of es
+
+-- it is some history of this publisher
+pub record IsReplayedOf (catalog : Lists) (rows : Marked) (books : BookMap) (position : ℕ) (publisher : Name) : Type 0 where
+  pub es : List Recorded
+  pub is : IsReplayed catalog rows books position publisher es
+
+-- it is some history of the publisher that is alone in another catalog
+pub record IsReplayedBehind (catalog : Lists) (rows : Marked) (books : BookMap) (position : ℕ) (base_catalog : Lists) : Type 0 where
+  pub publisher : Name
+  pub es : List Recorded
+  pub is : IsReplayed catalog rows books position publisher es
+  pub base_is : base_catalog ≡ nothing_but publisher
+
+-- it is a history that the log spells
+pub record HasReplayed (catalog : Lists) (rows : Marked) (books : BookMap) (position : ℕ) (publisher : Name) (log : File) (seen : Seen) : Type 0 where
+  pub es : List Recorded
+  pub is : IsReplayed catalog rows books position publisher es
+  pub spells : IsTrue seen.observable → Spells 0 (bodies es) (bytes_of seen.files log)
+
+-- the value of a history that the log spells
+pub record IsOpened (db : View) (log : File) (publisher : Name) (seen : Seen) : Type 0 where
+  pub file_is : db.log.file ≡ log
+  pub es : List Recorded
+  pub is : IsOf db publisher es
+  pub spells : IsTrue seen.observable → Spells 0 (bodies es) (bytes_of seen.files log)
+
+-- the bytes begin with the record of an entry behind an open gate, and a gate
+pub record BeginsWith (r : Recorded) (bytes : List ℕ) : Type 0 where
+  pub gate : ℕ
+  pub more : List ℕ
+  pub is : bytes ≡ 1 ∷ (record_of (body r) ++ gate ∷ more)
+
+-- a log's bytes begin with a header and the records of these entries, up to a position, where a gate stands
+pub record HasRead (es : List Recorded) (position : ℕ) (bytes : List ℕ) : Type 0 where
+  pub prefix : bytes ≡ (header 0 ++ open_records (bodies es)) ++ drop (16 + position) bytes
+  pub some : 0 < length (drop (16 + position) bytes)
+
+-- these entries stand there, and what follows an open gate behind them is no record of one that may follow, at this place
+pub record LacksNext (publisher : Name) (bytes : List ℕ) (place : ℕ) : Type 0 where
+  pub es : List Recorded
+  pub rest : List ℕ
+  pub bytes_are : bytes ≡ (header 0 ++ open_records (bodies es)) ++ 1 ∷ rest
+  pub place_is : place ≡ length (header 0 ++ open_records (bodies es))
+  pub stored : Stored publisher es
+  pub broken : (r : Recorded) → BeginsEntry publisher es r rest → ⊥
+
+-- an entry more was read: it is that of this recorded one
+pub record IsOneMore (catalog new_catalog : Lists) (rows new_rows : Marked) (books new_books : BookMap) (position end : ℕ) (publisher : Name) (es : List Recorded) (entry : Entry) : Type 0 where
+  pub r : Recorded
+  pub entry_is : entry_of r ≡ entry
+  pub fits : Fits (state_of publisher es) (end_of es) r
+  pub is : IsReplayed new_catalog new_rows new_books end publisher (es ++ r ∷ [])
+
+-- no recorded entry that may stand there is meant by it
+abbrev pub IsNone : Name → List Recorded → Entry → Type 0
+IsNone publisher es entry = (r : Recorded) → entry_of r ≡ entry → ¬ (Fits (state_of publisher es) (end_of es) r)
+
+-- the entry may stand there, and was followed; or it may not
+abbrev pub Followed : Lists → Lists → Marked → Marked → BookMap → BookMap → ℕ → ℕ → Name → List Recorded → Entry → Bool → Type 0
+Followed catalog new_catalog rows new_rows books new_books position end publisher es entry true = IsOneMore catalog new_catalog rows new_rows books new_books position end publisher es entry
+Followed catalog new_catalog rows new_rows books new_books position end publisher es entry false = IsNone publisher es entry
+
+-- what was read is some history
+pub record IsReplayedSome (catalog : Lists) (rows : Marked) (books : BookMap) : Type 0 where
+  pub position : ℕ
+  pub publisher : Name
+  pub es : List Recorded
+  pub is : IsReplayed catalog rows books position publisher es
+
+-- behind whatever history was read an entry of so many bytes was followed, or may not stand there
+abbrev pub FollowsAny : Lists → Lists → Marked → Marked → BookMap → BookMap → ℕ → Entry → Bool → Type 0
+FollowsAny catalog new_catalog rows new_rows books new_books count entry may =
+    (position : ℕ) (publisher : Name) (es : List Recorded) → IsReplayed catalog rows books position publisher es → position + (count + 5) ≤ 2 ^ 62
+    → Followed catalog new_catalog rows new_rows books new_books position (position + (count + 5)) publisher es entry may
+
+-- one entry more was read behind a history, up to an end, and its record stands in the log at the position
+pub record HasReadOn (new_catalog : Lists) (new_rows : Marked) (new_books : BookMap) (position end : ℕ) (publisher : Name) (es : List Recorded) (log : File) (seen : Seen) : Type 0 where
+  pub r : Recorded
+  pub is : IsReplayed new_catalog new_rows new_books end publisher (es ++ r ∷ [])
+  pub begins : IsTrue seen.observable → BeginsWith r (drop (16 + position) (bytes_of seen.files log))
+
+-- it was, behind whatever history was read up to there
+abbrev pub IsReadOn : Lists → Lists → Marked → Marked → BookMap → BookMap → ℕ → ℕ → Name → File → Seen → Type 0
+IsReadOn catalog new_catalog rows new_rows books new_books position end publisher log seen =
+    (es : List Recorded) → IsReplayed catalog rows books position publisher es → HasReadOn new_catalog new_rows new_books position end publisher es log seen
+
+-- the gate there is closed, and what was read stands
+pub record EndsThere (catalog new_catalog : Lists) (rows new_rows : Marked) (books new_books : BookMap) (position : ℕ) (log : File) (seen : Seen) : Type 0 where
+  pub catalog_is : new_catalog ≡ catalog
+  pub rows_are : new_rows ≡ rows
+  pub books_are : new_books ≡ books
+  pub closed : IsTrue seen.observable → IsClosed (drop (16 + position) (bytes_of seen.files log))
+
+-- the one or the other
+abbrev pub IsNextEntry : Lists → Lists → Marked → Marked → BookMap → BookMap → ℕ → Name → File → Seen → Option ℕ → Type 0
+IsNextEntry catalog new_catalog rows new_rows books new_books position publisher log seen None = EndsThere catalog new_catalog rows new_rows books new_books position log seen
+IsNextEntry catalog new_catalog rows new_rows books new_books position publisher log seen (Some end) = IsReadOn catalog new_catalog rows new_rows books new_books position end publisher log seen
+
+-- these bytes of a file are there
+abbrev pub piece : ℕ → ℕ → List ℕ → List ℕ
+piece place count bytes = take count (drop place bytes)
+
+-- why the body of a record, which is there, is not read: damage at the gate where no entry spells it; but for the disk's refusal no call of
+-- the disk failed
+abbrev pub BodyCause : File → ℕ → ℕ → Seen → Seen → DatabaseFault → Type 0
+BodyCause log place count before now Missing = ⊥
+BodyCause log place count before now Exists = ⊥
+BodyCause log place count before now (Damaged file at) =
+    (file ≡ log) × (at ≡ place) × (IsTrue before.observable → place + 5 + count ≤ length (bytes_of before.files log) → (e : Entry) → IsEntry e → piece (place + 5) count (bytes_of before.files log) ≢ entry_spelling e) × (now.disk_faults ≡ before.disk_faults)
+BodyCause log place count before now Disk = Rose before.disk_faults now.disk_faults
+BodyCause log place count before now (Full end need) = ⊥
+BodyCause log place count before now (Long size limit) = ⊥
+BodyCause log place count before now Memory = now.disk_faults ≡ before.disk_faults
+
+-- why bytes are no entry: damage at a gate where no entry is spelled so
+abbrev pub SpellingCause : File → ℕ → List ℕ → DatabaseFault → Type 0
+SpellingCause log place bytes Missing = ⊥
+SpellingCause log place bytes Exists = ⊥
+SpellingCause log place bytes (Damaged file at) = (file ≡ log) × (at ≡ place) × ((e : Entry) → IsEntry e → bytes ≢ entry_spelling e)
+SpellingCause log place bytes Disk = ⊥
+SpellingCause log place bytes (Full end need) = ⊥
+SpellingCause log place bytes (Long size limit) = ⊥
+SpellingCause log place bytes Memory = ⊤
+
+-- why a record of the log is not read behind what was: damage at its gate where no entry stands there that may; but for the disk's refusal no
+-- call of the disk failed
+abbrev pub RecordCause : File → Name → Lists → Marked → BookMap → ℕ → Seen → Seen → DatabaseFault → Type 0
+RecordCause log publisher catalog rows books position before now Missing = ⊥
+RecordCause log publisher catalog rows books position before now Exists = ⊥
+RecordCause log publisher catalog rows books position before now (Damaged file at) =
+    (file ≡ log) × (IsTrue before.observable → (es : List Recorded) → IsReplayed catalog rows books position publisher es → HasRead es position (bytes_of before.files log) → LacksNext publisher (bytes_of before.files log) at) × (now.disk_faults ≡ before.disk_faults)
+RecordCause log publisher catalog rows books position before now Disk = Rose before.disk_faults now.disk_faults
+RecordCause log publisher catalog rows books position before now (Full end need) = ⊥
+RecordCause log publisher catalog rows books position before now (Long size limit) = ⊥
+RecordCause log publisher catalog rows books position before now Memory = now.disk_faults ≡ before.disk_faults
+
+-- why the entries are not read: but for the disk's refusal no call of the disk failed
+abbrev pub ReplayCause : File → Name → Seen → Seen → DatabaseFault → Type 0
+ReplayCause log publisher before now Missing = ⊥
+ReplayCause log publisher before now Exists = ⊥
+ReplayCause log publisher before now (Damaged file at) = (file ≡ log) × (IsTrue before.observable → LacksNext publisher (bytes_of before.files log) at) × (now.disk_faults ≡ before.disk_faults)
+ReplayCause log publisher before now Disk = Rose before.disk_faults now.disk_faults
+ReplayCause log publisher before now (Full end need) = ⊥
+ReplayCause log publisher before now (Long size limit) = ⊥
+ReplayCause log publisher before now Memory = now.disk_faults ≡ before.disk_faults

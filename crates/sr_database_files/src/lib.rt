@@ -1,0 +1,15 @@
+//! The five files of a database before its entries are read: made new, and opened as far as their fronts tell.
+//!
+//! It stands on sr_database_meaning for what files stand for, and on sr_logfile for the shape of a log. The contract that matters most is that of `create`:
+//! at each moment a crash leaves no database or the new one.
+#![tactic(auto)]
+
+mod creating;
+mod fault;
+mod prefixes;
+mod snapshot;
+
+pub use creating::create;
+pub use fault::DatabaseFault;
+pub use prefixes::{InForce, files_in_force, log_fault, open_records};
+pub use snapshot::read_publisher;

@@ -1,0 +1,11 @@
+use Rattle.std.proofs.Common.{ap, ◌∙◌}
+use Rattle.std.specs.Ordering.{is_eq}
+use Rattle.sr_base.specs.Order.{key_cmp}
+use Rattle.sr_database_fold.proofs.Ties.{same_where}
+use Rattle.sr_database_fold.proofs.keys.is_same_row.Goals as goal
+
+pub returns : goal.returns
+returns c = record {
+  same = same_where c.is_eq.result c.args.row.now c.args.other.now
+      (c.is_eq.ensures ∙ ap is_eq c.cmp.ensures ∙ (λ i. is_eq (key_cmp (c.values.ensures.values i) (c.values-2.ensures.values i))));
+}

@@ -1,0 +1,4 @@
+pub mod Recorded
+pub mod Folds
+pub mod Fitting
+pub mod Inner

@@ -1,0 +1,27 @@
+//! Files and histories. Each function does nothing: it carries laws as its clauses.
+
+ghost use Rattle.std.specs.Prelude.{◌≡◌, ℕ, List};
+ghost use Rattle.sr_book.specs.Entries.{Name};
+ghost use Rattle.sr_database_history.specs.Fitting.{Stored};
+ghost use Rattle.sr_database_history.specs.Recorded.{Recorded};
+ghost use Rattle.sr_site.specs.Files.{Files};
+ghost use Rattle.sr_site.specs.declared.file.File.{File};
+ghost use Rattle.sr_database_meaning.specs.Damage.{IsMissing, IsDamagedAt};
+ghost use Rattle.sr_database_meaning.specs.Standing.{StandsFor};
+
+/// Files stand for the history of one publisher at most, and it may stand in a log.
+#[tactic(auto, using(crate::proofs::Standing::one_history, crate::proofs::Standing::is_stored))]
+pub fn files_stand_for_one_history()
+    ensures one { (publisher other : Name) (es others : List Recorded) (base place : ℕ) (files : Files) → StandsFor publisher es base files → StandsFor other others place files → (publisher ≡ other) × (es ≡ others) × (base ≡ place) }
+    ensures stored { (publisher : Name) (es : List Recorded) (base : ℕ) (files : Files) → StandsFor publisher es base files → Stored publisher es }
+{}
+
+/// Files that stand for a history are not missing and not damaged; those that are missing are not damaged; and no files are damaged at two
+/// places.
+#[tactic(auto, using(crate::proofs::Standing::damages))]
+pub fn damage_stands_for_nothing()
+    ensures missing { (publisher : Name) (es : List Recorded) (base : ℕ) (files : Files) → StandsFor publisher es base files → ¬ (IsMissing files) }
+    ensures damaged { (publisher : Name) (es : List Recorded) (base place : ℕ) (file : File) (files : Files) → StandsFor publisher es base files → ¬ (IsDamagedAt file place files) }
+    ensures either { (place : ℕ) (file : File) (files : Files) → IsMissing files → ¬ (IsDamagedAt file place files) }
+    ensures one { (place at : ℕ) (file other : File) (files : Files) → IsDamagedAt file place files → IsDamagedAt other at files → (file ≡ other) × (place ≡ at) }
+{}

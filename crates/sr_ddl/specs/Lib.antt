@@ -1,5 +1,0 @@
-pub mod Elsewhere
-pub mod Publications
-pub mod Subscriptions
-pub mod Tables
-pub mod Users

@@ -1,9 +1,0 @@
-use Rattle.std.proofs.Common.{length}
-use Rattle.sr_drawn.proofs.KeySets.{Gathers}
-use Rattle.sr_drawn.proofs.keys.set_of.Given as goal
-
-abbrev pub invariant-keys : goal.invariant-keys
-invariant-keys l = Gathers l.keys l.set l.left
-
-abbrev pub decreases-keys : goal.decreases-keys
-decreases-keys l = length l.left

@@ -1,0 +1,17 @@
+pub mod Afterwards
+pub mod Alone
+pub mod Applied
+pub mod Differing
+pub mod Effects
+pub mod FitChanges
+pub mod Fitted
+pub mod Fixed
+pub mod Folding
+pub mod Keeping
+pub mod Outcomes
+pub mod Over
+pub mod Pended
+pub mod Placed
+pub mod Putting
+pub mod Readied
+pub mod RowsAre

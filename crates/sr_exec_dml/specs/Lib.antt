@@ -1,0 +1,8 @@
+pub mod Applying
+pub mod Checks
+pub mod FittingChanges
+pub mod Holding
+pub mod Sequences
+pub mod Statements
+pub mod Storing
+pub mod Inner

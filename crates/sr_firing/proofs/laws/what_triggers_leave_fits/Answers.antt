@@ -1,5 +1,0 @@
-use Rattle.sr_firing.proofs.Leaving.{leaves}
-use Rattle.sr_firing.proofs.laws.what_triggers_leave_fits.Goals as goal
-
-pub returns : goal.returns
-returns c = record { left = leaves }

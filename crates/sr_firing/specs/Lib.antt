@@ -1,6 +1,0 @@
-pub mod Holding
-pub mod Scenes
-pub mod Actions
-pub mod Firing
-pub mod Laws
-pub mod Running

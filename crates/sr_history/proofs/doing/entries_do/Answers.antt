@@ -1,5 +1,0 @@
-use Rattle.sr_history.proofs.Taking.{taken_more}
-use Rattle.sr_history.proofs.doing.entries_do.Goals as goal
-
-pub returns-clause-taken_more : goal.returns-clause-taken_more
-returns-clause-taken_more c = taken_more

@@ -1,5 +1,0 @@
-use Rattle.sr_history.proofs.Conflicts.{met}
-use Rattle.sr_history.proofs.keeping.conflicts_meet_a_row.Goals as goal
-
-pub returns : goal.returns
-returns c = record { met = met }

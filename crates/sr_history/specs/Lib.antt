@@ -1,5 +1,0 @@
-pub mod Recorded
-pub mod Folds
-pub mod Fitting
-pub mod Laws
-pub mod Sample

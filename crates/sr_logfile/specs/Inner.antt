@@ -1,0 +1,10 @@
+pub mod Appends
+pub mod Calls
+pub mod Damage
+pub mod Faults
+pub mod Heads
+pub mod Log
+pub mod Logs
+pub mod Moments
+pub mod Records
+pub mod Steps

@@ -1,0 +1,8 @@
+-- How a log's records stand in its file.
+-- Here is what no contract of the program says by itself.
+use Rattle.std.specs.Prelude.{ℕ, ◌+◌, List, [], ◌∷◌, ◌++◌}
+use Rattle.sr_logfile.specs.Records.{header}
+
+-- the 17 bytes of a log without records: a header and a closed gate
+abbrev pub fresh_bytes : ℕ → List ℕ
+fresh_bytes base = header base ++ 0 ∷ []

@@ -1,0 +1,10 @@
+pub mod Entries
+pub mod EntryLaws
+pub mod Laws
+pub mod Limits
+pub mod Ops
+pub mod OpLaws
+pub mod Outcomes
+pub mod OutcomeLaws
+pub mod Rules
+pub mod RuleLaws

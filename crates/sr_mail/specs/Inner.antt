@@ -1,0 +1,5 @@
+pub mod Assembled
+pub mod Inboxes
+pub mod Shelves
+pub mod Spans
+pub mod Tracking

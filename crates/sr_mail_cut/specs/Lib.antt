@@ -1,0 +1,5 @@
+pub mod Bodies
+pub mod Cuts
+pub mod Hexadecimal
+pub mod Truths
+pub mod Inner

@@ -1,5 +1,0 @@
-use Rattle.sr_memdisk.proofs.Undone.{cut_seen}
-use Rattle.sr_memdisk.proofs.stored.Stored.cut.Goals as goal
-
-pub returns : goal.returns
-returns c = record { cut = cut_seen _ _ c.args.to _ _ c.self.view_is c.requires }

@@ -1,5 +1,0 @@
-pub mod Changes
-pub mod Picks
-pub mod Store
-pub mod Stores
-pub mod Undoing

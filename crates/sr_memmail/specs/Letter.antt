@@ -1,6 +1,0 @@
-use Rattle.std.specs.Prelude.{ℕ, Bool, List}
-
--- a message file: its bytes, and whether it is held back
-pub record Letter : Type 0 where
-  pub bytes : List ℕ
-  pub held : Bool

@@ -1,0 +1,4 @@
+pub mod Picks
+pub mod Store
+pub mod Stores
+pub mod Undoing

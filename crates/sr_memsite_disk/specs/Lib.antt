@@ -1,0 +1,5 @@
+pub mod Changes
+pub mod Picks
+pub mod Store
+pub mod Stores
+pub mod Inner

@@ -1,0 +1,4 @@
+pub mod Folders
+pub mod StoredFile
+pub mod Places
+pub mod Inner

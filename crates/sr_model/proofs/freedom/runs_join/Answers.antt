@@ -1,8 +1,0 @@
-use Rattle.sr_model.proofs.Leave.{deeds_join, deeds_begin}
-use Rattle.sr_model.proofs.freedom.runs_join.Goals as goal
-
-pub returns-clause-joined : goal.returns-clause-joined
-returns-clause-joined g c = λ p. deeds_join p g.R.Rules.HasSpelling g.R.Rules.lawful
-
-pub returns-clause-beginning : goal.returns-clause-beginning
-returns-clause-beginning g c = λ p. deeds_begin p g.R.Rules.HasSpelling g.R.Rules.lawful

@@ -1,8 +1,0 @@
-pub mod Machines
-pub mod Layers
-pub mod Steps
-pub mod Truth
-pub mod Worlds
-pub mod Runs
-pub mod Small
-pub mod Windows

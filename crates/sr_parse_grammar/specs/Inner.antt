@@ -1,0 +1,9 @@
+pub mod Expressions
+pub mod Faults
+pub mod Forms
+pub mod Going
+pub mod Keywords
+pub mod Levels
+pub mod Meant
+pub mod Scripts
+pub mod Symbols

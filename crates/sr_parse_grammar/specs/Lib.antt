@@ -1,0 +1,14 @@
+pub mod Catalog
+pub mod Expressions
+pub mod Forms
+pub mod Listing
+pub mod Literals
+pub mod Meanings
+pub mod Parts
+pub mod Places
+pub mod Scripts
+pub mod Symbols
+pub mod Tables
+pub mod Triggers
+pub mod Writing
+pub mod Inner

@@ -1,0 +1,14 @@
+use Rattle.std.proofs.Common.{◌≤◌, length}
+use Rattle.sr_parse_grammar.specs.Writing.{IsRow}
+use Rattle.sr_parse_reader.proofs.Loops.{Along}
+use Rattle.sr_parse_reader.specs.Inner.Reading.{Anywhere}
+use Rattle.sr_parse_reader.proofs.querying.rows.Given as goal
+
+abbrev pub invariant-more : goal.invariant-more
+invariant-more l = record {
+  reads : Along IsRow Anywhere l.fn.reader l.reader l.items.items;
+  less : length l.reader ≤ length l.fn.reader;
+}
+
+abbrev pub decreases-more : goal.decreases-more
+decreases-more l = length l.reader

@@ -1,0 +1,14 @@
+use Rattle.std.proofs.Common.{◌≤◌, length}
+use Rattle.sr_parse_grammar.specs.Writing.{IsSet}
+use Rattle.sr_parse_grammar.specs.Inner.Going.{Stop, expression_goes}
+use Rattle.sr_parse_reader.proofs.Loops.{Along}
+use Rattle.sr_parse_reader.proofs.querying.sets.Given as goal
+
+abbrev pub invariant-more : goal.invariant-more
+invariant-more l = record {
+  reads : Along IsSet (Stop expression_goes) l.fn.reader l.reader l.items.items;
+  less : length l.reader ≤ length l.fn.reader;
+}
+
+abbrev pub decreases-more : goal.decreases-more
+decreases-more l = length l.reader

@@ -1,7 +1,0 @@
-pub mod Truths
-pub mod Partners
-pub mod Forging
-pub mod Keeping
-pub mod Puts
-pub mod Decided
-pub mod Good

@@ -1,0 +1,4 @@
+pub mod Entering
+pub mod Reports
+pub mod Takings
+pub mod Passes

@@ -1,0 +1,5 @@
+pub mod Copying
+pub mod Scratches
+pub mod Judgements
+pub mod Pendings
+pub mod Results

@@ -1,0 +1,5 @@
+pub mod Holding
+pub mod Bindings
+pub mod Actions
+pub mod Firing
+pub mod Inner

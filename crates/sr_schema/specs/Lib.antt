@@ -1,9 +1,0 @@
-pub mod Catalogs
-pub mod Causes
-pub mod Expressions
-pub mod Firsts
-pub mod Keys
-pub mod Members
-pub mod Names
-pub mod Rules
-pub mod Singles

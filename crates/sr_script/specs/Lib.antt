@@ -1,8 +1,0 @@
-pub mod Acts
-pub mod Answers
-pub mod Meaning
-pub mod Orders
-pub mod Refusals
-pub mod Scripts
-pub mod Synced
-pub mod Works

@@ -1,0 +1,10 @@
+pub mod Writable
+pub mod Faults
+pub mod Posting
+pub mod Aims
+pub mod Passing
+pub mod Steps
+pub mod Stops
+pub mod Starts
+pub mod Notes
+pub mod TrueSentMessages

@@ -1,0 +1,4 @@
+pub mod Calls
+pub mod Growing
+pub mod Happenings
+pub mod Images

@@ -1,6 +1,0 @@
-use Rattle.sr_steps.proofs.AgentSteps.{agent_steps}
-use Rattle.sr_steps.proofs.WorldSteps.{script_steps, untouched_steps}
-use Rattle.sr_steps.proofs.worlds.whole_runs_make_steps_of_a_world.Goals as goal
-
-pub returns : goal.returns
-returns c = record { untouched = untouched_steps; agent = agent_steps; script = script_steps }

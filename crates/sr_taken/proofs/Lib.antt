@@ -1,5 +1,0 @@
-pub mod Copying
-pub mod Grounds
-pub mod Judgements
-pub mod Pendings
-pub mod Results

@@ -1,4 +1,0 @@
-pub mod Agreeing
-pub mod Leaving
-pub mod Sample
-pub mod Untouched

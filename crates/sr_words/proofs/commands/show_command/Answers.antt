@@ -1,8 +1,0 @@
-use Rattle.std.proofs.Common.{◌∙◌, ap₂}
-use Rattle.clap.specs.Words.{with_rule}
-use Rattle.sr_words.specs.Commands.{show_command}
-use Rattle.sr_words.proofs.commands.show_command.Goals as goal
-
-pub returns : goal.returns
-unfolding show_command
-returns c = record { app = c.in_ok-command.ensures.shape c.needed.ensures.own ∙ ap₂ with_rule c.bare.ensures.app c.needed.ensures.rule }

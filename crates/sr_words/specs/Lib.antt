@@ -1,5 +1,0 @@
-pub mod Commands
-pub mod Given
-pub mod Numbers
-pub mod Orders
-pub mod Words

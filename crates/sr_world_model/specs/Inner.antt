@@ -1,0 +1,6 @@
+pub mod Machines
+pub mod Layers
+pub mod Steps
+pub mod Worlds
+pub mod Runs
+pub mod Small

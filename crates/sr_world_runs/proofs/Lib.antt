@@ -1,0 +1,16 @@
+pub mod DatabaseSteps
+pub mod Chaining
+pub mod Sending
+pub mod Delivered
+pub mod BrokenOff
+pub mod Ordered
+pub mod Reached
+pub mod Resting
+pub mod PutsLast
+pub mod NextRuns
+pub mod WorldSteps
+pub mod Windows
+pub mod Knowing
+pub mod Receiving
+pub mod AgentSteps
+pub mod Living
