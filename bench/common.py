@@ -1,24 +1,25 @@
-"""What the measurements share: running the program, its peak memory, scripts, and tables."""
+"""What the measurements share: running a program, its peak memory, and tables."""
 
 import argparse
 import contextlib
 import os
 import shutil
 import subprocess
-import sys
 import tempfile
 import time
+from typing import NamedTuple
 
 # the script that makes the table that the rows go into: two INTEGERs, of which the first is the key
 SETUP = b"CREATE TABLE t (id INTEGER PRIMARY KEY, n INTEGER);\n"
 INSERT = b"INSERT INTO t VALUES (%d, %d);\n"
+KIB = 1024
+# what the names of a database's five files end in
+SUFFIXES = ("root", "log0", "log1", "snap0", "snap1")
 
 
-def arguments(about, *switches):
-    """The words of a measurement: the program, and where its files are to lie; and switches of its own, each with what it is for."""
+def arguments(about):
+    """The words of a measurement: the program, and where its files are to lie."""
     parser = argparse.ArgumentParser(description=about)
-    for switch, meaning in switches:
-        parser.add_argument(switch, action="store_true", help=meaning)
     parser.add_argument("program", help="the proved program, as crates/dbremote/out/dbremote")
     parser.add_argument("--folder", default=".", help="the disk that is measured: a folder on it (default: the present one)")
     parser.add_argument("--times", type=int, default=3, help="how often each run is made (default 3)")
@@ -38,19 +39,37 @@ def room(folder):
         shutil.rmtree(made, ignore_errors=True)
 
 
-def run(words, script, folder):
-    """Runs the program on a script; returns its seconds, its peak resident memory in MiB, and what it wrote."""
-    with open(script, "rb") as source, open(f"{folder}/lines", "w+b") as lines:
+class Failed(SystemExit):
+    """A run did not end as it was to end. Where nobody catches it, it ends the measurement with its line."""
+
+
+class Used(NamedTuple):
+    """What a run took: seconds, seconds of the processor, and peak resident memory in MiB, which is at least what this process holds."""
+
+    seconds: float
+    processor: float
+    peak: float
+
+
+def used(words, script, folder, lines=subprocess.DEVNULL, statuses=(0,)):
+    """Runs a program on a script, which is closed behind it; returns what it used."""
+    with open(script, "rb") as source:
         begun = time.perf_counter()
         child = subprocess.Popen(words, stdin=source, stdout=lines, cwd=folder)
-        _, status, used = os.wait4(child.pid, 0)
+        _, status, found = os.wait4(child.pid, 0)
         seconds = time.perf_counter() - begun
-        child.returncode = os.waitstatus_to_exitcode(status)
+    child.returncode = os.waitstatus_to_exitcode(status)
+    if child.returncode not in statuses:
+        raise Failed(f"{' '.join(words)} ended with status {child.returncode}")
+    return Used(seconds, found.ru_utime + found.ru_stime, found.ru_maxrss / KIB)
+
+
+def run(words, script, folder):
+    """Runs the program on a script; returns its seconds, its peak resident memory in MiB, and what it wrote."""
+    with open(f"{folder}/lines", "w+b") as lines:
+        found = used(words, script, folder, lines)
         lines.seek(0)
-        wrote = lines.read()
-    if child.returncode != 0:
-        sys.exit(f"{' '.join(words)} ended with status {child.returncode}: {wrote[-200:].decode(errors='replace')}")
-    return seconds, used.ru_maxrss / 1024, wrote
+        return found.seconds, found.peak, lines.read()
 
 
 def middle(values):
@@ -59,40 +78,32 @@ def middle(values):
     return (values[(len(values) - 1) // 2] + values[len(values) // 2]) / 2
 
 
-def rounds(sides, folder, times):
-    """Of each side, (its command, a script, the same script with so many repeats of what is measured behind it, how many): the seconds of one repeat in
-    each round. All scripts of a round are run in turn, since machines change their pace; so what is compared is what one round says."""
-    seconds = [[] for _ in sides]
-    for _ in range(times):
-        for (command, without, beyond, repeats), found in zip(sides, seconds):
-            both = []
-            for script in (without, beyond):
-                with open(f"{folder}/script", "wb") as file:
-                    file.write(script)
-                both.append(run(command, f"{folder}/script", folder)[0])
-            found.append((both[1] - both[0]) / repeats)
-    return seconds
-
-
-def ratio(theirs, ours):
-    """The middle of the ratios of the rounds, and the middles of the seconds that they come from."""
-    return f"sqlite3 / ours {middle([their / our for their, our in zip(theirs, ours)]):.2f} ({middle(theirs):.3f} s / {middle(ours):.3f} s)"
+def written(path, lines):
+    """Writes a script, line by line, for a child's peak begins at what this process holds; returns its path."""
+    with open(path, "wb") as file:
+        file.writelines(lines)
+    return path
 
 
 def fresh(folder, name):
     """Lets go of the files of a database."""
-    for suffix in ("root", "log0", "log1", "snap0", "snap1"):
+    for suffix in SUFFIXES:
         with contextlib.suppress(FileNotFoundError):
             os.remove(f"{folder}/{name}.{suffix}")
 
 
-def make(program, folder, name="c1"):
-    """Makes a database anew, with the table."""
+def copied(folder, name, into):
+    """Copies a database's files into a folder, in place of those that it has."""
+    for suffix in SUFFIXES:
+        if os.path.exists(f"{folder}/{name}.{suffix}"):
+            shutil.copy(f"{folder}/{name}.{suffix}", f"{into}/{name}.{suffix}")
+
+
+def make(program, folder, name="c1", setup=SETUP, publisher="cons"):
+    """Makes a database anew, with what a script makes."""
     fresh(folder, name)
-    for words, text in (([program, "init", name, "cons"], b""), ([program, "sql", name], SETUP)):
-        with open(f"{folder}/setup", "wb") as script:
-            script.write(text)
-        run(words, f"{folder}/setup", folder)
+    used([program, "init", name, publisher], os.devnull, folder)
+    used([program, "sql", name], written(f"{folder}/setup", [setup]), folder)
 
 
 def table(heads, rows):

@@ -1,84 +1,114 @@
-"""Opening a log that stands: bytes a second, beside a plain sequential read of the same file.
-
-    python3 bench/opening.py crates/dbremote/out/dbremote [--folder F] [--times N] [--small]
-
-A log of 100,000 and one of 1,000,000 records are written straight into the file, one INSERT a record, and a run with an empty script opens
-each. Opening reads the log once for its records and once for their entries. `plain` is a read of the file in pieces of 64 KiB. `microseconds`
-is the time a record. The table of the database is held in memory, so `peak MiB` grows with the rows; `bytes a row` is the growth from the
-smaller log to the larger one.
-"""
-
-import os
-import struct
-import time
+"""Opening a log that stands: its time, and its memory for a row."""
 
 import common
+import logs
+from beside import Job, milliseconds
 
-RECORDS = 100_000
-
-
-def end_of(path):
-    """The place of the first closed gate."""
-    with open(path, "rb") as file:
-        data = file.read()
-    at = 16
-    while data[at] == 1:
-        (length,) = struct.unpack_from(">I", data, at + 1)
-        at += 5 + length
-    return at
+MIB = 1024 * 1024
+WITH_TEXT = b"CREATE TABLE t (id INTEGER PRIMARY KEY, n INTEGER, s VARCHAR(32767));\n"
+# how many rows there are at least, of those that the memory for a row is told from
+PART = 10
+# in long logs, each record inserts or deletes a row with so many letters; of the longest one so many bytes stay free
+LETTERS, FREE = 30_000, 100_000
+# how many texts there are
+TEXTS = 1_000
 
 
-def entry(key, number):
-    """The body of a record that inserts one row (key, number) into t."""
-    row = struct.pack(">IBiBi", 2, 1, key, 1, number)
-    return b"\1" + struct.pack(">I", 1) + b"\1t" + b"\0" + b"\1" + row
+def mixed(key, rows):
+    """A number for a key, below the number of rows and another one for each: as if drawn."""
+    return (key * 7_919 + 12_345) % rows
 
 
-def write_log(path, records):
-    """Puts so many records behind those that the log has; returns the file's length."""
-    at = end_of(path)
-    with open(path, "r+b") as file:
-        file.seek(at)
-        for key in range(records):
-            body = entry(key, key * 7)
-            file.write(b"\1" + struct.pack(">I", len(body)) + body)
-        file.write(b"\0")
-        file.truncate()
-        os.fsync(file.fileno())
-    return os.path.getsize(path)
+def text_of(key):
+    return b"i%d" % (key % TEXTS)
 
 
-def plain_read(path):
-    """Reads the file front to back; returns its seconds."""
-    begun = time.perf_counter()
-    with open(path, "rb", buffering=0) as file:
-        while file.read(65_536):
-            pass
-    return time.perf_counter() - begun
+def fill(bench, folder, rows, texts):
+    """A database whose log has so many rows, one a transaction."""
+    common.make(bench.program, folder, setup=WITH_TEXT if texts else common.SETUP)
+    values = ((key, mixed(key, rows), *([text_of(key)] if texts else [])) for key in range(rows))
+    logs.append(f"{folder}/c1.log0", (logs.inserted(logs.row(*row)) for row in values))
 
 
-def main():
-    words = common.arguments("Opening a log that stands.")
-    least = RECORDS // 10 if words.small else RECORDS
-    with common.room(words.folder) as folder:
-        open(f"{folder}/empty", "wb").close()
-        rows, sizes = [], []
-        for records in (least, 10 * least):
-            common.make(words.program, folder)
-            length = write_log(f"{folder}/c1.log0", records)
-            runs, plain, peak = [], [], 0
-            for _ in range(words.times):
-                seconds, memory, _ = common.run([words.program, "sql", "c1"], f"{folder}/empty", folder)
-                runs.append(seconds)
-                peak = max(peak, memory)
-                plain.append(plain_read(f"{folder}/c1.log0"))
-            run, read = min(runs), min(plain)
-            rows.append([records, length, run, int(length / run), int(length / read), run / records * 1e6, peak])
-            sizes.append((records, peak))
-        common.table(["records", "bytes", "seconds", "bytes/s", "plain bytes/s", "microseconds", "peak MiB"], rows)
-        (few, low), (many, high) = sizes
-        common.table(["bytes a row"], [[int((high - low) * 1024 * 1024 / (many - few))]])
+def dump(bench, folder, rows, texts):
+    """A database of SQLite with these rows, in `kept`, and its dump."""
+    column, value = (b", s VARCHAR", b", 'i' || (i %% %d)" % TEXTS) if texts else (b"", b"")
+    common.written(
+        f"{folder}/dumped",
+        [
+            b"CREATE TABLE t (id INTEGER PRIMARY KEY, n INTEGER%s);\n" % column,
+            b"WITH RECURSIVE k(i) AS (SELECT 0 UNION ALL SELECT i + 1 FROM k WHERE i + 1 < %d)\n" % rows,
+            b"INSERT INTO t SELECT i, (i * 7919 + 12345) %% %d%s FROM k;\n" % (rows, value),
+            b".output dump\n.dump\n",
+        ],
+    )
+    bench.shell(folder, f"{folder}/dumped", "kept")
 
 
-if __name__ == "__main__":
-    main()
+def rows_of(bench, rows, texts=False):
+    """The folder with these rows in a log, and with SQLite's where it is there."""
+
+    def make(folder):
+        fill(bench, folder, rows, texts)
+        if bench.sqlite:
+            dump(bench, folder, rows, texts)
+
+    return bench.once(f"rows-{rows}{'-texts' if texts else ''}", make)
+
+
+def long(bench, mib):
+    """The folder of a log of nearly so many MiB, whose table stays small."""
+
+    def make(folder):
+        common.make(bench.program, folder, setup=WITH_TEXT)
+        image = logs.row(1, 1, b"x" * LETTERS)
+        pair = [logs.inserted(image), logs.deleted(image)]
+        pairs = (mib * MIB - FREE) // sum(len(body) + logs.AROUND for body in pair)
+        logs.append(f"{folder}/c1.log0", (body for _ in range(pairs) for body in pair))
+
+    return bench.once(f"long-{mib}", make)
+
+
+def opens(bench, name, folder_of, with_dump):
+    """The time of opening."""
+    return Job(
+        f"opening: {name}",
+        lambda: milliseconds(bench.sql(folder_of())),
+        bench.with_floor(lambda: milliseconds(bench.floor(folder_of(), "keep", "c1.log0"))),
+        bench.with_sqlite(lambda: milliseconds(bench.shell(folder_of(), f"{folder_of()}/dump", ":memory:"))) if with_dump else None,
+        "sqlite3 reads its .dump" if with_dump else "",
+    )
+
+
+def memory(bench, name, rows, texts):
+    """The memory for a row: by how much the peak grows from a tenth of the rows to all."""
+
+    def beyond(peak_of):
+        few, many = (rows_of(bench, size, texts) for size in (rows // PART, rows))
+        return (peak_of(many) - peak_of(few)) * MIB / (rows - rows // PART)
+
+    return Job(
+        f"opening: memory, {name}",
+        lambda: beyond(lambda folder: bench.sql(folder, with_peak=True).peak),
+        bench.with_floor(lambda: beyond(lambda folder: bench.floor(folder, "keep", "c1.log0", with_peak=True).peak)),
+        bench.with_sqlite(lambda: beyond(lambda folder: bench.shell(folder, f"{folder}/dump", ":memory:", with_peak=True).peak)),
+        "sqlite3, in memory",
+        "bytes a row",
+    )
+
+
+def longest(bench):
+    """How many MiB the longest log has."""
+    return bench.size(960, 40)
+
+
+def jobs(bench):
+    rows = bench.size(1_000_000, 50_000)
+    many = f"{rows:,} rows"
+    return [
+        opens(bench, f"{many} of two INTEGERs", lambda: rows_of(bench, rows), True),
+        opens(bench, f"{many} with a text", lambda: rows_of(bench, rows, True), True),
+        opens(bench, f"a log of {longest(bench)} MiB", lambda: long(bench, longest(bench)), False),
+        memory(bench, "two INTEGERs", rows, False),
+        memory(bench, "with a text", rows, True),
+    ]

@@ -28,7 +28,7 @@ use Rattle.sr_receive_gather.specs.Windows.{IsWholeOf}
 use Rattle.sr_receive_gather.specs.declared.bag.Filed.{Filed}
 use Rattle.dbremote_command.specs.CaughtUp.{AreCaughtUp, IsCaughtUp, IsNoted, book_behind}
 
--- ---- a user's book behind his own entries
+-- ---- a user's book after his own entries
 
 own_note : (user : Name) (book : Book) (n : Note) → booked user book (sees (note user n)) ≡ with_note book n
 own_note user book n = ap (λ (b : Bool). if b then with_note book n else book) (same_name user)
@@ -144,7 +144,7 @@ asked user known later files on = ask_by user known later files (nat_lt known.re
 
 -- ---- a partner's pass
 
--- the book behind four lists of entries
+-- the book after four lists of entries
 behind_all : (user : Name) (es a b c d : List Recorded) → books_of user (es ++ ((a ++ b) ++ (c ++ d)))
     ≡ book_from sees user (book_from sees user (book_from sees user (book_from sees user (books_of user es) a) b) c) d
 behind_all user es a b c d =

@@ -35,14 +35,14 @@ abbrev TellsDisk : Outside → Outside → ℕ → Type 0
 TellsDisk old new status = (new.site.disk_faults ≡ old.site.disk_faults) ⊎ ((status ≡ 5) ⊎ (status ≡ 7))
 
 abbrev TellsMail : Outside → Outside → ℕ → Type 0
-TellsMail old new status = (new.site.mail_faults ≡ old.site.mail_faults) ⊎ ((status ≡ 6) ⊎ ((status ≡ 7) ⊎ (status ≡ 8)))
+TellsMail old new status = (new.site.mail_faults ≡ old.site.mail_faults) ⊎ ((status ≡ 6) ⊎ (status ≡ 7))
 
 -- the disk's count stays, or this fault tells that it rose, or that the sink failed
 abbrev DiskLeft : Seen → Seen → Fault → Type 0
 DiskLeft before now fault = (now.disk_faults ≡ before.disk_faults) ⊎ ((fault ≡ Database Disk) ⊎ (fault ≡ Sink))
 
 abbrev MailLeft : Seen → Seen → Fault → Type 0
-MailLeft before now fault = (now.mail_faults ≡ before.mail_faults) ⊎ ((fault ≡ Mail) ⊎ ((fault ≡ Sink) ⊎ (fault ≡ Database Memory)))
+MailLeft before now fault = (now.mail_faults ≡ before.mail_faults) ⊎ ((fault ≡ Mail) ⊎ (fault ≡ Sink))
 
 -- a fault whose line is the same each time has its own status
 plainly : (fault plain : Fault) (between now : Output) (status : ℕ) → Told fault between now status → fault ≡ plain → (HasNumbers plain → ⊥) → status ≡ status_of plain
@@ -59,8 +59,7 @@ disk_told old new fault between now status told (inr (inr is)) = inr (inr (plain
 mail_told : (old new : Outside) (fault : Fault) (between now : Output) (status : ℕ) → Told fault between now status → MailLeft old.site new.site fault → TellsMail old new status
 mail_told old new fault between now status told (inl same) = inl same
 mail_told old new fault between now status told (inr (inl is)) = inr (inl (plainly fault Mail between now status told is (λ none. none)))
-mail_told old new fault between now status told (inr (inr (inl is))) = inr (inr (inl (plainly fault Sink between now status told is (λ none. none))))
-mail_told old new fault between now status told (inr (inr (inr is))) = inr (inr (inr (plainly fault (Database Memory) between now status told is (λ none. none))))
+mail_told old new fault between now status told (inr (inr is)) = inr (inr (plainly fault Sink between now status told is (λ none. none)))
 
 -- ---- why a database is not opened, or not made
 
@@ -151,10 +150,10 @@ module _ (name mail : List ℕ) (options : Options) (old new : Outside) where
   agent_mail : (why : AgentFault) → AgentRan name mail options old new (Err why) → MailLeft old.site new.site (fault_of_agent why)
   agent_mail agent.Disk on = inl (on.ran.ended.counts.1 ∙ on.is.no_mail.mail_faults)
   agent_mail agent.Mail on = inr (inl refl)
-  agent_mail agent.Sink on = inr (inr (inl refl))
+  agent_mail agent.Sink on = inr (inr refl)
   agent_mail (agent.Full end need) on = inl (on.ran.ended.counts.1 ∙ on.is.no_mail.mail_faults)
   agent_mail (agent.Long size limit) on = inl (on.ran.ended.counts.1 ∙ on.is.no_mail.mail_faults)
-  agent_mail agent.Memory on = inr (inr (inr refl))
+  agent_mail agent.Memory on = inl (on.ran.ended.counts.1 ∙ on.is.no_mail.mail_faults)
 
   stopped_left : (fault : Fault) → AgentStopped name mail options old new fault → DiskLeft old.site new.site fault
   stopped_left fault (unopened why is left) = subst (λ (f : Fault). DiskLeft old.site new.site f) (sym is) (opened_left old.site new.site why left.cause)

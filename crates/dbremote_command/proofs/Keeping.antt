@@ -1,4 +1,4 @@
--- What a database that was kept open is on the attached site, and what is kept of it behind a run.
+-- What a database that was kept open is on the attached site, and what is kept of it after a run.
 use Rattle.std.proofs.Common.{◌≡◌, inl, inr, true, false, List, [], ◌++◌, ℕ, Option, Some, sym, subst, ◌∙◌}
 use Rattle.std.specs.Prelude.{IfSome, IsTrue, Ok}
 use Rattle.sr_agent.specs.Agents.{RanAgent, RanWhole}
@@ -76,7 +76,7 @@ module _ (name mail : List ℕ) (before now : Seen) (view : View) (attaches : At
       let there = kept.has in
       record { publisher = there.publisher; es = there.es; is = database_still there.publisher there.es (sym attaches.stays.observable ∙ told) there.is }
 
--- ---- behind a run that no fault ended
+-- ---- after a run that no fault ended
 
 -- what is put back is kept
 pub kept_in : (kept : Option View) (view : View) (seen : Seen) → kept ≡ Some view → (IsTrue seen.observable → IsKept view seen) → IsTrue seen.observable → IfSome kept (λ db. IsKept db seen)

@@ -16,7 +16,7 @@ use Rattle.sr_lex.specs.declared.token.TokenKind.{TokenKind}
 
 -- ---- tokens
 
--- a token stands behind white space and comments
+-- a token stands after white space and comments
 stands : (kind : TokenKind) (word rest bytes : List ℕ) → Skips bytes (word ++ rest) → IsToken kind word rest → after_gap bytes ≡ word ++ rest
 stands kind word rest bytes skips is = after_gap-skips skips ∙ token_bare kind word rest is
 

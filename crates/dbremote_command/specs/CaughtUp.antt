@@ -22,7 +22,7 @@ pub record IsNoted (book : Book) (l : MessageFile) : Type 0 where
   pub confirm : l.1.confirm.0 ≤ book.confirm_sent
   pub ask : l.1.ask_count ≤ book.resend_count
 
--- the book of a partner behind his pass
+-- the book of a partner after his pass
 abbrev pub book_behind : Name → List Recorded → List FetchedFile → PartnerPass → Book
 book_behind publisher es fetched_files t = books_of t.user (es ++ partner_pass_entries publisher es fetched_files t)
 
@@ -31,7 +31,7 @@ pub record IsCaughtUp (publisher : Name) (es : List Recorded) (fetched_files : L
   pub far : IsFar (IsWholeOf (message_files_of fetched_files t) (ending publisher es t).dropped_windows) (books_of t.user es).log_received (book_behind publisher es fetched_files t).log_received
   pub noted : AllByRecursion (IsNoted (book_behind publisher es fetched_files t)) (message_files_of fetched_files t)
 
--- so behind each partner's pass
+-- so after each partner's pass
 abbrev pub AreCaughtUp : Name → List Recorded → List FetchedFile → List PartnerPass → Type 0
 AreCaughtUp publisher es fetched_files [] = ⊤
 AreCaughtUp publisher es fetched_files (t ∷ earlier) = AreCaughtUp publisher es fetched_files earlier × IsCaughtUp publisher (after_partner_passes publisher es fetched_files earlier) fetched_files t

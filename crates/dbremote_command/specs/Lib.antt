@@ -10,5 +10,6 @@ pub mod Reports
 pub mod Running
 pub mod Runs
 pub mod Showing
+pub mod Shown
 pub mod Streams
 pub mod Inner

@@ -1,7 +1,7 @@
 -- What `show` does.
 use Rattle.std.specs.Prelude.{◌≡◌, ℕ, List, [], ◌++◌, IsTrue}
 use Rattle.sr_database.specs.Views.{View}
-use Rattle.dbremote_show.specs.Shown.{shown}
+use Rattle.dbremote_command.specs.Shown.{shown}
 use Rattle.sr_site.specs.Seen.{Seen}
 use Rattle.sr_site.specs.Streams.{Output}
 use Rattle.dbremote_command.specs.Running.{IsOpened, OpenedCause}

@@ -15,6 +15,9 @@ mod reporting;
 mod running;
 mod saying;
 mod showing;
+mod shown_count;
+mod shown_lines;
+mod shown_text;
 mod stream;
 
 pub use commands::{command, tell};

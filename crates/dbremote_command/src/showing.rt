@@ -1,7 +1,7 @@
 //! `show`: what a database's offsets and books are.
 
 ghost use Rattle.std.specs.Prelude.{◌≡◌, ◌++◌, [], true, IsTrue, IfErr, IfSome, OnOk};
-ghost use Rattle.dbremote_show.specs.Shown.{shown};
+ghost use Rattle.dbremote_command.specs.Shown.{shown};
 ghost use Rattle.sr_site.specs.Causes.{DiskStays};
 ghost use Rattle.dbremote_command.specs.Inner.Kept.{IsKept};
 ghost use Rattle.dbremote_command.specs.Outside.{IsAttachTried};
@@ -12,7 +12,7 @@ ghost use Rattle.dbremote_command.specs.Inner.Showing.{TellCause};
 use crate::fault::Fault;
 use crate::running::{keep, open_alone};
 use crate::saying::say_lines;
-use dbremote_show::shown;
+use crate::shown_text::shown;
 use sr_base::Text;
 use sr_database::Database;
 use sr_site::{Sink, Site};

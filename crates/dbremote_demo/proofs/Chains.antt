@@ -9,7 +9,7 @@ use Rattle.dbremote_demo.specs.Inner.Runs.{StopCause}
 use Rattle.dbremote_demo.specs.declared.stop.Stop.{Stop}
 use Rattle.dbremote_demo.specs.declared.stop.Stop.TheVariants.{Memory, Run}
 use Rattle.dbremote_demo_draws.specs.declared.demo_site.DemoSite.{DemoSite}
-use Rattle.dbremote_demo_tally.specs.declared.demo_sites.DemoSites.{DemoSites}
+use Rattle.dbremote_demo_draws.specs.declared.demo_sites.DemoSites.{DemoSites}
 
 -- ---- all of them went well
 

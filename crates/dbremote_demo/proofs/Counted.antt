@@ -10,7 +10,7 @@ use Rattle.dbremote_demo_draws.specs.Inner.Scripts.{IsScripts}
 use Rattle.dbremote_demo_draws.specs.declared.statements.Drawn.{Drawn}
 use Rattle.dbremote_demo_draws.specs.declared.drawing.Scripts.{Scripts}
 use Rattle.dbremote_demo_draws.specs.declared.demo_site.DemoSite.TheVariants.{Cons, R1, R2, R3}
-use Rattle.dbremote_demo_tally.specs.declared.demo_sites.DemoSites.{DemoSites}
+use Rattle.dbremote_demo_draws.specs.declared.demo_sites.DemoSites.{DemoSites}
 
 -- ---- the scripts of a block
 

@@ -8,8 +8,8 @@ use Rattle.dbremote_demo.specs.declared.stop.Stop.{Stop}
 use Rattle.dbremote_demo.specs.declared.stop.Stop.TheVariants.{Memory, Run}
 use Rattle.dbremote_demo_draws.specs.DrawnStatements.{all_drawn, state_behind}
 use Rattle.dbremote_demo_draws.specs.declared.demo_site.DemoSite.{DemoSite}
-use Rattle.dbremote_demo_tally.specs.Places.{nothing_made}
-use Rattle.dbremote_demo_tally.specs.declared.demo_sites.DemoSites.{DemoSites}
+use Rattle.dbremote_demo_draws.specs.Places.{nothing_made}
+use Rattle.dbremote_demo_draws.specs.declared.demo_sites.DemoSites.{DemoSites}
 
 pub stop_of : (task : Task) (old new : DemoSites) (status : ℕ) (lines : List ℕ) (stop : Stop) → RanTask task old new status lines → EndsWith status lines stop
     → StopCause (Stopped task old) stop

@@ -12,8 +12,8 @@ use Rattle.sr_memsite.specs.Disks.{Disk}
 use Rattle.sr_memsite.specs.Meaning.{begun}
 use Rattle.sr_site.specs.Files.{Files}
 use Rattle.sr_site.specs.Seen.{Seen}
-use Rattle.dbremote_demo_tally.specs.Places.{disk_at}
-use Rattle.dbremote_demo_tally.specs.declared.demo_sites.DemoSites.{DemoSites}
+use Rattle.dbremote_demo_draws.specs.Places.{disk_at}
+use Rattle.dbremote_demo_draws.specs.declared.demo_sites.DemoSites.{DemoSites}
 
 kept_there : (demo_site : DemoSite) (demo_sites : DemoSites) (kept : Kept) → AreKept demo_sites kept → IsKeptAt (kept_at demo_site kept) (disk_at demo_site demo_sites)
 kept_there Cons demo_sites kept are = are.cons

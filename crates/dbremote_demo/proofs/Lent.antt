@@ -12,8 +12,8 @@ use Rattle.sr_memsite.specs.Meaning.{begun}
 use Rattle.sr_site.specs.Causes.{Stays}
 use Rattle.sr_site.specs.Seen.{Seen}
 use Rattle.sr_site.specs.Streams.{Input, Output}
-use Rattle.dbremote_demo_tally.specs.Places.{disk_at, with_disk}
-use Rattle.dbremote_demo_tally.specs.declared.demo_sites.DemoSites.{DemoSites}
+use Rattle.dbremote_demo_draws.specs.Places.{disk_at, with_disk}
+use Rattle.dbremote_demo_draws.specs.declared.demo_sites.DemoSites.{DemoSites}
 
 -- what a run began with is equal to this
 pub begun_so : (order : Order) (site site' : Seen) (input input' : Input) (output output' : Output) (new : Outside) (status : ℕ) → site ≡ site' → input ≡ input' → output ≡ output'

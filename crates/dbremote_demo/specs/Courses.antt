@@ -1,13 +1,13 @@
 -- The runs of the demonstration in their order, and the messages that are lost between them.
 use Rattle.std.specs.Prelude.{◌≡◌, ◌<◌, ◌⊎◌, ℕ, zero, suc, ◌+◌, ◌-◌, ◌*◌, ◌/◌, min, List, [], ◌∷◌, ◌++◌, drop, length}
-use Rattle.dbremote_demo_tally.specs.Places.{nothing_made}
+use Rattle.dbremote_demo_draws.specs.Places.{nothing_made}
 use Rattle.dbremote_demo_draws.specs.DrawnStatements.{all_drawn, script_at, state_behind}
 use Rattle.dbremote_demo_draws.specs.Losses.{some_lost}
 use Rattle.dbremote_demo.specs.Runs.{Task, RanWell, Stopped, agent_of, making_of, script_of}
 use Rattle.dbremote_demo_draws.specs.declared.statements.Drawn.{Drawn}
 use Rattle.dbremote_demo_draws.specs.declared.demo_site.DemoSite.{DemoSite}
 use Rattle.dbremote_demo_draws.specs.declared.demo_site.DemoSite.TheVariants.{Cons, R1, R2, R3}
-use Rattle.dbremote_demo_tally.specs.declared.demo_sites.DemoSites.{DemoSites}
+use Rattle.dbremote_demo_draws.specs.declared.demo_sites.DemoSites.{DemoSites}
 use Rattle.dbremote_demo.specs.Scripts.{consolidated, remote, last_of_cons, last_of_r1, last_of_r2, last_of_r3}
 
 -- ---- runs, one after the other

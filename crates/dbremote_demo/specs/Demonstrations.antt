@@ -8,9 +8,9 @@ use Rattle.sr_database_files.specs.declared.fault.DatabaseFault.TheVariants.{Mem
 use Rattle.sr_site.specs.Streams.{Output}
 use Rattle.dbremote_demo.specs.Courses.{Course, CourseStops}
 use Rattle.dbremote_demo.specs.Runs.{EndsAll}
-use Rattle.dbremote_demo_tally.specs.Summaries.{IsSummary}
+use Rattle.dbremote_demo_draws.specs.Summaries.{IsSummary}
 use Rattle.dbremote_demo_draws.specs.Lines.{summary_lines}
-use Rattle.dbremote_demo_tally.specs.declared.demo_sites.DemoSites.{DemoSites}
+use Rattle.dbremote_demo_draws.specs.declared.demo_sites.DemoSites.{DemoSites}
 use Rattle.dbremote_demo_draws.specs.declared.summary.Summary.{Summary}
 
 -- all runs were made, each with status 0 or 1, and these are the lines of what they came to

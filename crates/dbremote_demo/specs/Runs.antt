@@ -10,9 +10,9 @@ use Rattle.sr_site.specs.Causes.{Stays}
 use Rattle.sr_site.specs.Seen.{Seen}
 use Rattle.sr_site.specs.Streams.{Input, Output}
 use Rattle.dbremote_demo_draws.specs.Names.{text_of}
-use Rattle.dbremote_demo_tally.specs.Places.{disk_at, with_disk}
+use Rattle.dbremote_demo_draws.specs.Places.{disk_at, with_disk}
 use Rattle.dbremote_demo_draws.specs.declared.demo_site.DemoSite.{DemoSite}
-use Rattle.dbremote_demo_tally.specs.declared.demo_sites.DemoSites.{DemoSites}
+use Rattle.dbremote_demo_draws.specs.declared.demo_sites.DemoSites.{DemoSites}
 
 -- ---- one run
 

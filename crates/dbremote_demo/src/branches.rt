@@ -5,11 +5,10 @@ ghost use Rattle.dbremote_demo.specs.Inner.Branches.{IsKeptAt};
 ghost use Rattle.dbremote_demo_draws.specs.Losses.{some_lost};
 ghost use Rattle.sr_memsite_disk.specs.Stores.{no_bytes};
 ghost use Rattle.sr_memsite.specs.Disks.{begun_with};
-ghost use Rattle.dbremote_demo_tally.specs.Places.{disk_at, nothing_made, with_disk};
+ghost use Rattle.dbremote_demo_draws.specs.Places.{disk_at, nothing_made, with_disk};
 
 use crate::kept::Kept;
-use dbremote_demo_draws::{DemoSite, Draws, lose_some};
-use dbremote_demo_tally::DemoSites;
+use dbremote_demo_draws::{DemoSite, DemoSites, Draws, lose_some};
 use sr_base::NoMemory;
 use sr_database::Database;
 use sr_memsite::{MemoryDisk, SharedMail};
@@ -34,7 +33,7 @@ pub(crate) struct Branches {
 }
 
 impl Model for Branches {
-    ghost use Rattle.dbremote_demo_tally.specs.declared.demo_sites.DemoSites.{DemoSites};
+    ghost use Rattle.dbremote_demo_draws.specs.declared.demo_sites.DemoSites.{DemoSites};
 
     ghost Value = { DemoSites };
 

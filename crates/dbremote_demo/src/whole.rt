@@ -3,7 +3,7 @@ ghost use Rattle.dbremote_command.specs.Reports.{Wrote};
 ghost use Rattle.dbremote_demo.specs.Courses.{Course, CourseStops};
 ghost use Rattle.dbremote_demo.specs.Demonstrations.{CameTo, Demonstrated};
 ghost use Rattle.dbremote_demo.specs.Inner.Runs.{StopCause};
-ghost use Rattle.dbremote_demo_tally.specs.Places.{nothing_made};
+ghost use Rattle.dbremote_demo_draws.specs.Places.{nothing_made};
 
 use crate::blocks::run_blocks;
 use crate::branches::Branches;
@@ -11,8 +11,7 @@ use crate::closing::settle;
 use crate::making::make_all;
 use crate::stop::Stop;
 use dbremote_command::{Fault, tell};
-use dbremote_demo_draws::{Draws, lines_of};
-use dbremote_demo_tally::summed;
+use dbremote_demo_draws::{Draws, lines_of, summed};
 use sr_database::DatabaseFault;
 use sr_session::say;
 use sr_site::Sink;

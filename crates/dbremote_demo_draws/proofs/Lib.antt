@@ -1,3 +1,5 @@
+mod EntriesRead
 mod KeySets
+mod Parting
 mod Texts
 mod UnderWay

@@ -5,4 +5,6 @@ pub mod Draws
 pub mod Lines
 pub mod Losses
 pub mod Names
+pub mod Places
+pub mod Summaries
 pub mod Inner

@@ -12,8 +12,8 @@ use Rattle.dbremote_demo.specs.Courses.{AgentStops, BlockStops, CourseStops, Sto
 use Rattle.dbremote_demo.specs.Demonstrations.{Demonstrated, EndedInside, ShownInPart, shown, unshown, ended, no_memory}
 use Rattle.dbremote_demo.specs.Runs.{Stopped, Task}
 use Rattle.dbremote_demo_draws.specs.declared.demo_site.DemoSite.{DemoSite}
-use Rattle.dbremote_demo_tally.specs.Places.{nothing_made}
-use Rattle.dbremote_demo_tally.specs.declared.demo_sites.DemoSites.{DemoSites}
+use Rattle.dbremote_demo_draws.specs.Places.{nothing_made}
+use Rattle.dbremote_demo_draws.specs.declared.demo_sites.DemoSites.{DemoSites}
 
 -- ---- no run inside refuses words
 

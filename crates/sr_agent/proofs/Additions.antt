@@ -1,4 +1,4 @@
--- Texts that are added to what is held, one behind the other, and what is held written at the end.
+-- Texts that are added to what is held, one after the other, and what is held written at the end.
 use Rattle.std.proofs.Common.{◌≡◌, ℕ, List, [], ◌++◌, Result, Ok, Err, OnErr, refl, sym, ap, subst, ◌∙◌, append_assoc, le_refl}
 use Rattle.std.proofs.lemmas.List.{append-nil}
 use Rattle.sr_session.specs.Said.{Said, WrotePrefix}
@@ -46,7 +46,7 @@ prefix_first held first second a b part = record {
   new_is = part.new_is;
 }
 
--- ---- one text behind another
+-- ---- one text after another
 
 pub added_on : (first second held held' held'' : List ℕ) (a b c : Output) → Added first held held' a b → Added second held' held'' b c → Added (first ++ second) held held'' a c
 added_on first second held held' held'' a b c one two = record {

@@ -41,7 +41,7 @@ use Rattle.sr_agent.proofs.Values.{keeps_partners, keeps_same}
 abbrev pub line_of : Partner → Sent → Line
 line_of partner sent = sent_line partner.user sent.put sent.end.0
 
--- ---- the database behind a pass
+-- ---- the database after a pass
 
 is_put : (count : ℕ) → (count ≡ 0) ⊎ (count ≢ 0)
 is_put zero = inl refl
@@ -249,7 +249,7 @@ ended_send old new before now written user limit ask (sends.Long size longest) r
 }
 ended_send old new before now written user limit ask sends.Memory ready cause devices = record {
   wrote = λ told. nothing_said written;
-  counts = (devices, refl);
+  counts = (devices.0, devices.1, refl);
   usable = usable_same old new cause.same ready.usable;
   pending = pending_same old new cause.same ready.idle;
   site = cause.stays;

@@ -41,7 +41,7 @@ told_end new before now written written' lines (receives.Full end need) idle sta
 told_end new before now written written' lines (receives.Long size limit) idle stays device usable told =
     record { wrote = told.taken; counts = (device.disk, device.mail, told.steady); usable = usable; pending = idle; site = stays; sink = told.stays }
 told_end new before now written written' lines receives.Memory idle stays device usable told =
-    record { wrote = told.taken; counts = (device, told.steady); usable = usable; pending = idle; site = stays; sink = told.stays }
+    record { wrote = told.taken; counts = (device.disk, device.mail, told.steady); usable = usable; pending = idle; site = stays; sink = told.stays }
 
 -- how a step ended, and by which fault
 pub record EndedBy (new : View) (before now : Seen) (written written' : Output) (lines : List Line) (why : ReceiveFault) (fault : AgentFault) : Type 0 where
@@ -64,14 +64,14 @@ ended_by new before now written written' lines why fault idle stays device usabl
   by = inr part.0;
 }
 
--- ---- a partner's pass that a fault ended, behind other lines
+-- ---- a partner's pass that a fault ended, after other lines
 
-removed_so : (publisher : Name) (es : List Recorded) (fetched_files : List FetchedFile) (t : PartnerPass) (between now : Seen) (fault : AgentFault) (purge : Bool) (one all : Type 0) → (one → all)
+pub removed_so : (publisher : Name) (es : List Recorded) (fetched_files : List FetchedFile) (t : PartnerPass) (between now : Seen) (fault : AgentFault) (purge : Bool) (one all : Type 0) → (one → all)
     → RemovedInPart publisher es fetched_files t between now fault purge one → RemovedInPart publisher es fetched_files t between now fault purge all
 removed_so publisher es fetched_files t between now fault purge one all so (untouched same why) = untouched same why
 removed_so publisher es fetched_files t between now fault purge one all so (begun on told why cause is) = begun on (so told) why cause is
 
-pub partner_pass_stopped : (publisher : Name) (es : List Recorded) (fetched_files : List FetchedFile) (user : Name) (db new : View) (seen now : Seen) (events : List Event) (lines : List Line) (fault : AgentFault) (purge : Bool) (one all : Type 0)
+abbrev pub partner_pass_stopped : (publisher : Name) (es : List Recorded) (fetched_files : List FetchedFile) (user : Name) (db new : View) (seen now : Seen) (events : List Event) (lines : List Line) (fault : AgentFault) (purge : Bool) (one all : Type 0)
     → (one → all) → PartnerPassStop publisher es fetched_files user db new seen now events lines fault purge one → PartnerPassStop publisher es fetched_files user db new seen now events lines fault purge all
 partner_pass_stopped publisher es fetched_files user db new seen now events lines fault purge one all so (in_message_files stop) = in_message_files stop
 partner_pass_stopped publisher es fetched_files user db new seen now events lines fault purge one all so (behind_message_files stop) = behind_message_files (record {

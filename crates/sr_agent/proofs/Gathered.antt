@@ -145,7 +145,7 @@ device_of before now receives.Disk fault stays = absurd fault
 device_of before now receives.Mail fault stays = (fault, stays.disk_faults)
 device_of before now (receives.Full end need) fault stays = absurd fault
 device_of before now (receives.Long size limit) fault stays = absurd fault
-device_of before now receives.Memory fault stays = stays.disk_faults
+device_of before now receives.Memory fault stays = record { disk = stays.disk_faults; mail = fault }
 
 usable_of : (view : View) (before now : Seen) (why : ReceiveFault) → view.log.usable ≡ true → IsMailFault before now why → IsUsableEnd view (Err (fault_of_receive why))
 usable_of view before now receives.Disk usable fault = absurd fault
@@ -178,7 +178,7 @@ gathered_untold : (view : View) (before now : Seen) (written written' : Output) 
     → HasGathered view.catalog view.log.end before now [] reports bag → TellEnd Memory (lines_text (report_lines reports)) written written' fault → GatheringBroken view before now written written' fault
 gathered_untold view before now written written' reports bag fault ready all end = record {
   lines = report_lines reports;
-  ended = (ended_by view before now written written' (report_lines reports) receives.Memory fault ready.idle (of_mail before now all.stays) all.stays.disk_faults ready.usable end).ended;
+  ended = (ended_by view before now written written' (report_lines reports) receives.Memory fault ready.idle (of_mail before now all.stays) (record { disk = all.stays.disk_faults; mail = all.steady }) ready.usable end).ended;
   did = λ tells publisher es database. told_in_part bag (all_gathered view before now publisher es reports bag tells database all) (untold_is (lines_text (report_lines reports)) written written' fault end);
 }
 

@@ -1,4 +1,4 @@
--- Deliveries in order, each behind those before it.
+-- Deliveries in order, each after those before it.
 use Rattle.std.proofs.Common.{◌≡◌, ◌+◌, ◌⊎◌, ℕ, List, [], ◌∷◌, ◌++◌, Result, IfErr, refl, sym, ap, subst, inl, inr, ◌∙◌, arith, append_assoc}
 use Rattle.std.specs.Prelude.{IsErrAnd}
 use Rattle.std.specs.List.{AllByRecursion}
@@ -53,7 +53,7 @@ done_on old middle new before seen now limit done partner a b c first one = reco
       (one.did (told_then before seen first.stays tells) publisher (after_deliveries publisher es took.deliveries) took.database);
 }
 
--- a delivery behind others was broken
+-- a delivery after others was broken
 broke_on : (middle new : View) (old : View) (before seen now : Seen) (publisher : Name) (es : List Recorded) (limit : ℕ) (done : List Partner) (partner : Partner) (others : List Partner) (earlier lines : List Line)
     (fault : AgentFault) (took : TookDeliveries middle before seen publisher es limit done earlier)
     → UntoldDelivery new seen now publisher (after_deliveries publisher es took.deliveries) limit partner lines fault ⊎ BrokeInDelivery middle new seen now publisher (after_deliveries publisher es took.deliveries) limit partner lines fault

@@ -8,6 +8,8 @@ pub mod Wholes
 pub mod Written
 pub mod Additions
 pub mod Reaching
+pub mod Reported
+pub mod Returned
 pub mod Made
 pub mod Ran
 pub mod PutDone

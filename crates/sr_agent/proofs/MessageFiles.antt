@@ -247,7 +247,7 @@ broken_behind old new before middle user bag bag' written written' reports answe
     let why = cause parts.0 parts.1 parts.2 in
     record {
       lines = lines;
-      ended = (ended_by new before middle written written' lines receives.Memory fault all.ready.idle all.stays all.steady.disk all.ready.usable why).ended;
+      ended = (ended_by new before middle written written' lines receives.Memory fault all.ready.idle all.stays all.steady all.ready.usable why).ended;
       did = turned_untold old new before middle user bag bag' answer.ask lines fault all (untold_is (lines_text lines) written written' fault why) purge (HasTold lines written written');
     }
 

@@ -26,7 +26,7 @@ use Rattle.sr_agent.specs.declared.progress.Progress.{Progress}
 use Rattle.sr_agent.proofs.Joints.{steady_on}
 use Rattle.sr_agent.proofs.Values.{keeps_twice}
 
--- ---- texts, one behind the other
+-- ---- texts, one after the other
 
 pub lines_append : (one two : List Line) → lines_text (one ++ two) ≡ lines_text one ++ lines_text two
 lines_append [] two = refl

@@ -125,7 +125,7 @@ pub partner_pass_unadded : (old new : View) (before middle : Seen) (user : Name)
     → ToldMessageFiles old new before middle user bag bag' answer count written written' → fault ≡ Memory → (purge : Bool) → PartnerPassBroken old new before middle user bag purge written written' fault
 partner_pass_unadded old new before middle user bag bag' answer count written written' fault message_files is purge = record {
   lines = message_files.lines;
-  ended = (ended_told new before middle written written' message_files.lines receives.Memory fault message_files.took.ready.idle message_files.took.stays message_files.took.steady.disk message_files.took.ready.usable is message_files.told).ended;
+  ended = (ended_told new before middle written written' message_files.lines receives.Memory fault message_files.took.ready.idle message_files.took.stays message_files.took.steady message_files.took.ready.usable is message_files.told).ended;
   did = turned_untold old new before middle user bag bag' answer.ask message_files.lines fault message_files.took (inr is) purge (HasTold message_files.lines written written');
 }
 
@@ -136,14 +136,14 @@ part_of address book files middle now receives.Disk cause = absurd cause
 part_of address book files middle now receives.Mail cause = cause.1
 part_of address book files middle now (receives.Full end need) cause = absurd cause
 part_of address book files middle now (receives.Long size limit) cause = absurd cause
-part_of address book files middle now receives.Memory cause = cause
+part_of address book files middle now receives.Memory cause = cause.1
 
 device_of : (address : Name) (book : Book) (files : List Filed) (before middle now : Seen) (why : ReceiveFault) → IsSteady before middle → PurgeCause address book files middle now why → IsDeviceFault before now why
 device_of address book files before middle now receives.Disk steady cause = absurd cause
 device_of address book files before middle now receives.Mail steady cause = (subst (λ (n : ℕ). Rose n now.mail_faults) steady.mail cause.0, cause.1.stays.disk_faults ∙ steady.disk)
 device_of address book files before middle now (receives.Full end need) steady cause = absurd cause
 device_of address book files before middle now (receives.Long size limit) steady cause = absurd cause
-device_of address book files before middle now receives.Memory steady cause = cause.stays.disk_faults ∙ steady.disk
+device_of address book files before middle now receives.Memory steady cause = record { disk = cause.1.stays.disk_faults ∙ steady.disk; mail = cause.0 ∙ steady.mail }
 
 usable_of : (new : View) (address : Name) (book : Book) (files : List Filed) (middle now : Seen) (why : ReceiveFault) → new.log.usable ≡ true → PurgeCause address book files middle now why
     → IsUsableEnd new (Err (fault_of_receive why))

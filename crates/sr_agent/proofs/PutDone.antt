@@ -8,7 +8,7 @@ use Rattle.sr_site.specs.Happenings.{Happening, sent}
 use Rattle.sr_database_meaning.specs.Events.{Event, commit, put}
 use Rattle.sr_agent.specs.Deliveries.{with_puts}
 
--- puts come in front of what happened before
+-- puts are the newest of what happened
 alone_grows : (events : List Event) (before now : List Happening) → PutAlone events before now → (later : List Happening) × (now ≡ later ++ before)
 alone_grows [] before now same = ([], same)
 alone_grows (commit r ∷ events) before now alone = alone_grows events before now alone
@@ -16,7 +16,7 @@ alone_grows (put address name bytes ∷ events) before now (done, alone) =
     let more = alone_grows events (sent address name bytes done ∷ before) now alone in
     (more.0 ++ sent address name bytes done ∷ [], more.1 ∙ sym (append_assoc more.0 (sent address name bytes done ∷ []) before))
 
--- what came in front of a put, and the put itself
+-- what came after a put, and the put itself
 put_last : (events : List Event) (step : Happening) (before now more : List Happening) → PutAlone events (step ∷ before) now → now ≡ more ++ before → (later : List Happening) × (now ≡ later ++ step ∷ before) × (more ≡ later ++ step ∷ [])
 put_last events step before now more alone is =
     let grown = alone_grows events (step ∷ before) now alone in

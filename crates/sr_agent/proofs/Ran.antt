@@ -17,23 +17,24 @@ use Rattle.sr_site.specs.Streams.{Output}
 use Rattle.sr_database_meaning.specs.Events.{Event, commit}
 use Rattle.sr_database_meaning.specs.Traces.{Went}
 use Rattle.sr_database_meaning.proofs.Joining.{joined}
+use Rattle.sr_session.specs.Reports.{Endures}
 use Rattle.sr_agent.specs.Agents.{AreTold, CameSoFar, RanAgent, RanInPart, RanWhole}
 use Rattle.sr_agent.specs.Deliveries.{Delivery, after_deliveries, deliveries_events, deliveries_lines}
 use Rattle.sr_agent.specs.Ends.{Ended, HasTold}
 use Rattle.sr_agent.specs.Lines.{Line, alarms, lines_text}
 use Rattle.sr_agent.specs.Runs.{IsSending, Receives, Run, Sends, after_receiving, after_run, asked, fetched_files_of, lines_of, nothing_done, received_lines, run_lines, taken_entries, trace_of}
 use Rattle.sr_agent.specs.Inner.Steps.{AreOnce, BrokeInDeliveries, BrokeInGathering, BrokeInReceiving, BrokeInPartnerPasses, BrokenWhere, DeliveriesBroken, DeliveriesDone, HasGatheredAll, IsForWant, IsInNextDelivery, IsNothingSent, IsUntoldThere, MadePass, PassBroken, ReceivingBroken, SendingBroken, SendingDone, SentPartWhere, SentWhere, TookDeliveries, Told, told_in_part, gathered_in_part, in_mail, in_partner_passes}
-use Rattle.sr_agent.specs.Stops.{DeliveryStop, GatheringStop, IsSendingUpTo, IsUntold, StopsAt, PartnerPassStop, at_first, gathering, behind_gathering, in_partner_pass, sending, in_delivery}
+use Rattle.sr_agent.specs.Stops.{DeliveryStop, GatheringStop, IsSendingUpTo, IsUntold, StopsAt, at_first, gathering, behind_gathering, in_partner_pass, sending, in_delivery}
 use Rattle.sr_agent.specs.PartnerPasses.{PartnerPass, gathering_lines, partners, partner_passes_entries, partner_passes_lines}
 use Rattle.sr_agent.specs.declared.fault.AgentFault.{AgentFault}
 use Rattle.sr_agent.specs.declared.fault.AgentFault.TheVariants.{Memory}
 use Rattle.sr_agent.specs.declared.options.Options.{Options}
 use Rattle.sr_agent.specs.declared.partner.Partner.{Partner}
 use Rattle.sr_agent.specs.declared.progress.Progress.{Progress}
-use Rattle.sr_agent.proofs.Ending.{partner_pass_stopped}
 use Rattle.sr_agent.proofs.Joints.{commits_of}
 use Rattle.sr_agent.proofs.Made.{HasMade, are_users, made_where, names_of_history, names_once}
 use Rattle.sr_agent.proofs.Reaching.{Reaches, came_alone, came_behind, gathered_run, reaches_mail, reaches_none, reaches_partner_passes, took_none, went_behind_mail, with_deliveries}
+use Rattle.sr_agent.proofs.Reported.{StopEndures, database_endures, nothing_told, observable_then, stop_endures, went_endures}
 use Rattle.sr_agent.proofs.Wholes.{Received, history_is}
 use Rattle.sr_agent.proofs.Written.{alarms_on, ended_at_once, ended_behind, still_site, still_steady, still_told, told_before, told_behind, told_on}
 
@@ -44,7 +45,19 @@ in_part_at_once : (view : View) (seen : Seen) (written : Output) (publisher : Na
     → RanInPart view seen seen written written publisher es options [] fault
 in_part_at_once view seen written publisher es options fault database want =
     let came = came_alone view seen seen publisher es options nothing_done (reaches_none view seen publisher es options database) in
-    record { run = nothing_done; db = view; seen = seen; came = came; events = []; told = []; stops = at_first refl refl refl refl refl want; went = came.went; lines_are = refl; partner_passes_told = tt }
+    record {
+      run = nothing_done;
+      db = view;
+      seen = seen;
+      came = came;
+      events = [];
+      told = [];
+      stops = at_first refl refl refl refl refl want;
+      went = came.went;
+      lines_are = refl;
+      reported = nothing_told publisher (after_run publisher es nothing_done) seen (database_endures view publisher (after_run publisher es nothing_done) seen came.database);
+      partner_passes_told = tt;
+    }
 
 -- the mail was gathered, and not told
 in_part_untold : (view : View) (before now : Seen) (written written' : Output) (publisher : Name) (es : List Recorded) (options : Options) (bag : List PartnerMail) (lines : List Line) (fault : AgentFault) → options.receive ≡ true
@@ -64,6 +77,7 @@ in_part_untold view before now written written' publisher es options bag lines f
           refl refl refl refl refl untold;
       went = came.went;
       lines_are = gathered.lines_are ∙ sym (append-nil (gathering_lines gathered.gathering)) ∙ sym (append-nil (gathering_lines gathered.gathering ++ []));
+      reported = nothing_told publisher (after_run publisher es run) now (database_endures view publisher (after_run publisher es run) now came.database);
       partner_passes_told = tt;
     }
 
@@ -80,6 +94,7 @@ in_part_gathering view before now written written' publisher es options lines fa
   stops = gathering on refl refl refl stop;
   went = went;
   lines_are = refl;
+  reported = nothing_told publisher (after_run publisher es nothing_done) now (nothing_told publisher es now (went_endures before now publisher es [] went));
   partner_passes_told = tt;
 }
 
@@ -89,13 +104,21 @@ are_told [] lines written written' told = tt
 are_told (t ∷ earlier) lines written written' told = told
 
 in_part_partner_pass : (old new : View) (before seen now : Seen) (written between written' : Output) (publisher : Name) (es : List Recorded) (options : Options) (bag : List PartnerMail) (users : List Name) (first behind : List Line)
-    (fault : AgentFault) → options.receive ≡ true → users ≡ partners publisher es → (gathered : HasGatheredAll old before seen publisher es bag first) → Told (lines_text first) written between
+    (fault : AgentFault) → options.receive ≡ true → IsTrue before.observable → users ≡ partners publisher es → (gathered : HasGatheredAll old before seen publisher es bag first) → Told (lines_text first) written between
     → BrokeInPartnerPasses old new seen now publisher es gathered.gathering.fetched_files options.purge users between written' behind fault → RanInPart new before now written written' publisher es options (first ++ behind) fault
-in_part_partner_pass old new before seen now written between written' publisher es options bag users first behind fault on users_are gathered told broke =
+in_part_partner_pass old new before seen now written between written' publisher es options bag users first behind fault on observable users_are gathered told broke =
     let g = gathered.gathering in
     let run = gathered_run g broke.took.partner_passes in
     let added = partner_passes_entries publisher es g.fetched_files broke.took.partner_passes in
     let reaches = reaches_partner_passes old broke.db before seen broke.seen publisher es options bag first broke.done broke.asks broke.earlier gathered broke.took in
+    let observable_seen = observable_then before seen publisher es [] gathered.went observable in
+    let stopped : StopEndures publisher (es ++ added) g.fetched_files broke.user broke.db new broke.seen now broke.events broke.told fault options.purge (HasTold (first ++ behind) written written')
+    = stop_endures publisher (es ++ added) g.fetched_files broke.user broke.db new broke.seen now broke.events broke.told fault options.purge (HasTold behind between written') (HasTold (first ++ behind) written written')
+    (told_behind first behind written between written' told) (observable_then seen broke.seen publisher es (map commit added) broke.took.went observable_seen)
+    (observable_then seen now publisher es (map commit added ++ broke.events) broke.went observable_seen) broke.took.database broke.stop in
+    let moved : StopEndures publisher (after_run publisher es run) g.fetched_files broke.user broke.db new broke.seen now broke.events broke.told fault options.purge (HasTold (first ++ behind) written written')
+    = subst (λ (rs : List Recorded). StopEndures publisher rs g.fetched_files broke.user broke.db new broke.seen now broke.events broke.told fault options.purge (HasTold (first ++ behind) written written'))
+    (sym (append-nil (es ++ added)) ∙ history_is es added []) stopped in
     record {
       run = run;
       db = broke.db;
@@ -111,10 +134,8 @@ in_part_partner_pass old new before seen now written between written' publisher 
             receiving = record { gathering = g; gathered_is = refl; is = gathered.is; are = broke.took.are; whose = broke.took.whose };
             none = refl;
           })
-          (subst (λ (rs : List Recorded). PartnerPassStop publisher rs g.fetched_files broke.user broke.db new broke.seen now broke.events broke.told fault options.purge (HasTold (first ++ behind) written written'))
-          (sym (append-nil (es ++ added)) ∙ history_is es added [])
-          (partner_pass_stopped publisher (es ++ added) g.fetched_files broke.user broke.db new broke.seen now broke.events broke.told fault options.purge (HasTold behind between written') (HasTold (first ++ behind) written written')
-          (told_behind first behind written between written' told) broke.stop));
+          moved.0;
+      reported = moved.1;
       went = subst (λ (events : List Event). Went before now publisher es (events ++ broke.events)) (sym (append-nil (map commit added)))
           (went_behind_mail before seen now publisher es (map commit added ++ broke.events) gathered.went broke.went);
       lines_are =
@@ -126,16 +147,16 @@ in_part_partner_pass old new before seen now written between written' publisher 
           (told_behind first broke.earlier written between written' told broke.earlier_told));
     }
 
-in_part_received : (old new : View) (before now : Seen) (written written' : Output) (publisher : Name) (es : List Recorded) (options : Options) (users : List Name) (lines : List Line) (fault : AgentFault) → options.receive ≡ true
+in_part_received : (old new : View) (before now : Seen) (written written' : Output) (publisher : Name) (es : List Recorded) (options : Options) (users : List Name) (lines : List Line) (fault : AgentFault) → options.receive ≡ true → IsTrue before.observable
     → users ≡ partners publisher es → IsDatabase old publisher es before → BrokeInReceiving old new before now publisher es options.purge users written written' lines fault
     → RanInPart new before now written written' publisher es options lines fault
-in_part_received old new before now written written' publisher es options users lines fault on users_are database (in_mail same (told_in_part bag gathered untold)) =
+in_part_received old new before now written written' publisher es options users lines fault on observable users_are database (in_mail same (told_in_part bag gathered untold)) =
     subst (λ (v : View). RanInPart v before now written written' publisher es options lines fault) (sym same) (in_part_untold old before now written written' publisher es options bag lines fault on gathered untold)
-in_part_received old new before now written written' publisher es options users lines fault on users_are database (in_mail same (gathered_in_part stop went)) =
+in_part_received old new before now written written' publisher es options users lines fault on observable users_are database (in_mail same (gathered_in_part stop went)) =
     subst (λ (v : View). RanInPart v before now written written' publisher es options lines fault) (sym same) (in_part_gathering old before now written written' publisher es options lines fault on database stop went)
-in_part_received old new before now written written' publisher es options users lines fault on users_are database (in_partner_passes bag seen first behind between gathered told broke lines_are) =
+in_part_received old new before now written written' publisher es options users lines fault on observable users_are database (in_partner_passes bag seen first behind between gathered told broke lines_are) =
     subst (λ (ls : List Line). RanInPart new before now written written' publisher es options ls fault) (sym lines_are)
-    (in_part_partner_pass old new before seen now written between written' publisher es options bag users first behind fault on users_are gathered told broke)
+    (in_part_partner_pass old new before seen now written between written' publisher es options bag users first behind fault on observable users_are gathered told broke)
 
 -- a run that ended at once for want of memory
 pub ran_none : (view : View) (seen : Seen) (written : Output) (options : Options) → view.log.usable ≡ true → view.pending ≡ [] → RanAgent view view seen seen written written options (Err Memory)
@@ -158,7 +179,7 @@ broken_where true old new before now options users written written' fault on usa
   ended = broken.ended;
   count = tt;
   did = λ told publisher es database.
-      in_part_received old new before now written written' publisher es options users broken.lines fault on (names_of_history old publisher es users database.is users_are) database
+      in_part_received old new before now written written' publisher es options users broken.lines fault on told (names_of_history old publisher es users database.is users_are) database
       (broken.did told publisher es database (names_once old publisher es users database.is users_are));
 }
 
@@ -166,7 +187,7 @@ pub ran_broken : (old new : View) (before now : Seen) (options : Options) (users
     → PassBroken options old new before now users written written' fault → RanAgent old new before now written written' options (Err fault)
 ran_broken old new before now options users written written' fault ready users_are broken = broken_where options.receive old new before now options users written written' fault refl ready.usable ready.idle users_are broken
 
--- ---- the send pass behind it
+-- ---- the send pass after it
 
 receives_with : (b : Bool) (publisher : Name) (es : List Recorded) (run : Run) (deliveries : List Delivery) → Receives b publisher es run → Receives b publisher es (with_deliveries run deliveries)
 receives_with true publisher es run deliveries receives = record { gathering = receives.gathering; gathered_is = receives.gathered_is; is = receives.is; are = receives.are; whose = receives.whose }
@@ -201,7 +222,7 @@ sending_to publisher es options run deliveries asks done left on receives asks_a
   sending = sends;
 }
 
-stops_there : (publisher : Name) (es : List Recorded) (options : Options) (run : Run) (deliveries : List Delivery) (left : List Partner) (db new : View) (seen now : Seen) (told : List Line) (fault : AgentFault) (whole : Type 0)
+abbrev pub stops_there : (publisher : Name) (es : List Recorded) (options : Options) (run : Run) (deliveries : List Delivery) (left : List Partner) (db new : View) (seen now : Seen) (told : List Line) (fault : AgentFault) (whole : Type 0)
     → IsSendingUpTo publisher es options (with_deliveries run deliveries) left → IsUntoldThere deliveries db new seen now told fault
     → StopsAt publisher es options (with_deliveries run deliveries) db new seen now [] told fault whole
 stops_there publisher es options run deliveries left db new seen now told fault whole up_to there = sending left up_to there.last there.earlier there.put there.same there.still refl there.none there.why
@@ -233,6 +254,8 @@ in_part_sent middle new before seen now written written' publisher es options as
         went = subst (λ (s : Seen). Went before s publisher es (trace_of publisher es whole ++ [])) (sym there.still)
             (subst (λ (events : List Event). Went before broke.seen publisher es events) (sym (append-nil (trace_of publisher es whole))) came.went);
         lines_are = lines_are;
+        reported = subst (λ (s : Seen). Endures publisher (after_run publisher es whole ++ []) s) (sym there.still)
+            (nothing_told publisher (after_run publisher es whole) broke.seen (database_endures broke.db publisher (after_run publisher es whole) broke.seen came.database));
         partner_passes_told = partner_passes_told;
       }
       | inr next ↦ record {
@@ -248,6 +271,9 @@ in_part_sent middle new before seen now written written' publisher es options as
         went = joined before broke.seen now publisher es (trace_of publisher es whole) next.broke.events came.went
             (subst (λ (rs : List Recorded). Went broke.seen now publisher rs next.broke.events) (history_is es added put) next.broke.went);
         lines_are = lines_are;
+        reported = nothing_told publisher (after_run publisher es whole) now
+            (went_endures broke.seen now publisher (after_run publisher es whole) next.broke.events
+            (subst (λ (rs : List Recorded). Went broke.seen now publisher rs next.broke.events) (history_is es added put) next.broke.went));
         partner_passes_told = partner_passes_told;
       }
     ]

@@ -20,7 +20,7 @@ use Rattle.sr_agent.specs.declared.options.Options.{Options}
 use Rattle.sr_agent.specs.declared.partner.Partner.{Partner}
 use Rattle.sr_agent.proofs.Joints.{commits-append, commits_of, steady_on}
 
--- ---- behind the receive pass
+-- ---- after the receive pass
 
 pub record Received (new : View) (before now : Seen) (publisher : Name) (es : List Recorded) (options : Options) (asks : List Partner) (lines : List Line) : Type 0 where
   pub run : Run
@@ -33,7 +33,7 @@ pub record Received (new : View) (before now : Seen) (publisher : Name) (es : Li
   pub asks_are : asks ≡ asked options.receive publisher es run
   pub lines_are : lines ≡ lines_of run.gathered ++ partner_passes_lines publisher es (fetched_files_of run.gathered) run.partner_passes
 
--- the history of commits and then of the items behind them
+-- the history of commits and then of the items after them
 pub history_is : (es added : List Recorded) (events : List Event) → (es ++ added) ++ commits events ≡ es ++ commits (map commit added ++ events)
 history_is es added events =
     append_assoc es added (commits events)

@@ -1,4 +1,4 @@
--- What was written, and how a run ends, of steps behind steps that were told whole.
+-- What was written, and how a run ends, of steps after steps that were told whole.
 use Rattle.std.proofs.Common.{◌≡◌, ◌+◌, ◌≤◌, ℕ, Bool, true, cond, List, [], ◌∷◌, ◌++◌, refl, sym, ap, subst, ◌∙◌, append_assoc, arith, le_refl}
 use Rattle.std.specs.Prelude.{IsTrue, Err, Result}
 use Rattle.std.proofs.lemmas.List.{append-nil}
@@ -18,7 +18,7 @@ use Rattle.sr_agent.specs.Inner.Steps.{Told}
 use Rattle.sr_agent.specs.declared.fault.AgentFault.{AgentFault}
 use Rattle.sr_agent.specs.declared.fault.AgentFault.TheVariants.{Disk, Mail, Sink, Full, Long, Memory}
 
--- ---- lines behind lines
+-- ---- lines after lines
 
 pub texts_on : (first behind : List Line) → lines_text (first ++ behind) ≡ lines_text first ++ lines_text behind
 texts_on first behind = flat_map-append line_text first behind
@@ -67,14 +67,14 @@ counts_behind before seen now written between written' Mail steady same ends = (
 counts_behind before seen now written between written' Sink steady same ends = rose_from written.faults between.faults written'.faults same ends
 counts_behind before seen now written between written' (Full end need) steady same ends = (ends.0 ∙ steady.disk, ends.1 ∙ steady.mail, ends.2 ∙ same)
 counts_behind before seen now written between written' (Long size limit) steady same ends = (ends.0 ∙ steady.disk, ends.1 ∙ steady.mail, ends.2 ∙ same)
-counts_behind before seen now written between written' Memory steady same ends = (ends.0 ∙ steady.disk, ends.1 ∙ same)
+counts_behind before seen now written between written' Memory steady same ends = (ends.0 ∙ steady.disk, ends.1 ∙ steady.mail, ends.2 ∙ same)
 
 -- ---- ends
 
 pub told_output : (old new : Output) → OutputStays old new → IsTrue old.observable → IsTrue new.observable
 told_output old new stays told = subst (λ (b : Bool). IsTrue b) (sym stays.observable) told
 
--- ---- lines that were written whole, whatever came behind them
+-- ---- lines that were written whole, whatever came after them
 
 pub has_told : (lines : List Line) (old new : Output) → Told (lines_text lines) old new → HasTold lines old new
 has_told lines old new told tells = ([], told.taken tells ∙ sym (append-nil (old.taken ++ lines_text lines)))
@@ -94,13 +94,13 @@ told_before first behind written between written' fault told wrote tells =
     let more = wrote_on behind between.taken written'.taken fault (wrote (told_output written between told.stays tells)) in
     (more.0, more.1 ∙ ap (λ (l : List ℕ). l ++ more.0) (told.taken tells))
 
--- and lines behind them
+-- and lines after them
 pub told_behind : (first behind : List Line) (written between written' : Output) → Told (lines_text first) written between → HasTold behind between written' → HasTold (first ++ behind) written written'
 told_behind first behind written between written' told has tells =
     let more = has (told_output written between told.stays tells) in
     (more.0, more.1 ∙ ap (λ (l : List ℕ). l ++ more.0) (all_behind first behind written.taken between.taken (between.taken ++ lines_text behind) (told.taken tells) refl))
 
--- a step that a fault ended, behind steps that were told whole
+-- a step that a fault ended, after steps that were told whole
 pub ended_behind : (new : View) (before seen now : Seen) (written between written' : Output) (first behind : List Line) (fault : AgentFault) → Told (lines_text first) written between → IsSteady before seen
     → Stays before seen → Ended new seen now between written' behind (Err fault) → Ended new before now written written' (first ++ behind) (Err fault)
 ended_behind new before seen now written between written' first behind fault told steady stays ended = record {
@@ -132,7 +132,7 @@ still_steady seen = record { disk = refl; mail = refl }
 pub ended_at_once : (view : View) (seen : Seen) (written : Output) → view.log.usable ≡ true → view.pending ≡ [] → Ended view seen seen written written [] (Err Memory)
 ended_at_once view seen written usable pending = record {
   wrote = λ tells. wrote_none written.taken;
-  counts = (refl, refl);
+  counts = (refl, refl, refl);
   usable = usable;
   pending = pending;
   site = still_site seen;

@@ -5,6 +5,7 @@ use Rattle.sr_database.specs.Databases.{IsDatabase}
 use Rattle.sr_database.specs.Views.{View}
 use Rattle.sr_database_history.specs.Recorded.{Recorded}
 use Rattle.sr_receive.specs.Passes.{AreSteady as IsSteady}
+use Rattle.sr_session.specs.Reports.{Endures}
 use Rattle.sr_site.specs.Happenings.{mail_in}
 use Rattle.sr_site.specs.Seen.{Seen}
 use Rattle.sr_site.specs.Streams.{Output}
@@ -14,7 +15,7 @@ use Rattle.sr_agent.specs.Deliveries.{with_puts}
 use Rattle.sr_agent.specs.Ends.{Ended, HasTold}
 use Rattle.sr_agent.specs.Lines.{Line, alarms}
 use Rattle.sr_agent.specs.Runs.{Run, IsRun, after_run, received_lines, received_mail, run_lines, sent_events, trace_of}
-use Rattle.sr_agent.specs.Stops.{StopsAt}
+use Rattle.sr_agent.specs.Stops.{StopsAt, told_entries}
 use Rattle.sr_agent.specs.PartnerPasses.{PartnerPass}
 use Rattle.sr_agent.specs.declared.fault.AgentFault.{AgentFault}
 use Rattle.sr_agent.specs.declared.options.Options.{Options}
@@ -58,6 +59,8 @@ pub record RanInPart (new : View) (before now : Seen) (written written' : Output
   pub stops : StopsAt publisher es options run db new seen now events told fault (HasTold lines written written')
   pub went : Went before now publisher es (trace_of publisher es run ++ events)
   pub lines_are : lines ≡ run_lines publisher es run ++ told
+  -- whatever a crash leaves stands for a history that begins with the entries that the lines tell of
+  pub reported : Endures publisher (after_run publisher es run ++ told_entries stops) now
   -- the lines of each partner's pass that was made were written whole, and all before them: only then are its dead files removed
   pub partner_passes_told : AreTold run.partner_passes (received_lines publisher es run) written written'
 

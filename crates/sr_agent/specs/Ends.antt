@@ -19,13 +19,12 @@ Wrote said old new (Err (Full end need)) = new ≡ old ++ said
 Wrote said old new (Err (Long size limit)) = new ≡ old ++ said
 Wrote said old new (Err Memory) = new ≡ old ++ said
 
--- behind what was written before, these lines were written whole, whatever came behind them
+-- after what was written before, these lines were written whole, whatever came after them
 abbrev pub HasTold : List Line → Output → Output → Type 0
 HasTold lines written written' = IsTrue written.observable → IsPrefix (written.taken ++ lines_text lines) written'.taken
 
--- a fault of the disk or of the mail comes only where its count rose, and then no other count did; at a limit no count rose, nor where no fault
--- came. Where memory was wanting neither the disk failed nor the sink. Where the sink failed, a device may have failed before: what was done until
--- then could not be told
+-- a fault of the disk or of the mail comes only where its count rose, and then no other count did; at a limit and where memory was wanting no
+-- count rose, nor where no fault came. Where the sink failed, a device may have failed before: what was done until then could not be told
 abbrev pub CountEnd : Seen → Seen → Output → Output → Result ℕ AgentFault → Type 0
 CountEnd before now written written' (Ok count) =
     (now.disk_faults ≡ before.disk_faults) × (now.mail_faults ≡ before.mail_faults) × (written'.faults ≡ written.faults)
@@ -38,7 +37,8 @@ CountEnd before now written written' (Err (Full end need)) =
     (now.disk_faults ≡ before.disk_faults) × (now.mail_faults ≡ before.mail_faults) × (written'.faults ≡ written.faults)
 CountEnd before now written written' (Err (Long size limit)) =
     (now.disk_faults ≡ before.disk_faults) × (now.mail_faults ≡ before.mail_faults) × (written'.faults ≡ written.faults)
-CountEnd before now written written' (Err Memory) = (now.disk_faults ≡ before.disk_faults) × (written'.faults ≡ written.faults)
+CountEnd before now written written' (Err Memory) =
+    (now.disk_faults ≡ before.disk_faults) × (now.mail_faults ≡ before.mail_faults) × (written'.faults ≡ written.faults)
 
 -- the database can be used again, unless the disk refused; that is not told where the sink then failed
 abbrev pub IsUsableEnd : View → Result ℕ AgentFault → Type 0

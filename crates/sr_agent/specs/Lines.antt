@@ -37,7 +37,7 @@ clash_name Null = codes "Null"
 clash_name Trigger = codes "Trigger"
 clash_name Statement = codes "Statement"
 
--- two numbers behind a name, each behind a blank
+-- two numbers after a name, each after a blank
 abbrev pub numbers_behind : Name → ℕ → ℕ → List ℕ
 numbers_behind user first second = user ++ 32 ∷ decimal first ++ 32 ∷ decimal second
 

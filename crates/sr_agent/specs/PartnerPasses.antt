@@ -85,7 +85,7 @@ abbrev pub partner_pass_lines : Name → List Recorded → List FetchedFile → 
 partner_pass_lines publisher es fetched_files t =
     report_lines (act_reports t.user t.acts) ++ received t.user (taken_in t.acts) (ending publisher es t).received ∷ report_lines (gap_report t.user (ending publisher es t).received (files_of fetched_files t))
 
--- the files that are removed behind it, where any are to be: the dead ones by the book with its entries
+-- the files that are removed after it, where any are to be: the dead ones by the book with its entries
 abbrev pub partner_pass_removals : Name → List Recorded → List FetchedFile → Bool → PartnerPass → List Happening → List Happening
 partner_pass_removals publisher es fetched_files purge t before =
     if purge then removals publisher (dead (books_of t.user (es ++ partner_pass_entries publisher es fetched_files t)) (files_of fetched_files t)) before else before

@@ -67,7 +67,7 @@ pub record ReceivingStop (publisher : Name) (es : List Recorded) (fetched_files 
   pub events_are : events ≡ map commit (entries ++ begun)
   pub lines_are : lines ≡ report_lines told
 
--- behind a partner's pass no file was removed yet; or files are to be removed, all its lines were told, and the dead ones by the book with its entries were
+-- after a partner's pass no file was removed yet; or files are to be removed, all its lines were told, and the dead ones by the book with its entries were
 -- being removed
 pub data RemovedInPart (publisher : Name) (es : List Recorded) (fetched_files : List FetchedFile) (t : PartnerPass) (between now : Seen) (fault : AgentFault) (purge : Bool) (whole : Type 0) : Type 0 where
   untouched : now ≡ between → IsUntold fault → RemovedInPart publisher es fetched_files t between now fault purge whole
@@ -93,7 +93,7 @@ pub data PartnerPassStop (publisher : Name) (es : List Recorded) (fetched_files 
   in_message_files : ReceivingStop publisher es fetched_files user db new seen now events lines fault → PartnerPassStop publisher es fetched_files user db new seen now events lines fault purge whole
   behind_message_files : BehindPartnerPassStop publisher es fetched_files user new seen now events lines fault purge whole → PartnerPassStop publisher es fetched_files user db new seen now events lines fault purge whole
 
--- the note of messages was begun, which comes behind the last of them, or not
+-- the note of messages was begun, which comes after the last of them, or not
 abbrev pub IsBegunNote : Name → List Recorded → Name → List Message → List Message → List Recorded → Type 0
 IsBegunNote publisher es user messages left [] = ⊤
 IsBegunNote publisher es user messages left (r ∷ []) = (left ≡ []) × (r ≡ sent_note user (books_of user es) (sent_end publisher es user (books_of user es)) (length messages))
@@ -113,6 +113,14 @@ pub record DeliveryStop (publisher : Name) (es : List Recorded) (limit : ℕ) (p
   pub note : IsBegunNote publisher es partner.user messages left notes
   pub events_are : events ≡ put_files (folder_of publisher es partner.user) (books_of partner.user es).send_count messages ++ map commit notes
 
+-- ---- which entries its lines tell of
+
+-- of a partner's pass: those that were committed
+abbrev pub told_in_pass : {publisher : Name} {es : List Recorded} {fetched_files : List FetchedFile} {user : Name} {db new : View} {seen now : Seen} {events : List Event} {lines : List Line} {fault : AgentFault} {purge : Bool}
+    {whole : Type 0} → PartnerPassStop publisher es fetched_files user db new seen now events lines fault purge whole → List Recorded
+told_in_pass (in_message_files stop) = stop.entries
+told_in_pass {publisher} {es} {fetched_files} (behind_message_files stop) = partner_pass_entries publisher es fetched_files stop.partner_pass
+
 -- ---- how far a run came before
 
 -- the receive pass was made up to some partner, and these are left
@@ -131,7 +139,7 @@ pub record IsSendingUpTo (publisher : Name) (es : List Recorded) (options : Opti
   pub parts : asked options.receive publisher es run ≡ done ++ left
   pub sending : IsSending publisher es options.length run done
 
--- ---- a run that a fault ended, behind these first steps of it; whether all lines up to there were written
+-- ---- a run that a fault ended, after these first steps of it; whether all lines up to there were written
 
 pub data StopsAt (publisher : Name) (es : List Recorded) (options : Options) (run : Run) (db new : View) (seen now : Seen) (events : List Event) (lines : List Line) (fault : AgentFault) (whole : Type 0) : Type 0 where
   -- nothing was done yet, for want of memory
@@ -150,3 +158,13 @@ pub data StopsAt (publisher : Name) (es : List Recorded) (options : Options) (ru
   -- the next partner was being sent to
   in_delivery : (partner : Partner) (left : List Partner) → IsSendingUpTo publisher es options run (partner ∷ left) → lines ≡ []
       → DeliveryStop publisher (after_run publisher es run) options.length partner db new seen now events fault → StopsAt publisher es options run db new seen now events lines fault whole
+
+-- the entries of the step at which it ended that its lines tell of
+abbrev pub told_entries : {publisher : Name} {es : List Recorded} {options : Options} {run : Run} {db new : View} {seen now : Seen} {events : List Event} {lines : List Line} {fault : AgentFault} {whole : Type 0}
+    → StopsAt publisher es options run db new seen now events lines fault whole → List Recorded
+told_entries (at_first none same still no_events no_lines want) = []
+told_entries (gathering on none same no_events stop) = []
+told_entries (behind_gathering left up_to none same still no_events no_lines untold) = []
+told_entries (in_partner_pass user left up_to stop) = told_in_pass stop
+told_entries (sending left up_to last earlier put same still no_events no_lines sink) = []
+told_entries (in_delivery partner left up_to no_lines stop) = []

@@ -50,7 +50,7 @@ pub(crate) fn add_name<O: Sink>(held: &mut Vec<u8>, sink: &mut O, user: &Name) -
     Ok(())
 }
 
-/// Adds words, and what stands behind them.
+/// Adds words, and what stands after them.
 #[tactic(auto, using(crate::proofs::Additions::adding))]
 pub(crate) fn add_both<O: Sink>(
     held: &mut Vec<u8>,
@@ -66,7 +66,7 @@ pub(crate) fn add_both<O: Sink>(
     Ok(())
 }
 
-/// Adds words, and a number behind them.
+/// Adds words, and a number after them.
 #[tactic(auto, using(crate::proofs::Additions::adding))]
 pub(crate) fn add_numbered<O: Sink>(
     held: &mut Vec<u8>,

@@ -20,7 +20,7 @@ pub enum AgentFault {
     #[error("sink fault")]
     Sink,
     /// An entry has no room in the log. `end` is the place in the log file past its first closed gate, `need` the record's number of bytes with
-    /// the gate behind it.
+    /// the gate after it.
     #[error("log full: {need} bytes at {end}")]
     Full { end: u64, need: u64 },
     /// The record of a transaction that was taken, or the encoding of one that was to be sent, has `length` bytes, more than the `limit`.

@@ -12,7 +12,7 @@ use sr_receive_gather::Report;
 use sr_site::{Failed, Sink};
 use std::alloc::AllocError;
 
-/// Adds a partner's name and a number, behind a blank.
+/// Adds a partner's name and a number, after a blank.
 #[tactic(auto, using(crate::proofs::Additions::adding))]
 fn add_number_behind<O: Sink>(
     held: &mut Vec<u8>,
@@ -28,7 +28,7 @@ fn add_number_behind<O: Sink>(
     Ok(())
 }
 
-/// Adds a partner's name and two numbers, each behind a blank.
+/// Adds a partner's name and two numbers, each after a blank.
 #[tactic(auto, using(crate::proofs::Additions::adding))]
 fn add_numbers_behind<O: Sink>(
     held: &mut Vec<u8>,
@@ -45,7 +45,7 @@ fn add_numbers_behind<O: Sink>(
     Ok(())
 }
 
-/// Adds words, and a partner's name and two numbers behind them.
+/// Adds words, and a partner's name and two numbers after them.
 #[tactic(auto, using(crate::proofs::Additions::adding))]
 fn add_place<O: Sink>(
     held: &mut Vec<u8>,
@@ -63,7 +63,7 @@ fn add_place<O: Sink>(
     Ok(())
 }
 
-/// Adds the same, and behind a blank what stands there.
+/// Adds the same, and after a blank what stands there.
 #[tactic(auto, using(crate::proofs::Additions::adding))]
 fn add_place_and<O: Sink>(
     held: &mut Vec<u8>,
@@ -113,7 +113,7 @@ fn add_shown<O: Sink>(held: &mut Vec<u8>, sink: &mut O, name: &Text) -> Result<(
     Ok(())
 }
 
-/// Adds words, and a file's name behind them.
+/// Adds words, and a file's name after them.
 #[tactic(auto, using(crate::proofs::Additions::adding))]
 fn add_file<O: Sink>(
     held: &mut Vec<u8>,

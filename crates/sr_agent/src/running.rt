@@ -32,7 +32,7 @@ use std::alloc::Global;
 ///
 /// The first fault ends the run: what was done before stands, and its lines are written, for which no memory has to be there. `Disk` and `Mail` come only
 /// where that device's count of faults rose and no other did; `Full` and `Long` where an entry has no room or is too long, or the encoding of a
-/// transaction, and no count rose. Where the sink fails as lines are written the run ends by that, whatever else would have ended it. No clock is asked
+/// transaction, and no count rose; nor did one where `Memory` comes. Where the sink fails as lines are written the run ends by that, whatever else would have ended it. No clock is asked
 /// for yet.
 pub fn agent<S: Site, O: Sink>(
     alloc: Global,

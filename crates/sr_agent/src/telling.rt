@@ -50,7 +50,7 @@ fn parted(reports: &[Report], ask: bool) -> (&[Report], &[Report])
     reports.split_at(reports.len().saturating_sub(missing))
 }
 
-/// Adds a line: words and a partner's name, and two numbers, each behind words.
+/// Adds a line: words and a partner's name, and two numbers, each after words.
 fn add_counts<O: Sink>(
     held: &mut Vec<u8>,
     sink: &mut O,

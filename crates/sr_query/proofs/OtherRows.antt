@@ -120,7 +120,7 @@ module _ (rows : RowMap) (scope : Scope) (conditions : List Expr) (bounds : List
   held_each [] h = tt
   held_each (e ∷ es) h = (get-table_rows rows joined.table.now.name e.0 ∙ h.0, held_each es h.1)
 
-  only_row : (rest : Rows) → kept scope conditions (combinations (values_of bounds) (map (seen rows) (joined ∷ after)) ++ rest)
+  pub only_row : (rest : Rows) → kept scope conditions (combinations (values_of bounds) (map (seen rows) (joined ∷ after)) ++ rest)
       ≡ kept scope conditions (over_one (λ row. combinations (values_of bounds ++ row) (map (seen rows) after))
       (rows_of_table rows joined.table.now.name key) ++ rest)
   only_row rest =

@@ -1,5 +1,5 @@
 -- A statement that is made ready does what it does by its names.
-use Rattle.std.proofs.Common.{◌≡◌, ℕ, map, List, [], ◌∷◌, Option, Result, refl, sym, ap, ◌∙◌}
+use Rattle.std.proofs.Common.{◌≡◌, ℕ, map, List, [], ◌∷◌, Option, refl, sym, ap, ◌∙◌}
 use Rattle.std.proofs.lemmas.List.{append-nil, append_assoc, map-append}
 use Rattle.sr_base.specs.declared.value.Value.{Value}
 use Rattle.sr_ast.specs.Exprs.{term_of}
@@ -11,9 +11,8 @@ use Rattle.sr_ast.specs.declared.query.Items.TheVariants as items
 use Rattle.sr_ast.specs.declared.query.OrderBy.{OrderBy}
 use Rattle.sr_eval.proofs.Places.{resolved_meaning}
 use Rattle.sr_eval.specs.Meanings.{meaning}
-use Rattle.sr_eval.specs.Inner.Resolutions.{Resolution, resolved}
+use Rattle.sr_eval.specs.Inner.Resolutions.{Resolution}
 use Rattle.sr_eval.specs.Inner.Resolving.{resolution_of}
-use Rattle.sr_eval.specs.declared.resolved.Resolved.{Resolved}
 use Rattle.sr_exec_dml.specs.Checks.{Scope}
 use Rattle.sr_exec_dml.specs.Sequences.{front, each}
 use Rattle.sr_exec_dml.specs.Statements.{tested}
@@ -52,15 +51,11 @@ fixed_by p values columns places h = ap (λ es. fixed_key values columns es plac
 value_same : (scope : Scope) (e : Expr) (values : List Value) → value_by (resolved_in scope e) values ≡ value_in scope e values
 value_same scope e values = ap valued (resolved_meaning scope values (term_of e))
 
-values_same : (scope : Scope) (e : Expr) (kept : List (List Value)) → each (value_by (resolved_in scope e)) kept ≡ each (value_in scope e) kept
+pub values_same : (scope : Scope) (e : Expr) (kept : List (List Value)) → each (value_by (resolved_in scope e)) kept ≡ each (value_in scope e) kept
 values_same scope e [] = refl
 values_same scope e (values ∷ kept) =
     ap (λ v. front v (each (value_by (resolved_in scope e)) kept)) (value_same scope e values)
     ∙ ap (front (value_in scope e values)) (values_same scope e kept)
-
-pub valued_by : (scope : Scope) (e : Expr) (r : Resolved) (kept : List (List Value)) → resolution_of r ≡ resolved scope (term_of e)
-    → each (value_by (resolution_of r)) kept ≡ each (value_in scope e) kept
-valued_by scope e r kept h = ap (λ x. each (value_by x) kept) h ∙ values_same scope e kept
 
 -- the row of a combination
 item_same : (scope : Scope) (values : List Value) (i : Item) → value_by (resolved_item scope i) values ≡ item_value scope values i

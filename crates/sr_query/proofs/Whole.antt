@@ -1,8 +1,13 @@
 -- The whole of a SELECT, from its parts.
-use Rattle.std.proofs.Common.{◌≡◌, List, [], ◌∷◌, ◌++◌, map, Result, Ok, refl, sym, ap, ◌∙◌}
+use Rattle.std.proofs.Common.{◌≡◌, true, false, List, [], ◌∷◌, ◌++◌, map, Result, Ok, Err, refl, sym, ap, ◌∙◌}
 use Rattle.std.proofs.lemmas.List.{append-nil}
+use Rattle.std.specs.List.{list_any}
 use Rattle.sr_base.specs.declared.value.Value.{Value as Cell}
 use Rattle.sr_ast.specs.declared.expr.Expr.{Expr}
+use Rattle.sr_ast.specs.declared.query.Item.{Item}
+use Rattle.sr_ast.specs.declared.query.Items.{Items}
+use Rattle.sr_ast.specs.declared.query.Items.TheVariants as items
+use Rattle.sr_ast.specs.declared.query.OrderBy.{OrderBy}
 use Rattle.sr_ast.specs.declared.query.Select.{Select}
 use Rattle.sr_eval.specs.Inner.Bounds.{values_of}
 use Rattle.sr_eval.specs.declared.bound.Bound.{Bound}
@@ -11,12 +16,12 @@ use Rattle.sr_catalog_schema.specs.Catalogs.{Lists}
 use Rattle.sr_catalog_schema.specs.declared.fault.DmlFault.{DmlFault}
 use Rattle.sr_exec_dml.specs.Checks.{Scope}
 use Rattle.sr_exec_dml.specs.Inner.Edits.{prefixed}
-use Rattle.sr_exec_dml.specs.Sequences.{followed}
+use Rattle.sr_exec_dml.specs.Sequences.{each, followed}
 use Rattle.sr_exec_dml.specs.Statements.{in_order}
 use Rattle.sr_exec_dml.proofs.Fitted.{prefixed-none}
-use Rattle.sr_query.specs.Checks.{unknown_in_select}
+use Rattle.sr_query.specs.Checks.{is_aggregate, unknown_in_select}
 use Rattle.sr_query.specs.Combinations.{combinations, kept}
-use Rattle.sr_query.specs.Rows.{listed}
+use Rattle.sr_query.specs.Rows.{aggregate, alone, listed, listed_items, listed_row}
 use Rattle.sr_query.specs.Selecting.{selected, selected_from, bad_in_select}
 use Rattle.sr_query.specs.Sources.{Origin, sources_of, conditions_of, origins_of, scope_of}
 use Rattle.sr_query.specs.Inner.Walks.{columns_left, found, seen}
@@ -48,3 +53,28 @@ by_sources catalog rows s js found_js scope same origins e =
     (listed sc s.items s.order))) (scope_seen rows js ∙ sym e)
     ∙ ap (λ ls. in_order (unknown_in_select scope s) (bad_in_select scope s)
     (followed (kept scope (conditions_of s) (combinations [] (map (seen rows) ls))) (listed scope s.items s.order))) (sym same)
+
+-- what is listed of the combinations that are kept, by the items: rows of each, or the aggregates
+followed_same : {A B E : Type 0} (o : Result A E) (f g : A → Result B E) → ((x : A) → f x ≡ g x) → followed o f ≡ followed o g
+followed_same (Err e) f g same = refl
+followed_same (Ok x) f g same = same x
+
+pub of_all : (scope : Scope) (items_now : Items) (order : List OrderBy) (k : Result (List (List Cell)) DmlFault) → items_now ≡ items.All
+    → followed k (listed scope items_now order) ≡ followed k (each (listed_row scope items_now order))
+of_all scope items_now order k is = rw is (followed_same k (listed scope items.All order) (each (listed_row scope items.All order)) (λ rows. refl))
+
+pub of_values : (scope : Scope) (items_now : Items) (list : List Item) (order : List OrderBy) (k : Result (List (List Cell)) DmlFault)
+    → items_now ≡ items.Each list → list_any is_aggregate list ≡ false
+    → followed k (listed scope items_now order) ≡ followed k (each (listed_row scope items_now order))
+of_values scope items_now list order k is none =
+    rw is (followed_same k (listed scope (items.Each list) order) (each (listed_row scope (items.Each list) order))
+    (λ rows. ap (λ b. listed_items b scope list order rows) none))
+
+pub of_aggregates : (scope : Scope) (items_now : Items) (list : List Item) (order : List OrderBy) (k : Result (List (List Cell)) DmlFault)
+    → items_now ≡ items.Each list → list_any is_aggregate list ≡ true
+    → followed k (listed scope items_now order) ≡ followed k (λ rows_kept. alone (each (aggregate scope rows_kept) list))
+of_aggregates scope items_now list order k is any =
+    rw is (followed_same k (listed scope (items.Each list) order) (λ rows_kept. alone (each (aggregate scope rows_kept) list))
+    (λ rows. ap (λ b. listed_items b scope list order rows) any))
+
+pub ruleset by_items = (of_all, of_values, of_aggregates)

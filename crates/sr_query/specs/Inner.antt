@@ -1,8 +1,9 @@
+pub mod Candidates
 pub mod Combinations
 pub mod Equations
 pub mod Held
 pub mod Lookups
 pub mod Orders
 pub mod Preparing
-pub mod Rows
+pub mod Tallies
 pub mod Walks

@@ -19,7 +19,7 @@ use crate::lists::push;
 use crate::prepared::Prepared;
 use sr_base::{Key, Row};
 use sr_catalog::DmlFault;
-use sr_eval::{Bound, EvalFault, Resolved, and_holds_where_both_hold, is_resolved_true};
+use sr_eval::{Bound, EvalFault, Resolved, Values, and_holds_where_both_hold, is_resolved_true};
 use sr_rows::Rows;
 use std::alloc::Global;
 
@@ -163,28 +163,28 @@ fn keep<'a>(
     ensures kept { Keeps result prepared.now.scope.now (conditions_of prepared.now.select.now) (found kept.old.items) (values_of combination.now ∷ [])
         (found kept.new.items) }
 {
-    if meets(prepared, combination)? {
+    if meets(prepared, &combination)? {
         push(kept, Combination::of(alloc, combination)?)?;
     }
     Ok(())
 }
 
-/// Whether a combination meets the conditions.
+/// Whether values meet the conditions: those of a combination, or of the row of the only source.
 #[tactic(auto, using(crate::proofs::Readied::met_by))]
-fn meets(prepared: &Prepared, combination: &[Bound]) -> Result<bool, DmlFault>
+pub(crate) fn meets<V: Values>(prepared: &Prepared, values: &V) -> Result<bool, DmlFault>
     requires prepared { IsPrepared prepared.now }
-    ensures answer { Answers result (meets prepared.now.scope.now (conditions_of prepared.now.select.now) (values_of combination.now)) }
+    ensures answer { Answers result (meets prepared.now.scope.now (conditions_of prepared.now.select.now) (V.values values.now)) }
 {
-    meets_at(prepared.conditions.as_slice(), combination)
+    meets_at(prepared.conditions.as_slice(), values)
 }
 
 /// The same by resolved conditions: they are tested in order, up to the first that is not true. No name is looked for.
-fn meets_at(conditions: &[Resolved], combination: &[Bound]) -> Result<bool, DmlFault>
-    ensures answer { Answers result (meets_at (values_of combination.now) (map resolution_of conditions.now)) }
+fn meets_at<V: Values>(conditions: &[Resolved], values: &V) -> Result<bool, DmlFault>
+    ensures answer { Answers result (meets_at (V.values values.now) (map resolution_of conditions.now)) }
 {
     let mut left = conditions;
     'conditions: while let Some((condition, rest)) = left.split_first() {
-        if !tested(condition, combination)? {
+        if !tested(condition, values)? {
             return Ok(false);
         }
         left = rest;
@@ -192,11 +192,11 @@ fn meets_at(conditions: &[Resolved], combination: &[Bound]) -> Result<bool, DmlF
     Ok(true)
 }
 
-/// Whether a combination meets a condition. It takes no memory.
-fn tested(condition: &Resolved, combination: &[Bound]) -> Result<bool, DmlFault>
-    ensures answer { Answers result (tested (meaning_at (values_of combination.now) (resolution_of condition.now))) }
+/// Whether values meet a condition. It takes no memory.
+fn tested<V: Values>(condition: &Resolved, values: &V) -> Result<bool, DmlFault>
+    ensures answer { Answers result (tested (meaning_at (V.values values.now) (resolution_of condition.now))) }
 {
-    match is_resolved_true(condition, &combination) {
+    match is_resolved_true(condition, values) {
         Ok(held) => Ok(held),
         Err(EvalFault::Overflow) => Err(DmlFault::Overflow),
         Err(EvalFault::Memory) => Err(DmlFault::Memory),

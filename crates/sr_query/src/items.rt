@@ -142,7 +142,7 @@ fn values_of_several(
 }
 
 /// The value of a resolved expression on a combination. No name is looked for, and only a text is copied.
-pub(crate) fn value_by(
+fn value_by(
     alloc: Global,
     resolved: &Resolved,
     combination: &Combination,

@@ -5,6 +5,7 @@
 #![tactic(auto)]
 
 mod aggregates;
+mod candidates;
 mod checks;
 mod classes;
 mod combining;
@@ -13,6 +14,7 @@ mod fixing;
 mod items;
 mod joined;
 mod joining;
+mod keeping;
 mod lists;
 mod names;
 mod ordering;
@@ -21,6 +23,7 @@ mod placing;
 mod prepared;
 mod rank;
 mod selecting;
+mod tallies;
 mod unknown;
 
 pub use selecting::select;

@@ -1,24 +1,27 @@
 ghost use Rattle.std.specs.Prelude.{◌≡◌, ◌≢◌, [], map, None, Ok, Err, MatchResult};
 ghost use Rattle.sr_exec_dml.specs.Inner.Conditions.{RowsFit};
-ghost use Rattle.sr_exec_dml.specs.Sequences.{first_in};
+ghost use Rattle.sr_exec_dml.specs.Sequences.{each, first_in, followed};
+ghost use Rattle.sr_query.specs.Inner.Preparing.{IsPrepared};
 ghost use Rattle.sr_query.specs.Checks.{is_good, unknown_in_order, unknown_in_select};
 ghost use Rattle.sr_query.specs.Combinations.{combinations, kept};
-ghost use Rattle.sr_query.specs.Rows.{listed};
+ghost use Rattle.sr_query.specs.Rows.{listed, listed_row};
 ghost use Rattle.sr_query.specs.Selecting.{selected, Answered};
 ghost use Rattle.sr_query.specs.Sources.{conditions_of};
-ghost use Rattle.sr_query.specs.Inner.Walks.{AreJoined, columns_left, found, seen};
+ghost use Rattle.sr_query.specs.Inner.Walks.{AreJoined, IsAlone, columns_left, found, seen};
 
-use crate::aggregates::listed;
-use crate::checks::is_good;
+use crate::aggregates::aggregated;
+use crate::checks::{has_aggregate, is_good};
 use crate::combining::walk;
 use crate::equations::equations_of;
+use crate::items::listed_rows;
 use crate::joined::{Combination, Joined};
 use crate::joining::{joined_sources, scope_of};
+use crate::keeping::kept_rows;
 use crate::ordering::ordered;
 use crate::prepared::{Prepared, conditions_of};
 use crate::rank::Listed;
 use crate::unknown::unknown_in_select;
-use sr_ast::{Scope, Select};
+use sr_ast::{Items, Scope, Select};
 use sr_base::{Copied, Row};
 use sr_catalog::{Catalog, DmlFault};
 use sr_rows::Rows;
@@ -66,29 +69,27 @@ fn selected(
             name: stmt.source.table.copy(alloc)?,
         });
     }
-    let kept = kept(alloc, rows, stmt, &scope, joined.as_slice())?;
-    listed(
-        alloc,
-        &scope,
-        &stmt.items,
-        stmt.order.as_slice(),
-        kept.as_slice(),
-    )
+    answered(alloc, rows, stmt, &scope, joined.as_slice())
 }
 
-/// The combinations that meet the conditions, whose names are resolved once.
-fn kept<'a>(
+/// The rows with their ranks of a statement in which nothing is wrong. The names of its conditions are resolved once.
+#[tactic(auto, using(crate::proofs::Whole::by_items))]
+fn answered<'a>(
     alloc: Global,
     rows: &'a Rows,
     select: &Select,
     scope: &Scope,
     joined: &'a [Joined<'a>],
-) -> Result<Vec<Combination<'a>>, DmlFault>
+) -> Result<Vec<Listed>, DmlFault>
     requires scope { columns_left joined.now ≡ scope.now }
     requires joined { AreJoined rows.now.rows joined.now }
+    requires alone { IsAlone select.now.items joined.now }
     ensures answer { MatchResult result
-        (λ found_now. kept scope.now (conditions_of select.now) (combinations [] (map (seen rows.now.rows) joined.now)) ≡ Ok (found found_now.items))
-        (λ fault. fault ≢ DmlFault.Memory → kept scope.now (conditions_of select.now) (combinations [] (map (seen rows.now.rows) joined.now)) ≡ Err fault) }
+        (λ found. followed (kept scope.now (conditions_of select.now) (combinations [] (map (seen rows.now.rows) joined.now)))
+        (listed scope.now select.now.items select.now.order) ≡ Ok found.items)
+        (λ fault. fault ≢ DmlFault.Memory
+        → followed (kept scope.now (conditions_of select.now) (combinations [] (map (seen rows.now.rows) joined.now)))
+        (listed scope.now select.now.items select.now.order) ≡ Err fault) }
 {
     let prepared = Prepared {
         select,
@@ -96,8 +97,85 @@ fn kept<'a>(
         conditions: conditions_of(alloc, scope, select)?,
         equations: equations_of(alloc, scope, select)?,
     };
+    let Items::Each(list) = &select.items else {
+        return each_listed(alloc, rows, &prepared, joined);
+    };
+    if !has_aggregate(list.as_slice()) {
+        return each_listed(alloc, rows, &prepared, joined);
+    }
+    match joined {
+        [one] => aggregated(alloc, rows, &prepared, list.as_slice(), one),
+        _ => unreachable!(),
+    }
+}
+
+/// A row with its ranks of each combination that meets the conditions.
+fn each_listed<'a>(
+    alloc: Global,
+    rows: &'a Rows,
+    prepared: &Prepared,
+    joined: &'a [Joined<'a>],
+) -> Result<Vec<Listed>, DmlFault>
+    requires scope { columns_left joined.now ≡ prepared.now.scope.now }
+    requires joined { AreJoined rows.now.rows joined.now }
+    requires prepared { IsPrepared prepared.now }
+    ensures answer { MatchResult result
+        (λ found. followed (kept prepared.now.scope.now (conditions_of prepared.now.select.now) (combinations [] (map (seen rows.now.rows) joined.now)))
+        (each (listed_row prepared.now.scope.now prepared.now.select.now.items prepared.now.select.now.order)) ≡ Ok found.items)
+        (λ fault. fault ≢ DmlFault.Memory
+        → followed (kept prepared.now.scope.now (conditions_of prepared.now.select.now) (combinations [] (map (seen rows.now.rows) joined.now)))
+        (each (listed_row prepared.now.scope.now prepared.now.select.now.items prepared.now.select.now.order)) ≡ Err fault) }
+{
+    let kept = kept(alloc, rows, prepared, joined)?;
+    listed_rows(
+        alloc,
+        prepared.scope,
+        &prepared.select.items,
+        prepared.select.order.as_slice(),
+        kept.as_slice(),
+    )
+}
+
+/// The combinations that meet the conditions.
+fn kept<'a>(
+    alloc: Global,
+    rows: &'a Rows,
+    prepared: &Prepared,
+    joined: &'a [Joined<'a>],
+) -> Result<Vec<Combination<'a>>, DmlFault>
+    requires scope { columns_left joined.now ≡ prepared.now.scope.now }
+    requires joined { AreJoined rows.now.rows joined.now }
+    requires prepared { IsPrepared prepared.now }
+    ensures answer { MatchResult result
+        (λ found_now. kept prepared.now.scope.now (conditions_of prepared.now.select.now) (combinations [] (map (seen rows.now.rows) joined.now))
+        ≡ Ok (found found_now.items))
+        (λ fault. fault ≢ DmlFault.Memory
+        → kept prepared.now.scope.now (conditions_of prepared.now.select.now) (combinations [] (map (seen rows.now.rows) joined.now)) ≡ Err fault) }
+{
+    match joined {
+        [one] => kept_rows(alloc, rows, prepared, one),
+        _ => kept_of_several(alloc, rows, prepared, joined),
+    }
+}
+
+/// Those of several sources.
+fn kept_of_several<'a>(
+    alloc: Global,
+    rows: &'a Rows,
+    prepared: &Prepared,
+    joined: &'a [Joined<'a>],
+) -> Result<Vec<Combination<'a>>, DmlFault>
+    requires scope { columns_left joined.now ≡ prepared.now.scope.now }
+    requires joined { AreJoined rows.now.rows joined.now }
+    requires prepared { IsPrepared prepared.now }
+    ensures answer { MatchResult result
+        (λ found_now. kept prepared.now.scope.now (conditions_of prepared.now.select.now) (combinations [] (map (seen rows.now.rows) joined.now))
+        ≡ Ok (found found_now.items))
+        (λ fault. fault ≢ DmlFault.Memory
+        → kept prepared.now.scope.now (conditions_of prepared.now.select.now) (combinations [] (map (seen rows.now.rows) joined.now)) ≡ Err fault) }
+{
     let mut combination = Vec::new(alloc);
     let mut kept = Vec::new(alloc);
-    walk(alloc, rows, &prepared, joined, &mut combination, &mut kept)?;
+    walk(alloc, rows, prepared, joined, &mut combination, &mut kept)?;
     Ok(kept)
 }

@@ -30,7 +30,7 @@ fault_on before middle now Disk steady why = (subst (λ (n : ℕ). Rose n now.di
 fault_on before middle now Mail steady why = (subst (λ (n : ℕ). Rose n now.mail_faults) steady.mail why.0, why.1 ∙ steady.disk)
 fault_on before middle now (Full end need) steady why = steady_on before middle now steady why
 fault_on before middle now (Long size limit) steady why = steady_on before middle now steady why
-fault_on before middle now Memory steady why = why ∙ steady.disk
+fault_on before middle now Memory steady why = steady_on before middle now steady why
 
 -- of answers
 pub steady_then : {A : Type 0} (before middle now : Seen) (result : Result A ReceiveFault) → AreSteady before middle → OnOk result (AreSteady middle now) → OnOk result (AreSteady before now)
@@ -40,14 +40,6 @@ steady_then before middle now (Err fault) one two = tt
 pub fault_then : {A : Type 0} (before middle now : Seen) (result : Result A ReceiveFault) → AreSteady before middle → IfErr result (IsDeviceFault middle now) → IfErr result (IsDeviceFault before now)
 fault_then before middle now (Ok x) steady why = tt
 fault_then before middle now (Err fault) steady why = fault_on before middle now fault steady why
-
--- want of memory, where nothing was done
-pub memory_why : (before now : Seen) → AreSteady before now → IsDeviceFault before now Memory
-memory_why before now steady = steady.disk
-
-pub memory_is : {A : Type 0} (before now : Seen) (result : Result A ReceiveFault) → AreSteady before now → IfErr result (λ f. f ≡ Memory) → IfErr result (IsDeviceFault before now)
-memory_is before now (Ok x) steady is = tt
-memory_is before now (Err fault) steady is = subst (λ (f : ReceiveFault). IsDeviceFault before now f) (sym is) steady.disk
 
 -- ---- commits
 
@@ -59,10 +51,10 @@ commit_why old new before now r Disk stop stays = (stop.state.1, stays.mail_faul
 commit_why old new before now r Mail stop stays = absurd stop
 commit_why old new before now r (Full end need) stop stays = reached_steady old new before now [] stop.1 stays
 commit_why old new before now r (Long size limit) stop stays = reached_steady old new before now [] stop.1 stays
-commit_why old new before now r Memory stop stays = stop.state.1
+commit_why old new before now r Memory stop stays = reached_steady old new before now [] stop stays
 
 pub notes_why : (old new : View) (before now : Seen) (whole : List Recorded) (fault : ReceiveFault) → NotesStop old new before now whole fault → DiskStays before now → IsDeviceFault before now fault
-notes_why old new before now [] fault stop stays = subst (λ (f : ReceiveFault). IsDeviceFault before now f) (sym stop.0) stop.1.state.1
+notes_why old new before now [] fault stop stays = subst (λ (f : ReceiveFault). IsDeviceFault before now f) (sym stop.0) (reached_steady old new before now [] stop.1 stays)
 notes_why old new before now (r ∷ rs) fault stop stays = commit_why old new before now r fault stop stays
 
 pub notes_why_answer : {A : Type 0} (old new : View) (before now : Seen) (whole : List Recorded) (result : Result A ReceiveFault) → IfErr result (NotesStop old new before now whole) → DiskStays before now → IfErr result (IsDeviceFault before now)
@@ -71,7 +63,7 @@ notes_why_answer old new before now whole (Err fault) stop stays = notes_why old
 
 pub raise_why : (old new : View) (before now : Seen) (whole : List Recorded) (fault : ReceiveFault) → NotesStop old new before now whole fault ⊎ ((fault ≡ Memory) × Reached old new before now whole []) → DiskStays before now → IsDeviceFault before now fault
 raise_why old new before now whole fault (inl stop) stays = notes_why old new before now whole fault stop stays
-raise_why old new before now whole fault (inr short) stays = subst (λ (f : ReceiveFault). IsDeviceFault before now f) (sym short.0) short.1.state.1
+raise_why old new before now whole fault (inr short) stays = subst (λ (f : ReceiveFault). IsDeviceFault before now f) (sym short.0) (reached_steady old new before now whole short.1 stays)
 
 pub entered_steady : (old new : View) (before now : Seen) (user : Name) (t : Transaction) (made : List Report) → Entered old new before now user t made → DiskStays before now → AreSteady before now
 entered_steady old new before now user t made entered stays = reached_steady old new before now (taken user t.at entered.dones ∷ []) entered.reached stays
@@ -81,7 +73,7 @@ not_entered_why old new before now user t Disk stop stays = commit_why old new b
 not_entered_why old new before now user t Mail stop stays = absurd stop
 not_entered_why old new before now user t (Full end need) stop stays = commit_why old new before now (taken user t.at stop.dones) (Full end need) stop.stop stays
 not_entered_why old new before now user t (Long size limit) stop stays = commit_why old new before now (taken user t.at stop.dones) (Long size limit) stop.stop stays
-not_entered_why old new before now user t Memory stop stays = stop.state.1
+not_entered_why old new before now user t Memory stop stays = reached_steady old new before now [] stop stays
 
 -- ---- fetches
 
@@ -94,4 +86,4 @@ fetch_why publisher user pieces before now Disk stop = absurd stop.why
 fetch_why publisher user pieces before now Mail stop = (stop.why, stop.stays.disk_faults)
 fetch_why publisher user pieces before now (Full end need) stop = absurd stop.why
 fetch_why publisher user pieces before now (Long size limit) stop = absurd stop.why
-fetch_why publisher user pieces before now Memory stop = stop.stays.disk_faults
+fetch_why publisher user pieces before now Memory stop = record { disk = stop.stays.disk_faults; mail = stop.why }

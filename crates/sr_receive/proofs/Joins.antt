@@ -1,4 +1,4 @@
--- Commits behind commits, and fetches between them.
+-- Commits after commits, and fetches between them.
 use Rattle.std.proofs.Common.{◌≡◌, ℕ, ◌+◌, Bool, true, List, [], ◌∷◌, ◌++◌, refl, sym, ap, subst, ◌∙◌, append_assoc, arith}
 use Rattle.std.specs.Prelude.{IsTrue, IsSome, OnOk, Result, Ok, Err, map}
 use Rattle.std.proofs.lemmas.List.{append-nil, map-append}
@@ -27,7 +27,7 @@ use Rattle.sr_database_meaning.proofs.Joining.{joined}
 use Rattle.sr_receive.specs.Entering.{IsReady, IsBroken, Reached}
 use Rattle.sr_receive.proofs.Committing.{ready_then, settled_as}
 
--- ---- one behind the other
+-- ---- one after the other
 
 commits_map : (rs : List Recorded) → commits (map commit rs) ≡ rs
 commits_map [] = refl
@@ -110,7 +110,7 @@ reached_quiet view before now usable idle stays had = record {
 pub ready_quiet : (view : View) (before now : Seen) → IsReady view before → MailStays before now → (IsTrue before.observable → HasQuiet before.happened now.happened) → IsReady view now
 ready_quiet view before now ready stays had = ready_then view view before now [] ready (reached_quiet view before now ready.usable ready.idle stays had)
 
--- ---- the state behind entries
+-- ---- the state after entries
 
 pub committed_is : (view : View) (publisher : Name) (es : List Recorded) → IsOf view publisher es → committed view ≡ state_of publisher es
 committed_is view publisher es is = λ i. record { catalog = is.catalog i; rows = is.marked i }

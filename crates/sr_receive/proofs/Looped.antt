@@ -1,9 +1,8 @@
--- Acts behind acts.
+-- Acts after acts.
 use Rattle.std.proofs.Common.{◌≡◌, ℕ, ◌+◌, ◌≤◌, ◌<◌, ◌^◌, ◌-◌, Bool, true, false, cond, List, [], ◌∷◌, ◌++◌, length, length-append, take, drop, Result, Ok, Err, refl, sym, ap, subst, ◌∙◌, append_assoc, arith}
 use Rattle.std.proofs.lemmas.Bool.{lt-ltb, le-ltb}
 use Rattle.std.proofs.lemmas.List.{length-take, length-drop}
-use Rattle.std.specs.Prelude.{IsErrAnd, IfErr, OnOk, nat_lt}
-use Rattle.sr_base.specs.declared.offset.Offset.{Offset}
+use Rattle.std.specs.Prelude.{IsErrAnd, IfErr, nat_lt}
 use Rattle.sr_book.specs.Entries.{Name}
 use Rattle.sr_database.specs.Views.{View}
 use Rattle.sr_logform.specs.declared.op.Transaction.{Transaction}
@@ -12,14 +11,12 @@ use Rattle.sr_site.specs.Seen.{Seen}
 use Rattle.sr_receive.specs.Acts.{ReceiveAct, took, PassState, stand_of, rest_of}
 use Rattle.sr_receive.specs.Entering.{IsReady}
 use Rattle.sr_receive_gather.specs.MessageFiles.{MessageFile}
-use Rattle.sr_receive.specs.Inner.Takings.{Entered, HasTold, StandsThere, GoesOn, StopsTaking}
+use Rattle.sr_receive.specs.Inner.Takings.{Entered, StandsThere, GoesOn, StopsTaking}
 use Rattle.sr_receive_gather.specs.Windows.{past}
 use Rattle.sr_receive_gather.specs.declared.fault.ReceiveFault.{ReceiveFault}
-use Rattle.sr_receive_gather.specs.declared.fault.ReceiveFault.TheVariants.{Memory}
 use Rattle.sr_receive_gather.specs.declared.report.Report.{Report}
 use Rattle.sr_receive.specs.declared.taking.Progress.{Progress}
 use Rattle.sr_receive.proofs.Stands.{stands_took}
-use Rattle.sr_receive.proofs.Stopped.{stops_at_reports}
 
 -- what holds of a fault holds of the answer that is it
 pub if_fault : {T : Type 0} (holds : ReceiveFault → Type 0) (fault : ReceiveFault) (result : Result T ReceiveFault) → IsErrAnd result (λ e. e ≡ fault) → holds fault → IfErr result holds
@@ -68,38 +65,6 @@ goes_took old db new before middle now user message_files first acts progress pr
   left_are = ap rest_of left;
   dropped_windows_are = refl;
 }
-
--- ---- answers
-
-module _ (old db new : View) (before middle now : Seen) (user : Name) (message_files : List MessageFile) (first : PassState) (acts : List ReceiveAct) (progress : Progress) (reports all made : List Report) (t : Transaction) (rest : List Transaction) (stands : StandsThere old db before middle user message_files first acts progress reports all)
-    (left : (stand_of first acts).left ≡ t ∷ rest) (entered : Entered db new middle now user t made) (stays : DiskStays middle now) where
-  told_answer_in : (progress' : Progress) (all' : List Report) (result : Result (Unit {0}) ReceiveFault) → IsReady db middle → OnOk result (HasTold t.at progress progress' made all all') → OnOk result (GoesOn old new before now user message_files first acts progress' reports all' rest)
-  told_answer_in progress' all' (Ok x) ready told =
-      goes_took old db new before middle now user message_files first acts progress progress' reports all all' made t rest ready stands left entered stays told.received told.took told.told told.reports_are
-  told_answer_in progress' all' (Err fault) ready told = tt
-
-  untold_answer_in : (all' some behind : List Report) (result : Result (Unit {0}) ReceiveFault) → IfErr result (λ f. f ≡ Memory) → made ≡ some ++ behind → all' ≡ take progress.told all ++ (some ++ drop progress.told all)
-      → IfErr result (StopsTaking old new before now user message_files first acts reports all')
-  untold_answer_in all' some behind (Ok x) memory parts shown = tt
-  untold_answer_in all' some behind (Err fault) memory parts shown =
-      subst (λ (f : ReceiveFault). StopsTaking old new before now user message_files first acts reports all' f) (sym memory)
-      (stops_at_reports old db new before middle now user message_files first acts progress reports all all' made some behind t rest stands stays left entered parts shown)
-
-pub told_answer : (old db new : View) (before middle now : Seen) (user : Name) (message_files : List MessageFile) (first : PassState) (acts : List ReceiveAct) (progress progress' : Progress) (reports all all' made : List Report) (t : Transaction) (rest : List Transaction) (result : Result (Unit {0}) ReceiveFault)
-    → IsReady db middle → StandsThere old db before middle user message_files first acts progress reports all → (stand_of first acts).left ≡ t ∷ rest → Entered db new middle now user t made → DiskStays middle now → OnOk result (HasTold t.at progress progress' made all all')
-    → OnOk result (GoesOn old new before now user message_files first acts progress' reports all' rest)
-told_answer old db new before middle now user message_files first acts progress progress' reports all all' made t rest result ready stands left entered stays told =
-    told_answer_in old db new before middle now user message_files first acts progress reports all made t rest stands left entered stays progress' all' result ready told
-
-pub untold_answer : (old db new : View) (before middle now : Seen) (user : Name) (message_files : List MessageFile) (first : PassState) (acts : List ReceiveAct) (progress : Progress) (reports all all' made some behind : List Report) (t : Transaction) (rest : List Transaction) (result : Result (Unit {0}) ReceiveFault)
-    → StandsThere old db before middle user message_files first acts progress reports all → (stand_of first acts).left ≡ t ∷ rest → Entered db new middle now user t made → DiskStays middle now → IfErr result (λ f. f ≡ Memory) → made ≡ some ++ behind
-    → all' ≡ take progress.told all ++ (some ++ drop progress.told all) → IfErr result (StopsTaking old new before now user message_files first acts reports all')
-untold_answer old db new before middle now user message_files first acts progress reports all all' made some behind t rest result stands left entered stays memory parts shown =
-    untold_answer_in old db new before middle now user message_files first acts progress reports all made t rest stands left entered stays all' some behind result memory parts shown
-
-pub within_answer : (at : Offset) (progress progress' : Progress) (made all all' : List Report) (result : Result (Unit {0}) ReceiveFault) → OnOk result (HasTold at progress progress' made all all') → OnOk result (progress'.told ≤ length all')
-within_answer at progress progress' made all all' (Ok x) told = told.within
-within_answer at progress progress' made all all' (Err fault) told = tt
 
 -- the reports that are there after some were put in
 pub told_within : (told next : ℕ) (made all all' : List Report) → told ≤ length all → next ≡ told + length made → all' ≡ take told all ++ (made ++ drop told all) → next ≤ length all'

@@ -1,4 +1,4 @@
--- A pass: notes, windows, and what is raised behind them.
+-- A pass: notes, windows, and what is raised after them.
 use Rattle.std.proofs.Common.{◌≡◌, ◌⊎◌, ℕ, ◌+◌, List, [], ◌∷◌, ◌++◌, length, Option, Some, None, Result, Ok, Err, refl, sym, ap, subst, ◌∙◌, append_assoc, inl, inr, arith}
 use Rattle.std.specs.Prelude.{IfErr, IfOk, OnErr, OnOk, map}
 use Rattle.std.specs.Option.{option_map}
@@ -126,7 +126,7 @@ windows_stopped db new before now user message_files first partner_mail partner_
         acts = s.acts;
         are = s.are;
         dropped_windows_are = refl;
-        stopped = inl (record { refused = s.refused; is = s.is; next = s.next; reached = s.reached; mail = s.mail; shown = s.shown });
+        stopped = inl (record { refused = s.refused; is = s.is; next = s.next; reached = s.reached; mail = s.mail; reports_are = s.reports_are });
       };
     }
 
@@ -202,7 +202,7 @@ stopped_answer old db new before middle now user message_files first progress fi
 stopped_answer old db new before middle now user message_files first progress files partner_mail' reports all all' (Err fault) are same tried told stops stays =
     stopped_then old db new before middle now user message_files first progress files partner_mail' reports all all' fault are same tried told stops stays
 
--- ---- behind the notes
+-- ---- after the notes
 
 note_still : (s : State) (user : Name) (what : Note) → next s (note user what) ≡ s
 unfolding next
@@ -268,7 +268,7 @@ module _ (old db new : View) (before middle now : Seen) (user : Name) (book : Bo
     next = at.next;
     reached = reached_on old db new before middle now (first_notes user book files) (entries_of user acts) (begun_by fault at.refused) noted at.reached;
     mail = λ told. mail_at message_files (stand_of first acts) fault acts (at.mail (told_on before middle noted.stays told));
-    shown = at.shown;
+    reports_are = at.reports_are;
   })
   stopped_within message_files first acts reports reports' fault (inr at) = inr (record {
     at_rest = at.at_rest;
@@ -345,7 +345,7 @@ notes_stopped old new before now user book files partner_mail reports fault stay
 -- for want of memory, before anything was done
 pub nothing_received : (old : View) (seen : Seen) (user : Name) (partner_mail : PartnerMail) (reports : List Report) → IsReady old seen → StoppedPartnerMail old old seen seen user partner_mail partner_mail reports reports Memory
 nothing_received old seen user partner_mail reports ready = record {
-  why = refl;
+  why = record { disk = refl; mail = refl };
   passed = λ message_files dropped_windows is.
       let notes = first_notes user (book_in old.books user) (map filed_of message_files) in (
         dropped_windows,

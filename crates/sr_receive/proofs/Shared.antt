@@ -182,7 +182,7 @@ cause_none_answer old new before now user bag partner_mail partner_mail' reports
 -- for want of memory, before a partner mail was made
 pub no_partner_mail : (old : View) (seen : Seen) (user : Name) (bag : List PartnerMail) (reports : List Report) → IsReady old seen → ReceiveCause old old seen seen user bag bag reports reports Memory
 no_partner_mail old seen user bag reports ready = record {
-  why = refl;
+  why = record { disk = refl; mail = refl };
   others = λ other differs. refl;
   passed = λ message_files dropped_windows has.
       let notes = first_notes user (book_in old.books user) (map filed_of message_files) in (

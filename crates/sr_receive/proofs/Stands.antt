@@ -28,7 +28,7 @@ use Rattle.sr_receive.specs.declared.taking.Progress.{Progress}
 use Rattle.sr_receive.proofs.Acted.{dones_publisher, few_taken, refetches_quiet, dropped_quiet, mail_refetches}
 use Rattle.sr_receive.proofs.Joins.{HasQuiet, reached_on, reached_still, reached_quiet, state_then, told_on}
 
--- ---- reports of ops, put in front of those of torn windows
+-- ---- reports of ops, put before those of torn windows
 
 take_prefix : (xs ys : List Report) → take (length xs) (xs ++ ys) ≡ xs
 take_prefix [] ys = refl

@@ -1,7 +1,6 @@
 -- Where a pass stops at its windows.
-use Rattle.std.proofs.Common.{◌≡◌, List, [], ◌∷◌, ◌++◌, take, drop, refl, sym, ap, subst, ◌∙◌, arith, inl, inr}
+use Rattle.std.proofs.Common.{◌≡◌, List, [], ◌∷◌, refl, subst, ◌∙◌, inl, inr}
 use Rattle.std.specs.Prelude.{IsTrue}
-use Rattle.std.proofs.lemmas.List.{append-nil}
 use Rattle.sr_book.specs.Entries.{Name}
 use Rattle.sr_database.specs.Views.{View, committed}
 use Rattle.sr_database_history.specs.Folds.{State}
@@ -14,36 +13,21 @@ use Rattle.sr_resolve.specs.Taking.{is_above}
 use Rattle.sr_site.specs.Causes.{DiskStays, MailStays}
 use Rattle.sr_site.specs.Happenings.{Happening, mail_in}
 use Rattle.sr_site.specs.Seen.{Seen}
-use Rattle.sr_receive.specs.Acts.{ReceiveAct, took, torn, PassState, stand_of, entries_of, op_reports, torn_reports, mail_after}
-use Rattle.sr_receive_gather.specs.Fetches.{Pairs, FetchStop, RefetchedInPart}
+use Rattle.sr_receive.specs.Acts.{ReceiveAct, PassState, stand_of, entries_of, mail_after}
+use Rattle.sr_receive_gather.specs.Fetches.{FetchStop, RefetchedInPart}
 use Rattle.sr_receive_gather.specs.Bags.{Holds}
 use Rattle.sr_receive_judged.specs.Judged.{AreDone}
 use Rattle.sr_receive_gather.specs.MessageFiles.{MessageFile}
 use Rattle.sr_receive_gather.specs.Windows.{IsDue}
 use Rattle.sr_receive.specs.Entering.{Reached}
-use Rattle.sr_receive.specs.Passes.{AreShownInPart, HasFetched, IsNextEntry, act_reports}
-use Rattle.sr_receive.specs.Inner.Takings.{Entered, EntryRefused, IsIdle, NotEntered, StandsThere, StopsThere, StopsTaking, StopsWith}
+use Rattle.sr_receive.specs.Passes.{HasFetched, IsNextEntry}
+use Rattle.sr_receive.specs.Inner.Takings.{EntryRefused, IsIdle, NotEntered, StandsThere, StopsThere, StopsTaking, StopsWith}
 use Rattle.sr_receive_gather.specs.declared.fault.ReceiveFault.{ReceiveFault}
 use Rattle.sr_receive_gather.specs.declared.fault.ReceiveFault.TheVariants.{Disk, Mail, Full, Long, Memory}
 use Rattle.sr_receive_gather.specs.declared.report.Report.{Report}
 use Rattle.sr_receive.specs.declared.taking.Progress.{Progress}
 use Rattle.sr_receive.proofs.Acted.{part_mail, part_quiet}
-use Rattle.sr_receive.proofs.Joins.{HasQuiet, reached_on, reached_still, reached_quiet, told_on}
-use Rattle.sr_receive.proofs.Stands.{inserted_reports}
-
--- ---- all reports are there, or some of the last act's are not
-
-pub shown_all : (user : Name) (acts : List ReceiveAct) (reports all : List Report) → all ≡ reports ++ act_reports user acts → AreShownInPart user acts reports all
-shown_all user acts reports all are = record {
-  newest = [];
-  shown = acts;
-  parts = refl;
-  one = omega arith;
-  some = [];
-  left = [];
-  ops = sym (append-nil (op_reports user acts));
-  reports_are = are;
-}
+use Rattle.sr_receive.proofs.Joins.{HasQuiet, reached_still, reached_quiet, told_on}
 
 -- ---- fetches of a window that was not tried to its end
 
@@ -83,7 +67,7 @@ stops_short old db before middle now user message_files first acts progress repo
     next = tt;
     reached = reached_fetching old db before middle now user message_files first acts progress reports all pieces stands stays part;
     mail = λ told. inr (mail_fetching old db before middle now user message_files first acts progress reports all w pieces stands idle due part told);
-    shown = shown_all user acts reports all stands.reports_are;
+    reports_are = stands.reports_are;
   };
   holds = holds;
 }
@@ -102,7 +86,7 @@ stops_refused old db before middle now user message_files first acts progress re
     next = tt;
     reached = reached_fetching old db before middle now user message_files first acts progress reports all pieces stands stays part;
     mail = mail_fetching old db before middle now user message_files first acts progress reports all w pieces stands idle due part;
-    shown = stands.reports_are;
+    reports_are = stands.reports_are;
   };
   holds = holds;
 }
@@ -129,7 +113,7 @@ stops_here old db before now user message_files first acts progress reports all 
   next = tt;
   reached = stands.reached;
   mail = λ told. inl (stands.mail told);
-  shown = shown_all user acts reports all stands.reports_are;
+  reports_are = stands.reports_are;
 }
 
 -- ---- at the commit of a transaction
@@ -160,7 +144,7 @@ module _ (old db new : View) (before middle now : Seen) (user : Name) (message_f
           next = next_entry db new middle now user (stand_of first acts) t rest Disk left stands.state stop;
           reached = reached;
           mail = mail_still;
-          shown = stands.reports_are;
+          reports_are = stands.reports_are;
         };
         dropped_windows_are = refl;
       }
@@ -176,7 +160,7 @@ module _ (old db new : View) (before middle now : Seen) (user : Name) (message_f
           next = next_entry db new middle now user (stand_of first acts) t rest (Full end need) left stands.state stop;
           reached = reached;
           mail = mail_still;
-          shown = stands.reports_are;
+          reports_are = stands.reports_are;
         };
         dropped_windows_are = refl;
       }
@@ -191,7 +175,7 @@ module _ (old db new : View) (before middle now : Seen) (user : Name) (message_f
           next = next_entry db new middle now user (stand_of first acts) t rest (Long size limit) left stands.state stop;
           reached = reached;
           mail = mail_still;
-          shown = stands.reports_are;
+          reports_are = stands.reports_are;
         };
         dropped_windows_are = refl;
       }
@@ -206,7 +190,7 @@ module _ (old db new : View) (before middle now : Seen) (user : Name) (message_f
           next = tt;
           reached = reached;
           mail = λ told. inl (mail_still told);
-          shown = shown_all user acts reports all stands.reports_are;
+          reports_are = stands.reports_are;
         };
         dropped_windows_are = refl;
       }
@@ -216,57 +200,3 @@ pub stops_at_entry : (old db new : View) (before middle now : Seen) (user : Name
     → StopsTaking old new before now user message_files first acts reports all fault
 stops_at_entry old db new before middle now user message_files first acts progress reports all t rest fault stands stays left stop =
     entry_stops old db new before middle now user message_files first acts progress reports all stands stays t rest fault left stop
-
--- ---- at the reports of a transaction that was taken
-
-pub stops_at_reports : (old db new : View) (before middle now : Seen) (user : Name) (message_files : List MessageFile) (first : PassState) (acts : List ReceiveAct) (progress : Progress) (reports all all' made some left : List Report) (t : Transaction) (rest : List Transaction)
-    → StandsThere old db before middle user message_files first acts progress reports all → DiskStays middle now → (stand_of first acts).left ≡ t ∷ rest → Entered db new middle now user t made → made ≡ some ++ left
-    → all' ≡ take progress.told all ++ (some ++ drop progress.told all) → StopsTaking old new before now user message_files first acts reports all' Memory
-stops_at_reports old db new before middle now user message_files first acts progress reports all all' made some left t rest stands stays next entered parts shown =
-    let reached = reached_on old db new before middle now (entries_of user acts) (taken user t.at entered.dones ∷ []) [] stands.reached entered.reached in
-    record {
-      stops = record {
-        acts = took t entered.dones ∷ acts;
-        are = (stands.are, record { rest = rest; left_are = next; done = subst (λ (x : State). AreDone x (is_above x user) t.ops entered.dones) stands.state entered.done });
-        refused = [];
-        is = tt;
-        next = tt;
-        reached = reached;
-        mail = λ told. inl (stays.mail ∙ stands.mail told);
-        shown = record {
-          newest = took t entered.dones ∷ [];
-          shown = acts;
-          parts = refl;
-          one = omega arith;
-          some = some;
-          left = left;
-          ops = ap (λ (l : List Report). op_reports user acts ++ l) (sym entered.made_are ∙ parts);
-          reports_are = inserted_reports progress.told reports all all' (op_reports user acts) some (torn_reports user acts) stands.told stands.reports_are shown;
-        };
-      };
-      dropped_windows_are = refl;
-    }
-
--- ---- at the report of a torn window
-
-unfoldable pub stops_at_torn : (old db : View) (before now : Seen) (user : Name) (message_files : List MessageFile) (first : PassState) (acts : List ReceiveAct) (progress : Progress) (reports all all' : List Report) (w : Window) (pairs : Pairs)
-    → StandsThere old db before now user message_files first (torn w pairs ∷ acts) progress reports all' → all ≡ reports ++ act_reports user acts → StopsThere old db before now user message_files first reports all Memory
-stops_at_torn old db before now user message_files first acts progress reports all all' w pairs stands shown = record {
-  acts = torn w pairs ∷ acts;
-  are = stands.are;
-  refused = [];
-  is = tt;
-  next = tt;
-  reached = stands.reached;
-  mail = λ told. inl (stands.mail told);
-  shown = record {
-    newest = torn w pairs ∷ [];
-    shown = acts;
-    parts = refl;
-    one = omega arith;
-    some = [];
-    left = [];
-    ops = sym (append-nil (op_reports user acts));
-    reports_are = shown;
-  };
-}

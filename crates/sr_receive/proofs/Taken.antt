@@ -144,11 +144,6 @@ pub through_ok : {A : Type 0} (P : Type 0) (result : Result A ReceiveFault) (out
 through_ok P (Ok told) outcome is so = subst (λ (o : Result (Unit {0}) ReceiveFault). OnOk o P) is so
 through_ok P (Err fault) outcome is so = tt
 
--- what holds, holds of an answer
-pub whenever : {A P : Type 0} (result : Result A ReceiveFault) → P → OnOk result P
-whenever (Ok told) so = so
-whenever (Err fault) so = tt
-
 pub through_err : {A : Type 0} (holds : ReceiveFault → Type 0) (result : Result A ReceiveFault) (outcome : Result (Unit {0}) ReceiveFault) → IfErr result (λ fault. outcome ≡ Err fault) → IfErr outcome holds → IfErr result holds
 through_err holds (Ok told) outcome is so = tt
 through_err holds (Err fault) outcome is so = subst (λ (o : Result (Unit {0}) ReceiveFault). IfErr o holds) is so

@@ -1,6 +1,6 @@
 -- Windows that are tried.
 use Rattle.std.proofs.Common.{◌≡◌, ℕ, List, [], ◌∷◌, ◌++◌, Option, Some, None, Result, Ok, Err, refl, sym, ap, subst, ◌∙◌, append_assoc}
-use Rattle.std.specs.Prelude.{IsTrue, IfErr, IfNone, IfSome, OnErr, OnOk, if◌then◌else◌}
+use Rattle.std.specs.Prelude.{IsTrue, IfErr, IfNone, IfSome, OnOk, map, if◌then◌else◌}
 use Rattle.std.specs.Option.{option_map}
 use Rattle.std.specs.List.{AllByRecursion}
 use Rattle.sr_base.specs.Values.{offset_from}
@@ -14,6 +14,7 @@ use Rattle.sr_mail.specs.Inner.Assembled.{AreOfOneWindow}
 use Rattle.sr_mail.specs.Seen.{same_window, window_of}
 use Rattle.sr_mail.specs.declared.piece.Piece.{Piece}
 use Rattle.sr_mail.specs.declared.window.Window.{Window}
+use Rattle.sr_msgform.specs.declared.message.Message.{Message}
 use Rattle.sr_site.specs.Happenings.{Happening}
 use Rattle.sr_site.specs.Seen.{Seen}
 use Rattle.sr_receive.specs.Acts.{ReceiveAct, dropped, torn, begun, PassState, stand_of, IsReadAs}
@@ -33,7 +34,7 @@ use Rattle.sr_receive.proofs.Acted.{dropped_quiet, part_whole, refetches_quiet}
 use Rattle.sr_receive.proofs.Leading.{holds_dropped_windows, none_leads, pairs_filled, pairs_of_one}
 use Rattle.sr_receive.proofs.Joins.{HasQuiet, ready_quiet}
 use Rattle.sr_receive.proofs.Stands.{stands_dropped, stands_torn}
-use Rattle.sr_receive.proofs.Stopped.{stops_at_torn, stops_fetching, stops_here, stops_short}
+use Rattle.sr_receive.proofs.Stopped.{stops_fetching, stops_here, stops_short}
 
 -- ---- a window that was read, or not
 
@@ -54,37 +55,26 @@ module _ (old db : View) (before middle now : Seen) (user : Name) (message_files
     holds = holds;
   }
 
-  torn_untold : (progress : Progress) (all all' : List Report) (inbox : List Gathered) → StandsThere old db before middle user message_files first acts progress reports all
-      → IsUnderTrial old.catalog.publisher user message_files (stand_of first acts) w pairs None middle now → Holds message_files (w ∷ (stand_of first acts).dropped_windows) inbox → all' ≡ all
-      → StopsWith old db before now user message_files first inbox reports all' Memory
-  unfolding stops_at_torn
-  torn_untold progress all all' inbox stands trial holds same =
-      let whole = all ++ Torn user (offset_from w.prev) (offset_from w.upto) ∷ [] in
-      let there = stands_torn old db before middle now user message_files first acts progress reports all whole w pairs stands trial refl in
-      record { stops = stops_at_torn old db before now user message_files first acts progress reports all' whole w pairs there (same ∙ stands.reports_are); holds = holds }
-
-pub torn_tried : (old db : View) (before middle now : Seen) (user : Name) (message_files : List MessageFile) (first : PassState) (acts : List ReceiveAct) (progress : Progress) (reports all all' : List Report) (w : Window) (pairs : Pairs) (read : Option (List Transaction)) (inbox inbox' : List Gathered) (result : Result (Unit {0}) ReceiveFault)
+pub torn_tried : (old db : View) (before middle now : Seen) (user : Name) (message_files : List MessageFile) (first : PassState) (acts : List ReceiveAct) (progress : Progress) (reports all all' : List Report) (w : Window) (pairs : Pairs) (read : Option (List Transaction)) (inbox inbox' : List Gathered)
     → read ≡ None → StandsThere old db before middle user message_files first acts progress reports all → IsIdle (stand_of first acts) → Holds message_files (stand_of first acts).dropped_windows inbox
     → IsUnderTrial old.catalog.publisher user message_files (stand_of first acts) w pairs read middle now → ((v : Window) → pieces_of inbox' v ≡ pieces_of inbox v)
-    → ((v : Window) → is_dropped inbox' v ≡ (if same_window w v then is_seen inbox v else is_dropped inbox v)) → OnOk result (all' ≡ all ++ Torn user (offset_from w.prev) (offset_from w.upto) ∷ [])
-    → OnOk result (TriedOne old db before now user message_files first acts inbox' progress reports all')
-torn_tried old db before middle now user message_files first acts progress reports all all' w pairs read inbox inbox' (Ok x) none stands idle holds trial pieces drops shown =
+    → ((v : Window) → is_dropped inbox' v ≡ (if same_window w v then is_seen inbox v else is_dropped inbox v)) → all' ≡ all ++ Torn user (offset_from w.prev) (offset_from w.upto) ∷ []
+    → TriedOne old db before now user message_files first acts inbox' progress reports all'
+torn_tried old db before middle now user message_files first acts progress reports all all' w pairs read inbox inbox' none stands idle holds trial pieces drops shown =
     torn_done old db before middle now user message_files first acts reports w pairs progress all all' inbox' stands idle
     (subst (λ (r : Option (List Transaction)). IsUnderTrial old.catalog.publisher user message_files (stand_of first acts) w pairs r middle now) none trial)
     (torn_holds old db before middle now user message_files first acts reports w pairs read inbox inbox' trial holds pieces drops) shown
-torn_tried old db before middle now user message_files first acts progress reports all all' w pairs read inbox inbox' (Err fault) none stands idle holds trial pieces drops shown = tt
 
-pub torn_stopped : (old db : View) (before middle now : Seen) (user : Name) (message_files : List MessageFile) (first : PassState) (acts : List ReceiveAct) (progress : Progress) (reports all all' : List Report) (w : Window) (pairs : Pairs) (read : Option (List Transaction)) (inbox inbox' : List Gathered) (result : Result (Unit {0}) ReceiveFault)
-    → read ≡ None → StandsThere old db before middle user message_files first acts progress reports all → Holds message_files (stand_of first acts).dropped_windows inbox
-    → IsUnderTrial old.catalog.publisher user message_files (stand_of first acts) w pairs read middle now → ((v : Window) → pieces_of inbox' v ≡ pieces_of inbox v)
-    → ((v : Window) → is_dropped inbox' v ≡ (if same_window w v then is_seen inbox v else is_dropped inbox v)) → OnErr result (all' ≡ all) → IfErr result (λ f. f ≡ Memory)
-    → IfErr result (StopsWith old db before now user message_files first inbox' reports all')
-torn_stopped old db before middle now user message_files first acts progress reports all all' w pairs read inbox inbox' (Ok x) none stands holds trial pieces drops same memory = tt
-torn_stopped old db before middle now user message_files first acts progress reports all all' w pairs read inbox inbox' (Err fault) none stands holds trial pieces drops same memory =
-    subst (λ (f : ReceiveFault). StopsWith old db before now user message_files first inbox' reports all' f) (sym memory)
-    (torn_untold old db before middle now user message_files first acts reports w pairs progress all all' inbox' stands
-    (subst (λ (r : Option (List Transaction)). IsUnderTrial old.catalog.publisher user message_files (stand_of first acts) w pairs r middle now) none trial)
-    (torn_holds old db before middle now user message_files first acts reports w pairs read inbox inbox' trial holds pieces drops) same)
+-- there was no memory for its report
+pub torn_short : (old db : View) (before middle now : Seen) (user : Name) (message_files : List MessageFile) (first : PassState) (acts : List ReceiveAct) (progress : Progress) (reports all all' : List Report) (w : Window) (pairs : Pairs) (read : Option (List Transaction)) (inbox : List Gathered) (fault : ReceiveFault)
+    → StandsThere old db before middle user message_files first acts progress reports all → Holds message_files (stand_of first acts).dropped_windows inbox
+    → IsUnderTrial old.catalog.publisher user message_files (stand_of first acts) w pairs read middle now → all' ≡ all → fault ≡ Memory → StopsWith old db before now user message_files first inbox reports all' fault
+torn_short old db before middle now user message_files first acts progress reports all all' w pairs read inbox fault stands holds trial same memory =
+    let pieces = map (λ (p : Piece × Message). p.0) pairs in
+    subst (λ (l : List Report). StopsWith old db before now user message_files first inbox reports l fault) (sym same)
+    (subst (λ (f : ReceiveFault). StopsWith old db before now user message_files first inbox reports all f) (sym memory)
+    (stops_short old db before middle now user message_files first acts progress reports all w pieces inbox stands trial.came.idle holds trial.came.due trial.stays
+    (λ told. part_whole old.catalog.publisher user pieces pairs middle.happened now.happened refl trial.came.still (trial.happened told))))
 
 -- ---- its transactions are taken
 

@@ -36,7 +36,7 @@ pub record PassState : Type 0 where
   pub dropped_windows : List Window
   pub left : List Transaction
 
--- transactions behind the first
+-- transactions after the first
 abbrev pub rest_of : List Transaction → List Transaction
 rest_of [] = []
 rest_of (t ∷ ts) = ts

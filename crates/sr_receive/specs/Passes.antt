@@ -1,5 +1,5 @@
 -- What a pass over a user's message files does.
-use Rattle.std.specs.Prelude.{◌≡◌, ◌⊎◌, ⊤, ℕ, ◌≤◌, length, List, [], ◌∷◌, ◌++◌, map, IsTrue, if◌then◌else◌}
+use Rattle.std.specs.Prelude.{◌≡◌, ◌⊎◌, ⊤, ℕ, List, [], ◌∷◌, ◌++◌, map, IsTrue, if◌then◌else◌}
 use Rattle.sr_base.specs.Values.{offset_from}
 use Rattle.sr_book.specs.Entries.{Name}
 use Rattle.sr_book.specs.declared.book.Book.{Book}
@@ -96,7 +96,7 @@ pub record HasFetched (publisher user : Name) (message_files : List MessageFile)
   pub due : IsDue message_files s.dropped_windows s.received window pieces
   pub part : RefetchedInPart publisher user pieces before now
 
--- what happened to the mail behind the acts: fetches of the window that is due, where the mail refused, and where memory was wanting if it was under
+-- what happened to the mail after the acts: fetches of the window that is due, where the mail refused, and where memory was wanting if it was under
 -- trial; else nothing
 abbrev pub IsMailAt : ReceiveFault → Name → Name → List MessageFile → PassState → List Happening → List Happening → Type 0
 IsMailAt Disk publisher user message_files s before now = now ≡ before
@@ -104,25 +104,6 @@ IsMailAt Mail publisher user message_files s before now = HasFetched publisher u
 IsMailAt (Full end need) publisher user message_files s before now = now ≡ before
 IsMailAt (Long size limit) publisher user message_files s before now = now ≡ before
 IsMailAt Memory publisher user message_files s before now = (now ≡ before) ⊎ HasFetched publisher user message_files s before now
-
--- reports of acts, but that those of the last one may be missing, in part or all
-pub record AreShownInPart (user : Name) (acts : List ReceiveAct) (reports reports' : List Report) : Type 0 where
-  pub newest : List ReceiveAct
-  pub shown : List ReceiveAct
-  pub parts : acts ≡ newest ++ shown
-  pub one : length newest ≤ 1
-  pub some : List Report
-  pub left : List Report
-  pub ops : op_reports user acts ≡ op_reports user shown ++ (some ++ left)
-  pub reports_are : reports' ≡ reports ++ (op_reports user shown ++ (some ++ torn_reports user shown))
-
--- reports of acts: all of them, but where memory was wanting
-abbrev pub AreShown : ReceiveFault → Name → List ReceiveAct → List Report → List Report → Type 0
-AreShown Disk user acts reports reports' = reports' ≡ reports ++ act_reports user acts
-AreShown Mail user acts reports reports' = reports' ≡ reports ++ act_reports user acts
-AreShown (Full end need) user acts reports reports' = reports' ≡ reports ++ act_reports user acts
-AreShown (Long size limit) user acts reports reports' = reports' ≡ reports ++ act_reports user acts
-AreShown Memory user acts reports reports' = AreShownInPart user acts reports reports'
 
 -- the entry that was refused, if one was, is that of the next transaction of the window begun
 pub record IsNextEntry (user : Name) (s : PassState) (r : Recorded) : Type 0 where
@@ -149,7 +130,7 @@ pub record StoppedAtWindows (old new : View) (before now : Seen) (user : Name) (
   pub next : IsOfNext user (stand_of first acts) refused
   pub reached : Reached old new before now (notes ++ entries_of user acts) (begun_by fault refused)
   pub mail : IsTrue before.observable → IsMailAt fault old.catalog.publisher user message_files (stand_of first acts) (mail_after old.catalog.publisher acts (mail_in before.happened)) (mail_in now.happened)
-  pub shown : AreShown fault user acts reports reports'
+  pub reports_are : reports' ≡ reports ++ act_reports user acts
 
 -- it ended at its end: no window leads on any more, and what is left is to be raised
 pub record StoppedAtEnd (old new : View) (before now : Seen) (user : Name) (message_files : List MessageFile) (notes : List Recorded) (first : PassState) (acts : List ReceiveAct) (reports reports' : List Report) (fault : ReceiveFault) : Type 0 where
@@ -163,7 +144,7 @@ pub record StoppedAtEnd (old new : View) (before now : Seen) (user : Name) (mess
   pub mail : IsTrue before.observable → mail_in now.happened ≡ mail_after old.catalog.publisher acts (mail_in before.happened)
   pub reports_are : reports' ≡ reports ++ act_reports user acts
 
--- it ended behind these notes, with the acts that came
+-- it ended after these notes, with the acts that came
 pub record StoppedFrom (old new : View) (before now : Seen) (user : Name) (message_files : List MessageFile) (notes : List Recorded) (first : PassState) (dropped_windows' : List Window) (reports reports' : List Report) (fault : ReceiveFault) : Type 0 where
   pub acts : List ReceiveAct
   pub are : AreActs old.catalog.publisher user message_files first acts
@@ -177,9 +158,9 @@ PassedInPart old new before now user message_files dropped_windows dropped_windo
     StoppedAtNotes old new before now (first_notes user (book_in old.books user) (map filed_of message_files)) dropped_windows dropped_windows' reports reports' fault
     ⊎ StoppedFrom old new before now user message_files (first_notes user (book_in old.books user) (map filed_of message_files)) (first_of old (book_in old.books user) dropped_windows) dropped_windows' reports reports' fault
 
--- ---- the same of one partner mail, behind its notes
+-- ---- the same of one partner mail, after its notes
 
--- what is raised behind them, and the answer
+-- what is raised after them, and the answer
 pub record HasRaised (user : Name) (progress : Progress) (files : List Filed) (reports reports' : List Report) (answer : Received) : Type 0 where
   pub took : answer.took ≡ progress.took
   pub end : answer.end ≡ progress.received

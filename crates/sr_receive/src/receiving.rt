@@ -47,9 +47,9 @@ pub struct Received {
 /// Any other is taken, from the first transaction past what was received to its end, each transaction as one entry with its outcomes. Where a
 /// window, whole or not, then ends past what was received, that is raised and reported.
 ///
-/// `Disk` and `Mail` come only where that device's count of faults rose; `Full` and `Long` exactly where an entry has no room or is too long.
-/// After a fault what was committed stands, the reports made so far are kept, and lost windows stay lost. After `Disk` the
-/// database is not used again.
+/// `Disk` and `Mail` come only where that device's count of faults rose, and else no count rises; `Full` and `Long` exactly where an entry has no room or is
+/// too long. After a fault, whichever it is, what was committed stands and all that was done is reported, since the memory for that is taken before; and lost
+/// windows stay lost. After `Disk` the database is not used again.
 pub fn receive<S: Site>(
     alloc: Global,
     db: &mut Database,
@@ -143,7 +143,7 @@ fn note_first<S: Site>(
     }
 }
 
-/// Takes windows, behind the notes that come first, and raises that one ends past what was received then, where one does.
+/// Takes windows, after the notes that come first, and raises that one ends past what was received then, where one does.
 fn receive_behind<S: Site>(
     alloc: Global,
     db: &mut Database,

@@ -1,8 +1,8 @@
 //! What is reported of ops that were taken.
 
-ghost use Rattle.std.specs.Prelude.{◌≡◌, ◌+◌, ◌++◌, ◌≤◌, List, take, drop, length, IfOk, OnOk};
+ghost use Rattle.std.specs.Prelude.{◌≡◌, ◌+◌, ◌++◌, ◌<◌, ◌≤◌, take, drop, length, vec_capacity, vec_len, IfOk, OnOk};
+ghost use Rattle.std.specs.List.{insert};
 ghost use Rattle.sr_receive.specs.Reports.{outcome_report, outcome_reports};
-ghost use Rattle.sr_receive_gather.specs.declared.report.Report.{Report as AReport};
 
 use sr_base::{Copied, Name, NoMemory, Offset};
 use sr_logform::{Op, Outcome};
@@ -60,20 +60,32 @@ fn push_report(
     Ok(())
 }
 
-/// Puts reports behind those of ops that stand in front of `at`, before those of torn windows, and answers the place behind them.
-pub(crate) fn insert_all(
-    reports: &mut Vec<Report>,
-    at: usize,
-    made: Vec<Report>,
-) -> Result<usize, NoMemory>
+/// Puts a report at a place, where there is room for it.
+fn insert_within(reports: &mut Vec<Report>, at: usize, report: Report)
     requires within { at ≤ length reports.old.items }
-    ensures inserted { IfOk result (λ next. (next ≡ at + length made.items) × (reports.new.items ≡ take at reports.old.items ++ (made.items ++ drop at reports.old.items))) }
-    ensures some { (done left : List AReport) × (made.items ≡ done ++ left) × (reports.new.items ≡ take at reports.old.items ++ (done ++ drop at reports.old.items)) }
+    requires room { vec_len reports.old < vec_capacity reports.old }
+    ensures items { reports.new.items ≡ insert reports.old.items at report }
+    ensures length { vec_len reports.new ≡ vec_len reports.old + 1 }
+    ensures capacity { vec_capacity reports.old ≤ vec_capacity reports.new }
+{
+    match reports.insert(at, report) {
+        Ok(()) => (),
+        Err(_) => (),
+    }
+}
+
+/// Puts reports, for which there is room, after those of ops, which end at `at`, and before those of torn windows; answers the place after
+/// them.
+pub(crate) fn insert_all(reports: &mut Vec<Report>, at: usize, made: Vec<Report>) -> usize
+    requires within { at ≤ length reports.old.items }
+    requires room { vec_len reports.old + length made.items ≤ vec_capacity reports.old }
+    ensures next { result ≡ at + length made.items }
+    ensures inserted { reports.new.items ≡ take at reports.old.items ++ (made.items ++ drop at reports.old.items) }
 {
     let mut next = at;
     'reports: for report in made {
-        reports.insert(next, report)?;
+        insert_within(reports, next, report);
         next += 1;
     }
-    Ok(next)
+    next
 }

@@ -1,6 +1,6 @@
 //! The transactions of a window taken, each as one entry.
 
-ghost use Rattle.std.specs.Prelude.{◌≡◌, ◌+◌, ◌-◌, ◌^◌, ◌<◌, ◌≤◌, ◌∷◌, ◌++◌, [], List, length, take, drop, IsSome, IfErr, IfOk, OnOk};
+ghost use Rattle.std.specs.Prelude.{◌≡◌, ◌+◌, ◌-◌, ◌^◌, ◌<◌, ◌≤◌, ◌∷◌, ◌++◌, [], List, length, vec_capacity, vec_len, IsSome, IfErr, IfOk, OnOk};
 ghost use Rattle.std.specs.List.{AllByRecursion};
 ghost use Rattle.sr_database.specs.Inner.Commits.{CanCommit, CanCommitSome};
 ghost use Rattle.sr_database.specs.Views.{View as AView};
@@ -122,7 +122,7 @@ fn take_past<S: Site>(
     Ok(())
 }
 
-/// Takes a transaction. What is reported of it follows its commit.
+/// Takes a transaction. What is reported of it follows its commit, and takes no memory then.
 fn take_one<S: Site>(
     alloc: Global,
     db: &mut Database,
@@ -150,35 +150,27 @@ fn take_one<S: Site>(
         → (stand_of first acts).left ≡ transaction.now ∷ rest
         → IfErr result (StopsTaking from db.new before (S.seen site.new) user.now message_files first acts all reports.new.items) }
 {
-    match take_entry(alloc, db, site, user, transaction) {
-        Ok(made) => tell(progress, reports, transaction.at, made),
+    match take_entry(alloc, db, site, user, reports, transaction) {
+        Ok(made) => {
+            tell(progress, reports, transaction.at, made);
+            Ok(())
+        }
         Err(fault) => Err(fault),
     }
 }
 
-/// A transaction was taken that ends at an offset: what is to be reported of it follows the reports of ops.
-fn tell(
-    progress: &mut Progress,
-    reports: &mut Vec<Report>,
-    at: Offset,
-    made: Vec<Report>,
-) -> Result<(), ReceiveFault>
+/// A transaction was taken that ends at an offset: what is to be reported of it, for which there is room, follows the reports of ops.
+fn tell(progress: &mut Progress, reports: &mut Vec<Report>, at: Offset, made: Vec<Report>)
     requires told { progress.old.told ≤ length reports.old.items }
-    ensures told { OnOk result (HasTold at progress.old progress.new made.items reports.old.items reports.new.items) }
-    ensures some { (done left : List AReport) × (made.items ≡ done ++ left) × (reports.new.items ≡ take progress.old.told reports.old.items ++ (done ++ drop progress.old.told reports.old.items)) }
-    ensures memory { IfErr result (λ fault. fault ≡ memory) }
+    requires room { vec_len reports.old + length made.items ≤ vec_capacity reports.old }
+    ensures told { HasTold at progress.old progress.new made.items reports.old.items reports.new.items }
 {
-    match insert_all(reports, progress.told, made) {
-        Ok(told) => {
-            *progress = Progress {
-                received: at,
-                took: one_more(progress.took),
-                told,
-            };
-            Ok(())
-        }
-        Err(_) => Err(ReceiveFault::Memory),
-    }
+    let told = insert_all(reports, progress.told, made);
+    *progress = Progress {
+        received: at,
+        took: one_more(progress.took),
+        told,
+    };
 }
 
 /// One more than a count, as far as a count goes.
@@ -188,18 +180,21 @@ fn one_more(count: u64) -> u64
     if count == u64::MAX { count } else { count + 1 }
 }
 
-/// Commits the entry of a transaction, and answers what is to be reported of it.
+/// Commits the entry of a transaction, and answers what is to be reported of it. There is room for it among the reports then.
 fn take_entry<S: Site>(
     alloc: Global,
     db: &mut Database,
     site: &mut S,
     user: &Name,
+    reports: &mut Vec<Report>,
     transaction: &Transaction,
 ) -> Result<Vec<Report>, ReceiveFault>
     requires ready { IsReady db.old (S.seen site.old) }
     requires user { IsSome (named user_name user.now db.old.catalog.users) }
     requires short { IsShortTransaction transaction.now }
     ensures entered { IfOk result (λ made. Entered db.old db.new (S.seen site.old) (S.seen site.new) user.now transaction.now made.items) }
+    ensures kept { reports.new.items ≡ reports.old.items }
+    ensures room { IfOk result (λ made. vec_len reports.new + length made.items ≤ vec_capacity reports.new) }
     ensures ready { OnOk result (IsReady db.new (S.seen site.new)) }
     ensures stays { DiskStays (S.seen site.old) (S.seen site.new) }
     ensures cause { IfErr result (NotEntered db.old db.new (S.seen site.old) (S.seen site.new) user.now transaction.now) }
@@ -207,30 +202,34 @@ fn take_entry<S: Site>(
     match entry_of(alloc, db, user, transaction) {
         Err(_) => Err(ReceiveFault::Memory),
         Ok(entry) => {
-            let outcome = enter_told(alloc, db, site, user, &entry);
+            let outcome = enter_told(alloc, db, site, user, reports, &entry);
             drop(entry);
             outcome
         }
     }
 }
 
-/// Commits an entry of a taken transaction, and answers what is to be reported of it, for which the memory is taken before.
+/// Commits an entry of a taken transaction, and answers what is to be reported of it. The memory for it, and for its places among the reports, is taken
+/// before the commit: so what is committed is reported.
 fn enter_told<S: Site>(
     alloc: Global,
     db: &mut Database,
     site: &mut S,
     user: &Name,
+    reports: &mut Vec<Report>,
     entry: &Entry,
 ) -> Result<Vec<Report>, ReceiveFault>
     requires ready { IsReady db.old (S.seen site.old) }
     requires entry { CanCommitSome db.old entry.now }
     ensures made { IfOk result (λ made. made.items ≡ entry_reports user.now entry.now) }
+    ensures kept { reports.new.items ≡ reports.old.items }
+    ensures room { IfOk result (λ made. vec_len reports.new + length made.items ≤ vec_capacity reports.new) }
     ensures entered { (r : Recorded) → CanCommit db.old entry.now r → OnOk result (Reached db.old db.new (S.seen site.old) (S.seen site.new) (r ∷ []) []) }
     ensures ready { OnOk result (IsReady db.new (S.seen site.new)) }
     ensures stays { DiskStays (S.seen site.old) (S.seen site.new) }
     ensures cause { (r : Recorded) → CanCommit db.old entry.now r → IfErr result (CommitStop db.old db.new (S.seen site.old) (S.seen site.new) r) }
 {
-    match reports_in(alloc, user, entry) {
+    match reports_with_room(alloc, user, reports, entry) {
         Err(_) => Err(ReceiveFault::Memory),
         Ok(made) => {
             let outcome = enter(alloc, db, site, entry);
@@ -253,6 +252,40 @@ fn with_reports(
         Err(fault) => {
             drop(made);
             Err(fault)
+        }
+    }
+}
+
+/// What is to be reported of an entry, with room for it among the reports.
+fn reports_with_room(
+    alloc: Global,
+    user: &Name,
+    reports: &mut Vec<Report>,
+    entry: &Entry,
+) -> Result<Vec<Report>, ReceiveFault>
+    ensures reports { IfOk result (λ made. made.items ≡ entry_reports user.now entry.now) }
+    ensures kept { reports.new.items ≡ reports.old.items }
+    ensures room { IfOk result (λ made. vec_len reports.new + length made.items ≤ vec_capacity reports.new) }
+    ensures memory { IfErr result (λ fault. fault ≡ memory) }
+{
+    match reports_in(alloc, user, entry) {
+        Ok(made) => with_room(reports, made),
+        Err(_) => Err(ReceiveFault::Memory),
+    }
+}
+
+/// Reports, where there is room for them among the others.
+fn with_room(reports: &mut Vec<Report>, made: Vec<Report>) -> Result<Vec<Report>, ReceiveFault>
+    ensures made { IfOk result (λ kept. kept.items ≡ made.items) }
+    ensures kept { reports.new.items ≡ reports.old.items }
+    ensures room { IfOk result (λ kept. vec_len reports.new + length kept.items ≤ vec_capacity reports.new) }
+    ensures memory { IfErr result (λ fault. fault ≡ memory) }
+{
+    match reports.reserve(made.as_slice().len()) {
+        Ok(()) => Ok(made),
+        Err(_) => {
+            drop(made);
+            Err(ReceiveFault::Memory)
         }
     }
 }

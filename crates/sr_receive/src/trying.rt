@@ -158,7 +158,8 @@ fn try_found<S: Site>(
     }
 }
 
-/// Takes the transactions that were read of a window. It is torn where none were.
+/// Takes the transactions that were read of a window. It is torn where none were, and reported as such before it is lost: where there is no memory for
+/// the report, nothing is done.
 fn take_read<S: Site>(
     alloc: Global,
     db: &mut Database,
@@ -187,10 +188,13 @@ fn take_read<S: Site>(
         → IsUnderTrial from.catalog.publisher user.now message_files (stand_of first acts) window pairs (option_map (λ txs. txs.items) read) middle (S.seen site.old) → IfErr result (StopsWith from db.new before (S.seen site.new) user.now message_files first inbox.new all reports.new.items) }
 {
     match read {
-        None => {
-            lose(inbox, window);
-            push_torn(alloc, reports, user, window)
-        }
+        None => match push_torn(alloc, reports, user, window) {
+            Ok(()) => {
+                lose(inbox, window);
+                Ok(())
+            }
+            Err(fault) => Err(fault),
+        },
         Some(transactions) => {
             let ts = transactions.as_slice();
             let outcome = take_all(alloc, db, site, user, progress, reports, ts);

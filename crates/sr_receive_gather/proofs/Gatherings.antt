@@ -90,9 +90,9 @@ gone_one {B} items catalog end before now at name bag reports found same none ha
 -- its fetch failed
 pub unfetched_one : {T : Type 0} (address at name : List ℕ) (before now : Seen) (reports : List Report) (fault : MailFault) (result : Result T MailFault) → at ≡ address → result ≡ Err fault
     → (IsTrue before.observable → now.happened ≡ fetched at name longest_fetch (Err fault) ∷ before.happened) → MailStays before now → (IsErrOf result mail.Failed → Rose before.mail_faults now.mail_faults)
-    → GatherOneCause address name before now reports reports (fault_of_mail fault)
-unfetched_one address at name before now reports fault result same is happened stays cause = record {
-  why = mail_why before now fault result is cause;
+    → (IsErrOf result mail.Memory → now.mail_faults ≡ before.mail_faults) → GatherOneCause address name before now reports reports (fault_of_mail fault)
+unfetched_one address at name before now reports fault result same is happened stays cause short = record {
+  why = mail_why before now fault result is cause short;
   found = Err fault;
   happened = λ told. happened told ∙ ap (λ (a : List ℕ). fetched a name longest_fetch (Err fault) ∷ before.happened) same;
   reports_are = refl;
@@ -101,9 +101,10 @@ unfetched_one address at name before now reports fault result same is happened s
 
 -- there was no memory to sort it
 pub unsorted_one : (address at name : List ℕ) (before now : Seen) (reports reports' : List Report) (found : Option (List ℕ)) → at ≡ address → reports' ≡ reports
-    → (IsTrue before.observable → now.happened ≡ fetched at name longest_fetch (Ok found) ∷ before.happened) → MailStays before now → GatherOneCause address name before now reports reports' Memory
-unsorted_one address at name before now reports reports' found same kept happened stays = record {
-  why = tt;
+    → (IsTrue before.observable → now.happened ≡ fetched at name longest_fetch (Ok found) ∷ before.happened) → MailStays before now → now.mail_faults ≡ before.mail_faults
+    → GatherOneCause address name before now reports reports' Memory
+unsorted_one address at name before now reports reports' found same kept happened stays steady = record {
+  why = steady;
   found = Ok found;
   happened = λ told. happened told ∙ ap (λ (a : List ℕ). fetched a name longest_fetch (Ok found) ∷ before.happened) same;
   reports_are = kept;
@@ -197,7 +198,7 @@ gathering_stop catalog end before middle now listing name left bag bag' reports 
 -- there was no memory to report that there are others
 pub untold_others : (catalog : Lists) (end : ℕ) (seen : Seen) (listing : Listing) (reports reports' : List Report) → reports' ≡ reports → GatherListedCause catalog end seen seen listing reports reports' Memory
 untold_others catalog end seen listing reports reports' kept = record {
-  why = tt;
+  why = refl;
   more = false;
   fetched_files = [];
   are = tt;
@@ -257,9 +258,10 @@ stopped_into catalog end before middle now at listing reports reports' fault sam
 -- the folder could not be listed
 pub unlisted : {T : Type 0} (catalog : Lists) (end : ℕ) (before now : Seen) (at : List ℕ) (reports : List Report) (fault : MailFault) (result : Result T MailFault) → at ≡ catalog.publisher → result ≡ Err fault
     → (IsTrue before.observable → (folder : List (List ℕ)) × (now.happened ≡ listed at folder (Err fault) ∷ before.happened)) → MailStays before now
-    → (IsErrOf result mail.Failed → Rose before.mail_faults now.mail_faults) → GatherCause catalog end before now reports reports (fault_of_mail fault)
-unlisted catalog end before now at reports fault result same is l stays cause = record {
-  why = mail_why before now fault result is cause;
+    → (IsErrOf result mail.Failed → Rose before.mail_faults now.mail_faults) → (IsErrOf result mail.Memory → now.mail_faults ≡ before.mail_faults)
+    → GatherCause catalog end before now reports reports (fault_of_mail fault)
+unlisted catalog end before now at reports fault result same is l stays cause short = record {
+  why = mail_why before now fault result is cause short;
   more = false;
   fetched_files = [];
   are = tt;
@@ -273,7 +275,7 @@ unlisted catalog end before now at reports fault result same is l stays cause = 
 -- nothing was done
 pub nothing_gathered : (catalog : Lists) (end : ℕ) (seen : Seen) (reports : List Report) → GatherCause catalog end seen seen reports reports Memory
 nothing_gathered catalog end seen reports = record {
-  why = tt;
+  why = refl;
   more = false;
   fetched_files = [];
   are = tt;

@@ -1,5 +1,5 @@
 -- Calls of the mail that fail.
-use Rattle.std.proofs.Common.{◌≡◌, Result, Ok, Err, sym, subst}
+use Rattle.std.proofs.Common.{◌≡◌, ◌∙◌, Result, Ok, Err, sym, subst}
 use Rattle.std.specs.Prelude.{IfErr, OnOk, IsErrAnd, IsErrOf}
 use Rattle.sr_site.specs.Causes.{Rose}
 use Rattle.sr_site.specs.Seen.{Seen}
@@ -24,16 +24,16 @@ pub if_err_map : {T : Type 0} (holds follows : ReceiveFault → Type 0) (result 
 if_err_map holds follows (Ok x) f h = tt
 if_err_map holds follows (Err e) f h = f e h
 
--- why the mail refused
+-- why a call of the mail gave nothing
 pub mail_why : {T : Type 0} (before now : Seen) (fault : MailFault) (result : Result T MailFault) → result ≡ Err fault → (IsErrOf result mail.Failed → Rose before.mail_faults now.mail_faults)
-    → IsMailFault before now (fault_of_mail fault)
-mail_why before now mail.Failed result is cause = cause is
-mail_why before now mail.Memory result is cause = tt
+    → (IsErrOf result mail.Memory → now.mail_faults ≡ before.mail_faults) → IsMailFault before now (fault_of_mail fault)
+mail_why before now mail.Failed result is cause short = cause is
+mail_why before now mail.Memory result is cause short = short is
 
--- it refused in this call, where its count stood still before
+-- it is so of all that happened, where its count stood still before
 pub mail_then : (before middle now : Seen) (fault : ReceiveFault) → middle.mail_faults ≡ before.mail_faults → IsMailFault middle now fault → IsMailFault before now fault
 mail_then before middle now Disk same why = why
 mail_then before middle now Mail same why = subst (λ n. Rose n now.mail_faults) same why
 mail_then before middle now (Full end need) same why = why
 mail_then before middle now (Long size limit) same why = why
-mail_then before middle now Memory same why = tt
+mail_then before middle now Memory same why = why ∙ same

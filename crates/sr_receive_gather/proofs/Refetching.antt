@@ -67,9 +67,10 @@ found_some {B} items publisher user piece before now bytes slice found read (Som
 -- it could not be fetched
 pub fetch_failed : {T : Type 0} (publisher : Name) (piece : Piece) (before now : Seen) (fault : MailFault) (result : Result T MailFault) → result ≡ Err fault
     → (IsTrue before.observable → now.happened ≡ fetched publisher piece.name longest_fetch (Err fault) ∷ before.happened) → MailStays before now
-    → (IsErrOf result mail.Failed → Rose before.mail_faults now.mail_faults) → FetchOneStop publisher piece before now (fault_of_mail fault)
-fetch_failed publisher piece before now fault result is happened stays cause = record {
-  why = mail_why before now fault result is cause;
+    → (IsErrOf result mail.Failed → Rose before.mail_faults now.mail_faults) → (IsErrOf result mail.Memory → now.mail_faults ≡ before.mail_faults)
+    → FetchOneStop publisher piece before now (fault_of_mail fault)
+fetch_failed publisher piece before now fault result is happened stays cause short = record {
+  why = mail_why before now fault result is cause short;
   stays = stays;
   found = Err fault;
   happened = happened;
@@ -77,8 +78,9 @@ fetch_failed publisher piece before now fault result is happened stays cause = r
 
 -- there was no memory to read it
 pub fetch_unread : (publisher : Name) (piece : Piece) (before now : Seen) (found : Option (List ℕ))
-    → (IsTrue before.observable → now.happened ≡ fetched publisher piece.name longest_fetch (Ok found) ∷ before.happened) → MailStays before now → FetchOneStop publisher piece before now Memory
-fetch_unread publisher piece before now found happened stays = record { why = tt; stays = stays; found = Ok found; happened = happened }
+    → (IsTrue before.observable → now.happened ≡ fetched publisher piece.name longest_fetch (Ok found) ∷ before.happened) → MailStays before now → now.mail_faults ≡ before.mail_faults
+    → FetchOneStop publisher piece before now Memory
+fetch_unread publisher piece before now found happened stays steady = record { why = steady; stays = stays; found = Ok found; happened = happened }
 
 -- ---- all pieces
 
@@ -159,4 +161,4 @@ fetching_stop publisher user pieces piece left rest before middle now pairs faul
 pub fetching_short : (publisher user : Name) (pieces : List Piece) (piece : Piece) (left rest : List Piece) (m : Message) (before middle now : Seen) (pairs : Pairs) → left ≡ piece ∷ rest
     → IsFetching publisher user pieces left before middle pairs → FoundOne publisher user piece middle now (Some m) → FetchStop publisher user pieces before now Memory
 fetching_short publisher user pieces piece left rest m before middle now pairs next f one =
-    fetching_stop publisher user pieces piece left rest before middle now pairs Memory next f (record { why = tt; stays = one.stays; found = Ok (Some (message_spelling m)); happened = one.happened })
+    fetching_stop publisher user pieces piece left rest before middle now pairs Memory next f (record { why = one.steady; stays = one.stays; found = Ok (Some (message_spelling m)); happened = one.happened })

@@ -70,7 +70,7 @@ one_failed address book f before now is happened stays = record {
   stays = stays;
 }
 
--- ---- one behind the other
+-- ---- one after the other
 
 removals_append : (address : List ℕ) (xs ys : List Filed) (before : List Happening) → removals address (xs ++ ys) before ≡ removals address ys (removals address xs before)
 removals_append address [] ys before = refl
@@ -160,4 +160,5 @@ purging_stops address book files left rest f before mid now count Mail so split 
     (subst (λ (n : ℕ). Rose n now.mail_faults) so.has.steady why.0, part_behind address book files left rest f before mid now count so split why.1)
 purging_stops address book files left rest f before mid now count (Full end need) so split why = why
 purging_stops address book files left rest f before mid now count (Long size limit) so split why = why
-purging_stops address book files left rest f before mid now count Memory so split why = part_behind address book files left rest f before mid now count so split why
+purging_stops address book files left rest f before mid now count Memory so split why =
+    (why.0 ∙ so.has.steady, part_behind address book files left rest f before mid now count so split why.1)

@@ -17,7 +17,7 @@ use Rattle.sr_receive_gather.specs.declared.fault.ReceiveFault.TheVariants.{Disk
 use Rattle.sr_receive_gather.specs.declared.report.Report.{Report}
 use Rattle.sr_receive_gather.specs.declared.report.Report.TheVariants.{More}
 
--- fetches of what came, behind what happened before
+-- fetches of what came, after what happened before
 abbrev pub fetches : List ℕ → List FetchedFile → List Happening → List Happening
 fetches address [] before = before
 fetches address (fetched_file ∷ fetched_files) before = fetches address fetched_files (fetch_of address fetched_file ∷ before)
@@ -73,13 +73,13 @@ pub record IsListedInPart (address : List ℕ) (before now : List Happening) (mo
 abbrev pub HappenedInPart : List ℕ → List Happening → List Happening → Bool → List FetchedFile → Type 0
 HappenedInPart address before now more fetched_files = IsUnlisted address before now more fetched_files ⊎ IsListedInPart address before now more fetched_files
 
--- only the mail refuses, or there is no memory
+-- only the mail refuses, or there is no memory, and then no call of the mail failed
 abbrev pub IsMailFault : Seen → Seen → ReceiveFault → Type 0
 IsMailFault before now Disk = ⊥
 IsMailFault before now Mail = Rose before.mail_faults now.mail_faults
 IsMailFault before now (Full end need) = ⊥
 IsMailFault before now (Long size limit) = ⊥
-IsMailFault before now Memory = ⊤
+IsMailFault before now Memory = now.mail_faults ≡ before.mail_faults
 
 -- why a gathering ends before its end, and what it did: what was reported is of files of the listing that were fetched
 pub record GatherCause (catalog : Lists) (end : ℕ) (before now : Seen) (reports reports' : List Report) (fault : ReceiveFault) : Type 0 where

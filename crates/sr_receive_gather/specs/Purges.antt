@@ -16,7 +16,7 @@ is_dead book f = nat_le f.upto.0 book.log_received && nat_le f.confirm.0 book.co
 abbrev pub dead : Book → List Filed → List Filed
 dead book files = filter (is_dead book) files
 
--- they were removed, in order, behind what happened before
+-- they were removed, in order, after what happened before
 abbrev pub removals : List ℕ → List Filed → List Happening → List Happening
 removals address [] before = before
 removals address (f ∷ files) before = removals address files (removed address f.name true ∷ before)
@@ -34,10 +34,10 @@ pub record PurgedInPart (address : List ℕ) (book : Book) (files : List Filed) 
   pub happened : IsTrue before.observable → Removes address done left before.happened now.happened
   pub stays : MailStays before now
 
--- why a purge ends before its end
+-- why a purge ends before its end: the mail refused; or there is no memory, and no call of the mail failed
 abbrev pub PurgeCause : List ℕ → Book → List Filed → Seen → Seen → ReceiveFault → Type 0
 PurgeCause address book files before now Disk = ⊥
 PurgeCause address book files before now Mail = Rose before.mail_faults now.mail_faults × PurgedInPart address book files before now
 PurgeCause address book files before now (Full end need) = ⊥
 PurgeCause address book files before now (Long size limit) = ⊥
-PurgeCause address book files before now Memory = PurgedInPart address book files before now
+PurgeCause address book files before now Memory = (now.mail_faults ≡ before.mail_faults) × PurgedInPart address book files before now

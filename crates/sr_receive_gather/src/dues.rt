@@ -1,4 +1,4 @@
-//! Notes that are due before and behind the windows.
+//! Notes that are due before and after the windows.
 
 ghost use Rattle.std.specs.Prelude.{◌≡◌, ◌++◌, IfErr, IfOk, OnErr};
 ghost use Rattle.sr_receive_gather.specs.Greatest.{ask_at, asks, confirms};

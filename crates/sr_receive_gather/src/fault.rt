@@ -14,7 +14,7 @@ pub enum ReceiveFault {
     /// The mail refused: its count of faults rose in this call.
     Mail,
     /// An entry has no room in the log. `end` is the place in the log file past its first closed gate, `need` the record's number of bytes with
-    /// the gate behind it.
+    /// the gate after it.
     Full { end: u64, need: u64 },
     /// The record of a transaction has `length` bytes, more than the `limit` of 64 MiB.
     Long { length: u64, limit: u64 },

@@ -21,7 +21,8 @@ pub(crate) const LONGEST_FETCH: usize = 2_097_153;
 ///
 /// A file counts that is a message for this database, from a partner of it, which confirms and asks for nothing past its log; every other is
 /// reported, in the order of the listing, and left in place. A file that is gone at its fetch is left out. `Mail` comes only where the mail's
-/// count of faults rose. After a fault the reports made so far are kept: those of the first files of the listing, of which each was fetched.
+/// count of faults rose; after `Memory` it is as it was. After a fault the reports made so far are kept: those of the first files of the listing, of which
+/// each was fetched.
 pub fn gather<S: Site>(
     alloc: Global,
     db: &Database,

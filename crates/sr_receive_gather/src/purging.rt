@@ -19,7 +19,7 @@ use std::alloc::Global;
 
 /// Removes the dead files of a user: those of which the window was received, the confirm noted and the ask noted. Answers how many.
 ///
-/// `Mail` comes only where the mail's count of faults rose. After a fault the files that were removed before it are gone.
+/// `Mail` comes only where the mail's count of faults rose; after `Memory` it is as it was. After a fault the files that were removed before it are gone.
 pub fn purge<S: Site>(
     alloc: Global,
     db: &Database,

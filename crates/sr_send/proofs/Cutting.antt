@@ -38,22 +38,22 @@ nothing_follows head limit ps [] full =
     prefix_alone head limit ps any (full any)
 nothing_follows head limit ps (x ∷ held) full = prefix_alone head limit ps x (AreFull-first head limit ps x (held ++ x ∷ []) [] (full x))
 
--- ---- the front
+-- ---- the prefix
 
--- whatever comes behind what is held
+-- whatever comes after what is held
 full_behind : (head : Head) (limit : ℕ) (ps : List Parcel) (held rest : List Transaction) → ((next : Transaction) → AreFull head limit ps (held ++ next ∷ [])) → AreFull head limit ps (held ++ rest)
 full_behind head limit ps [] [] full = nothing_follows head limit ps [] full
 full_behind head limit ps [] (r ∷ rest) full = AreFull-first head limit ps r [] rest (full r)
 full_behind head limit ps (x ∷ held) rest full = AreFull-first head limit ps x (held ++ x ∷ []) (held ++ rest) (full x)
 
--- windows behind others
+-- windows after others
 joined_full : (head : Head) (limit : ℕ) (ps qs : List Parcel) → AreFull head limit ps (transactions_of qs) → AreFull head limit qs [] → AreFull head limit (ps ++ qs) []
 joined_full head limit [] qs full last = last
 joined_full head limit (p ∷ ps) qs full last =
     let same : transactions_of (ps ++ qs) ++ [] ≡ transactions_of ps ++ transactions_of qs = append-nil (transactions_of (ps ++ qs)) ∙ transactions-append ps qs in
     (subst (IsFull head limit p.transactions) (sym same) full.0, joined_full head limit ps qs full.1 last)
 
--- what was given begins the cut of the transactions, whatever comes behind these
+-- what was given begins the cut of the transactions, whatever comes after these
 goes_on : (cutter : Cutting) (first : Offset) (pushed rest : List Transaction) (messages : List Message) → file_length cutter.head 1 ≤ cutter.limit → HasGiven cutter first pushed messages
     → (left : List Message) × AreCut cutter.head first (pushed ++ rest) cutter.limit (messages ++ left)
 goes_on cutter first pushed rest messages room given =

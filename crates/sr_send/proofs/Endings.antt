@@ -91,7 +91,7 @@ held_short aim old seen =
           cut_along old.cutter.head aim.head old.cutter.limit aim.limit aim.prev pushed (earlier ++ held) made.head_is made.limit_is (finishes old.cutter aim.prev pushed earlier made.given);
       posted = posted_none seen;
       spelled = tt;
-      cause = refl;
+      cause = (refl, refl);
       ends = ends_same seen;
     }
 
@@ -108,7 +108,7 @@ no_parcels head limit (p ∷ ps) windows none = absurd (windows.0.filled (prefix
 nothing_cut : (head : Head) (prev : Offset) (limit : ℕ) (messages : List Message) → AreCut head prev [] limit messages → messages ≡ []
 nothing_cut head prev limit messages cut = cut.sent ∙ ap (all_messages head prev) (no_parcels head limit cut.parcels cut.windows cut.covered)
 
--- no transaction lies behind where the last offset is that of the beginning
+-- no transaction lies after where the last offset is that of the beginning
 none_behind : (prev : Offset) (pushed : List Transaction) → RisesPast prev.0 pushed → (last_at prev pushed).0 ≡ prev.0 → pushed ≡ []
 none_behind prev [] rises same = refl
 none_behind prev (t ∷ ts) rises same = absurd (omega (arith, lt-last prev t ts rises, same))
@@ -207,7 +207,7 @@ are_bodyless aim book ask old middle before now more at emptied alone is pushed 
     bodyless_all aim.head aim.prev book ask aim.limit pushed (messages ++ (emptied.closed ++ more)) at none alone.1
     (alone_behind aim old emptied.closed more pushed messages none (emptied.cut pushed messages made) ∙ is)
 
--- message files behind those of what the cutter held
+-- message files after those of what the cutter held
 put_files_behind : (aim : Aim) (old middle : Post) (closed more : List Message) (before seen now : Seen) → middle.put ≡ old.put + length closed → Posted before seen (put_files aim.address (aim.count + old.put) closed)
     → Posted seen now (put_files aim.address (aim.count + middle.put) more) → Posted before now (put_files aim.address (aim.count + old.put) (closed ++ more))
 put_files_behind aim old middle closed more before seen now count one two =
@@ -231,7 +231,7 @@ fault_behind before middle now Disk steady cause = cause
 fault_behind before middle now Mail steady cause = (rose_from before.mail_faults middle.mail_faults now.mail_faults steady.mail cause.0, cause.1 ∙ steady.disk)
 fault_behind before middle now (Full end need) steady cause = cause
 fault_behind before middle now (Long size limit) steady cause = cause
-fault_behind before middle now Memory steady cause = cause ∙ steady.disk
+fault_behind before middle now Memory steady cause = (cause.0 ∙ steady.disk, cause.1 ∙ steady.mail)
 
 pub last_stopped : (aim : Aim) (book : Book) (ask : Bool) (old middle : Post) (before seen now : Seen) (fault : SendFault) → aim.prev ≡ offset_from book.log_sent → Emptied aim old middle before seen → IsDueAlone aim.prev middle.end book ask
     → IsPartSent aim (aim.count + middle.put) seen now (bodyless aim.head aim.prev ∷ []) fault → LastStop aim book ask old before now fault
@@ -294,7 +294,7 @@ nothing_put db aim book ask user seen good = inl (record {
   posted = posted_none seen;
   spelled = tt;
   begins = λ told publisher es database. record { rest = unsent publisher es user aim.prev.0; parts = refl };
-  cause = refl;
+  cause = (refl, refl);
   ends = ends_same seen;
 })
 
@@ -303,7 +303,7 @@ nothing_put db aim book ask user seen good = inl (record {
 -- nothing is too long where there is nothing
 pub bodyless_refused : (aim : Aim) (count : ℕ) (seen : Seen) (messages : List Message) (e : TooLong) → CutCause [] e → IsPartSent aim count seen seen messages (fault_of_cut e)
 bodyless_refused aim count seen messages (long.Transaction need) cause = absurd cc
-bodyless_refused aim count seen messages long.Memory cause = record { done = []; left = messages; parts = refl; posted = posted_none seen; spelled = tt; cause = refl; ends = ends_same seen }
+bodyless_refused aim count seen messages long.Memory cause = record { done = []; left = messages; parts = refl; posted = posted_none seen; spelled = tt; cause = (refl, refl); ends = ends_same seen }
 
 pub not_due : (due : Bool) (P : Type 0) → (IsTrue due ↔ P) → due ≡ false → ¬ P
 not_due due P same is_not holds =

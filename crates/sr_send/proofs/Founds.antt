@@ -1,4 +1,4 @@
--- What was read behind an offset of an open log, as a pass takes it.
+-- What was read after an offset of an open log, as a pass takes it.
 use Rattle.std.proofs.Common.{◌≡◌, ℕ, List, ◌++◌, Option, None, Result, Ok, Err, refl, sym, subst}
 use Rattle.std.specs.Prelude.{◌≢◌, IsTrue, IfOk, IfErr, OnOk}
 use Rattle.sr_base.specs.declared.offset.Offset.{Offset}
@@ -30,7 +30,7 @@ read_refused db after before now (Err (store.Full end need)) cause = absurd caus
 read_refused db after before now (Err (store.Long size limit)) cause = absurd cause
 read_refused db after before now (Err store.Memory) cause = tt
 
--- what holds of what was read holds of the answer, where it holds of none behind a record that reads as damaged
+-- what holds of what was read holds of the answer, where it holds of none after a record that reads as damaged
 pub found_holds : {T : Type 0} (holds : Option T → Type 0) (outcome : Result (Option T) DatabaseFault) (answer : Result (Option T) SendFault) → IsFoundOrEnd outcome answer → IfOk outcome holds
     → ((file : File) (at : ℕ) → outcome ≡ Err (store.Damaged file at) → holds None) → IfOk answer holds
 found_holds {T} holds (Ok found) answer is so none = subst (λ (r : Result (Option T) SendFault). IfOk r holds) (sym is) so

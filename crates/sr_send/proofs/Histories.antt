@@ -74,7 +74,7 @@ read_none db publisher es user sent after scan is at catalog user_is = record {
   pushed_are = refl;
 }
 
--- the next entry fits behind those that were read
+-- the next entry fits after those that were read
 pub fits_next : (publisher : Name) (es done rest : List Recorded) (r : Recorded) → Stored publisher es → es ≡ done ++ r ∷ rest → Stored publisher done × Fits (state_of publisher done) (end_of done) r
 fits_next publisher es done rest r stored parts =
     let both = (stored_from-append (fresh publisher) 0 done (r ∷ rest)).0 (subst (λ (rs : List Recorded). Stored publisher rs) parts stored) in

@@ -14,3 +14,4 @@ pub mod NoteEnds
 pub mod PassEnds
 pub mod Truths
 pub mod TrueSentMessages
+pub mod Written

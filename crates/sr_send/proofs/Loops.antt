@@ -36,7 +36,7 @@ use Rattle.sr_send.proofs.Histories.{read_none, read_more, read_all, read_prefix
 
 -- ---- one step
 
--- the entry was found: the next behind the offset
+-- the entry was found: the next after the offset
 abbrev pub IsFoundNext : View → Offset → Offset → Entry → Seen → Type 0
 IsFoundNext db after end entry seen = IsTrue seen.observable → (publisher : Name) (done left : List Recorded) → IsDatabase db publisher (done ++ left) seen → after.0 ≡ end_of done → IsNext done left end entry
 
@@ -71,7 +71,7 @@ fault_from before middle now added Disk steady cause = (rose_from before.disk_fa
 fault_from before middle now added Mail steady cause = (rose_from before.mail_faults middle.mail_faults now.mail_faults steady.mail cause.0, cause.1 ∙ steady.disk)
 fault_from before middle now added (Full end need) steady cause = cause
 fault_from before middle now added (Long size limit) steady cause = (steady_on before middle now steady cause.0, cause.1, cause.2)
-fault_from before middle now added Memory steady cause = cause ∙ steady.disk
+fault_from before middle now added Memory steady cause = (cause.0 ∙ steady.disk, cause.1 ∙ steady.mail)
 
 stop_from : (aim : Aim) (old : Post) (before middle now : Seen) (added : List Transaction) (fault : SendFault) → Posted before middle [] → IsSteady before middle → PushStop aim old middle now added fault
     → PushStop aim old before now added fault
@@ -105,7 +105,7 @@ next_fault before now Disk mail cause = (cause, mail)
 next_fault before now Mail mail cause = absurd cause
 next_fault before now (Full end need) mail cause = absurd cause
 next_fault before now (Long size limit) mail cause = absurd cause
-next_fault before now Memory mail cause = cause
+next_fault before now Memory mail cause = (cause, mail)
 
 -- no entry was read
 pub step_unread : (db : View) (aim : Aim) (scan : Scan) (old : Post) (after : Offset) (before now : Seen) (fault : SendFault) → IsAim aim → Posted before now [] → now.mail_faults ≡ before.mail_faults
@@ -145,7 +145,7 @@ under_start db aim user scan post after seen made at order catalog user_is =
 pub some_made : (db : View) (aim : Aim) (user : Name) (scan : Scan) (post : Post) (after : Offset) (before now : Seen) → UnderWay db aim user scan post after before now → HasMadeSome aim post
 some_made db aim user scan post after before now under = record { pushed = under.pushed; messages = under.messages; made = under.made }
 
--- the message files of a step stand behind those before it
+-- the message files of a step stand after those before it
 pub put_files_on : (aim : Aim) (post : Post) (pushed : List Transaction) (messages more : List Message) (before middle now : Seen) → HasMade aim post pushed messages → Posted before middle (put_files aim.address aim.count messages)
     → Posted middle now (put_files aim.address (aim.count + post.put) more) → Posted before now (put_files aim.address aim.count (messages ++ more))
 put_files_on aim post pushed messages more before middle now made one two =
@@ -234,7 +234,7 @@ pub stop_answer : (db : View) (aim : Aim) (scan : Scan) (old : Post) (after end 
 stop_answer db aim scan old after end entry before middle now (Ok done) read steady found stop = tt
 stop_answer db aim scan old after end entry before middle now (Err fault) read steady found stop = step_stopped db aim scan old after end entry before middle now fault read steady found stop
 
--- the base does not lie behind the end
+-- the base does not lie past the end
 pub base_first : (db : View) → IsOfSome db → db.log.base ≤ db.log.end
 base_first db some = omega (arith, some.is.base)
 

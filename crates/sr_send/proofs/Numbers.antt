@@ -23,7 +23,7 @@ pub no_commits : (address : Name) (count : ℕ) (messages : List Message) → co
 no_commits address count [] = refl
 no_commits address count (m ∷ messages) = no_commits address (count + 1) messages
 
--- with what stands behind them
+-- with what stands after them
 pub commits_behind : (address : Name) (count : ℕ) (messages : List Message) (events : List Event) → commits (put_files address count messages ++ events) ≡ commits events
 commits_behind address count [] events = refl
 commits_behind address count (m ∷ messages) events = commits_behind address (count + 1) messages events
@@ -37,7 +37,7 @@ put_files-append address count (x ∷ xs) ys =
     ap (λ (events : List Event). put_file address ((count + 1) % 2 ^ 64) x ∷ events)
     (put_files-append address (count + 1) xs ys ∙ ap (λ (n : ℕ). put_files address (count + 1) xs ++ put_files address n ys) same)
 
--- some message files behind others
+-- some message files after others
 pub posted_more : (address : Name) (count : ℕ) (xs ys : List Message) (a b c : Seen) → Posted a b (put_files address count xs) → Posted b c (put_files address (count + length xs) ys) → Posted a c (put_files address count (xs ++ ys))
 posted_more address count xs ys a b c one two =
     subst (λ (events : List Event). Posted a c events) (sym (put_files-append address count xs ys))
@@ -92,12 +92,12 @@ put_fault before middle now Disk steady cause = cause
 put_fault before middle now Mail steady cause = (rose_from before.mail_faults middle.mail_faults now.mail_faults steady.mail cause.0, cause.1 ∙ steady.disk)
 put_fault before middle now (Full end need) steady cause = cause
 put_fault before middle now (Long size limit) steady cause = cause
-put_fault before middle now Memory steady cause = cause ∙ steady.disk
+put_fault before middle now Memory steady cause = (cause.0 ∙ steady.disk, cause.1 ∙ steady.mail)
 
 -- ends before the next, for want of memory
 pub putting_short : (aim : Aim) (put total : ℕ) (left messages : List Message) (before now : Seen) → IsPutting aim.address aim.count put messages left total before now
     → IsPartSent aim (aim.count + put) before now messages Memory
-putting_short aim put total left messages before now p = record { done = p.done; left = left; parts = p.parts; posted = p.posted; spelled = p.spelled; cause = p.steady.disk; ends = ends_steady before now p.steady }
+putting_short aim put total left messages before now p = record { done = p.done; left = left; parts = p.parts; posted = p.posted; spelled = p.spelled; cause = (p.steady.disk, p.steady.mail); ends = ends_steady before now p.steady }
 
 -- ends at the next
 pub putting_stop : (aim : Aim) (put total number : ℕ) (m : Message) (left messages : List Message) (before middle now : Seen) (fault : SendFault) → IsPutting aim.address aim.count put messages (m ∷ left) total before middle

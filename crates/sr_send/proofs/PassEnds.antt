@@ -169,7 +169,7 @@ module _ (db : View) (user : Name) (book : Book) (limit : ℕ) (ask : Bool) (is 
         (subst (λ (rs : List Recorded). Went middle now publisher rs (commit r ∷ [])) (sym same)
         (noted (told_then before middle put.posted.stays told) (posted_database db publisher es before middle events put.posted told database)))
 
-    -- what happened to the mail: nothing but the message files, whatever commit was begun behind them
+    -- what happened to the mail: nothing but the message files, whatever commit was begun after them
     mail_then : (begun : List Event) → IsTrue before.observable → PutAlone begun (mail_in middle.happened) (mail_in now.happened)
         → PutAlone (put_files (address_in db.catalog user) book.send_count put.messages ++ begun) (mail_in before.happened) (mail_in now.happened)
     mail_then begun told alone =
@@ -344,7 +344,8 @@ note_device old new before middle now r Disk steady stays cause = (rose_from bef
 note_device old new before middle now r Mail steady stays cause = absurd cause
 note_device old new before middle now r (Full end need) steady stays cause = subst (λ (seen : Seen). IsSteady before seen) (sym cause.1.site) steady
 note_device old new before middle now r (Long size longest) steady stays cause = absurd cause
-note_device old new before middle now r Memory steady stays cause = ap (λ (seen : Seen). seen.disk_faults) cause.site ∙ steady.disk
+note_device old new before middle now r Memory steady stays cause =
+    (ap (λ (seen : Seen). seen.disk_faults) cause.site ∙ steady.disk, ap (λ (seen : Seen). seen.mail_faults) cause.site ∙ steady.mail)
 
 -- a user who is granted has a book
 pub has_book : (found : Option Book) (o : Option User) (b : Book) → found ≡ option_map (λ _. b) o → IsSome o → ((book : Book) → found ≡ Some book → ⊥) → ⊥

@@ -1,4 +1,4 @@
--- Files that are put while a database stands still: nothing, one, and some behind others.
+-- Files that are put while a database stands still: nothing, one, and some after others.
 use Rattle.std.proofs.Common.{◌≡◌, ℕ, Bool, true, List, [], ◌∷◌, ◌++◌, append_assoc, refl, sym, ap, subst, ◌∙◌, Result, Err, arith, le_refl, inl, inr}
 use Rattle.std.specs.Prelude.{IsTrue, IsErrOf}
 use Rattle.std.proofs.lemmas.List.{append-nil}
@@ -44,7 +44,7 @@ told_then before now stays told = subst (λ (b : Bool). IsTrue b) (sym stays.obs
 
 -- ---- what is put
 
--- some files behind others
+-- some files after others
 pub alone_on : (events more : List Event) (a b c : List Happening) → PutAlone events a b → PutAlone more b c → PutAlone (events ++ more) a c
 alone_on [] more a b c one two = subst (λ (from : List Happening). PutAlone more from c) one two
 alone_on (commit r ∷ events) more a b c one two = alone_on events more a b c one two
@@ -194,10 +194,11 @@ put_as before now address name bytes done number m name_is bytes_are stays happe
     ∙ ap (λ (b : List ℕ). sent address (file_name_of m.from number) b done ∷ before.happened) bytes_are)
 
 pub not_begun : (seen : Seen) (address : Name) (number : ℕ) (m : Message) → IsPartPut seen seen address number m Memory
-not_begun seen address number m = record { posted = inl (posted_none seen); cause = refl; ends = ends_same seen }
+not_begun seen address number m = record { posted = inl (posted_none seen); cause = (refl, refl); ends = ends_same seen }
 
 pub part_begun : (before now : Seen) (address : Name) (number : ℕ) (m : Message) (fault : MailFault) (result : Result (Unit {0}) MailFault) → result ≡ Err fault → Posted before now (put_file address number m ∷ []) → IsMessage m
     → EndsAtPut before now
-    → MailStays before now → (IsErrOf result mail.Failed → Rose before.mail_faults now.mail_faults) → IsPartPut before now address number m (fault_of_mail fault)
-part_begun before now address number m mail.Failed result is posted spelled ends stays cause = record { posted = inr (posted, spelled); cause = (cause is, stays.disk_faults); ends = ends }
-part_begun before now address number m mail.Memory result is posted spelled ends stays cause = record { posted = inr (posted, spelled); cause = stays.disk_faults; ends = ends }
+    → MailStays before now → (IsErrOf result mail.Failed → Rose before.mail_faults now.mail_faults) → (IsErrOf result mail.Memory → now.mail_faults ≡ before.mail_faults)
+    → IsPartPut before now address number m (fault_of_mail fault)
+part_begun before now address number m mail.Failed result is posted spelled ends stays cause short = record { posted = inr (posted, spelled); cause = (cause is, stays.disk_faults); ends = ends }
+part_begun before now address number m mail.Memory result is posted spelled ends stays cause short = record { posted = inr (posted, spelled); cause = (stays.disk_faults, short is); ends = ends }

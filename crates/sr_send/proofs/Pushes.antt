@@ -85,11 +85,11 @@ pub nothing_put : (aim : Aim) (old : Post) (added : List Transaction) → IsAim 
 nothing_put aim old added good pushed earlier made = prefix_more aim pushed added (earlier ++ []) (made_prefix aim old pushed earlier good made)
 
 pub stopped_short : (aim : Aim) (old : Post) (seen : Seen) (added : List Transaction) → IsAim aim → PushStop aim old seen seen added Memory
-stopped_short aim old seen added good = record { messages = []; prefix = nothing_put aim old added good; posted = posted_none seen; spelled = tt; cause = refl; ends = ends_same seen }
+stopped_short aim old seen added good = record { messages = []; prefix = nothing_put aim old added good; posted = posted_none seen; spelled = tt; cause = (refl, refl); ends = ends_same seen }
 
 cut_fault : (seen : Seen) (t : Transaction) (e : TooLong) → CutCause (t ∷ []) e → StopFault seen seen (t ∷ []) (fault_of_cut e)
 cut_fault seen t (long.Transaction need) cause = (same_counts seen, refl, cause)
-cut_fault seen t long.Memory cause = refl
+cut_fault seen t long.Memory cause = (refl, refl)
 
 pub stopped_long : (aim : Aim) (old : Post) (seen : Seen) (t : Transaction) (e : TooLong) → IsAim aim → CutCause (t ∷ []) e → PushStop aim old seen seen (t ∷ []) (fault_of_cut e)
 stopped_long aim old seen t e good cause = record { messages = []; prefix = nothing_put aim old (t ∷ []) good; posted = posted_none seen; spelled = tt; cause = cut_fault seen t e cause; ends = ends_same seen }

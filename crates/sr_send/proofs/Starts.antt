@@ -268,7 +268,7 @@ begun_base db aim scan sent at after first before now some walked read steady at
       read = λ told publisher es database. read_none db publisher es scan.user aim.prev.0 after scan database.is at_is catalog refl;
     }
 
--- it ended behind the ends
+-- it ended after the ends
 pub later_stopped : (db : View) (sent : ℕ) (at : Offset) (first before now : Seen) (fault : SendFault) → Walked db sent at first before → BeginStop before now fault → BeginStop first now fault
 later_stopped db sent at first before now fault walked stop = record {
   posted = read_on first before now walked.posted stop.posted;
@@ -280,7 +280,7 @@ later_stopped db sent at first before now fault walked stop = record {
 pub begin_short : (db : View) (sent : ℕ) (at : Offset) (first before now : Seen) → Walked db sent at first before → Posted before now [] → IsSteady before now → BeginStop first now Memory
 begin_short db sent at first before now walked read steady = record {
   posted = read_on first before now walked.posted read;
-  cause = steady.disk ∙ walked.steady.disk;
+  cause = (steady.disk ∙ walked.steady.disk, steady.mail ∙ walked.steady.mail);
   ends = ends_on first before now walked.steady (ends_steady before now steady);
 }
 

@@ -46,10 +46,10 @@ pub record IsSteady (before now : Seen) : Type 0 where
   pub mail : now.mail_faults ≡ before.mail_faults
   pub done : IsTrue before.observable → NoneFailed (mail_in before.happened) (mail_in now.happened)
 
--- which device refused, if one did: its count rose, and that of the other stays; where memory was wanting no call of the disk failed
+-- which device refused, if one did: its count rose, and that of the other stays; where memory was wanting no device did
 abbrev pub IsDeviceFault : Seen → Seen → SendFault → Type 0
 IsDeviceFault before now Disk = Rose before.disk_faults now.disk_faults × (now.mail_faults ≡ before.mail_faults)
 IsDeviceFault before now Mail = Rose before.mail_faults now.mail_faults × (now.disk_faults ≡ before.disk_faults)
 IsDeviceFault before now (Full end need) = IsSteady before now
 IsDeviceFault before now (Long size limit) = IsSteady before now
-IsDeviceFault before now Memory = now.disk_faults ≡ before.disk_faults
+IsDeviceFault before now Memory = (now.disk_faults ≡ before.disk_faults) × (now.mail_faults ≡ before.mail_faults)

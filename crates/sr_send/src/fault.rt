@@ -18,7 +18,7 @@ pub enum SendFault {
     /// The mail refused: its count of faults rose in this call.
     Mail,
     /// The note of the messages has no room in the log. `end` is the place in the log file past its first closed gate, `need` the record's number of
-    /// bytes with the gate behind it.
+    /// bytes with the gate after it.
     Full { end: u64, need: u64 },
     /// The encoding of a transaction has `length` bytes, more than the `limit` of 64 MiB.
     Long { length: u64, limit: u64 },
@@ -63,7 +63,7 @@ impl From<TooLong> for SendFault {
     }
 }
 
-/// What was read behind an offset of an open log, as a pass takes it: a record that reads as damaged is the end of the log. `open` accepted it, so that
+/// What was read after an offset of an open log, as a pass takes it: a record that reads as damaged is the end of the log. `open` accepted it, so that
 /// only a disk that does not give what was written to it has one.
 pub(crate) fn found_or_end<T>(
     outcome: Result<Option<T>, DatabaseFault>,

@@ -11,7 +11,7 @@ use sr_logform::{Entry, Op, Outcome};
 use sr_scan::Scanner;
 use std::alloc::Global;
 
-/// Lets a scanner go on behind an entry, whatever that gives. One of which no statement ran costs a look at its ops.
+/// Lets a scanner go on after an entry, whatever that gives. One of which no statement ran costs a look at its ops.
 #[tactic(auto, using(crate::proofs::Still::passed_still, crate::proofs::Still::passed_fed))]
 pub(crate) fn pass_over(alloc: Global, scanner: &mut Scanner, entry: &Entry) -> Result<(), NoMemory>
     ensures passed { OnOk result (IsPassed scanner.old entry.now scanner.new) }
@@ -25,7 +25,7 @@ pub(crate) fn pass_over(alloc: Global, scanner: &mut Scanner, entry: &Entry) -> 
     Ok(())
 }
 
-/// Whether no statement of an entry ran here: then the catalog behind it is the one before it.
+/// Whether no statement of an entry ran here: then the catalog after it is the one before it.
 #[tactic(auto, using(crate::proofs::Still::pass_runs_nothing))]
 pub(crate) fn runs_nothing(entry: &Entry) -> bool
     ensures nothing { IsTrue result → RunsNothing entry.now }

@@ -49,7 +49,8 @@ fn push_one<S: Site>(
 
 /// Pushes a transaction that lies past what the partner was sent before.
 ///
-/// One without a spelling comes of no history: it is met only where a disk does not give what was written to it, and is taken for want of memory.
+/// One without a spelling comes of no history (`what_a_history_gives_can_be_written`): it is met only where a disk does not give what was written to it,
+/// and is taken for want of memory.
 fn push_new<S: Site>(
     alloc: Global,
     site: &mut S,

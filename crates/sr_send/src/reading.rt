@@ -24,7 +24,7 @@ use sr_scan::Scanner;
 use sr_site::Site;
 use std::alloc::Global;
 
-/// The entry behind an offset, with its end, read into a buffer that is lent.
+/// The entry after an offset, with its end, read into a buffer that is lent.
 pub(crate) fn next_entry<S: Site>(
     alloc: Global,
     db: &Database,
@@ -56,7 +56,7 @@ fn stepped_to(end: Offset, outcome: Result<(), SendFault>) -> Result<Option<Offs
     }
 }
 
-/// Reads the entry behind an offset and puts what it gives; answers its end.
+/// Reads the entry after an offset and puts what it gives; answers its end.
 fn step<S: Site>(
     alloc: Global,
     db: &Database,

@@ -41,7 +41,7 @@ pub struct Sent {
 /// be read again. Where none is due nothing is done. Of the mail nothing is listed, fetched or removed.
 /// The log is read from what he was sent on, where no statement ran there, which the kinds of its entries tell; else from its base.
 ///
-/// `Disk` and `Mail` come only where that device's count of faults rose, and that of the other stayed; `Full` exactly where the note has no room in the
+/// `Disk` and `Mail` come only where that device's count of faults rose, and else no count rises; `Full` exactly where the note has no room in the
 /// log; `Long` where the encoding of a transaction is longer than 64 MiB, with that of the first such. After a fault the messages that were put are the
 /// first of those of the pass, and stay. After `Disk` of the note the database is not used again; else it is as it was.
 pub fn send<S: Site>(

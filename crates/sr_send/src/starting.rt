@@ -1,8 +1,8 @@
 //! Where the log is read on from.
 //!
-//! What ends no later than the offset up to which the log was sent need not be read, where the catalog behind it is known: it is that of the database,
+//! What ends no later than the offset up to which the log was sent need not be read, where the catalog after it is known: it is that of the database,
 //! if no statement ran in the entries that follow. So the ends of the entries are read, five bytes each, up to that offset, for it need be no end itself;
-//! and then the kinds of the entries behind it, and those entries whose kind does not tell that no statement ran.
+//! and then the kinds of the entries after it, and those entries whose kind does not tell that no statement ran.
 
 ghost use Rattle.std.specs.Prelude.{◌≡◌, ◌≢◌, ◌≤◌, ◌<◌, ◌++◌, true, [], List, IsTrue, IfOk, IfErr, IfSome, OnOk};
 ghost use Rattle.sr_book.specs.Entries.{Name as AName};
@@ -39,7 +39,7 @@ fn up_to(found: Option<Offset>, sent: Offset, last: Offset) -> Option<Offset>
     }
 }
 
-/// The end of the entry behind an offset. It takes no memory.
+/// The end of the entry after an offset. It takes no memory.
 fn found_end<S: Site>(
     db: &Database,
     site: &mut S,
@@ -60,7 +60,7 @@ fn found_end<S: Site>(
     found_or_end(outcome)
 }
 
-/// The end of the entry behind an offset, where it does not lie past another. It takes no memory.
+/// The end of the entry after an offset, where it does not lie past another. It takes no memory.
 fn next_end<S: Site>(
     db: &Database,
     site: &mut S,
@@ -108,7 +108,7 @@ fn kept(end: Offset, is_kept: bool) -> Option<Offset>
     if is_kept { Some(end) } else { None }
 }
 
-/// The end of the entry behind an offset, with the byte that tells its kind.
+/// The end of the entry after an offset, with the byte that tells its kind.
 fn next_kind<S: Site>(
     db: &Database,
     site: &mut S,
@@ -136,7 +136,7 @@ fn is_still_kind(kind: u8) -> bool
     kind == 1 || kind == 4 || kind == 6
 }
 
-/// The end of the entry behind an offset, where no statement of it ran.
+/// The end of the entry after an offset, where no statement of it ran.
 fn still_end<S: Site>(
     alloc: Global,
     db: &Database,
@@ -165,7 +165,7 @@ fn still_end<S: Site>(
     }
 }
 
-/// The end of the entry behind an offset, which is read whole, where no statement of it ran.
+/// The end of the entry after an offset, which is read whole, where no statement of it ran.
 fn read_still<S: Site>(
     alloc: Global,
     db: &Database,
@@ -193,7 +193,7 @@ fn read_still<S: Site>(
     }
 }
 
-/// Whether no statement ran in the entries behind an offset. They are read up to the first in which one did.
+/// Whether no statement ran in the entries after an offset. They are read up to the first in which one did.
 fn is_still<S: Site>(
     alloc: Global,
     db: &Database,

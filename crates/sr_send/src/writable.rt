@@ -163,7 +163,7 @@ impl<T, U> Named for (Name, T, U) {
     }
 }
 
-/// Whether no name stands twice. Each is compared with those behind it, which are as many as a table's columns at most.
+/// Whether no name stands twice. Each is compared with those after it, which are as many as a table's columns at most.
 fn are_distinct<T: Named>(items: &[T]) -> bool
     ensures { IsTrue result ↔ AreDistinct (map T.name_of items.now) }
 {

@@ -26,6 +26,7 @@ use Rattle.sr_session.specs.declared.fault.SessionFault.{SessionFault}
 use Rattle.sr_session.specs.declared.fault.SessionFault.TheVariants.{Statement, Store, Sink, Memory}
 use Rattle.sr_session.proofs.Commits.{came_none}
 use Rattle.sr_session.proofs.Reaching.{database_along}
+use Rattle.sr_session.proofs.Reports.{acts_endure}
 use Rattle.sr_session.proofs.Stretches.{outputs_on, said_flush, prefix_said}
 use Rattle.sr_session.proofs.Taking.{no_broken, prefix_of_store}
 use Rattle.sr_session.proofs.Timely.{in_time_on}
@@ -76,6 +77,7 @@ ran_none view seen written statements usable none = record {
   reached = (came_none view seen [] [] usable refl).reached;
   ends = (refl, ((ran (committed view) statements).acts, refl));
   lines = λ told. sym (append-nil written.taken);
+  reported = λ told publisher es database. acts_endure view view seen seen [] [] publisher es (came_none view seen [] [] usable refl).reached told database;
   in_time = λ told. record { done = 0; begun = ((ran (committed view) (take 1 statements)).acts, refl); wrote = ([], sym (append-nil (written.taken ++ []) ∙ append-nil written.taken)) };
   sink = refl;
   pending = none;
@@ -137,6 +139,7 @@ ended old middle new before now written taken taken' kept statements result run 
   reached = reached_kept old middle new before now run.acts run.broken same run.reached;
   ends = ends_kept (ran (committed old) statements) (length statements) middle new run.acts run.broken (counted (length statements) result) same.log run.ends;
   lines = λ told. lines_written (text_from old.log.end run.acts) kept written taken taken' result (length statements) quiet (run.lines told) (wrote.said (told_there written taken run.stays told));
+  reported = λ told publisher es database. acts_endure old middle before now run.acts run.broken publisher es run.reached told database;
   in_time = λ told.
       in_time_on (committed old) old.log.end statements (run.acts ++ map commits run.broken) written.taken taken.taken taken'.taken (run.in_time told)
       (kept, wrote.said (told_there written taken run.stays told));
@@ -155,6 +158,7 @@ ended_already old middle new before now written taken kept statements run same n
   reached = reached_kept old middle new before now run.acts run.broken same run.reached;
   ends = run.ends;
   lines = run.lines;
+  reported = λ told publisher es database. acts_endure old middle before now run.acts run.broken publisher es run.reached told database;
   in_time = run.in_time;
   sink = run.sink;
   pending = none;
@@ -198,6 +202,7 @@ ended_sink old middle new before now written taken taken' kept statements result
   reached = reached_kept old middle new before now run.acts run.broken same run.reached;
   ends = prefix_of_end (ran (committed old) statements) (length statements) middle run.acts run.broken (counted (length statements) result) run.ends;
   lines = λ told. lines_prefix (text_from old.log.end run.acts) kept written taken taken' result quiet (run.lines told) (failed.prefix (told_there written taken run.stays told));
+  reported = λ told publisher es database. acts_endure old middle before now run.acts run.broken publisher es run.reached told database;
   in_time = λ told.
       let more = failed.prefix (told_there written taken run.stays told) in
       in_time_on (committed old) old.log.end statements (run.acts ++ map commits run.broken) written.taken taken.taken taken'.taken (run.in_time told) (more.written, more.new_is);

@@ -7,6 +7,7 @@ pub mod Pieces
 pub mod Quiet
 pub mod Reaching
 pub mod Regions
+pub mod Reports
 pub mod Results
 pub mod Statements
 pub mod States

@@ -46,7 +46,7 @@ database_along old new publisher es seen same is database = record {
   settled = λ image left. held_along old new publisher es image same (database.settled image left);
 }
 
-stands_as : (view : View) (publisher : Name) (es : List Recorded) (seen : Seen) → IsDatabase view publisher es seen → IsSettled (StandsAs publisher es) seen
+pub stands_as : (view : View) (publisher : Name) (es : List Recorded) (seen : Seen) → IsDatabase view publisher es seen → IsSettled (StandsAs publisher es) seen
 stands_as view publisher es seen database = λ image left. record { base = view.log.base; stands = (database.settled image left).stands }
 
 pub still : (seen : Seen) → DiskStays seen seen

@@ -3,6 +3,7 @@
 ghost use Rattle.std.specs.Prelude.{◌≡◌, ◌+◌, ℕ, List, [], ◌∷◌, ◌++◌, length};
 ghost use Rattle.sr_base.specs.Fields.{IsName, name_spelling};
 ghost use Rattle.sr_snapshot.specs.Inner.Beginnings.{Beginning, first_of};
+ghost use Rattle.sr_snapshot.specs.Inner.Damages.{IsDamaged};
 ghost use Rattle.sr_snapshot.specs.Inner.Parts.{magic};
 ghost use Rattle.sr_snapshot.specs.Inner.Snapshots.{IsSnapshot, snapshot_spelling};
 
@@ -10,6 +11,11 @@ ghost use Rattle.sr_snapshot.specs.Inner.Snapshots.{IsSnapshot, snapshot_spellin
 #[tactic(auto, using(crate::proofs::Uniqueness::one_beginning))]
 pub fn a_snapshot_is_of_one_beginning()
     ensures one { (b d : Beginning) (bytes : List ℕ) → IsSnapshot b bytes → IsSnapshot d bytes → b ≡ d }
+{}
+
+/// Bytes that break somewhere are no snapshot.
+pub fn damage_excludes_a_snapshot()
+    ensures none { (b : Beginning) (bytes : List ℕ) (at : ℕ) → IsDamaged bytes at → IsSnapshot b bytes → ⊥ }
 {}
 
 /// The snapshot of a database without an entry has the offset 0, its publisher, and no statement, table and book: a name of four bytes makes 33.

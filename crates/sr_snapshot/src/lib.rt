@@ -4,17 +4,26 @@
 //! most is that of `write_state`: the file is the snapshot of the state, whatever a crash leaves, and no other file was touched.
 #![tactic(auto)]
 
+mod books;
 mod fault;
+mod fields;
+mod heads;
 mod laws;
+mod loading;
 mod measuring;
 mod pieces;
 mod putting;
+mod rows;
 mod sizing;
 mod state;
+mod values;
+mod window;
 mod writing;
 
 pub use fault::SnapFault;
-pub use laws::{a_snapshot_is_of_one_beginning, the_first_snapshot_has_no_items};
+pub use laws::{
+    a_snapshot_is_of_one_beginning, damage_excludes_a_snapshot, the_first_snapshot_has_no_items,
+};
 pub use sizing::length_of;
 pub use state::State;
 pub use writing::write_state;

@@ -11,7 +11,6 @@ pub mod RunMail
 pub mod Steps
 pub mod Noting
 pub mod Acting
-pub mod Returned
 pub mod Walking
 pub mod Doing
 pub mod Whole

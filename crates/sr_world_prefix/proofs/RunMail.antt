@@ -51,7 +51,7 @@ purge_goes address files between now t es receives.Disk cause = absurd cause
 purge_goes address files between now t es receives.Mail cause = grows_on between.happened now.happened cause.1.stays.grows
 purge_goes address files between now t es (receives.Full end need) cause = absurd cause
 purge_goes address files between now t es (receives.Long size limit) cause = absurd cause
-purge_goes address files between now t es receives.Memory cause = grows_on between.happened now.happened cause.stays.grows
+purge_goes address files between now t es receives.Memory cause = grows_on between.happened now.happened cause.1.stays.grows
 
 pub removed_goes : (publisher : Name) (es : List Recorded) (fetched_files : List FetchedFile) (t : PartnerPass) (between now : Seen) (fault : AgentFault) (purge : Bool) (whole : Type 0)
     → RemovedInPart publisher es fetched_files t between now fault purge whole

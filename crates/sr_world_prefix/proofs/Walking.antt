@@ -36,7 +36,7 @@ use Rattle.sr_world_prefix.proofs.Acting.{StandsAt, acts_on, begins_at}
 use Rattle.sr_world_prefix.proofs.Along.{Steps, along_last, steps_along, steps_prefix, steps_more}
 use Rattle.sr_world_prefix.proofs.Mail.{AllSince, GoesOn, acts_parts, acts_since, refetches_on, under_partner_pass}
 use Rattle.sr_world_prefix.proofs.Ran.{HasReceived}
-use Rattle.sr_world_prefix.proofs.Returned.{SettlesAs, reached_settles, removed_settled, settles_before}
+use Rattle.sr_agent.proofs.Returned.{SettlesAs, reached_settles, removed_settled, settles_before}
 use Rattle.sr_world_prefix.proofs.RunMail.{removed_goes}
 
 -- what happened to the mail behind the acts

@@ -44,7 +44,7 @@ use Rattle.sr_world_runs.proofs.DatabaseSteps.{CanStep, HasDatabaseSteps, commit
 use Rattle.sr_world_runs.proofs.Delivered.{letters_database_steps, run_database_steps, with_entry}
 use Rattle.sr_world_prefix.proofs.Noting.{sent_step}
 use Rattle.sr_world_prefix.proofs.Ran.{HasReceived, commits_letters, received_either}
-use Rattle.sr_world_prefix.proofs.Returned.{SettlesAs, gathered_settled, settles_before}
+use Rattle.sr_agent.proofs.Returned.{SettlesAs, gathered_settled, settles_before}
 use Rattle.sr_world_prefix.proofs.RunSteps.{run_steps}
 use Rattle.sr_world_runs.proofs.Sending.{all_noted}
 use Rattle.sr_world_prefix.proofs.Steps.{IsRunStep}
@@ -56,7 +56,7 @@ pub record DatabaseStepsOn (messages : List Message) (publisher : Name) (es : Li
   pub went : Went before now publisher es trace
   pub has : HasDatabaseSteps messages publisher es trace
   pub steps : Steps (IsRunStep publisher) es (commits trace)
-  -- where no call of the disk failed it is settled behind it
+  -- where no call of the disk failed it is settled after it
   pub settles : SettlesAs publisher (es ++ commits trace) before now
 
 -- it went through this trace and then some commits, each of them allowed, and a step of a run
@@ -141,7 +141,7 @@ module _ (messages : List Message) (publisher : Name) (es : List Recorded) (old 
   steps_so_far : Steps (IsRunStep publisher) es (commits trace)
   steps_so_far = run_steps publisher es run received
 
-  -- nothing was done behind the first steps
+  -- nothing was done after the first steps
   with_none : (events : List Event) → events ≡ [] → IsSettled (StandsAs publisher there) now → Went before now publisher es (trace ++ events) → DatabaseStepsOn messages publisher es before now
   with_none events is settled went = record {
     trace = trace;
@@ -185,7 +185,7 @@ module _ (messages : List Message) (publisher : Name) (es : List Recorded) (old 
       with_more more.trace (joined before seen now publisher es trace more.trace came.went more.went) more.has more.steps
       (settles_before publisher (there ++ commits more.trace) before seen now (omega (arith, came.steady.disk)) more.settles)
 
-  -- where nothing happened behind them it is as they left it
+  -- where nothing happened after them it is as they left it
   still_settled : now ≡ seen → IsSettled (StandsAs publisher there) now
   still_settled same = subst (λ (s : Seen). IsSettled (StandsAs publisher there) s) (sym same) (settled_as db publisher there seen came.database)
 

@@ -48,7 +48,7 @@ pub commits_database_steps : (messages : List Message) (publisher : Name) (es rs
 commits_database_steps messages publisher es [] steps = tt
 commits_database_steps messages publisher es (r ∷ rs) steps = (refl, steps.0, commits_database_steps messages publisher (es ++ r ∷ []) rs steps.1)
 
--- one trace behind another
+-- one trace after another
 pub database_steps_more : (messages : List Message) (publisher : Name) (es : List Recorded) (prefix back : List Event) (database_steps more : List (DatabaseStep Recorded)) → AreDatabaseSteps messages publisher es prefix database_steps
     → AreDatabaseSteps (messages ++ put_in database_steps) publisher (es ++ commits prefix) back more → AreDatabaseSteps messages publisher es (prefix ++ back) (database_steps ++ more)
 database_steps_more messages publisher es [] back [] more one two =

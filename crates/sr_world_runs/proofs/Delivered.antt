@@ -38,7 +38,7 @@ module _ (publisher : Name) where
   letters_database_steps messages es address count [] hold spelled = tt
   letters_database_steps messages es address count (m ∷ pass) hold spelled = ((refl, spelled.0), hold.0, letters_database_steps (messages ++ m ∷ []) es address (count + 1) pass hold.1 spelled.1)
 
-  -- and an entry that may come behind it
+  -- and an entry that may come after it
   pub with_entry : (messages : List Message) (es : List Recorded) (address : Name) (count : ℕ) (pass : List Message) (r : Recorded) → AllByRecursion (IsTrueOf layers publisher es) pass
       → AllByRecursion IsMessage pass → CanStep (messages ++ pass) publisher es r → HasDatabaseSteps messages publisher es (put_files address count pass ++ commit r ∷ [])
   with_entry messages es address count pass r hold spelled can =
@@ -87,7 +87,7 @@ module _ (publisher : Name) where
   put_none [] = refl
   put_none (r ∷ rs) = put_none rs
 
-  -- behind what it received
+  -- after what it received
   pub run_database_steps : (messages : List Message) (es : List Recorded) (limit : ℕ) (run : Run) → AreInOrder es → HasReceived publisher es run → Steps (CanStep messages publisher) es (taken_entries publisher es run)
       → HasSent publisher es limit run → HasDatabaseSteps messages publisher es (trace_of publisher es run)
   run_database_steps messages es limit run old received taken sent =

@@ -172,7 +172,7 @@ module _ (messages : List Message) (publisher : Name) where
         ((comes_as found.one found.known, subst (λ (n : ℕ). taken_end sees user es < n) (sym found.is) less), tt)
     raise_where es message_files false known is = tt
 
-    -- the note behind them
+    -- the note after them
     pub raised_can : (es : List Recorded) (message_files : List MessageFile) (received : ℕ) → AreKnown user message_files → received ≡ (books_of user es).log_received
         → Can es (note_entries user (raises received (map filed_of message_files)))
     raised_can es message_files received known is =

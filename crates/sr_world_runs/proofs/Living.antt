@@ -152,7 +152,7 @@ module _ (names : List Name) (first : Name → Seen) (earlier : List SeenRun) (r
   messages_are : there.messages ≡ w.messages ++ put_in rest.database_steps
   messages_are = messages_there w r.owner (puts_in r.since) r.before.first (r.since ++ r.before.happened) rest
 
-  -- what rests behind this run, of its database and of another
+  -- what rests after this run, of its database and of another
   own_rests : Rests there.messages r.owner (history there r.owner) Left
   own_rests = rests_on w r.owner (puts_in r.since) r.before.first (r.since ++ r.before.happened) rest (named_one r.owner c.named)
 

@@ -98,7 +98,7 @@ module _ (w : World Recorded) (owner : Name) (put_files : List PutFile) (first :
       subst (λ (ms : List Message). Rests ms owner (history there owner) (MayLeave first moment)) (sym (messages_all w owner rest.database_steps))
       (subst (λ (rs : List Recorded). Rests (messages_after_all w.messages rest.database_steps) owner rs (MayLeave first moment)) (sym (history_all w owner rest.database_steps named)) rest.rests)
 
--- ---- at each moment the world behind is good
+-- ---- at each moment the world after is good
 
 module _ (w : World Recorded) (owner : Name) (before : Seen) (good : IsGoodWorld w) (named : IsNamed w owner) where
   module _ (all : List (DatabaseStep Recorded)) where

@@ -54,7 +54,7 @@ unput_since before now publisher es trace went none more is =
     let same : went.more ≡ more = append_cancel_right went.more more before.happened (sym went.is ∙ is) in
     unput_last more (ap puts_in (sym same) ∙ went.end.put ∙ none)
 
--- ---- behind an opening
+-- ---- after an opening
 
 unput_there : (later opening : List Happening) → mail_in opening ≡ [] → puts_in later ≡ [] → puts_in (later ++ opening) ≡ []
 unput_there later opening none unput = puts_more opening later ∙ ap (λ (l : List PutFile). l ++ puts_in later) (none_put opening none) ∙ unput
@@ -70,7 +70,7 @@ opened_last (fetched address name limit found ∷ later) opening none last = (un
 opened_last (sent address name bytes done ∷ later) opening none last = opened_last later opening none last
 opened_last (removed address name done ∷ later) opening none last = (unput_there later opening none last.0, opened_last later opening none last.1)
 
--- behind what happened before it was opened
+-- after what happened before it was opened
 pub puts_behind : (before opened now : Seen) (opening : List Happening) → opened.happened ≡ opening ++ before.happened → mail_in opening ≡ [] → (later : List Happening)
     → now.happened ≡ later ++ opened.happened → ((more : List Happening) → now.happened ≡ more ++ opened.happened → PutsComeLast more) → (more : List Happening)
     → now.happened ≡ more ++ before.happened → PutsComeLast more
@@ -103,7 +103,7 @@ puts_with (commit r ∷ events) before = puts_with events before
 puts_with (put address name bytes ∷ events) before =
     puts_with events (sent address name bytes true ∷ before) ∙ append_assoc (puts_in before) ((address, name, bytes) ∷ []) (puts events)
 
--- puts alone, behind mail that came behind other mail
+-- puts alone, after mail that came after other mail
 record AloneSince (events : List Event) (first mail now : List Happening) : Type 0 where
   more : List Happening
   is : now ≡ more ++ mail
@@ -218,11 +218,11 @@ module _ (publisher : Name) (there : List Recorded) (db new : View) (before now 
 
 module _ (publisher : Name) (es : List Recorded) (options : Options) (new : View) (before now : Seen) (told : IsTrue before.observable) where
   module _ (run : Run) (db : View) (seen : Seen) (came : CameSoFar db before seen publisher es options run) where
-    -- nothing happened behind the first steps
+    -- nothing happened after the first steps
     same_last : now ≡ seen → (more : List Happening) → now.happened ≡ more ++ before.happened → PutsComeLast more
     same_last same more is = came_last publisher es options run db before seen came more (ap (λ (s : Seen). s.happened) (sym same) ∙ is)
 
-    -- nothing was put in them, and nothing behind them
+    -- nothing was put in them, and nothing after them
     unput_behind : (events : List Event) (rs : List Recorded) → run.deliveries ≡ [] → events ≡ map commit rs → Went before now publisher es (trace_of publisher es run ++ events) → (more : List Happening)
         → now.happened ≡ more ++ before.happened → PutsComeLast more
     unput_behind events rs none is_events went more is =

@@ -45,7 +45,7 @@ module _ (owner : Name) where
     lawful_along (es ++ r ∷ []) rs (subst (LawfulHistory owner) (sym (append_assoc es (r ∷ []) rs)) lawful),
   )
 
--- ---- steps, one list behind another
+-- ---- steps, one list after another
 
 pub history_more : (es : List Recorded) (database_steps more : List (DatabaseStep Recorded)) → history_after_all es (database_steps ++ more) ≡ history_after_all (history_after_all es database_steps) more
 history_more es [] more = refl

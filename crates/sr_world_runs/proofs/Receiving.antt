@@ -157,7 +157,7 @@ module _ (messages : List Message) (publisher : Name) where
     received_steps run some mail =
         received_walked publisher walk es options.purge run tt some (λ users r. gathered run users mail r) mail
 
-    -- what a run received that came so far, whatever came behind
+    -- what a run received that came so far, whatever came after
     pub so_far_received : (run : Run) (db : View) (before seen now : Seen) → AllKnown messages publisher before now → CameSoFar db before seen publisher es options run → HasReceived publisher es run
         → GoesOn (mail_in seen.happened) (mail_in now.happened) → Steps IsReceived es (taken_entries publisher es run)
     so_far_received run db before seen now known came some goes =
@@ -182,7 +182,7 @@ module _ (messages : List Message) (publisher : Name) where
           so_far_received run db before seen now known came (stop_received publisher es options run db new seen now events lines fault whole stops)
           (stop_goes publisher es options run db new seen now events lines fault whole stops)
 
-      -- and in the partner's pass at which it ended, behind its trace until then
+      -- and in the partner's pass at which it ended, after its trace until then
       pub partner_pass_received : (whose : Name) (left : List Name) (upto : IsReceivingUpTo publisher es options run (whose ∷ left)) → IsTrue before.observable
           → PartnerPassStop publisher (after_run publisher es run) (fetched_files_of run.gathered) whose db new seen now events lines fault options.purge whole
           → Went before now publisher es (trace_of publisher es run ++ events) → WentOn publisher IsReceived before now es (trace_of publisher es run)

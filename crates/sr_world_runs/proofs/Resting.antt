@@ -47,7 +47,7 @@ part_is (commit r ∷ []) last = refl
 part_is (commit r ∷ next ∷ others) last = ap (λ (l : List Event). commit r ∷ l) (part_is (next ∷ others) last)
 part_is (put address name bytes ∷ others) last = ap (λ (l : List Event). put address name bytes ∷ l) (part_is others last)
 
--- behind it is that commit, or nothing
+-- after it is that commit, or nothing
 data HasParts (events : List Event) : Type 0 where
   alone : events ≡ prefix_part events → HasParts events
   one_more : (r : Recorded) → events ≡ prefix_part events ++ commit r ∷ [] → HasParts events
@@ -135,7 +135,7 @@ record RestsNext (messages : List Message) (owner : Name) (es : List Recorded) (
   rests : Rests messages owner es Left
   next : IsNext rests later
 
--- it rests so behind the first of these steps
+-- it rests so after the first of these steps
 record OnTheWay (messages : List Message) (owner : Name) (es : List Recorded) (all : List (DatabaseStep Recorded)) (put_files : List PutFile) (Left : Files → Type 0) : Type 0 where
   rest : RestsBehind messages owner es put_files Left
   later : List (DatabaseStep Recorded)
@@ -447,7 +447,7 @@ module _ (messages : List Message) (owner : Name) (first : List Recorded) (befor
     joints = λ prefix back next e. absurd (no_step prefix back next e);
   }
 
-  -- ---- behind an opening
+  -- ---- after an opening
 
   module _ (all : List (DatabaseStep Recorded)) (opened : Seen) (same : opened.first ≡ before.first) (opening : List Happening) (is : opened.happened ≡ opening ++ before.happened) (none : puts_in opening ≡ [])
       (was : (image : Files) → IsImage opened image → IsImage before image) where

@@ -35,7 +35,7 @@ use Rattle.sr_world_runs.proofs.DatabaseSteps.{CanStep, HasDatabaseSteps, commit
 use Rattle.sr_world_prefix.proofs.Goodness.{said_more}
 use Rattle.sr_world_prefix.proofs.Backed.{puts_commits}
 use Rattle.sr_world_prefix.proofs.Opened.{some_image, was_image}
-use Rattle.sr_world_prefix.proofs.Returned.{SettlesAs, settles_before}
+use Rattle.sr_agent.proofs.Returned.{SettlesAs, settles_before}
 use Rattle.sr_world_runs.proofs.Ordered.{IsOrdered, reached_ordered}
 use Rattle.sr_world_runs.proofs.PutsLast.{puts_behind, unput_last, unput_since}
 use Rattle.sr_world_runs.proofs.Reached.{history_more, lawful_says_so}
@@ -91,7 +91,7 @@ module _ (w : World Recorded) (owner : Name) where
     pub went : Went opened now owner es trace
     pub has : HasDatabaseSteps w.messages owner es trace
     pub said : AreSaid (fresh owner) es → Along (AreSaid (fresh owner)) es (commits trace)
-    -- its puts come last, and where no call of the disk failed it is settled behind it
+    -- its puts come last, and where no call of the disk failed it is settled after it
     pub last : (more : List Happening) → now.happened ≡ more ++ opened.happened → PutsComeLast more
     pub settles : SettlesAs owner (es ++ commits trace) opened now
 

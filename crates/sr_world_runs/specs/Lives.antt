@@ -31,7 +31,7 @@ abbrev pub put_by : List SeenRun → List PutFile
 put_by [] = []
 put_by (r ∷ earlier) = put_by earlier ++ puts_in r.since
 
--- what may be found of a database behind runs: what its last one may have left, or what stood there at first
+-- what may be found of a database after runs: what its last one may have left, or what stood there at first
 abbrev pub MayFind : (Name → Seen) → List SeenRun → Name → Files → Type 0
 MayFind first [] d image = IsImage (first d) image
 MayFind first (r ∷ earlier) d image =
@@ -50,7 +50,7 @@ CameOf put_files (fetched address name limit (Err fault)) = ⊤
 CameOf put_files (sent address name bytes done) = ⊤
 CameOf put_files (removed address name done) = ⊤
 
--- a run comes behind others: it is of one of the databases, found what these left, and all that it fetched had been put by them, or is no message
+-- a run comes after others: it is of one of the databases, found what these left, and all that it fetched had been put by them, or is no message
 pub record ComesBehind (names : List Name) (first : Name → Seen) (earlier : List SeenRun) (r : SeenRun) : Type 0 where
   pub named : Contains names r.owner
   pub found : (image : Files) → IsImage r.before image → MayFind first earlier r.owner image

@@ -101,7 +101,7 @@ IsAtMail (fetched address name limit found ∷ before) = ⊤
 IsAtMail (sent address name bytes done ∷ before) = ⊤
 IsAtMail (removed address name done ∷ before) = ⊤
 
--- at a moment, behind what happened since: it rests so behind the message files that were put until then, and at a call of the mail on one history. The steps
+-- at a moment, after what happened since: it rests so after the message files that were put until then, and at a call of the mail on one history. The steps
 -- that lead there are the first of these, and an entry more is the next of them, unless nothing is left but what could be at first
 pub record RestsAt (messages : List Message) (owner : Name) (es : List Recorded) (all : List (DatabaseStep Recorded)) (since : List Happening) (First Left : Files → Type 0) : Type 0 where
   pub rest : RestsBehind messages owner es (puts_in since) Left
@@ -110,7 +110,7 @@ pub record RestsAt (messages : List Message) (owner : Name) (es : List Recorded)
   pub on_the_way : all ≡ rest.database_steps ++ later
   pub next : IsNext rest.rests later ⊎ ((image : Files) → Left image → First image)
 
--- at a moment: and the world behind these steps is good, so that untouched keys agree in it; it is good with one entry more, too, which some of it may have
+-- at a moment: and the world after these steps is good, so that untouched keys agree in it; it is good with one entry more, too, which some of it may have
 pub record IsFaithful (w : World Recorded) (owner : Name) (before : Seen) (all : List (DatabaseStep Recorded)) (since : List Happening) : Type 0 where
   pub at : RestsAt w.messages owner (history w owner) all since (IsImage before) (MayLeave before.first (since ++ before.happened))
   pub good : IsGoodWorld (after_all w (acts_by owner at.rest.database_steps))
@@ -140,7 +140,7 @@ abbrev pub IsSettledBetween : Name → List Recorded → List (DatabaseStep Reco
 IsSettledBetween owner es made before more =
     (prefix back : List (DatabaseStep Recorded)) (next : DatabaseStep Recorded) → made ≡ prefix ++ next ∷ back → WasSettled owner (history_after_all es prefix) before more
 
--- behind a put nothing is done to the mail but further puts
+-- after a put nothing is done to the mail but further puts
 abbrev pub PutsComeLast : List Happening → Type 0
 PutsComeLast [] = ⊤
 PutsComeLast (attached name folder done ∷ before) = PutsComeLast before
@@ -174,7 +174,7 @@ pub record IsFaithfulThroughout (w : World Recorded) (owner : Name) (before now 
 
 -- a database makes steps of its world alone. Let the world, as it was at the last fetch, be good; let what a crash may leave rest on the history that the
 -- database has in it; and let each fetched message to it be of the world. Then at each moment what a crash may leave rests on one history, to which that of
--- the world leads by allowed steps that put what was put until then, and the world behind them is good; and these are the first of one list of steps
+-- the world leads by allowed steps that put what was put until then, and the world after them is good; and these are the first of one list of steps
 abbrev pub MakesSteps : World Recorded → Name → Seen → Seen → Type 0
 MakesSteps w owner before now = IsGoodWorld w → IsNamed w owner → Rests w.messages owner (history w owner) (IsImage before) → AllKnown w.messages owner before now
     → IsFaithfulThroughout w owner before now

@@ -6,7 +6,7 @@ use Rattle.sr_memsite.specs.Disks.{Disk}
 use Rattle.sr_memsite.specs.Meaning.{begun}
 use Rattle.dbremote_demo_draws.specs.declared.demo_site.DemoSite.{DemoSite}
 use Rattle.dbremote_demo_draws.specs.declared.demo_site.DemoSite.TheVariants.{Cons, R1, R2, R3}
-use Rattle.dbremote_demo_tally.specs.declared.demo_sites.DemoSites.{DemoSites}
+use Rattle.dbremote_demo_draws.specs.declared.demo_sites.DemoSites.{DemoSites}
 use Rattle.dbremote_demo.specs.declared.kept.Kept.{Kept}
 
 -- the database of an site, where it is open

@@ -65,13 +65,13 @@ pub record Told (said : List ℕ) (old new : Output) : Type 0 where
   pub steady : new.faults ≡ old.faults
   pub stays : OutputStays old new
 
--- the sink failed behind a prefix of it
+-- the sink failed after a prefix of it
 pub record ToldInPart (said : List ℕ) (old new : Output) : Type 0 where
   pub prefix : IsTrue old.observable → WrotePrefix said old.taken new.taken
   pub rose : Rose old.faults new.faults
   pub stays : OutputStays old new
 
--- this fault came, and all of a text was written before; or the sink failed behind a prefix of it
+-- this fault came, and all of a text was written before; or the sink failed after a prefix of it
 abbrev pub TellEnd : AgentFault → List ℕ → Output → Output → AgentFault → Type 0
 TellEnd why said old new fault = ((fault ≡ why) × Told said old new) ⊎ ((fault ≡ Sink) × ToldInPart said old new)
 
@@ -102,7 +102,7 @@ pub record ToldPartnerPass (user : Name) (outcome : Result Received ReceiveFault
   pub told : (prefix behind : List Report) → IsParted reports answer.ask prefix behind → Told (lines_text (partner_pass_said user answer prefix behind)) old new
   pub count_is : (prefix behind : List Report) → IsParted reports answer.ask prefix behind → count ≡ alarms (partner_pass_said user answer prefix behind)
 
--- the fault that ended the pass, behind the reports of what was done before; or too many lines to count, behind all of them; or that of the sink
+-- the fault that ended the pass, after the reports of what was done before; or too many lines to count, after all of them; or that of the sink
 abbrev pub OutcomeCause : Name → Result Received ReceiveFault → List Report → Output → Output → AgentFault → Type 0
 OutcomeCause user (Ok answer) reports old new fault =
     (prefix behind : List Report) → IsParted reports answer.ask prefix behind → TellEnd Memory (lines_text (partner_pass_said user answer prefix behind)) old new fault
@@ -126,7 +126,7 @@ pub record ToldGathering (outcome : Result (List PartnerMail) ReceiveFault) (bag
   pub told : Told (lines_text (report_lines reports)) old new
   pub count_is : count ≡ alarms (report_lines reports)
 
--- the fault that ended the gathering, behind the reports of what was gathered before; or too many lines to count, behind all of them; or that of
+-- the fault that ended the gathering, after the reports of what was gathered before; or too many lines to count, after all of them; or that of
 -- the sink
 abbrev pub GatheringCause : Result (List PartnerMail) ReceiveFault → List Report → Output → Output → AgentFault → Type 0
 GatheringCause (Ok bag) reports old new fault = TellEnd Memory (lines_text (report_lines reports)) old new fault

@@ -1,11 +1,15 @@
 -- The sources as the program goes over them.
-use Rattle.std.specs.Prelude.{◌≡◌, ℕ, List, [], ◌∷◌, ◌++◌, map}
+use Rattle.std.specs.Prelude.{◌≡◌, ℕ, true, List, [], ◌∷◌, ◌++◌, length, map}
+use Rattle.std.specs.List.{list_any}
 use Rattle.sr_base.specs.declared.value.Value.{Value as Cell}
+use Rattle.sr_ast.specs.declared.query.Items.{Items}
+use Rattle.sr_ast.specs.declared.query.Items.TheVariants as items
 use Rattle.sr_eval.specs.Inner.Bounds.{values_of}
 use Rattle.sr_eval.specs.declared.bound.Bound.{Bound}
 use Rattle.sr_rows.specs.Marks.{RowMap}
 use Rattle.sr_exec_dml.specs.Checks.{Scope}
 use Rattle.sr_exec_dml.specs.Inner.Conditions.{TableFits}
+use Rattle.sr_query.specs.Checks.{is_aggregate}
 use Rattle.sr_query.specs.Sources.{Origin, scope_under, rows_by_key}
 use Rattle.sr_query.specs.declared.joined.Joined.{Joined}
 use Rattle.sr_query.specs.declared.joined.Combination.{Combination}
@@ -24,6 +28,11 @@ pub record IsJoined (rows : RowMap) (joined : Joined) : Type 0 where
 abbrev pub AreJoined : RowMap → List Joined → Type 0
 AreJoined rows [] = Unit {0}
 AreJoined rows (joined ∷ left) = IsJoined rows joined × AreJoined rows left
+
+-- there is one source where the items are aggregates
+abbrev pub IsAlone : Items → List Joined → Type 0
+IsAlone items.All joined = Unit {0}
+IsAlone (items.Each list) joined = list_any is_aggregate list ≡ true → length joined ≡ 1
 
 -- the columns of sources
 abbrev pub columns_left : List Joined → Scope

@@ -22,7 +22,7 @@ use Rattle.sr_receive.specs.declared.receiving.Received.{Received}
 use Rattle.sr_receive_gather.specs.declared.report.Report.{Report}
 use Rattle.sr_receive.specs.Passes.{first_of, note_entries, first_notes, gap_report, act_reports, AreSteady, PassedInPart}
 
--- from a stand on, behind these notes: windows are tried as long as one leads on from what was received; and where one ends past it then, that is
+-- from a stand on, after these notes: windows are tried as long as one leads on from what was received; and where one ends past it then, that is
 -- raised
 pub record PassedFrom (old new : View) (before now : Seen) (user : Name) (message_files : List MessageFile) (notes : List Recorded) (first : PassState) (dropped_windows' : List Window) (reports reports' : List Report) (answer : Received) : Type 0 where
   pub acts : List ReceiveAct
@@ -37,18 +37,18 @@ pub record PassedFrom (old new : View) (before now : Seen) (user : Name) (messag
   pub end : answer.end.0 ≡ (stand_of first acts).received
   pub ask : answer.ask ≡ has_gap answer.end.0 (map filed_of message_files)
 
--- a whole pass over these message files of a user: the greatest confirm is noted and then the ask of the greatest count, and behind them windows are tried
+-- a whole pass over these message files of a user: the greatest confirm is noted and then the ask of the greatest count, and after them windows are tried
 abbrev pub Passed : View → View → Seen → Seen → Name → List MessageFile → List Window → List Window → List Report → List Report → Received → Type 0
 Passed old new before now user message_files dropped_windows dropped_windows' reports reports' answer =
     PassedFrom old new before now user message_files (first_notes user (book_in old.books user) (map filed_of message_files)) (first_of old (book_in old.books user) dropped_windows) dropped_windows' reports reports' answer
 
--- which device refused, if one did: its count rose, and that of the other stays
+-- which device refused, if one did: its count rose, and that of the other stays; at a limit and where there is no memory both stay
 abbrev pub IsDeviceFault : Seen → Seen → ReceiveFault → Type 0
 IsDeviceFault before now Disk = Rose before.disk_faults now.disk_faults × (now.mail_faults ≡ before.mail_faults)
 IsDeviceFault before now Mail = Rose before.mail_faults now.mail_faults × (now.disk_faults ≡ before.disk_faults)
 IsDeviceFault before now (Full end need) = AreSteady before now
 IsDeviceFault before now (Long size limit) = AreSteady before now
-IsDeviceFault before now Memory = now.disk_faults ≡ before.disk_faults
+IsDeviceFault before now Memory = AreSteady before now
 
 -- ---- what a call says, of all message files that the bag may hold of the user
 

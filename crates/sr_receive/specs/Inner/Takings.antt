@@ -22,7 +22,7 @@ use Rattle.sr_receive.specs.Inner.Entering.{CommitStop}
 use Rattle.sr_receive_judged.specs.Judged.{AreDone}
 use Rattle.sr_receive.specs.Reports.{outcome_reports}
 use Rattle.sr_receive_gather.specs.MessageFiles.{MessageFile}
-use Rattle.sr_receive.specs.Passes.{AreShown, IsMailAt, IsOfNext, IsRefused, begun_by}
+use Rattle.sr_receive.specs.Passes.{IsMailAt, IsOfNext, IsRefused, act_reports, begun_by}
 use Rattle.sr_receive_gather.specs.Windows.{IsDue}
 use Rattle.sr_receive_gather.specs.declared.fault.ReceiveFault.{ReceiveFault}
 use Rattle.sr_receive_gather.specs.declared.fault.ReceiveFault.TheVariants.{Disk, Mail, Full, Long, Memory}
@@ -72,7 +72,7 @@ pub record StandsThere (old db : View) (before now : Seen) (user : Name) (messag
   pub mail : IsTrue before.observable → mail_in now.happened ≡ mail_after old.catalog.publisher acts (mail_in before.happened)
   pub steady : now.mail_faults ≡ before.mail_faults
 
--- acts came behind these, no window was lost by them, and of the window begun these transactions are left
+-- acts came after these, no window was lost by them, and of the window begun these transactions are left
 pub record GoesOn (old db : View) (before now : Seen) (user : Name) (message_files : List MessageFile) (first : PassState) (acts : List ReceiveAct) (progress : Progress) (reports reports' : List Report) (left : List Transaction) : Type 0 where
   pub more : List ReceiveAct
   pub stands : StandsThere old db before now user message_files first (more ++ acts) progress reports reports'
@@ -92,9 +92,9 @@ pub record StopsThere (old db : View) (before now : Seen) (user : Name) (message
   pub next : IsOfNext user (stand_of first acts) refused
   pub reached : Reached old db before now (entries_of user acts) (begun_by fault refused)
   pub mail : IsTrue before.observable → IsMailAt fault old.catalog.publisher user message_files (stand_of first acts) (mail_after old.catalog.publisher acts (mail_in before.happened)) (mail_in now.happened)
-  pub shown : AreShown fault user acts reports reports'
+  pub reports_are : reports' ≡ reports ++ act_reports user acts
 
--- and no window was lost by those behind these
+-- and no window was lost by those after these
 pub record StopsTaking (old db : View) (before now : Seen) (user : Name) (message_files : List MessageFile) (first : PassState) (acts : List ReceiveAct) (reports reports' : List Report) (fault : ReceiveFault) : Type 0 where
   pub stops : StopsThere old db before now user message_files first reports reports' fault
   pub dropped_windows_are : (stand_of first stops.acts).dropped_windows ≡ (stand_of first acts).dropped_windows

@@ -15,7 +15,7 @@ pub record HasPurged (address : List ℕ) (book : Book) (files : List Filed) (be
   pub stays : MailStays before now
   pub steady : now.mail_faults ≡ before.mail_faults
 
--- one file more was looked at, behind so many that were removed
+-- one file more was looked at, after so many that were removed
 pub record RemovesNext (address : List ℕ) (book : Book) (f : Filed) (before now : Seen) (count count' : ℕ) : Type 0 where
   pub removed_is : IsTrue before.observable → now.happened ≡ removals address (dead book (f ∷ [])) before.happened
   pub count_is : count' ≡ count + length (dead book (f ∷ []))

@@ -44,6 +44,6 @@ pub record HasMadeSome (aim : Aim) (post : Post) : Type 0 where
   pub messages : List Message
   pub made : HasMade aim post pushed messages
 
--- messages that begin those of the transactions, whatever comes behind these
+-- messages that begin those of the transactions, whatever comes after these
 pub record IsCutPrefix (aim : Aim) (pushed : List Transaction) (messages : List Message) : Type 0 where
   pub begins : (rest : List Transaction) → (left : List Message) × AreCut aim.head aim.prev (pushed ++ rest) aim.limit (messages ++ left)

@@ -29,7 +29,7 @@ IsReadRefusal (store.Full end need) = ⊥
 IsReadRefusal (store.Long size limit) = ⊥
 IsReadRefusal store.Memory = ⊤
 
--- what was read behind an offset of it, as a pass takes it: where a record reads as damaged the log ends, and memory is wanting only where it was
+-- what was read after an offset of it, as a pass takes it: where a record reads as damaged the log ends, and memory is wanting only where it was
 abbrev pub IsFoundOrEnd : {T : Type 0} → Result (Option T) DatabaseFault → Result (Option T) SendFault → Type 0
 IsFoundOrEnd (Ok found) answer = answer ≡ Ok found
 IsFoundOrEnd (Err store.Missing) answer = ⊥

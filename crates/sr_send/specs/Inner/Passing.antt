@@ -11,7 +11,7 @@ use Rattle.sr_scan.specs.Inner.Scanners.{Scan}
 abbrev pub RunsNothing : Entry → Type 0
 RunsNothing e = AllByRecursion (λ text. text ≡ None) (texts_of e)
 
--- the scanner goes on behind an entry, whatever that gives: with the catalog behind the entry's statements
+-- the scanner goes on after an entry, whatever that gives: with the catalog after the entry's statements
 pub record IsPassed (old : Scan) (e : Entry) (new : Scan) : Type 0 where
   pub meant : List (Option Stmt)
   pub are : AreMeant (texts_of e) meant

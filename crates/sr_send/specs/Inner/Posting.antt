@@ -28,10 +28,10 @@ pub record Posted (before now : Seen) (events : List Event) : Type 0 where
 abbrev pub EndsAtPut : Seen → Seen → Type 0
 EndsAtPut before now = IsTrue before.observable → LastMayFail (mail_in before.happened) (mail_in now.happened)
 
--- why putting ends: the mail refused, or there was no memory; the disk's count stays
+-- why putting ends: the mail refused, or there was no memory
 abbrev pub PutFault : Seen → Seen → SendFault → Type 0
 PutFault before now Disk = ⊥
 PutFault before now Mail = IsDeviceFault before now Mail
 PutFault before now (Full end need) = ⊥
 PutFault before now (Long size limit) = ⊥
-PutFault before now Memory = now.disk_faults ≡ before.disk_faults
+PutFault before now Memory = IsDeviceFault before now Memory

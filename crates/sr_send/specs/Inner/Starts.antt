@@ -1,4 +1,4 @@
--- Where a log is read on from: at the catalog that it comes to, behind what need not be read, if no statement ran from there on.
+-- Where a log is read on from: at the catalog that it comes to, after what need not be read, if no statement ran from there on.
 use Rattle.std.specs.Prelude.{◌≡◌, ◌⊎◌, ◌≤◌, ℕ, List, [], ◌∷◌, ◌++◌, IsTrue}
 use Rattle.sr_base.specs.declared.offset.Offset.{Offset}
 use Rattle.sr_book.specs.Entries.{Name}

@@ -57,11 +57,11 @@ pub record Fed (aim : Aim) (scan scan' : Scan) (post post' : Post) (at : Offset)
   pub pushed : Pushed aim post post' before now added
   pub end : EndsAt post.end at post'.end
 
--- an offset behind both of two lies behind a third
+-- an offset after both of two lies after a third
 abbrev pub IsBehind : ℕ → ℕ → ℕ → Type 0
 IsBehind sent after last = (n : ℕ) → sent < n → after < n → last < n
 
--- the entry behind an offset was read, and what it gives was put
+-- the entry after an offset was read, and what it gives was put
 pub record Stepped (db : View) (aim : Aim) (scan scan' : Scan) (post post' : Post) (after end : Offset) (before now : Seen) : Type 0 where
   pub entry : Entry
   pub next : IsTrue before.observable → (publisher : Name) (done left : List Recorded) → IsDatabase db publisher (done ++ left) before → after.0 ≡ end_of done

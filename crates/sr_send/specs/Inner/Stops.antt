@@ -75,7 +75,7 @@ pub record IsFound (scan : Scan) (end : Offset) (entry : Entry) (sent : ℕ) (ad
   pub behind : Scan
   pub scanned : IsScanned scan end entry sent added behind
 
--- it ended as an entry was read: before it gave anything, or behind
+-- it ended as an entry was read: before it gave anything, or after
 pub record FeedStop (aim : Aim) (scan : Scan) (old : Post) (end : Offset) (entry : Entry) (before now : Seen) (fault : SendFault) : Type 0 where
   pub added : List Transaction
   pub found : (added ≡ []) ⊎ IsFound scan end entry aim.prev.0 added
@@ -88,7 +88,7 @@ pub record IsNextFound (scan : Scan) (sent : ℕ) (done left : List Recorded) (a
   pub next : IsNext done left end entry
   pub found : IsFound scan end entry sent added
 
--- it ended at the entry behind an offset
+-- it ended at the entry after an offset
 pub record StepStop (db : View) (aim : Aim) (scan : Scan) (old : Post) (after : Offset) (before now : Seen) (fault : SendFault) : Type 0 where
   pub added : List Transaction
   pub found : IsTrue before.observable → (publisher : Name) (done left : List Recorded) → IsDatabase db publisher (done ++ left) before → after.0 ≡ end_of done

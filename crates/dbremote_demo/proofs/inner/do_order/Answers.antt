@@ -7,7 +7,7 @@ use Rattle.sr_memsite.specs.Disks.{Disk, begun_with}
 use Rattle.sr_memsite.specs.Meaning.{begun}
 use Rattle.sr_memsite.specs.Inner.Meaning.{seen_of}
 use Rattle.sr_memsite.specs.Inner.Streams.{input_of, output_of, sink_faults, taken_of}
-use Rattle.dbremote_demo_tally.specs.Places.{with_disk}
+use Rattle.dbremote_demo_draws.specs.Places.{with_disk}
 use Rattle.dbremote_demo.proofs.inner.do_order.Goals as goal
 
 pub returns : goal.returns

@@ -12,9 +12,13 @@ reports-preserved c =
     let gone = c.in-Some.ensures.steps.1 in
     let was = at.invariant.size in
     let short = ap length steps in
+    let wide = at.invariant.room in
+    let longer = c.insert_within.ensures.length in
+    let kept = c.insert_within.ensures.capacity in
     record {
       inserting =
-          inserting_more c.args.at c.args.reports.now.items c.args.made.items report (into_iter_items c.next.new.self) at.next at.reports.items c.insert.new.self.items c.requires.within c.in_ok-insert.ensures.items
+          inserting_more c.args.at c.args.reports.now.items c.args.made.items report (into_iter_items c.next.new.self) at.next at.reports.items c.insert_within.new.reports.items c.requires.within c.insert_within.ensures.items
           (subst (λ (l : List Report). IsInserting c.args.at c.args.reports.now.items c.args.made.items l at.next at.reports.items) steps at.invariant.inserting);
       size = omega arith;
+      room = omega arith;
     }

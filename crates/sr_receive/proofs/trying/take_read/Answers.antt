@@ -1,18 +1,18 @@
 use Rattle.std.proofs.Common.{◌∷◌, None, refl}
 use Rattle.sr_receive.specs.Acts.{begun}
 use Rattle.sr_receive.proofs.Stands.{stands_begun}
-use Rattle.sr_receive.proofs.Tried.{begun_left, begun_stopped, begun_tried, torn_stopped, torn_tried}
+use Rattle.sr_receive.proofs.Tried.{begun_left, begun_stopped, begun_tried, torn_short, torn_tried}
 use Rattle.sr_receive.proofs.trying.take_read.Goals as goal
 
-pub returns-in-None-clause-tried : goal.returns-in-None-clause-tried
-returns-in-None-clause-tried g c pairs middle from before message_files first acts all stands idle holds trial =
+pub returns-in-Ok-clause-tried : goal.returns-in-Ok-clause-tried
+returns-in-Ok-clause-tried g c pairs middle from before message_files first acts all stands idle holds trial =
     torn_tried from c.args.db.now before middle (g.S.Held.seen c.args.site.now) c.args.user.now message_files first acts c.args.progress.now all c.args.reports.now.items c.push_torn.new.reports.items c.args.window pairs None c.args.inbox.now c.lose.new.inbox
-    c.push_torn.result refl stands idle holds (rw c.in-None.is at trial) c.lose.ensures.pieces c.lose.ensures.dropped c.push_torn.ensures.torn
+    refl stands idle holds (rw c.in-None.is at trial) c.lose.ensures.pieces c.lose.ensures.dropped c.in-Ok.ensures.torn
 
-pub returns-in-None-clause-cause : goal.returns-in-None-clause-cause
-returns-in-None-clause-cause g c pairs middle from before message_files first acts all stands idle holds trial =
-    torn_stopped from c.args.db.now before middle (g.S.Held.seen c.args.site.now) c.args.user.now message_files first acts c.args.progress.now all c.args.reports.now.items c.push_torn.new.reports.items c.args.window pairs None c.args.inbox.now c.lose.new.inbox
-    c.push_torn.result refl stands holds (rw c.in-None.is at trial) c.lose.ensures.pieces c.lose.ensures.dropped c.push_torn.ensures.err c.push_torn.ensures.memory
+pub returns-in-Err-clause-cause : goal.returns-in-Err-clause-cause
+returns-in-Err-clause-cause g c pairs middle from before message_files first acts all stands idle holds trial =
+    torn_short from c.args.db.now before middle (g.S.Held.seen c.args.site.now) c.args.user.now message_files first acts c.args.progress.now all c.args.reports.now.items c.push_torn.new.reports.items c.args.window pairs None c.args.inbox.now c.in-Err.fault
+    stands holds (rw c.in-None.is at trial) c.in-Err.ensures.err c.in-Err.ensures.memory
 
 pub returns-in-Some-clause-tried : goal.returns-in-Some-clause-tried
 returns-in-Some-clause-tried g c pairs middle from before message_files first acts all stands idle holds trial =

@@ -12,14 +12,14 @@ returns-in_err-fetch-clause-cause g c =
     let now = g.S.Held.seen c.fetch.new.self in
     let fault = c.in_err-fetch.field-0.0 in
     if_fault (FetchOneStop c.args.publisher.now c.args.piece.now before now) (fault_of_mail fault) c.from_residual.result c.from_residual.ensures.1
-    (fetch_failed c.args.publisher.now c.args.piece.now before now fault (Err fault) refl c.in_err-fetch.ensures.fetched c.in_err-fetch.ensures.stays c.in_err-fetch.ensures.cause)
+    (fetch_failed c.args.publisher.now c.args.piece.now before now fault (Err fault) refl c.in_err-fetch.ensures.fetched c.in_err-fetch.ensures.stays c.in_err-fetch.ensures.cause c.in_err-fetch.ensures.short)
 
 pub returns-in_err-read-in-Some-clause-cause : goal.returns-in_err-read-in-Some-clause-cause
 returns-in_err-read-in-Some-clause-cause g c =
     let before = g.S.Held.seen c.args.site.now in
     let now = g.S.Held.seen c.fetch.new.self in
     if_fault (FetchOneStop c.args.publisher.now c.args.piece.now before now) Memory c.from_residual-in_err-read-in-Some.result c.from_residual-in_err-read-in-Some.ensures.1
-    (fetch_unread c.args.publisher.now c.args.piece.now before now _ c.in_ok-fetch.ensures.fetched c.in_ok-fetch.ensures.stays)
+    (fetch_unread c.args.publisher.now c.args.piece.now before now _ c.in_ok-fetch.ensures.fetched c.in_ok-fetch.ensures.stays c.in_ok-fetch.ensures.steady)
 
 pub returns-in-None-clause-found : goal.returns-in-None-clause-found
 returns-in-None-clause-found g c =

@@ -14,7 +14,7 @@ returns-in_err-listing-clause-cause g c =
     let fault = c.in_err-listing.field-0.0 in
     if_fault (GatherCause catalog c.args.end before now reports reports) (fault_of_mail fault) c.from_residual.result c.from_residual.ensures.1
     (unlisted catalog c.args.end before now c.publisher.result.now reports fault (Err fault) c.publisher.ensures.publisher refl (λ told. let k = c.in_err-listing.ensures.listed told in (k.0, k.1)) c.in_err-listing.ensures.stays
-    c.in_err-listing.ensures.cause)
+    c.in_err-listing.ensures.cause c.in_err-listing.ensures.short)
 
 pub returns-clause-into : goal.returns-clause-into
 returns-clause-into g c =

@@ -14,7 +14,8 @@ returns-in_err-fetch-clause-cause g c =
     let reports = c.args.reports.now.items in
     let fault = c.in_err-fetch.field-0.0 in
     if_fault (GatherOneCause publisher c.args.name.now before now reports reports) (fault_of_mail fault) c.from_residual.result c.from_residual.ensures.1
-    (unfetched_one publisher c.publisher.result.now c.args.name.now before now reports fault (Err fault) c.publisher.ensures.publisher refl c.in_err-fetch.ensures.fetched c.in_err-fetch.ensures.stays c.in_err-fetch.ensures.cause)
+    (unfetched_one publisher c.publisher.result.now c.args.name.now before now reports fault (Err fault) c.publisher.ensures.publisher refl c.in_err-fetch.ensures.fetched c.in_err-fetch.ensures.stays c.in_err-fetch.ensures.cause
+    c.in_err-fetch.ensures.short)
 
 pub returns-in_err-outcome-in-Some-clause-cause : goal.returns-in_err-outcome-in-Some-clause-cause
 returns-in_err-outcome-in-Some-clause-cause g c =
@@ -24,7 +25,7 @@ returns-in_err-outcome-in-Some-clause-cause g c =
     let reports = c.args.reports.now.items in
     let reports' = c.sort-outcome.new.reports.items in
     if_fault (GatherOneCause publisher c.args.name.now before now reports reports') Memory c.from_residual-in_err-outcome-in-Some.result c.from_residual-in_err-outcome-in-Some.ensures.1
-    (unsorted_one publisher c.publisher.result.now c.args.name.now before now reports reports' _ c.publisher.ensures.publisher c.in_err-outcome-in-Some.ensures.err c.in_ok-fetch.ensures.fetched c.in_ok-fetch.ensures.stays)
+    (unsorted_one publisher c.publisher.result.now c.args.name.now before now reports reports' _ c.publisher.ensures.publisher c.in_err-outcome-in-Some.ensures.err c.in_ok-fetch.ensures.fetched c.in_ok-fetch.ensures.stays c.in_ok-fetch.ensures.steady)
 
 pub returns-in-None-clause-one : goal.returns-in-None-clause-one
 returns-in-None-clause-one g c =

@@ -32,4 +32,4 @@ returns-in-Err-clause-cause g c =
     let posted = put_as before now c.args.address.now c.in_ok-name.name c.as_slice.result.now _ c.args.number c.args.message.now c.in_ok-name.ensures
     (c.as_slice.ensures.value ∙ c.in_ok-bytes.ensures.spelling) c.in-Err.ensures.stays c.in-Err.ensures.put in
     subst (λ (f : SendFault). IsPartPut before now c.args.address.now c.args.number c.args.message.now f) (sym c.from.ensures) (part_begun before now c.args.address.now c.args.number c.args.message.now c.in-Err.fault (Err c.in-Err.fault) refl posted c.in_ok-bytes.ensures.kept
-    (ends_put before now c.args.address.now c.in_ok-name.name c.as_slice.result.now _ c.in-Err.ensures.put) c.in-Err.ensures.stays c.in-Err.ensures.cause)
+    (ends_put before now c.args.address.now c.in_ok-name.name c.as_slice.result.now _ c.in-Err.ensures.put) c.in-Err.ensures.stays c.in-Err.ensures.cause c.in-Err.ensures.short)

@@ -1,2 +1,0 @@
-mod EntriesRead
-mod Parting

@@ -1,9 +1,0 @@
-use Rattle.std.proofs.Common.{◌≡◌, ◌++◌, length}
-use Rattle.dbremote_show.specs.Shown.{user_lines}
-use Rattle.dbremote_show.proofs.showing.push_users.Given as goal
-
-abbrev pub invariant-users : goal.invariant-users
-invariant-users l = l.out.items ++ user_lines l.db.books l.left ≡ l.fn.out.items ++ user_lines l.db.books l.users
-
-abbrev pub decreases-users : goal.decreases-users
-decreases-users l = length l.left

@@ -1,0 +1,17 @@
+pub mod Alike
+pub mod Concerned
+pub mod Followed
+pub mod Having
+pub mod Keeping
+pub mod Keyed
+pub mod Listing
+pub mod Members
+pub mod Moving
+pub mod Nexting
+pub mod Noting
+pub mod Officed
+pub mod Quiet
+pub mod Served
+pub mod Splits
+pub mod Taken
+pub mod Unheld

@@ -1,0 +1,10 @@
+pub mod Alike
+pub mod Concerning
+pub mod Effects
+pub mod Following
+pub mod Keyed
+pub mod Offices
+pub mod Quiet
+pub mod Surveyed
+pub mod Taking
+pub mod Texts

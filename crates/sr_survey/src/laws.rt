@@ -1,0 +1,85 @@
+//! What holds of surveys. Each function does nothing: it carries a law as its clauses.
+
+ghost use Rattle.std.specs.Prelude.{◌≡◌, ◌⊎◌, ◌++◌, ◌∷◌, ℕ, Bool, List, bytes_eq, true, false, [], Option, Some, None};
+ghost use Rattle.std.specs.List.{AllByRecursion};
+ghost use Rattle.sr_ast.specs.declared.create.Grant.{Grant as Granting};
+ghost use Rattle.sr_ast.specs.declared.create.SubscriptionRule.{SubscriptionRule as Rule};
+ghost use Rattle.sr_ast.specs.declared.stmt.Stmt.{Stmt as Statement};
+ghost use Rattle.sr_ast.specs.declared.stmt.Stmt.TheVariants as stmt;
+ghost use Rattle.sr_base.specs.declared.offset.Offset.{Offset as Place};
+ghost use Rattle.sr_base.specs.declared.value.Value.{Value as Cell};
+ghost use Rattle.sr_book.specs.Entries.{Name as Bytes};
+ghost use Rattle.sr_catalog_change.specs.Changes.{next};
+ghost use Rattle.sr_catalog_schema.specs.Catalogs.{Lists};
+ghost use Rattle.sr_catalog_schema.specs.declared.publication.Article.{Article as AnArticle};
+ghost use Rattle.sr_catalog_schema.specs.declared.table.Table.{Table as ATable};
+ghost use Rattle.sr_catalog_script_laws.specs.Inner.Scripts.{IsMade};
+ghost use Rattle.sr_database_history.specs.Fitting.{Fits, Stored};
+ghost use Rattle.sr_database_history.specs.Folds.{State, state_of, end_of};
+ghost use Rattle.sr_database_history.specs.Inner.Laws.{Holds};
+ghost use Rattle.sr_database_history.specs.Recorded.{Recorded, entry_of};
+ghost use Rattle.sr_exec_dml.specs.Statements.{table_named};
+ghost use Rattle.sr_logform.specs.declared.change.Change.{Change as AChange};
+ghost use Rattle.sr_logform.specs.declared.entry.Entry.TheVariants.{Own, From, Sync, Pass};
+ghost use Rattle.sr_logform.specs.declared.op.Op.{Op as AnOp};
+ghost use Rattle.sr_logform.specs.declared.outcome.Outcome.{Outcome as AnOutcome};
+ghost use Rattle.sr_publish.specs.Inner.Laws.{holds_by};
+ghost use Rattle.sr_publish.specs.SubscribedTables.{subscribed_table_of};
+ghost use Rattle.sr_scan.specs.Given.{gives, given_of};
+ghost use Rattle.sr_scan.specs.Inner.Images.{told, change_told, catalog_after};
+ghost use Rattle.sr_scan.specs.Inner.Meanings.{texts_of, AreMeant};
+ghost use Rattle.sr_survey.specs.Inner.Alike.{ShowsAlike, touched};
+ghost use Rattle.sr_survey.specs.Inner.Concerning.{MayConcern};
+ghost use Rattle.sr_survey.specs.Inner.Keyed.{article_key, keys_of, IsSharedKey};
+ghost use Rattle.sr_survey.specs.Inner.Quiet.{GiveNothing, IsUnheld};
+ghost use Rattle.sr_survey.specs.Inner.Surveyed.{HasSurveyed, Begins, Takes};
+ghost use Rattle.sr_survey.specs.declared.survey.Survey.{Survey as ASurvey};
+
+/// A survey that begins behind a history with its catalog knows of it what there is to know: nothing is listed, for nothing stands behind it.
+pub fn a_survey_begins()
+    ensures begins { (publisher : Bytes) (done : List Recorded) (base : Lists) (s : ASurvey) → Begins base (end_of done) s → base ≡ (state_of publisher done).catalog → HasSurveyed publisher done s }
+{}
+
+/// The survey of a history is one of the history with the entry more that it takes: of every user it lists each entry that gives him something, and shows
+/// by its catalog what he was shown since. So it is whatever the history, if that may stand in a log.
+pub fn a_survey_keeps_up()
+    ensures kept { (publisher : Bytes) (done : List Recorded) (r : Recorded) (old new : ASurvey) → Stored publisher (done ++ r ∷ []) → HasSurveyed publisher done old
+        → Takes old (entry_of r) (end_of (done ++ r ∷ [])) new → HasSurveyed publisher (done ++ r ∷ []) new }
+{}
+
+/// An entry that fits the state before it and is listed under no key of a user, or as taken from him, gives him nothing.
+pub fn what_is_not_listed_gives_nothing()
+    ensures listed { (s : State) (place : ℕ) (r : Recorded) (user : Bytes) (meant : List (Option Statement)) → Holds s → Fits s place r → AreMeant (texts_of (entry_of r)) meant
+        → MayConcern s.catalog (entry_of r) user ⊎ (gives s r user ≡ []) }
+{}
+
+/// Entries that give a user nothing may be passed over: a history gives him with them what it gives him without.
+pub fn what_gives_nothing_may_be_passed_over()
+    ensures passed { (publisher user : Bytes) (done more : List Recorded) → GiveNothing (state_of publisher done) more user → given_of publisher (done ++ more) user ≡ given_of publisher done user }
+{}
+
+/// What a user has of each table stays over statements that do not touch him.
+pub fn shares_stay()
+    ensures stay { (c : Lists) (meant : List (Option Statement)) (user : Bytes) → touched user meant ≡ false → ShowsAlike c (catalog_after c meant) user }
+{}
+
+/// What entries give in which no statement ran is the same by two catalogs that show a user the same.
+pub fn told_alike()
+    ensures own { (c d : Lists) (user : Bytes) (changes : List AChange) → ShowsAlike c d user → told d (Own changes) [] user ≡ told c (Own changes) [] user }
+    ensures view { (c d : Lists) (user to : Bytes) (tables : List (Bytes × List (List Cell))) → ShowsAlike c d user → told d (Sync to tables) [] user ≡ told c (Sync to tables) [] user }
+    ensures pass { (c d : Lists) (user text : Bytes) (users : List Bytes) (only : Bool) (changes : List AChange) (meant : List (Option Statement)) → ShowsAlike c d user
+        → told d (Pass users only text changes) meant user ≡ told c (Pass users only text changes) meant user }
+    ensures taken { (c d : Lists) (user from : Bytes) (at : Place) (ops : List (AnOp × AnOutcome)) (meant : List (Option Statement)) → ShowsAlike c d user → AllByRecursion (λ m. m ≡ None) meant
+        → told d (From from at ops) meant user ≡ told c (From from at ops) meant user }
+{}
+
+/// A change of rows that nobody holds for a user gives him nothing.
+pub fn unheld_gives_nothing()
+    ensures change { (c : Lists) (user : Bytes) (t : ATable) (ch : AChange) → IsMade c → table_named c ch.table ≡ Some t → IsUnheld c user ch.table t ch.before → IsUnheld c user ch.table t ch.after
+        → change_told (subscribed_table_of c user ch.table) ch ≡ [] }
+{}
+
+/// A row that an article holds for a subscription has a key of it.
+pub fn held_rows_have_keys()
+    ensures keyed { (p : Bytes) (t : ATable) (a : AnArticle) (value : Option Cell) (row : List Cell) → holds_by t (Some a) value row ≡ true → IsSharedKey (article_key t row (p, a)) (keys_of p value) }
+{}

@@ -1,0 +1,5 @@
+pub mod KeyOrder
+pub mod Keys
+pub mod Listed
+pub mod Ready
+pub mod Search

@@ -1,0 +1,56 @@
+-- What places are listed under which key, and what one place more changes.
+use Rattle.std.specs.Prelude.{◌≡◌, ◌⊎◌, ℕ, ◌≤◌, ◌<◌, Bool, true, false, not, ◌||◌, List, Option, Some, None, is_some}
+use Rattle.std.specs.BTreeMap as tree
+use Rattle.std.specs.List.{Contains, All}
+use Rattle.sr_survey_places.specs.Inner.Search.{places_in, IsOwn}
+use Rattle.sr_survey_places.specs.Inner.Keys.{is_shared, key_cmp}
+use Rattle.sr_survey_places.specs.declared.key.Key.{Key}
+use Rattle.sr_survey_places.specs.declared.place.Place.{Place}
+
+-- lists of places by their keys
+abbrev pub ByKey : Type 0
+ByKey = tree.BTreeMap Key (List Place)
+
+-- the places under a key, in order
+abbrev pub under : ByKey → Key → List Place
+under lists key = places_in (tree.get key_cmp lists key)
+
+-- whether a key has a list
+abbrev pub has_list : ByKey → Key → Bool
+has_list lists key = is_some (tree.get key_cmp lists key)
+
+-- whether places are listed under a key: under one of rows only once it was begun
+abbrev pub is_begun : ByKey → Key → Bool
+is_begun lists key = not (is_shared key) || has_list lists key
+
+-- nothing is listed, and no key of rows is begun
+pub record IsEmpty (lists : ByKey) : Type 0 where
+  pub none : (key : Key) (place : Place) → ¬ (Contains (under lists key) place)
+  pub begun : (key : Key) → has_list lists key ≡ false
+
+-- a key more is begun, and all else is as it was
+pub record IsBegun (old : ByKey) (key : Key) (new : ByKey) : Type 0 where
+  pub there : has_list new key ≡ true
+  pub begun : (q : Key) → is_begun old q ≡ true → is_begun new q ≡ true
+  pub same : (q : Key) → under new q ≡ under old q
+
+-- a place is listed under keys, where they are begun, and all else is as it was
+pub record IsListedUnder (old : ByKey) (keys : List Key) (place : Place) (new : ByKey) : Type 0 where
+  pub there : All (λ key. is_begun old key ≡ true → Contains (under new key) place) keys
+  pub stays : (q : Key) (x : Place) → Contains (under old q) x → Contains (under new q) x
+  pub only : (q : Key) (x : Place) → Contains (under new q) x → Contains (under old q) x ⊎ (Contains keys q × (x ≡ place))
+  pub begun : (q : Key) → is_begun old q ≡ true → is_begun new q ≡ true
+
+-- ---- the first of several lists
+
+-- a place is listed under one of some keys
+pub record IsUnder (lists : ByKey) (keys : List Key) (place : Place) : Type 0 where
+  pub key : Key
+  pub among : Contains keys key
+  pub there : Contains (under lists key) place
+
+-- the first place under some keys that ends past an offset and is none under another key; none only where there is none
+abbrev pub IsFirstAmong : ByKey → List Key → Key → ℕ → Option Place → Type 0
+IsFirstAmong lists keys from sent None = (x : Place) → IsUnder lists keys x → sent < x.end → IsOwn (under lists from) x
+IsFirstAmong lists keys from sent (Some p) = IsUnder lists keys p × (sent < p.end) × ¬ (IsOwn (under lists from) p)
+    × ((x : Place) → IsUnder lists keys x → sent < x.end → ¬ (IsOwn (under lists from) x) → p.end ≤ x.end)

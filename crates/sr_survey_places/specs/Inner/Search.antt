@@ -1,0 +1,29 @@
+-- Places in order, and the first of them that is not left out.
+use Rattle.std.specs.Prelude.{◌≡◌, ⊤, ℕ, ◌≤◌, ◌<◌, cond, nat_le, List, [], Option, Some, None, length, slice_index_or}
+use Rattle.std.specs.List.{Contains}
+use Rattle.std.specs.List.Sorted.{IsNonDecreasingBy}
+use Rattle.sr_survey_places.specs.declared.place.Place.{Place}
+
+-- the places of a list that may not be there
+abbrev pub places_in : Option (List Place) → List Place
+places_in None = []
+places_in (Some places) = places
+
+-- places in the order of their ends
+abbrev pub InOrder : List Place → Type 0
+InOrder places = IsNonDecreasingBy (λ p. p.end) places
+
+-- a place is among others, by its end
+abbrev pub IsOwn : List Place → Place → Type 0
+IsOwn own p = (k : ℕ) × (k < length own) × ((slice_index_or own k p).end ≡ p.end)
+
+-- the first place that ends past an offset and is not among others; none only where there is none
+abbrev pub IsFirstPast : List Place → List Place → ℕ → Option Place → Type 0
+IsFirstPast places own sent None = (x : Place) → Contains places x → sent < x.end → IsOwn own x
+IsFirstPast places own sent (Some p) = Contains places p × (sent < p.end) × ¬ (IsOwn own p) × ((x : Place) → Contains places x → sent < x.end → ¬ (IsOwn own x) → p.end ≤ x.end)
+
+-- the one that ends first
+abbrev pub earlier : Option Place → Option Place → Option Place
+earlier None o = o
+earlier (Some p) None = Some p
+earlier (Some p) (Some q) = cond (nat_le p.end q.end) (Some p) (Some q)

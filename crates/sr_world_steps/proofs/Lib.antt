@@ -1,0 +1,15 @@
+pub mod Chained
+pub mod Committing
+pub mod Deciding
+pub mod Following
+pub mod Found
+pub mod Logged
+pub mod Reaching
+pub mod Roomy
+pub mod Sayings
+pub mod Scanning
+pub mod Sendings
+pub mod Single
+pub mod Stepping
+pub mod Ties
+pub mod Truths

@@ -1,0 +1,17 @@
+pub mod Acts
+pub mod Booked
+pub mod Commits
+pub mod Due
+pub mod Ends
+pub mod Leading
+pub mod Logs
+pub mod Noted
+pub mod Notes
+pub mod Places
+pub mod Putting
+pub mod Saying
+pub mod Scanned
+pub mod Sending
+pub mod Shown
+pub mod Standings
+pub mod Windows
