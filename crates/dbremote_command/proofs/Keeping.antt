@@ -1,5 +1,5 @@
 -- What a database that was kept open is on the attached site, and what is kept of it after a run.
-use Rattle.std.proofs.Common.{◌≡◌, inl, inr, true, false, List, [], ◌++◌, ℕ, Option, Some, sym, subst, ◌∙◌}
+use Rattle.std.proofs.Common.{◌≡◌, true, false, List, [], ◌++◌, ℕ, Option, Some, sym, subst, ◌∙◌}
 use Rattle.std.specs.Prelude.{IfSome, IsTrue, Ok}
 use Rattle.sr_agent.specs.Agents.{RanAgent, RanWhole}
 use Rattle.sr_agent.specs.Runs.{after_run}

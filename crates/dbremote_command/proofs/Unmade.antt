@@ -1,6 +1,6 @@
 -- Why no database is made, from why the site is not attached, and why no files are.
-use Rattle.std.proofs.Common.{◌≡◌, Bool, true, false, List, [], ◌∷◌, ℕ, Result, Ok, Err, IfErr, sym, ap, subst, ◌∙◌}
-use Rattle.std.specs.Prelude.{IsErrAnd, IsTrue}
+use Rattle.std.proofs.Common.{◌≡◌, true, false, List, [], ℕ, Result, Ok, Err, IfErr, sym, ap, subst, ◌∙◌}
+use Rattle.std.specs.Prelude.{IsErrAnd}
 use Rattle.sr_database_files.specs.Inner.Refusing.{CreateCause}
 use Rattle.sr_database_files.specs.declared.fault.DatabaseFault.{DatabaseFault}
 use Rattle.sr_database_files.specs.declared.fault.DatabaseFault.TheVariants as store

@@ -1,4 +1,5 @@
-ghost use Rattle.std.specs.Prelude.{◌≡◌, ◌≢◌, ◌≤◌, ◌||◌, false, IfErr, IfOk, IfSome, IsTrue};
+ghost use Rattle.std.specs.Prelude.{◌≡◌, ◌≢◌, ◌||◌, false, IfErr, IfOk, IfSome, IsTrue};
+ghost use Rattle.sr_mail_cut.specs.Inner.Cuts.{IsMessageLimit};
 ghost use Rattle.dbremote_command.specs.Agents.{AgentStopped};
 ghost use Rattle.dbremote_command.specs.Inner.Agents.{AgentRanSome};
 ghost use Rattle.dbremote_command.specs.Inner.Kept.{IsKept};
@@ -28,8 +29,7 @@ pub fn run_agent<S: Site, O: Sink>(
 ) -> Result<u32, Fault>
     requires some_pass { IsTrue (options.now.receive || options.now.send) }
     requires no_restart { options.now.restart ≡ false }
-    requires least { 10000 ≤ options.now.length }
-    requires most { options.now.length ≤ 1048576 }
+    requires limit { IsMessageLimit options.now.length }
     requires kept { IfSome kept.old (λ db. IsKept db (S.seen site.old)) }
     ensures ran { (input : Input) → IfOk result (AgentRanSome name.now mail.now options.now (outside (S.seen site.old) input (O.seen output.old)) (outside (S.seen site.new) input (O.seen output.new))) }
     ensures stopped { (input : Input) → IfErr result (AgentStopped name.now mail.now options.now (outside (S.seen site.old) input (O.seen output.old)) (outside (S.seen site.new) input (O.seen output.new))) }

@@ -1,4 +1,5 @@
-ghost use Rattle.std.specs.Prelude.{◌≡◌, ◌≤◌, ◌||◌, [], false, None, IfSome, IsTrue};
+ghost use Rattle.std.specs.Prelude.{◌≡◌, ◌||◌, [], false, None, IfSome, IsTrue};
+ghost use Rattle.sr_mail_cut.specs.Inner.Cuts.{IsMessageLimit};
 ghost use Rattle.sr_site.specs.Causes.{DiskStays, Stays};
 ghost use Rattle.sr_site.specs.Streams.{Input};
 ghost use Rattle.dbremote_command.specs.CaughtUp.{CatchesUp};
@@ -173,8 +174,7 @@ fn command_agent<S: Site, O: Sink>(
 ) -> u8
     requires some_pass { IsTrue (options.now.receive || options.now.send) }
     requires no_restart { options.now.restart ≡ false }
-    requires least { 10000 ≤ options.now.length }
-    requires most { options.now.length ≤ 1048576 }
+    requires limit { IsMessageLimit options.now.length }
     requires kept { IfSome kept.old (λ db. IsKept db (S.seen site.old)) }
     ensures ran { (input : Input) → RanAgentOrder name.now mail.now options.now (outside (S.seen site.old) input (O.seen output.old)) (outside (S.seen site.new) input (O.seen output.new)) result }
     ensures stays { Stays (S.seen site.old) (S.seen site.new) }

@@ -1,5 +1,5 @@
 ghost use Rattle.std.specs.Prelude.{◌≡◌};
-ghost use Rattle.dbremote_command.specs.Faults.{database_status, ddl_status, refusal_status, status_of};
+ghost use Rattle.dbremote_command.specs.Faults.{database_status, refusal_status, status_of};
 
 use sr_agent::AgentFault;
 use sr_base::NoMemory;

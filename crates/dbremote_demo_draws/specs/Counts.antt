@@ -1,7 +1,7 @@
 -- What is counted of a log's entries.
 use Rattle.std.specs.Prelude.{ℕ, ◌+◌, List, [], ◌∷◌, ◌++◌, bytes_eq, cond, Option, Some, None}
 use Rattle.sr_base.specs.declared.value.Value.{Value as Cell}
-use Rattle.sr_exec_dml.specs.Statements.{key_of}
+use Rattle.sr_exec_where.specs.Keys.{key_of}
 use Rattle.sr_logform.specs.declared.change.Change.{Change}
 use Rattle.sr_logform.specs.declared.entry.Entry.{Entry}
 use Rattle.sr_logform.specs.declared.entry.Entry.TheVariants.{Own, From, Ddl, Sync, Pass, Note}

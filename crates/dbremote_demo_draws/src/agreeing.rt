@@ -59,7 +59,7 @@ fn differing_above(
     let mut count = 0u64;
     let mut walk = above.walk(table);
     'rows: while let Some((key, row)) = walk.next() {
-        if !own.has(key) && !is_same_row(alloc, view, row, below.get(table, key))? {
+        if !own.has(key) && !shows_same(alloc, view, row, below.get(table, key))? {
             count = sum(count, 1)?;
         }
     }
@@ -81,7 +81,7 @@ fn differing_below(above: &Rows, below: &Rows, table: &Name, own: &Keys) -> Resu
 }
 
 /// Whether a view shows a row as the other one is, which may not be there.
-fn is_same_row(
+fn shows_same(
     alloc: Global,
     view: &Option<TableView>,
     row: &Row,
@@ -111,7 +111,7 @@ fn is_same(one: &Option<Row>, other: Option<&Row>) -> bool
 {
     match (one, other) {
         (None, None) => true,
-        (Some(one), Some(other)) => one.values().cmp(other.values()).is_eq(),
+        (Some(one), Some(other)) => *one == *other,
         (None, Some(_)) => false,
         (Some(_), None) => false,
     }

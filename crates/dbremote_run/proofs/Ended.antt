@@ -1,14 +1,15 @@
 -- How a run ends, from what its words ask for.
-use Rattle.std.proofs.Common.{◌≡◌, ◌⊎◌, ℕ, Option, Some, None, refl, sym, subst, inl, inr}
+use Rattle.std.proofs.Common.{◌≡◌, ℕ, Option, Some, None, refl, sym, subst, inl, inr}
 use Rattle.sr_database_files.specs.declared.fault.DatabaseFault.TheVariants.{Memory}
 use Rattle.sr_site.specs.Seen.{Seen}
 use Rattle.sr_site.specs.Streams.{Input, Output}
 use Rattle.dbremote_command.proofs.Ended.{is_refused}
 use Rattle.dbremote_command.specs.Outside.{Outside, outside}
-use Rattle.dbremote_command.specs.Runs.{IsRefused, Told, RanOrder}
+use Rattle.dbremote_command.specs.Runs.{Told, RanOrder}
 use Rattle.dbremote_command.specs.declared.fault.Fault.TheVariants.{Words, Database}
 use Rattle.dbremote_command.specs.declared.order.Order.{Order}
 use Rattle.dbremote_demo.specs.Demonstrations.{Demonstrated}
+use Rattle.dbremote_run.specs.Inner.Runs.{RanWithMemory}
 use Rattle.dbremote_run.specs.Runs.{RanProgram}
 use Rattle.dbremote_words.specs.declared.asked.Asked.{Asked}
 use Rattle.dbremote_words.specs.declared.asked.Asked.TheVariants as asked
@@ -17,7 +18,7 @@ pub refused : (wanted : Option Asked) (site : Seen) (input : Input) (old new : O
 refused wanted site input old new status is told =
     subst (λ (w : Option Asked). RanProgram w (outside site input old) (outside site input new) status) (sym is) (inl (is_refused Words site input old new status told))
 
-pub ordered : (wanted : Option Asked) (order : Order) (old new : Outside) (status : ℕ) → wanted ≡ Some (asked.Order order) → RanOrder order old new status ⊎ IsRefused (Database Memory) old new status → RanProgram wanted old new status
+pub ordered : (wanted : Option Asked) (order : Order) (old new : Outside) (status : ℕ) → wanted ≡ Some (asked.Order order) → RanWithMemory order old new status → RanProgram wanted old new status
 ordered wanted order old new status is ran = subst (λ (w : Option Asked). RanProgram w old new status) (sym is) ran
 
 pub demonstrated : (wanted : Option Asked) (seed statements : ℕ) (site : Seen) (input : Input) (old new : Output) (status : ℕ) → wanted ≡ Some (asked.Demo seed statements)
@@ -30,10 +31,10 @@ wanting None site input old new status told = inr (is_refused (Database Memory) 
 wanting (Some wanted) site input old new status told = inr (is_refused (Database Memory) site input old new status told)
 
 pub unordered : (order : Order) (site : Seen) (input : Input) (old new : Output) (status : ℕ) → Told (Database Memory) old new status
-    → RanOrder order (outside site input old) (outside site input new) status ⊎ IsRefused (Database Memory) (outside site input old) (outside site input new) status
+    → RanWithMemory order (outside site input old) (outside site input new) status
 unordered order site input old new status told = inr (is_refused (Database Memory) site input old new status told)
 
-pub order_ran : (order : Order) (old new : Outside) (status : ℕ) → RanOrder order old new status → RanOrder order old new status ⊎ IsRefused (Database Memory) old new status
+pub order_ran : (order : Order) (old new : Outside) (status : ℕ) → RanOrder order old new status → RanWithMemory order old new status
 order_ran order old new status ran = inl ran
 
 pub ruleset order_done = (unordered, order_ran)

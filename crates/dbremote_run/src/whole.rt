@@ -1,5 +1,4 @@
 ghost use Rattle.std.specs.Prelude.{◌≡◌, ◌⊎◌, IsTrue, List, None};
-ghost use Rattle.sr_database_files.specs.declared.fault.DatabaseFault.TheVariants.{Memory};
 ghost use Rattle.sr_book.specs.Entries.{Name};
 ghost use Rattle.sr_database_history.specs.Fitting.{Stored};
 ghost use Rattle.sr_database_history.specs.Recorded.{Recorded};
@@ -13,8 +12,7 @@ ghost use Rattle.sr_site.specs.Causes.{Stays, Rose};
 ghost use Rattle.dbremote_command.specs.Inner.Orders.{MayOrder};
 ghost use Rattle.dbremote_command.specs.Counts.{TellsFaults};
 ghost use Rattle.dbremote_command.specs.Outside.{outside};
-ghost use Rattle.dbremote_command.specs.Runs.{IsRefused, RanOrder};
-ghost use Rattle.dbremote_command.specs.declared.fault.Fault.TheVariants.{Database};
+ghost use Rattle.dbremote_run.specs.Inner.Runs.{RanWithMemory};
 ghost use Rattle.dbremote_run.specs.Runs.{CatchesUp, HasAlarms, HasMailFault, IsComplete, RanProgram};
 ghost use Rattle.dbremote_words.specs.Orders.{asked_of};
 
@@ -113,8 +111,7 @@ fn do_order<S: Site, I: Source, O: Sink>(
     now: i64,
 ) -> u8
     requires may { MayOrder order.now }
-    ensures ran { RanOrder order.now (outside (S.seen site.old) (I.seen input.old) (O.seen output.old)) (outside (S.seen site.new) (I.seen input.new) (O.seen output.new)) result
-        ⊎ IsRefused (Database Memory) (outside (S.seen site.old) (I.seen input.old) (O.seen output.old)) (outside (S.seen site.new) (I.seen input.new) (O.seen output.new)) result }
+    ensures ran { RanWithMemory order.now (outside (S.seen site.old) (I.seen input.old) (O.seen output.old)) (outside (S.seen site.new) (I.seen input.new) (O.seen output.new)) result }
     ensures stays { Stays (S.seen site.old) (S.seen site.new) }
 {
     match Text::from_str(alloc, "") {

@@ -51,7 +51,7 @@ options_may rows = go (is_set (codes "r") rows) (is_set (codes "s") rows) (is_se
   where
     go : (receive send keep : Bool) (size : Option ℕ) → IfSome size Fits → IfSome (option_map (with_length receive send keep) size) MayRun
     go receive send keep None fits = tt
-    go receive send keep (Some size) fits = record { some_pass = some_pass receive send; no_restart = refl; least = fits.0; most = fits.1 }
+    go receive send keep (Some size) fits = record { some_pass = some_pass receive send; no_restart = refl; limit = record { least = fits.0; most = fits.1 } }
 
 agent_may : (rows : List Row) → IfSome (agent_from rows) MayOrder
 agent_may rows = go (given_place (codes "NAME") rows) (given_place (codes "FOLDER") rows) (options_from rows) (options_may rows)

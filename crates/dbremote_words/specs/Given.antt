@@ -4,6 +4,7 @@ use Rattle.std.specs.Option.{option_and_then, option_map_or}
 use Rattle.std.specs.Str.{bytes_eq}
 use Rattle.clap.specs.Words.{Row, Text, first_of}
 use Rattle.sr_base.specs.Names.{is_name, lowered}
+use Rattle.sr_mail_cut.specs.Cuts.{least_message, most_message}
 use Rattle.dbremote_words.specs.Numbers.{number_within}
 
 -- a flag is given: clap reads `true` for it
@@ -30,7 +31,7 @@ given_user rows = option_and_then user (first_of (codes "USER") rows)
 -- the length of a message file, 50,000 bytes where none is given
 abbrev pub length_or_usual : Option Text → Option ℕ
 length_or_usual None = Some 50000
-length_or_usual (Some number) = number_within 10000 1048576 number
+length_or_usual (Some number) = number_within least_message most_message number
 
 abbrev pub given_length : List Row → Option ℕ
 given_length rows = length_or_usual (first_of (codes "N") rows)

@@ -7,27 +7,26 @@ use Rattle.sr_database.specs.Views.{View}
 use Rattle.sr_database_history.specs.Folds.{state_of, end_of}
 use Rattle.sr_database_history.specs.Recorded.{Recorded}
 use Rattle.sr_receive.specs.Entering.{IsReady}
-use Rattle.sr_receive_gather.specs.Gathers.{FetchedInPart, GatherCause, HappenedAll, HappenedInPart, IsLastFetch, IsListedInPart, IsMailFault, IsUnlisted, fetches}
+use Rattle.sr_receive_gather.specs.Gathers.{GatherCause, HappenedInPart, IsLastFetch, IsMailFault, fetches}
 use Rattle.sr_receive_gather.specs.Inner.Gathers.{HasGathered}
 use Rattle.sr_receive_gather.specs.MessageFiles.{FetchedFile, fetch_of}
 use Rattle.sr_receive.specs.Inner.Passes.{IsDeviceFault}
+use Rattle.sr_receive.proofs.Acted.{quiet_both}
 use Rattle.sr_receive_gather.specs.declared.bag.PartnerMail.{PartnerMail}
 use Rattle.sr_receive_gather.specs.declared.fault.ReceiveFault.{ReceiveFault}
 use Rattle.sr_receive_gather.specs.declared.fault.ReceiveFault.TheVariants as receives
 use Rattle.sr_receive_gather.specs.declared.report.Report.{Report}
 use Rattle.sr_catalog_schema.specs.Catalogs.{Lists}
 use Rattle.sr_site.specs.Causes.{MailStays}
-use Rattle.sr_site.specs.Happenings.{Happening, attached, wrote, cut_to, synced, listed, fetched, sent, removed, mail_in}
+use Rattle.sr_site.specs.Happenings.{Happening, listed, mail_in}
 use Rattle.sr_site.specs.Seen.{Seen}
 use Rattle.sr_site.specs.Streams.{Output}
 use Rattle.sr_database_meaning.specs.Inner.Events.{AreQuiet}
 use Rattle.sr_database_meaning.specs.Traces.{Went}
 use Rattle.sr_agent.specs.Ends.{IsUsableEnd}
 use Rattle.sr_agent.specs.Faults.{fault_of_receive}
-use Rattle.sr_agent.specs.Lines.{Line, alarms, lines_text, report_lines}
-use Rattle.sr_agent.specs.Inner.Steps.{BrokeInGathering, told_in_part, gathered_in_part, GatheringBroken, GatheringCause, GatheringDone, HasGatheredAll, TellEnd, Told, ToldGathering}
-use Rattle.sr_agent.specs.Stops.{GatheringStop}
-use Rattle.sr_agent.specs.PartnerPasses.{gathering_mail}
+use Rattle.sr_agent.specs.Lines.{alarms, lines_text, report_lines}
+use Rattle.sr_agent.specs.Inner.Steps.{told_in_part, gathered_in_part, GatheringBroken, GatheringCause, GatheringDone, HasGatheredAll, TellEnd, Told, ToldGathering}
 use Rattle.sr_agent.specs.declared.fault.AgentFault.{AgentFault}
 use Rattle.sr_agent.specs.declared.fault.AgentFault.TheVariants.{Memory}
 use Rattle.sr_agent.proofs.Ending.{EndedBy, ended_by, untold_is}
@@ -35,17 +34,6 @@ use Rattle.sr_agent.proofs.Joints.{of_mail, still_there, went_quiet}
 use Rattle.sr_agent.proofs.Values.{publisher_is}
 
 -- ---- listings and fetches change nothing but the mail
-
-quiet_both : (more behind : List Happening) → AreQuiet more → AreQuiet behind → AreQuiet (more ++ behind)
-quiet_both [] behind one two = two
-quiet_both (attached n folder done ∷ more) behind one two = absurd one
-quiet_both (wrote file place bytes done after ∷ more) behind one two = absurd one
-quiet_both (cut_to file to done after ∷ more) behind one two = absurd one
-quiet_both (synced file done after ∷ more) behind one two = absurd one
-quiet_both (listed other folder listing ∷ more) behind one two = quiet_both more behind one two
-quiet_both (fetched other n limit found ∷ more) behind one two = quiet_both more behind one two
-quiet_both (sent other n bytes done ∷ more) behind one two = absurd one
-quiet_both (removed other n done ∷ more) behind one two = quiet_both more behind one two
 
 pub record IsQuietly (before now : List Happening) : Type 0 where
   pub more : List Happening
@@ -66,11 +54,11 @@ behind_last last before middle now quiet first is = record {
   quiet = quiet_both last first.more quiet first.quiet;
 }
 
-fetches_quietly : (address : List ℕ) (fetched_files : List FetchedFile) (before : List Happening) → IsQuietly before (fetches address fetched_files before)
+pub fetches_quietly : (address : List ℕ) (fetched_files : List FetchedFile) (before : List Happening) → IsQuietly before (fetches address fetched_files before)
 fetches_quietly address [] before = record { more = []; is = refl; quiet = tt }
 fetches_quietly address (came ∷ fetched_files) before = behind_step (fetch_of address came) before (fetches address (came ∷ fetched_files) before) tt (fetches_quietly address fetched_files (fetch_of address came ∷ before))
 
-quiet_last : (address : List ℕ) (left : List (List ℕ)) (last : List Happening) → IsLastFetch address left last → AreQuiet last
+pub quiet_last : (address : List ℕ) (left : List (List ℕ)) (last : List Happening) → IsLastFetch address left last → AreQuiet last
 quiet_last address left [] one = tt
 quiet_last address left (step ∷ more) one =
     subst (λ (l : List Happening). AreQuiet (step ∷ l)) (sym one.0) (subst (λ (s : Happening). AreQuiet (s ∷ [])) (sym one.1.4) tt)

@@ -1,8 +1,7 @@
 -- The receive pass as it was made, or left out; and the partners that it finds.
 use Rattle.std.proofs.Common.{◌≡◌, Bool, true, false, cond, ℕ, List, [], ◌∷◌, ◌++◌, map, bytes_eq, refl, sym, ap, subst, ◌∙◌, append_assoc}
-use Rattle.std.specs.Prelude.{IsTrue, IsSome, Option, Some, None}
-use Rattle.std.specs.List.{AllByRecursion, find}
-use Rattle.std.proofs.lemmas.List.{append-nil}
+use Rattle.std.specs.Prelude.{IsTrue, IsSome, Option, Some}
+use Rattle.std.specs.List.{AllByRecursion}
 use Rattle.sr_book.specs.Entries.{Name}
 use Rattle.sr_book.proofs.Folds.{same_name}
 use Rattle.sr_database.specs.Databases.{IsDatabase, IsOf}
@@ -20,8 +19,8 @@ use Rattle.sr_site.specs.Seen.{Seen}
 use Rattle.sr_site.specs.Streams.{Output}
 use Rattle.sr_agent.specs.Lines.{Line, alarms, lines_text}
 use Rattle.sr_agent.specs.Runs.{Receives, asked, nothing_done, quiet}
-use Rattle.sr_agent.specs.Inner.Steps.{AreOnce, IsQuietPass, IsUser, MadeWhere, MaySendTo, ReceivingDone, TookAll, Told}
-use Rattle.sr_agent.specs.PartnerPasses.{gathering_lines, partners, partner_passes_lines}
+use Rattle.sr_agent.specs.Inner.Steps.{AreOnce, IsQuietPass, IsUser, MadeWhere, MaySendTo, TookAll, Told}
+use Rattle.sr_agent.specs.PartnerPasses.{gathering_lines, partners}
 use Rattle.sr_agent.specs.declared.options.Options.{Options}
 use Rattle.sr_agent.specs.declared.partner.Partner.{Partner}
 use Rattle.sr_agent.specs.declared.progress.Progress.{Progress}

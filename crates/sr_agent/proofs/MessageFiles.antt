@@ -1,12 +1,10 @@
 -- A pass over a partner's message files, told.
-use Rattle.std.proofs.Common.{◌≡◌, ◌+◌, ◌-◌, ◌^◌, ◌≤◌, ℕ, Bool, true, false, List, [], ◌∷◌, ◌++◌, length, map, take, drop, bytes_eq, Result, Ok, Err, IfErr, IfOk, refl, sym, ap, subst, inl, inr, ◌∙◌, arith, append_assoc, length-append, if◌then◌else◌}
+use Rattle.std.proofs.Common.{◌≡◌, ◌+◌, ◌-◌, ◌^◌, ◌≤◌, ℕ, Bool, true, false, List, [], ◌∷◌, ◌++◌, length, map, take, drop, Result, Ok, Err, IfErr, IfOk, refl, sym, ap, subst, inl, inr, ◌∙◌, arith, append_assoc, length-append, if◌then◌else◌}
 use Rattle.std.specs.Prelude.{IsTrue, min}
 use Rattle.std.proofs.Math.Seq.{drop-append_seam, take-append_seam}
 use Rattle.sr_book.specs.Books.{new_book, with_note}
 use Rattle.sr_book.specs.Entries.{Name, booked}
-use Rattle.sr_book.specs.Histories.{book_from}
 use Rattle.sr_book.specs.declared.book.Book.{Book}
-use Rattle.sr_book.specs.declared.note.Note.{Note}
 use Rattle.sr_book.specs.declared.note.Note.TheVariants.{Raised}
 use Rattle.sr_book.proofs.Folds.{book_from-append, same_name}
 use Rattle.sr_database.specs.Books.{book_in}
@@ -15,14 +13,13 @@ use Rattle.sr_database.specs.Views.{View}
 use Rattle.sr_database_history.specs.Folds.{books_of, sees}
 use Rattle.sr_database_history.specs.Recorded.{Recorded, note}
 use Rattle.sr_mail.specs.declared.window.Window.{Window}
-use Rattle.sr_receive.specs.Acts.{ReceiveAct, entries_of}
-use Rattle.sr_receive_gather.specs.Bags.{Has, filed_of, partner_mail_of}
+use Rattle.sr_receive.specs.Acts.{entries_of}
+use Rattle.sr_receive_gather.specs.Bags.{Has, filed_of}
 use Rattle.sr_receive.specs.Entering.{IsReady, Reached}
-use Rattle.sr_receive_gather.specs.Greatest.{has_gap, raises, upto_in}
+use Rattle.sr_receive_gather.specs.Greatest.{has_gap, raises}
 use Rattle.sr_receive_gather.specs.MessageFiles.{FetchedFile, MessageFile, message_files_from}
 use Rattle.sr_receive.specs.Passes.{PassedInPart, act_reports, begun_by, first_notes, gap_report, note_entries}
 use Rattle.sr_receive.specs.Inner.Passes.{HasReceived, Passed, ReceiveCause}
-use Rattle.sr_receive_gather.specs.declared.bag.Filed.{Filed}
 use Rattle.sr_receive_gather.specs.declared.bag.PartnerMail.{PartnerMail}
 use Rattle.sr_receive_gather.specs.declared.fault.ReceiveFault.{ReceiveFault}
 use Rattle.sr_receive_gather.specs.declared.fault.ReceiveFault.TheVariants as receives
@@ -35,7 +32,7 @@ use Rattle.sr_database_meaning.specs.Events.{commit}
 use Rattle.sr_agent.specs.Ends.{HasTold, IsUsableEnd}
 use Rattle.sr_agent.specs.Faults.{fault_of_receive}
 use Rattle.sr_agent.specs.Lines.{Line, lines_text, report_lines}
-use Rattle.sr_agent.specs.Inner.PartnerMails.{HasSome, TookMessageFiles, ToldMessageFiles, Turned}
+use Rattle.sr_agent.specs.Inner.PartnerMails.{HasSome, TookMessageFiles, ToldMessageFiles}
 use Rattle.sr_agent.specs.Inner.Steps.{BrokeInPartnerPass, IsParted, IsUser, KeepsPartners, MaySendTo, OutcomeCause, TellEnd, ToldPartnerPass, PartnerPassBroken, partner_pass_said}
 use Rattle.sr_agent.specs.Stops.{IsUntold, in_message_files, behind_message_files, untouched}
 use Rattle.sr_agent.specs.PartnerPasses.{partner_pass_entries}

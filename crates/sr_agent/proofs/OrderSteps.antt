@@ -1,5 +1,5 @@
 -- The partners' passes of partners in order: the first, one more, the end, and a fault.
-use Rattle.std.proofs.Common.{◌≡◌, ◌+◌, ℕ, Bool, true, List, [], ◌∷◌, ◌++◌, map, Ok, Err, Result, refl, sym, ap, subst, ◌∙◌, arith, append_assoc, if◌then◌else◌}
+use Rattle.std.proofs.Common.{◌≡◌, ◌+◌, Bool, List, [], ◌∷◌, ◌++◌, refl, sym, ap, subst, ◌∙◌, arith, append_assoc, if◌then◌else◌}
 use Rattle.std.specs.Prelude.{IsTrue, count_by}
 use Rattle.std.specs.List.{AllByRecursion}
 use Rattle.std.proofs.lemmas.List.{append-nil}
@@ -11,18 +11,17 @@ use Rattle.sr_database_history.specs.Recorded.{Recorded}
 use Rattle.sr_receive.specs.Entering.{IsReady}
 use Rattle.sr_receive_gather.specs.MessageFiles.{FetchedFile}
 use Rattle.sr_receive_gather.specs.declared.bag.PartnerMail.{PartnerMail}
-use Rattle.sr_site.specs.Causes.{MailStays}
 use Rattle.sr_site.specs.Inner.Growing.{stays_on}
 use Rattle.sr_site.specs.Seen.{Seen}
 use Rattle.sr_site.specs.Streams.{Output}
-use Rattle.sr_agent.specs.Lines.{Line, alarms, is_alarm_line}
+use Rattle.sr_agent.specs.Lines.{Line, is_alarm_line}
 use Rattle.sr_agent.specs.Inner.PartnerMails.{HasSome, HoldsSome}
-use Rattle.sr_agent.specs.Inner.Steps.{AreOnce, HoldsAll, IsUser, KeepsPartners, TookPartnerPasses, PartnerPassDone, PartnerPassesDone}
+use Rattle.sr_agent.specs.Inner.Steps.{IsUser, KeepsPartners, TookPartnerPasses, PartnerPassDone, PartnerPassesDone}
 use Rattle.sr_agent.specs.declared.partner.Partner.{Partner}
 use Rattle.sr_agent.specs.declared.progress.Progress.{Progress}
 use Rattle.sr_agent.proofs.Chaining.{partner_passes_more}
 use Rattle.sr_agent.proofs.Joints.{steady_on, went_quiet}
-use Rattle.sr_agent.proofs.Ordering.{IsTurning, TurnedSoFar, all_may, all_users, may_more, others_hold, still_holds, told_on}
+use Rattle.sr_agent.proofs.Ordering.{IsTurning, all_may, all_users, may_more, others_hold, still_holds, told_on}
 use Rattle.sr_agent.proofs.Purged.{stays_same}
 use Rattle.sr_agent.proofs.Values.{keeps_same, keeps_twice}
 

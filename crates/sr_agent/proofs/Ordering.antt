@@ -1,30 +1,26 @@
 -- Turns of partners in order, as far as they came.
-use Rattle.std.proofs.Common.{◌≡◌, ◌+◌, ◌⊎◌, ℕ, Bool, true, false, List, [], ◌∷◌, ◌++◌, map, bytes_eq, Option, refl, sym, ap, subst, inl, inr, ◌∙◌, arith, append_assoc}
+use Rattle.std.proofs.Common.{◌≡◌, ◌+◌, ℕ, Bool, false, List, [], ◌∷◌, ◌++◌, bytes_eq, Option, refl, sym, ap, subst, inl, inr, ◌∙◌, arith, append_assoc}
 use Rattle.std.specs.Prelude.{IsTrue}
 use Rattle.std.specs.List.{AllByRecursion}
-use Rattle.std.proofs.lemmas.List.{append-nil}
 use Rattle.sr_book.specs.Entries.{Name}
 use Rattle.sr_book.proofs.Folds.{name_test}
 use Rattle.sr_database.specs.Databases.{IsDatabase}
 use Rattle.sr_database.specs.Views.{View}
 use Rattle.sr_database_history.specs.Recorded.{Recorded}
-use Rattle.sr_receive_gather.specs.Bags.{Has, IsPartnerMailWhere, partner_mail_of}
+use Rattle.sr_receive_gather.specs.Bags.{IsPartnerMailWhere}
 use Rattle.sr_receive_gather.specs.Inner.Bags.{OthersStay}
 use Rattle.sr_receive.specs.Entering.{IsReady}
 use Rattle.sr_receive_gather.specs.MessageFiles.{FetchedFile, message_files_from}
 use Rattle.sr_receive.specs.Passes.{AreSteady as IsSteady}
 use Rattle.sr_receive_gather.specs.declared.bag.PartnerMail.{PartnerMail}
 use Rattle.sr_site.specs.Causes.{Stays}
-use Rattle.sr_site.specs.Inner.Growing.{stays_on}
 use Rattle.sr_site.specs.Seen.{Seen}
 use Rattle.sr_site.specs.Streams.{Output, OutputStays}
-use Rattle.sr_agent.specs.Lines.{Line, alarms, is_alarm_line, line_text, lines_text}
+use Rattle.sr_agent.specs.Lines.{Line, alarms, line_text, lines_text}
 use Rattle.sr_agent.specs.Inner.PartnerMails.{HasSome, HoldsSome}
-use Rattle.sr_agent.specs.Inner.Steps.{AreOnce, HoldsAll, IsUser, KeepsPartners, MaySendTo, Told, TookPartnerPasses, PartnerPassDone}
+use Rattle.sr_agent.specs.Inner.Steps.{AreOnce, HoldsAll, IsUser, KeepsPartners, MaySendTo, Told, TookPartnerPasses}
 use Rattle.sr_agent.specs.declared.partner.Partner.{Partner}
 use Rattle.sr_agent.specs.declared.progress.Progress.{Progress}
-use Rattle.sr_agent.proofs.Joints.{steady_on}
-use Rattle.sr_agent.proofs.Values.{keeps_twice}
 
 -- ---- texts, one after the other
 

@@ -4,13 +4,12 @@ use Rattle.std.specs.Prelude.{IsErrAnd, IsTrue}
 use Rattle.sr_book.specs.Entries.{Name}
 use Rattle.sr_book.specs.declared.book.Book.{Book}
 use Rattle.sr_database.specs.Books.{book_in}
-use Rattle.sr_database.specs.Databases.{IsDatabase}
 use Rattle.sr_database.specs.Views.{View}
 use Rattle.sr_database_history.specs.Folds.{books_of}
 use Rattle.sr_database_history.specs.Recorded.{Recorded}
-use Rattle.sr_receive_gather.specs.Bags.{Has, partner_mail_of}
+use Rattle.sr_receive_gather.specs.Bags.{partner_mail_of}
 use Rattle.sr_receive.specs.Entering.{IsReady}
-use Rattle.sr_receive_gather.specs.MessageFiles.{FetchedFile, message_files_from}
+use Rattle.sr_receive_gather.specs.MessageFiles.{FetchedFile}
 use Rattle.sr_receive.specs.Passes.{AreSteady as IsSteady}
 use Rattle.sr_receive.specs.Inner.Passes.{IsDeviceFault}
 use Rattle.sr_receive_gather.specs.Purges.{PurgeCause, PurgedInPart, Removes, dead, removals}
@@ -28,14 +27,13 @@ use Rattle.sr_site.specs.Streams.{Output}
 use Rattle.sr_database_meaning.specs.Events.{commit}
 use Rattle.sr_agent.specs.Ends.{HasTold, IsUsableEnd}
 use Rattle.sr_agent.specs.Faults.{fault_of_receive}
-use Rattle.sr_agent.specs.Lines.{Line, alarms}
-use Rattle.sr_agent.specs.Inner.PartnerMails.{HasSome, ToldMessageFiles, Turned}
-use Rattle.sr_agent.specs.Inner.Steps.{BrokeInPartnerPass, KeepsPartners, PurgeEnd, PurgedWhere, TookPartnerPass, PartnerPassBroken, PartnerPassDone}
+use Rattle.sr_agent.specs.Lines.{Line}
+use Rattle.sr_agent.specs.Inner.PartnerMails.{ToldMessageFiles, Turned}
+use Rattle.sr_agent.specs.Inner.Steps.{BrokeInPartnerPass, PurgeEnd, PurgedWhere, TookPartnerPass, PartnerPassBroken, PartnerPassDone}
 use Rattle.sr_agent.specs.Stops.{begun, behind_message_files}
 use Rattle.sr_agent.specs.PartnerPasses.{files_of, partner_pass_entries}
 use Rattle.sr_agent.specs.declared.fault.AgentFault.{AgentFault}
 use Rattle.sr_agent.specs.declared.fault.AgentFault.TheVariants.{Memory}
-use Rattle.sr_agent.specs.declared.partner.Partner.{Partner}
 use Rattle.sr_agent.specs.declared.progress.Progress.{Progress}
 use Rattle.sr_agent.proofs.Ending.{ended_told}
 use Rattle.sr_agent.proofs.Gathered.{IsQuietly}

@@ -1,6 +1,6 @@
 -- What a run promises, from what its passes do.
-use Rattle.std.proofs.Common.{◌≡◌, ◌+◌, ◌⊎◌, Bool, true, false, ℕ, List, [], ◌∷◌, ◌++◌, map, refl, sym, ap, subst, inl, inr, ◌∙◌, append_assoc, arith}
-use Rattle.std.specs.Prelude.{IsTrue, Option, Some, None, Result, Ok, Err}
+use Rattle.std.proofs.Common.{◌≡◌, ◌+◌, Bool, true, false, ℕ, List, [], ◌∷◌, ◌++◌, map, refl, sym, ap, subst, inl, inr, ◌∙◌, append_assoc, arith}
+use Rattle.std.specs.Prelude.{IsTrue, Ok, Err}
 use Rattle.std.proofs.lemmas.List.{append-nil}
 use Rattle.sr_book.specs.Entries.{Name}
 use Rattle.sr_database.specs.Databases.{IsDatabase}
@@ -18,12 +18,12 @@ use Rattle.sr_database_meaning.specs.Events.{Event, commit}
 use Rattle.sr_database_meaning.specs.Traces.{Went}
 use Rattle.sr_database_meaning.proofs.Joining.{joined}
 use Rattle.sr_session.specs.Reports.{Endures}
-use Rattle.sr_agent.specs.Agents.{AreTold, CameSoFar, RanAgent, RanInPart, RanWhole}
-use Rattle.sr_agent.specs.Deliveries.{Delivery, after_deliveries, deliveries_events, deliveries_lines}
+use Rattle.sr_agent.specs.Agents.{AreTold, RanAgent, RanInPart, RanWhole}
+use Rattle.sr_agent.specs.Deliveries.{Delivery, deliveries_events, deliveries_lines}
 use Rattle.sr_agent.specs.Ends.{Ended, HasTold}
 use Rattle.sr_agent.specs.Lines.{Line, alarms, lines_text}
 use Rattle.sr_agent.specs.Runs.{IsSending, Receives, Run, Sends, after_receiving, after_run, asked, fetched_files_of, lines_of, nothing_done, received_lines, run_lines, taken_entries, trace_of}
-use Rattle.sr_agent.specs.Inner.Steps.{AreOnce, BrokeInDeliveries, BrokeInGathering, BrokeInReceiving, BrokeInPartnerPasses, BrokenWhere, DeliveriesBroken, DeliveriesDone, HasGatheredAll, IsForWant, IsInNextDelivery, IsNothingSent, IsUntoldThere, MadePass, PassBroken, ReceivingBroken, SendingBroken, SendingDone, SentPartWhere, SentWhere, TookDeliveries, Told, told_in_part, gathered_in_part, in_mail, in_partner_passes}
+use Rattle.sr_agent.specs.Inner.Steps.{BrokeInDeliveries, BrokeInReceiving, BrokeInPartnerPasses, BrokenWhere, HasGatheredAll, IsUntoldThere, MadePass, PassBroken, SendingBroken, SendingDone, SentPartWhere, SentWhere, TookDeliveries, Told, told_in_part, gathered_in_part, in_mail, in_partner_passes}
 use Rattle.sr_agent.specs.Stops.{DeliveryStop, GatheringStop, IsSendingUpTo, IsUntold, StopsAt, at_first, gathering, behind_gathering, in_partner_pass, sending, in_delivery}
 use Rattle.sr_agent.specs.PartnerPasses.{PartnerPass, gathering_lines, partners, partner_passes_entries, partner_passes_lines}
 use Rattle.sr_agent.specs.declared.fault.AgentFault.{AgentFault}
@@ -31,7 +31,6 @@ use Rattle.sr_agent.specs.declared.fault.AgentFault.TheVariants.{Memory}
 use Rattle.sr_agent.specs.declared.options.Options.{Options}
 use Rattle.sr_agent.specs.declared.partner.Partner.{Partner}
 use Rattle.sr_agent.specs.declared.progress.Progress.{Progress}
-use Rattle.sr_agent.proofs.Joints.{commits_of}
 use Rattle.sr_agent.proofs.Made.{HasMade, are_users, made_where, names_of_history, names_once}
 use Rattle.sr_agent.proofs.Reaching.{Reaches, came_alone, came_behind, gathered_run, reaches_mail, reaches_none, reaches_partner_passes, took_none, went_behind_mail, with_deliveries}
 use Rattle.sr_agent.proofs.Reported.{StopEndures, database_endures, nothing_told, observable_then, stop_endures, went_endures}

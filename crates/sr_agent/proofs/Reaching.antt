@@ -1,26 +1,25 @@
 -- How far a run came, from what its passes say.
-use Rattle.std.proofs.Common.{◌≡◌, Bool, true, false, ℕ, List, [], ◌∷◌, ◌++◌, map, refl, sym, ap, subst, ◌∙◌, append_assoc}
-use Rattle.std.specs.Prelude.{Option, Some, None}
+use Rattle.std.proofs.Common.{◌≡◌, ℕ, List, [], ◌++◌, map, refl, sym, ap, subst, ◌∙◌}
+use Rattle.std.specs.Prelude.{Some}
 use Rattle.std.proofs.lemmas.List.{append-nil}
 use Rattle.sr_book.specs.Entries.{Name}
 use Rattle.sr_database.specs.Databases.{IsDatabase}
 use Rattle.sr_database.specs.Views.{View}
 use Rattle.sr_database_history.specs.Recorded.{Recorded}
 use Rattle.sr_receive.specs.Passes.{AreSteady as IsSteady}
-use Rattle.sr_receive_gather.specs.MessageFiles.{FetchedFile}
 use Rattle.sr_receive_gather.specs.declared.bag.PartnerMail.{PartnerMail}
 use Rattle.sr_site.specs.Happenings.{Happening, mail_in}
 use Rattle.sr_site.specs.Seen.{Seen}
-use Rattle.sr_database_meaning.specs.Events.{Event, commit, commits}
+use Rattle.sr_database_meaning.specs.Events.{Event, commit}
 use Rattle.sr_database_meaning.specs.Traces.{Went}
 use Rattle.sr_database_meaning.proofs.Going.{nothing}
 use Rattle.sr_database_meaning.proofs.Joining.{joined}
 use Rattle.sr_agent.specs.Agents.{CameSoFar}
 use Rattle.sr_agent.specs.Deliveries.{Delivery, deliveries_events, with_puts}
 use Rattle.sr_agent.specs.Lines.{Line}
-use Rattle.sr_agent.specs.Runs.{Run, Receives, after_receiving, fetched_files_of, lines_of, nothing_done, received_mail, taken_entries}
+use Rattle.sr_agent.specs.Runs.{Run, after_receiving, nothing_done, received_mail, taken_entries}
 use Rattle.sr_agent.specs.Inner.Steps.{HasGatheredAll, TookDeliveries, TookPartnerPasses}
-use Rattle.sr_agent.specs.PartnerPasses.{Gathering, PartnerPass, gathering_lines, partner_passes_entries, partner_passes_lines, partner_passes_mail}
+use Rattle.sr_agent.specs.PartnerPasses.{Gathering, PartnerPass, partner_passes_entries, partner_passes_mail}
 use Rattle.sr_agent.specs.declared.options.Options.{Options}
 use Rattle.sr_agent.specs.declared.partner.Partner.{Partner}
 use Rattle.sr_agent.proofs.Joints.{commits_of, settled_as, steady_on}

@@ -9,23 +9,23 @@ use Rattle.sr_database.specs.Views.{View}
 use Rattle.sr_database_history.specs.Folds.{books_of}
 use Rattle.sr_database_history.specs.Recorded.{Recorded}
 use Rattle.sr_receive.specs.Entering.{Reached}
-use Rattle.sr_receive_gather.specs.Gathers.{GatherCause, HappenedInPart, IsLastFetch, fetches}
-use Rattle.sr_receive_gather.specs.MessageFiles.{FetchedFile, fetch_of}
+use Rattle.sr_receive.proofs.Acted.{quiet_both}
+use Rattle.sr_receive_gather.specs.Gathers.{GatherCause, HappenedInPart, fetches}
+use Rattle.sr_receive_gather.specs.MessageFiles.{FetchedFile}
 use Rattle.sr_receive_gather.specs.Purges.{PurgeCause, PurgedInPart, Removes, removals}
 use Rattle.sr_receive_gather.specs.declared.bag.Filed.{Filed}
 use Rattle.sr_receive_gather.specs.declared.fault.ReceiveFault.{ReceiveFault}
 use Rattle.sr_receive_gather.specs.declared.fault.ReceiveFault.TheVariants as receives
 use Rattle.sr_receive_gather.specs.declared.report.Report.{Report}
 use Rattle.sr_site.specs.Causes.{Rose}
-use Rattle.sr_site.specs.Happenings.{Happening, attached, wrote, cut_to, synced, listed, fetched, sent, removed}
+use Rattle.sr_site.specs.Happenings.{Happening, listed, removed}
 use Rattle.sr_site.specs.Images.{IsSettled}
 use Rattle.sr_site.specs.Seen.{Seen}
-use Rattle.sr_database_meaning.specs.Inner.Events.{AreQuiet}
 use Rattle.sr_database_meaning.specs.Standing.{StandsAs}
 use Rattle.sr_agent.specs.Stops.{RemovedInPart, untouched, begun}
 use Rattle.sr_agent.specs.PartnerPasses.{PartnerPass, files_of, partner_pass_entries}
 use Rattle.sr_agent.specs.declared.fault.AgentFault.{AgentFault}
-use Rattle.sr_agent.proofs.Gathered.{IsQuietly}
+use Rattle.sr_agent.proofs.Gathered.{IsQuietly, fetches_quietly, quiet_last}
 use Rattle.sr_agent.proofs.Joints.{settled_as, still_there}
 use Rattle.sr_agent.proofs.Removing.{are_removed}
 
@@ -52,34 +52,12 @@ reached_settles db new publisher es before now entries (r ∷ other ∷ rs) told
 
 -- ---- listings, fetches and removals change nothing of it
 
-quiet_both : (more behind : List Happening) → AreQuiet more → AreQuiet behind → AreQuiet (more ++ behind)
-quiet_both [] behind one two = two
-quiet_both (attached n folder done ∷ more) behind one two = absurd one
-quiet_both (wrote file place bytes done after ∷ more) behind one two = absurd one
-quiet_both (cut_to file to done after ∷ more) behind one two = absurd one
-quiet_both (synced file done after ∷ more) behind one two = absurd one
-quiet_both (listed other folder listing ∷ more) behind one two = quiet_both more behind one two
-quiet_both (fetched other n limit found ∷ more) behind one two = quiet_both more behind one two
-quiet_both (sent other n bytes done ∷ more) behind one two = absurd one
-quiet_both (removed other n done ∷ more) behind one two = quiet_both more behind one two
-
 quietly_on : (before middle now : List Happening) → IsQuietly before middle → IsQuietly middle now → IsQuietly before now
 quietly_on before middle now one two = record {
   more = two.more ++ one.more;
   is = two.is ∙ ap (λ (l : List Happening). two.more ++ l) one.is ∙ sym (append_assoc two.more one.more before);
   quiet = quiet_both two.more one.more two.quiet one.quiet;
 }
-
-fetches_quietly : (address : List ℕ) (fetched_files : List FetchedFile) (before : List Happening) → IsQuietly before (fetches address fetched_files before)
-fetches_quietly address [] before = record { more = []; is = refl; quiet = tt }
-fetches_quietly address (came ∷ fetched_files) before =
-    quietly_on before (fetch_of address came ∷ before) (fetches address fetched_files (fetch_of address came ∷ before)) (record { more = fetch_of address came ∷ []; is = refl; quiet = tt })
-    (fetches_quietly address fetched_files (fetch_of address came ∷ before))
-
-last_quiet : (address : List ℕ) (left : List (List ℕ)) (last : List Happening) → IsLastFetch address left last → AreQuiet last
-last_quiet address left [] one = tt
-last_quiet address left (step ∷ more) one =
-    subst (λ (l : List Happening). AreQuiet (step ∷ l)) (sym one.0) (subst (λ (s : Happening). AreQuiet (s ∷ [])) (sym one.1.4) tt)
 
 listed_quietly : (address : List ℕ) (before now : List Happening) (more : Bool) (fetched_files : List FetchedFile) → HappenedInPart address before now more fetched_files → IsQuietly before now
 listed_quietly address before now more fetched_files (inl none) = elim none.happened [
@@ -91,7 +69,7 @@ listed_quietly address before now more fetched_files (inr some) =
     let then : List Happening = fetches address fetched_files first in
     quietly_on before then now
     (quietly_on before first then (record { more = listed address some.folder (Ok some.listing) ∷ []; is = refl; quiet = tt }) (fetches_quietly address fetched_files first))
-    (record { more = some.part.last; is = some.part.happened; quiet = last_quiet address some.part.left some.part.last some.part.one })
+    (record { more = some.part.last; is = some.part.happened; quiet = quiet_last address some.part.left some.part.last some.part.one })
 
 removed_all : (address : List ℕ) (done : List Filed) (before now : List Happening) → now ≡ removals address done before → IsQuietly before now
 removed_all address done before now is =

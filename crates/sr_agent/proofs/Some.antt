@@ -1,6 +1,5 @@
 -- What was gathered is some message files of each user, whether the site tells or not.
 use Rattle.std.proofs.Common.{ℕ, List, [], Result, Ok, Err, IfOk, subst}
-use Rattle.sr_book.specs.Entries.{Name}
 use Rattle.sr_database.specs.Views.{View}
 use Rattle.sr_receive_gather.specs.Inner.Gathers.{HasGathered}
 use Rattle.sr_receive_gather.specs.MessageFiles.{message_files_from}

@@ -21,7 +21,6 @@ use Rattle.sr_receive_gather.specs.Inner.Purges.{HasPurged}
 use Rattle.sr_receive_gather.specs.declared.bag.Filed.{Filed}
 use Rattle.sr_receive.specs.declared.receiving.Received.{Received}
 use Rattle.sr_receive_gather.specs.declared.report.Report.{Report}
-use Rattle.sr_receive.specs.Passes.{AreSteady as IsSteady}
 use Rattle.sr_site.specs.Happenings.{Happening, mail_in}
 use Rattle.sr_site.specs.Seen.{Seen}
 use Rattle.sr_database_meaning.specs.Events.{commit}

@@ -11,19 +11,20 @@ use Rattle.sr_book.specs.declared.note.Note.TheVariants.{Confirmed, Asked, Raise
 use Rattle.sr_book.proofs.Folds.{book_from-append}
 use Rattle.sr_database.specs.Books.{book_in}
 use Rattle.sr_database.specs.Databases.{IsOf}
-use Rattle.sr_database.specs.Views.{View, committed}
+use Rattle.sr_database.specs.Views.{View}
+use Rattle.sr_database.proofs.Commits.{committed_is}
 use Rattle.sr_database_history.specs.Fitting.{Knows}
 use Rattle.sr_database_history.specs.Folds.{State, after_done, after_dones, after_pass, books_of, fresh, next, sees, state_from, state_of, with_changes, with_statement}
-use Rattle.sr_database_history.specs.Recorded.{Done, plain, ran, conflict, clash}
+use Rattle.sr_database_history.specs.Recorded.{Done}
 use Rattle.sr_database_history.specs.Recorded.{Recorded, own, taken, ddl, sync, pass, note}
-use Rattle.sr_database_history.proofs.Granted.{stays_known}
+use Rattle.sr_database_history.proofs.Granted.{known_from}
 use Rattle.sr_database_history.proofs.Joined.{state_from-append}
 use Rattle.sr_logform.specs.declared.change.Change.{Change}
 use Rattle.sr_logform.specs.declared.op.Op.{Op}
 use Rattle.sr_receive.specs.Acts.{PassState}
 use Rattle.sr_receive.specs.Passes.{first_of}
+use Rattle.sr_receive.proofs.Acted.{done_publisher}
 use Rattle.sr_catalog_script_laws.proofs.ReplayNexts.{publisher_next}
-use Rattle.sr_rows.specs.Marks.{RowMap}
 use Rattle.sr_catalog_schema.specs.Catalogs.{Lists}
 use Rattle.sr_catalog_schema.specs.Members.{user_name}
 use Rattle.sr_catalog_schema.specs.Names.{named}
@@ -32,18 +33,12 @@ use Rattle.sr_agent.specs.PartnerPasses.{beginning}
 
 -- ---- the state and the book
 
-pub state_is : (view : View) (publisher : Name) (es : List Recorded) → IsOf view publisher es → committed view ≡ state_of publisher es
-state_is view publisher es is =
-    let by_catalog : Lists → State = λ c. record { catalog = c; rows = view.rows.marked } in
-    let by_rows : RowMap → State = λ r. record { catalog = (state_of publisher es).catalog; rows = r } in
-    ap by_catalog is.catalog ∙ ap by_rows is.marked
-
 -- where a partner's pass begins
 pub beginning_is : (view : View) (publisher : Name) (es : List Recorded) (user : Name) → IsOf view publisher es → first_of view (book_in view.books user) [] ≡ beginning publisher es user
 beginning_is view publisher es user is =
     let by_state : State → PassState = λ s. record { state = s; received = (book_in view.books user).log_received; dropped_windows = []; left = [] } in
     let by_book : Book → PassState = λ b. record { state = state_of publisher es; received = b.log_received; dropped_windows = []; left = [] } in
-    ap by_state (state_is view publisher es is) ∙ ap by_book (is.books user)
+    ap by_state (committed_is view publisher es is) ∙ ap by_book (is.books user)
 
 -- ---- the publisher
 
@@ -51,15 +46,9 @@ statement_keeps : (s : State) (statement : Stmt) → (with_statement statement s
 unfolding with_statement
 statement_keeps s statement = publisher_next s.catalog statement
 
-done_keeps : (d : Done) (s : State) → (after_done d s).catalog.publisher ≡ s.catalog.publisher
-done_keeps (plain op changes) s = refl
-done_keeps (ran statement changes) s = statement_keeps (with_changes changes s) statement
-done_keeps (conflict op inserts before after) s = refl
-done_keeps (clash op why) s = refl
-
 dones_keep : (dones : List Done) (s : State) → (after_dones dones s).catalog.publisher ≡ s.catalog.publisher
 dones_keep [] s = refl
-dones_keep (d ∷ dones) s = dones_keep dones (after_done d s) ∙ done_keeps d s
+dones_keep (d ∷ dones) s = dones_keep dones (after_done d s) ∙ done_publisher d s
 
 pass_keeps : (only : Bool) (statement : Stmt) (changes : List Change) (s : State) → (after_pass only statement changes s).catalog.publisher ≡ s.catalog.publisher
 pass_keeps true statement changes s = refl
@@ -82,10 +71,6 @@ pub publisher_is : (view : View) (publisher : Name) (es : List Recorded) → IsO
 publisher_is view publisher es is = ap (λ (c : Lists). c.publisher) is.catalog ∙ all_keep (fresh publisher) es
 
 -- ---- what passes ask of partners
-
-known_from : (s : State) (rs : List Recorded) (user : Name) → Knows s user → Knows (state_from s rs) user
-known_from s [] user knows = knows
-known_from s (r ∷ rs) user knows = known_from (next s r) rs user (stays_known s r user knows)
 
 asked_note : (b : Bool) (book changed : Book) → changed.rereceive_count ≡ book.rereceive_count → 1 ≤ book.rereceive_count → 1 ≤ (if b then changed else book).rereceive_count
 asked_note true book changed same one = omega (arith, same, one)

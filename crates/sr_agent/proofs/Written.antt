@@ -1,6 +1,6 @@
 -- What was written, and how a run ends, of steps after steps that were told whole.
-use Rattle.std.proofs.Common.{◌≡◌, ◌+◌, ◌≤◌, ℕ, Bool, true, cond, List, [], ◌∷◌, ◌++◌, refl, sym, ap, subst, ◌∙◌, append_assoc, arith, le_refl}
-use Rattle.std.specs.Prelude.{IsTrue, Err, Result}
+use Rattle.std.proofs.Common.{◌≡◌, ◌+◌, ℕ, Bool, true, cond, List, [], ◌++◌, refl, sym, ap, subst, ◌∙◌, append_assoc, le_refl}
+use Rattle.std.specs.Prelude.{IsTrue, Err}
 use Rattle.std.proofs.lemmas.List.{append-nil}
 use Rattle.std.proofs.lemmas.Grind.{flat_map-append}
 use Rattle.std.proofs.lemmas.List.Sums.{sum_by-append}
@@ -12,7 +12,7 @@ use Rattle.sr_site.specs.Causes.{Rose, Stays}
 use Rattle.sr_site.specs.Inner.Growing.{stays_on}
 use Rattle.sr_site.specs.Seen.{Seen}
 use Rattle.sr_site.specs.Streams.{Output, OutputStays}
-use Rattle.sr_agent.specs.Ends.{CountEnd, Ended, HasTold, IsUsableEnd, Wrote}
+use Rattle.sr_agent.specs.Ends.{CountEnd, Ended, HasTold, Wrote}
 use Rattle.sr_agent.specs.Lines.{Line, alarms, is_alarm_line, line_text, lines_text}
 use Rattle.sr_agent.specs.Inner.Steps.{Told}
 use Rattle.sr_agent.specs.declared.fault.AgentFault.{AgentFault}

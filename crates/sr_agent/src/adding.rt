@@ -1,7 +1,7 @@
 //! Text that is told. It is held until it is written in one piece; where there is no memory to hold more, what is held is written, and the rest at once.
 //! So telling never fails for want of memory.
 
-ghost use Rattle.std.specs.Prelude.{◌≡◌, ◌++◌, OnErr, OnOk};
+ghost use Rattle.std.specs.Prelude.{◌++◌, OnErr, OnOk};
 ghost use Rattle.std.specs.Fmt.{decimal};
 ghost use Rattle.sr_agent.specs.Inner.Steps.{Added, ToldInPart};
 

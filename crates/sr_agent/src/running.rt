@@ -1,7 +1,8 @@
 //! A whole run.
 
-ghost use Rattle.std.specs.Prelude.{◌≡◌, ◌≤◌, ◌||◌, [], true, false, map, IsTrue, IfErr, IfOk, OnOk};
+ghost use Rattle.std.specs.Prelude.{◌≡◌, ◌||◌, [], true, false, map, IsTrue, IfErr, IfOk, OnOk};
 ghost use Rattle.std.specs.List.{AllByRecursion};
+ghost use Rattle.sr_mail_cut.specs.Inner.Cuts.{IsMessageLimit};
 ghost use Rattle.sr_database.specs.Databases.{HasDatabase};
 ghost use Rattle.sr_receive.specs.Entering.{IsReady};
 ghost use Rattle.sr_catalog_schema.specs.Members.{user_name};
@@ -46,8 +47,7 @@ pub fn agent<S: Site, O: Sink>(
     requires pending { db.old.pending ≡ [] }
     requires some_pass { IsTrue (options.now.receive || options.now.send) }
     requires no_restart { options.now.restart ≡ false }
-    requires least { 10000 ≤ options.now.length }
-    requires most { options.now.length ≤ 1048576 }
+    requires limit { IsMessageLimit options.now.length }
     requires stands { IsTrue (S.seen site.old).observable → HasDatabase db.old (S.seen site.old) }
     ensures ran { RanAgent db.old db.new (S.seen site.old) (S.seen site.new) (O.seen sink.old) (O.seen sink.new) options.now result }
 {
@@ -71,8 +71,7 @@ fn run_passes<S: Site, O: Sink>(
 ) -> Result<u32, AgentFault>
     requires ready { IsReady db.old (S.seen site.old) }
     requires names { names.now ≡ map user_name db.old.catalog.users }
-    requires least { 10000 ≤ options.now.length }
-    requires most { options.now.length ≤ 1048576 }
+    requires limit { IsMessageLimit options.now.length }
     ensures ran { RanAgent db.old db.new (S.seen site.old) (S.seen site.new) (O.seen sink.old) (O.seen sink.new) options.now result }
 {
     let progress = receive_pass(alloc, db, site, options, names, sink)?;
@@ -119,8 +118,7 @@ fn send_pass<S: Site, O: Sink>(
     sink: &mut O,
 ) -> Result<(), AgentFault>
     requires ready { IsReady db.old (S.seen site.old) }
-    requires least { 10000 ≤ options.now.length }
-    requires most { options.now.length ≤ 1048576 }
+    requires limit { IsMessageLimit options.now.length }
     requires may { AllByRecursion (MaySendTo db.old) partners.now }
     ensures ready { OnOk result (IsReady db.new (S.seen site.new)) }
     ensures done { OnOk result (SendingDone options.now db.old db.new (S.seen site.old) (S.seen site.new) partners.now (O.seen sink.old) (O.seen sink.new)) }

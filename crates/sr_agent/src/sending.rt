@@ -1,7 +1,8 @@
 //! The send pass.
 
-ghost use Rattle.std.specs.Prelude.{◌≤◌, IfErr, OnOk};
+ghost use Rattle.std.specs.Prelude.{IfErr, OnOk};
 ghost use Rattle.std.specs.List.{AllByRecursion};
+ghost use Rattle.sr_mail_cut.specs.Inner.Cuts.{IsMessageLimit};
 ghost use Rattle.sr_receive.specs.Entering.{IsReady};
 ghost use Rattle.sr_agent.specs.Inner.Steps.{DeliveriesBroken, DeliveriesDone, DeliveryBroken, DeliveryDone, KeepsPartners, MaySendTo};
 
@@ -23,8 +24,7 @@ pub(crate) fn send_in_order<S: Site, O: Sink>(
     sink: &mut O,
 ) -> Result<(), AgentFault>
     requires ready { IsReady db.old (S.seen site.old) }
-    requires least { 10000 ≤ length }
-    requires most { length ≤ 1048576 }
+    requires limit { IsMessageLimit length }
     requires may { AllByRecursion (MaySendTo db.old) partners.now }
     ensures ready { OnOk result (IsReady db.new (S.seen site.new)) }
     ensures done { OnOk result (DeliveriesDone db.old db.new (S.seen site.old) (S.seen site.new) length partners.now (O.seen sink.old) (O.seen sink.new)) }
@@ -48,8 +48,7 @@ fn send_to<S: Site, O: Sink>(
     sink: &mut O,
 ) -> Result<(), AgentFault>
     requires ready { IsReady db.old (S.seen site.old) }
-    requires least { 10000 ≤ length }
-    requires most { length ≤ 1048576 }
+    requires limit { IsMessageLimit length }
     requires may { MaySendTo db.old partner.now }
     ensures ready { OnOk result (IsReady db.new (S.seen site.new)) }
     ensures keeps { OnOk result (KeepsPartners db.old db.new) }

@@ -1,3 +1,2 @@
-pub mod Prints
 pub mod Sizes
 pub mod Utf8

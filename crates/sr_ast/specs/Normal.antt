@@ -9,7 +9,7 @@ use Rattle.sr_base.specs.declared.value.Value.TheVariants as value
 use Rattle.sr_base.specs.declared.value.Kind.{Kind}
 use Rattle.sr_base.specs.declared.value.Kind.TheVariants as kind
 use Rattle.sr_base.specs.Names.{is_lower_name}
-use Rattle.sr_ast.specs.Terms.{Term, depth}
+use Rattle.sr_ast.specs.Terms.{Term, depth, deepest}
 use Rattle.sr_ast.specs.Terms.Term.{literal, column, unary, binary}
 use Rattle.sr_ast.specs.Exprs.{term_of}
 use Rattle.sr_ast.specs.declared.expr.Expr.{Expr}
@@ -58,7 +58,7 @@ IsNormalTerm (binary op a b) = IsNormalTerm a × IsNormalTerm b
 
 -- a term at most 200 deep
 abbrev pub IsNormalDeep : Term → Type 0
-IsNormalDeep t = IsNormalTerm t × (depth t ≤ 200)
+IsNormalDeep t = IsNormalTerm t × (depth t ≤ deepest)
 
 abbrev pub IsNormalExpr : Expr → Type 0
 IsNormalExpr e = IsNormalDeep (term_of e)

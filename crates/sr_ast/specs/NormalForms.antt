@@ -30,6 +30,7 @@ use Rattle.sr_ast.specs.declared.stmt.Passthrough.{Passthrough}
 use Rattle.sr_ast.specs.declared.stmt.Stmt.{Stmt}
 use Rattle.sr_ast.specs.declared.stmt.Stmt.TheVariants as stmt
 use Rattle.sr_ast.specs.Normal.{IsPlain, IsNoneOr, IsSomeOf, IsNormalValue, IsNormalKind, IsPlainColumn, IsNormalDeep, IsNormalExpr}
+use Rattle.sr_ast.specs.Terms.{deepest}
 
 -- ---- rows
 
@@ -150,7 +151,7 @@ pub record IsNormalTrigger (c : CreateTrigger) : Type 0 where
   pub apart : AllPairs Differ c.aliases
   pub variables : AllByRecursion IsNormalVariable c.variables
   pub actions : IsNormalChain c.actions
-  pub few : ifs c.actions ≤ 200
+  pub few : ifs c.actions ≤ deepest
 
 -- ---- all of them
 

@@ -14,16 +14,10 @@ is_ddl (stmt.GrantConsolidate g) = true
 is_ddl (stmt.CreateSubscription r) = true
 is_ddl (stmt.StartSubscription r) = true
 is_ddl (stmt.StopSubscription r) = true
-is_ddl (stmt.Synchronize r) = false
 is_ddl (stmt.DropSubscription r) = true
 is_ddl (stmt.CreateTrigger c) = true
 is_ddl (stmt.DropTrigger n) = true
-is_ddl (stmt.Dml d) = false
-is_ddl (stmt.Select s) = false
-is_ddl stmt.Commit = false
-is_ddl stmt.Rollback = false
-is_ddl (stmt.Passthrough p) = false
-is_ddl stmt.PassthroughStop = false
+is_ddl _ = false
 
 -- what passthrough carries: CREATE and DROP of tables, publications, triggers and subscriptions, START and STOP, INSERT, UPDATE and DELETE
 abbrev pub is_carried : Stmt → Bool
@@ -31,18 +25,11 @@ is_carried (stmt.CreateTable c) = true
 is_carried (stmt.DropTable n) = true
 is_carried (stmt.CreatePublication c) = true
 is_carried (stmt.DropPublication n) = true
-is_carried (stmt.GrantRemote g) = false
-is_carried (stmt.GrantConsolidate g) = false
 is_carried (stmt.CreateSubscription r) = true
 is_carried (stmt.StartSubscription r) = true
 is_carried (stmt.StopSubscription r) = true
-is_carried (stmt.Synchronize r) = false
 is_carried (stmt.DropSubscription r) = true
 is_carried (stmt.CreateTrigger c) = true
 is_carried (stmt.DropTrigger n) = true
 is_carried (stmt.Dml d) = true
-is_carried (stmt.Select s) = false
-is_carried stmt.Commit = false
-is_carried stmt.Rollback = false
-is_carried (stmt.Passthrough p) = false
-is_carried stmt.PassthroughStop = false
+is_carried _ = false

@@ -11,6 +11,10 @@ pub data Term : Type 0 where
   unary : Unary → Term → Term
   binary : Binary → Term → Term → Term
 
+-- how deep an expression may be, how many parentheses may be open in it, and how many IFs of a trigger may stand in one another
+abbrev pub deepest : ℕ
+deepest = 200
+
 -- the depth of an expression: 1 for a literal or a column, and 1 more than its operands for an operator
 abbrev pub depth : Term → ℕ
 depth (literal v) = 1

@@ -7,6 +7,9 @@ use sr_base::{Copied, Name, NoMemory, Value};
 use std::alloc::Global;
 use std::marker::Model;
 
+/// How deep an expression may be, how many parentheses may be open in it, and how many IFs of a trigger may stand in one another.
+pub const DEEPEST: usize = 200;
+
 /// An expression.
 #[cycle(expr)]
 #[derive(Drop)]

@@ -1,7 +1,7 @@
-//! SQL statements as data: how they print, their kinds, and the classes of their expressions.
+//! SQL statements as data: their kinds, and the classes of their expressions. How they print is said here; sr_ast_print prints them.
 //!
 //! It stands on sr_base. Expressions and actions hold others of their kind; contracts see these as terms and chains, without where
-//! they lie in memory, so that a copy equals what was copied. The contract that matters most is that of `print`.
+//! they lie in memory, so that a copy equals what was copied. The contract that matters most is that of `class_of`.
 #![tactic(auto)]
 
 mod action;
@@ -12,12 +12,6 @@ mod expr;
 mod form;
 mod keyword;
 mod operator;
-mod page;
-mod print_action;
-mod print_create;
-mod print_expr;
-mod print_stmt;
-mod printing;
 mod query;
 mod stmt;
 mod uses;
@@ -31,11 +25,10 @@ pub use create::{
     ArticleRule, ColumnRule, CreatePublication, CreateTable, CreateTrigger, Grant, Image,
     SubscriptionRule,
 };
-pub use expr::{Expr, Operand};
+pub use expr::{DEEPEST, Expr, Operand};
 pub use form::Form;
 pub use keyword::Keyword;
 pub use operator::{Binary, Unary};
-pub use print_stmt::print;
 pub use query::{Delete, Dml, Insert, Item, Items, Join, OrderBy, Select, Source, Update};
 pub use stmt::{Passthrough, Script, Stmt, is_carried, is_ddl};
 pub use uses::{

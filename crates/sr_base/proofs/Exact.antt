@@ -1,11 +1,11 @@
 -- Values that compare alike are one.
-use Rattle.std.proofs.Common.{◌≡◌, ◌↔◌, ℕ, ℤ, List, sym, ap, ◌∙◌}
+use Rattle.std.proofs.Common.{◌≡◌, ◌↔◌, ℕ, ℤ, Bool, List, IsTrue, sym, ap, ◌∙◌}
 use Rattle.std.proofs.lemmas.Map.Lookups.{CmpEqualImpliesEq, exact_pairs, exact_unsigned, exact_signed, exact_bytes}
-use Rattle.std.specs.Ordering.{nat_cmp, int_cmp, ordering_then}
+use Rattle.std.specs.Ordering.{is_eq, nat_cmp, int_cmp, ordering_then}
 use Rattle.std.specs.Cmp.Lexicographic.{slice_cmp}
 use Rattle.std.specs.FinMap.{slice_cmp-IsAntisymmetric}
 use Rattle.sr_base.specs.declared.value.Value.{Value}
-use Rattle.std.specs.Cmp.{tied_itself}
+use Rattle.std.specs.Cmp.{Equal-is, tied_itself}
 use Rattle.std.specs.declared.cmp.Ordering.TheVariants.{Equal}
 use Rattle.sr_base.specs.Inner.Codes.{Parts, parts, whole, whole-parts}
 use Rattle.sr_base.specs.Order.{value_cmp, key_cmp}
@@ -29,3 +29,7 @@ exact_keys = slice_cmp-IsAntisymmetric exact_values
 -- keys compare alike exactly where they are equal
 pub keys_tie : (a b : List Value) → (key_cmp a b ≡ Equal) ↔ (a ≡ b)
 keys_tie a b = (exact_keys a b, λ e. ap (key_cmp a) (sym e) ∙ tied_itself key_cmp_total a)
+
+-- a test that says whether keys, or rows, compare alike says whether they are equal
+pub same_where : (told : Bool) (a b : List Value) → told ≡ is_eq (key_cmp a b) → IsTrue told ↔ (a ≡ b)
+same_where told a b is = (λ h. (keys_tie a b).0 ((Equal-is (key_cmp a b)).0 (sym is ∙ h)), λ e. is ∙ ap is_eq ((keys_tie a b).1 e))

@@ -18,6 +18,10 @@ offset_spelling offset = to_be_bytes w64 offset.0
 abbrev pub IsOffset : Offset → Type 0
 IsOffset offset = offset.0 < 2 ^ 64
 
+-- the farthest offset that a log may reach
+abbrev pub farthest_offset : ℕ
+farthest_offset = 2 ^ 62
+
 -- ---- values: a tag byte, and what stands behind it
 
 unfoldable pub value_spelling : Value → List ℕ

@@ -38,7 +38,7 @@ pub use from_bytes::{name_of, text_of};
 pub use key::Key;
 pub use laws::{no_spelling_begins_another, what_is_read_is_spelled_so, what_is_spelled_is_read};
 pub use name::Name;
-pub use offset::Offset;
+pub use offset::{FARTHEST_OFFSET, Offset};
 pub use ordering::{compare, order};
 pub use reading::{read_name, read_prefix, read_row, read_text, read_u32, read_u64, read_value};
 pub use refusals::{BadName, NotUtf8};

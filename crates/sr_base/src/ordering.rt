@@ -1,4 +1,4 @@
-ghost use Rattle.std.specs.Prelude.{◌≡◌, ◌↔◌, refl, List, length};
+ghost use Rattle.std.specs.Prelude.{◌≡◌, ◌↔◌, refl, List, length, IsTrue};
 ghost use Rattle.std.proofs.Common.{rules};
 ghost use Rattle.std.specs.Cmp.{IsTotalOrder, po, eq_by_cmp_equiv, partial_equiv_from_equiv};
 ghost use Rattle.std.specs.Cmp.Rules.{comparing};
@@ -8,6 +8,7 @@ ghost use Rattle.sr_base.specs.Inner.Order.{value_cmp_total, key_cmp_total, name
 
 use crate::key::{Held, Key};
 use crate::name::Name;
+use crate::row::Row;
 use crate::value::Value;
 use std::cmp::Ordering;
 
@@ -154,7 +155,10 @@ impl PartialEq for Key {
 
     ghost laws = { partial_equiv_from_equiv (eq_by_cmp_equiv key_cmp_total) };
 
-    fn eq(&self, other: &Key) -> bool {
+    fn eq(&self, other: &Key) -> bool
+        ensures compared { result ≡ eq_by_cmp key_cmp self.now other.now }
+        ensures same { IsTrue result ↔ (self.now ≡ other.now) }
+    {
         self.cmp(other).is_eq()
     }
 }
@@ -187,6 +191,19 @@ impl Ord for Key {
             (Held::One(Value::Int(number)), Held::One(Value::Int(other))) => number.cmp(other),
             _ => any_key_order(self, other),
         }
+    }
+}
+
+impl PartialEq for Row {
+    ghost eq = { eq_by_cmp key_cmp };
+
+    ghost laws = { partial_equiv_from_equiv (eq_by_cmp_equiv key_cmp_total) };
+
+    fn eq(&self, other: &Row) -> bool
+        ensures compared { result ≡ eq_by_cmp key_cmp self.now other.now }
+        ensures same { IsTrue result ↔ (self.now ≡ other.now) }
+    {
+        self.values().cmp(other.values()).is_eq()
     }
 }
 

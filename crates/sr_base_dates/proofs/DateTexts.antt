@@ -12,12 +12,9 @@ use Rattle.jiff_core.proofs.DateLemmas.{civil as civil_parts}
 use Rattle.jiff_core.proofs.SignedLemmas.{signed_arith}
 use Rattle.sr_base.specs.Names.{is_digit}
 use Rattle.sr_base.specs.Days.{IsDay}
+use Rattle.sr_base.proofs.Truths.{both_true}
 use Rattle.sr_base_dates.specs.Calendar.{Civil, civil, date_at, two_digits, four_digits, civil_text, date_text, is_date, number_of_two, day_named}
 use Rattle.sr_base_dates.proofs.Dates.{HasDate, day_number, date_at-number, day_number-first, number_low, number_high, year_high, same_date}
-
-both_true : (a b : Bool) → (a && b) ≡ true → (a ≡ true) × (b ≡ true)
-both_true true b e = (refl, e)
-both_true false b e = cc
 
 digit_range : (n : ℕ) → is_digit n ≡ true → (48 ≤ n) × (n ≤ 57)
 digit_range n e = grind (arith, nat_tests)

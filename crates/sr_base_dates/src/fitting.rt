@@ -19,6 +19,17 @@ pub fn fit(value: Value, kind: Kind) -> Result<Value, Value>
     }
 }
 
+/// What a column or variable of this type holds for the value, if it fits.
+#[tactic(auto, using(crate::proofs::OkOr::given_rules))]
+pub fn fitted(value: Value, kind: Kind) -> Option<Value>
+    ensures { result ≡ fitted value kind }
+{
+    match fit(value, kind) {
+        Ok(held) => Some(held),
+        Err(_) => None,
+    }
+}
+
 fn number_in(number: i64, kind: Kind) -> Option<Value>
     ensures fits { result ≡ fitted_number number kind }
 {

@@ -9,5 +9,5 @@ mod fitting;
 mod literal;
 
 pub use day_reading::day_of;
-pub use fitting::fit;
+pub use fitting::{fit, fitted};
 pub use literal::write_literal;

@@ -10,8 +10,9 @@ ghost use Rattle.sr_catalog_script_laws.specs.Inner.Scripts.{given_address, gran
 
 use crate::catalog::Catalog;
 use sr_ast::{
-    ArticleRule, ColumnRule, CreatePublication, CreateTable, Grant, Stmt, SubscriptionRule, print,
+    ArticleRule, ColumnRule, CreatePublication, CreateTable, Grant, Stmt, SubscriptionRule,
 };
+use sr_ast_print::print;
 use sr_base::{Copied, NoMemory, Seq, Text, text_of};
 use sr_catalog_schema::{
     Article, Column, Publication, Subscription, Table, Trigger, User, key_names,

@@ -48,12 +48,8 @@ causes c (stmt.Synchronize r) = synchronize_causes c r
 causes c (stmt.DropSubscription r) = drop_subscription_causes c r
 causes c (stmt.CreateTrigger g) = create_trigger_causes c g
 causes c (stmt.DropTrigger n) = drop_trigger_causes c n
-causes c (stmt.Dml d) = no_cause
-causes c (stmt.Select s) = no_cause
-causes c stmt.Commit = no_cause
-causes c stmt.Rollback = no_cause
 causes c (stmt.Passthrough p) = passthrough_causes c p.users
-causes c stmt.PassthroughStop = no_cause
+causes c _ = no_cause
 
 -- the fault that refuses a statement, where one does
 unfoldable pub refusal : Lists → Stmt → Option DdlFault
@@ -70,13 +66,7 @@ next c (stmt.GrantConsolidate g) = record c { users = c.users ++ user_of true g 
 next c (stmt.CreateSubscription r) = record c { subscriptions = c.subscriptions ++ subscription_of r ∷ [] }
 next c (stmt.StartSubscription r) = record c { subscriptions = map (marked true r) c.subscriptions }
 next c (stmt.StopSubscription r) = record c { subscriptions = map (marked false r) c.subscriptions }
-next c (stmt.Synchronize r) = c
 next c (stmt.DropSubscription r) = record c { subscriptions = filter (λ s. not (is_of r s)) c.subscriptions }
 next c (stmt.CreateTrigger g) = record c { triggers = c.triggers ++ trigger_of g ∷ [] }
 next c (stmt.DropTrigger n) = record c { triggers = without trigger_name n c.triggers }
-next c (stmt.Dml d) = c
-next c (stmt.Select s) = c
-next c stmt.Commit = c
-next c stmt.Rollback = c
-next c (stmt.Passthrough p) = c
-next c stmt.PassthroughStop = c
+next c _ = c

@@ -37,11 +37,7 @@ pub fn refusal(schema: &Schema, alloc: Global, stmt: &Stmt) -> Result<Option<Ddl
         Stmt::CreateTrigger(rule) => create_trigger_fault(schema, alloc, rule),
         Stmt::DropTrigger(name) => drop_trigger_fault(schema, alloc, name),
         Stmt::Passthrough(rule) => passthrough_fault(schema, alloc, rule.users.as_slice()),
-        Stmt::Dml(_) => Ok(None),
-        Stmt::Select(_) => Ok(None),
-        Stmt::Commit => Ok(None),
-        Stmt::Rollback => Ok(None),
-        Stmt::PassthroughStop => Ok(None),
+        _ => Ok(None),
     }
 }
 
@@ -69,13 +65,7 @@ pub fn apply(schema: &mut Schema, alloc: Global, stmt: &Stmt) -> Result<(), NoMe
         Stmt::DropSubscription(rule) => schema.remove_subscription(alloc, rule),
         Stmt::CreateTrigger(rule) => schema.add_trigger(alloc, trigger_of(alloc, rule)?),
         Stmt::DropTrigger(name) => schema.remove_trigger(alloc, name),
-        Stmt::Synchronize(_) => Ok(()),
-        Stmt::Passthrough(_) => Ok(()),
-        Stmt::Dml(_) => Ok(()),
-        Stmt::Select(_) => Ok(()),
-        Stmt::Commit => Ok(()),
-        Stmt::Rollback => Ok(()),
-        Stmt::PassthroughStop => Ok(()),
+        _ => Ok(()),
     }
 }
 

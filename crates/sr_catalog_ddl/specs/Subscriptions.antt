@@ -78,14 +78,18 @@ abbrev pub is_bad_value : Lists → SubscriptionRule → Option Value → Bool
 is_bad_value c r None = false
 is_bad_value c r (Some v) = list_any (λ a. differs (named table_name a.table c.tables) v a.by) (articles_in c r)
 
+-- how many subscriptions there may be
+abbrev pub most_subscriptions : ℕ
+most_subscriptions = 65536
+
 -- what speaks against CREATE SUBSCRIPTION: the publication or the user is not there; they are, and so is the subscription; the
--- value's class; there are 65,536 subscriptions already
+-- value's class; there are as many subscriptions as there may be
 unfoldable pub create_subscription_causes : Lists → SubscriptionRule → Causes
 create_subscription_causes c r = record no_cause {
   exists = where_true (has_both c r && is_there c r) r.publication;
   missing = missing_either c r;
   bad_type = where_true (is_bad_value c r r.value) r.publication;
-  too_many = where_true (nat_le 65536 (length c.subscriptions)) 65536;
+  too_many = where_true (nat_le most_subscriptions (length c.subscriptions)) most_subscriptions;
 }
 
 -- the subscription that CREATE SUBSCRIPTION makes

@@ -20,6 +20,7 @@ ghost use Rattle.sr_catalog_ddl.specs.Subscriptions.{
   differs,
   is_bad_value,
   create_subscription_causes,
+  most_subscriptions,
   start_causes,
   stop_causes,
   synchronize_causes,
@@ -116,9 +117,9 @@ fn bad_value(
     owned(alloc, where_true(bad, &rule.publication))
 }
 
-/// 65,536 subscriptions already.
+/// As many subscriptions as there may be.
 fn too_many(subscriptions: &[Subscription]) -> Option<u64>
-    ensures { result ≡ where_true (nat_le 65536 (length subscriptions.now)) 65536 }
+    ensures { result ≡ where_true (nat_le most_subscriptions (length subscriptions.now)) most_subscriptions }
 {
     limit_where(is_full(subscriptions.len(), 65536), 65536)
 }

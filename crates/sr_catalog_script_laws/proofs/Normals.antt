@@ -228,13 +228,7 @@ next_normal c (stmt.StartSubscription r) each normal h =
     with_subscriptions c _ each (marks_normal c each (map (marked true r) c.subscriptions) (marked_rules true r c.subscriptions))
 next_normal c (stmt.StopSubscription r) each normal h =
     with_subscriptions c _ each (marks_normal c each (map (marked false r) c.subscriptions) (marked_rules false r c.subscriptions))
-next_normal c (stmt.Synchronize r) each normal h = each
 next_normal c (stmt.DropSubscription r) each normal h = with_subscriptions c _ each (AllByRecursion-filter _ _ c.subscriptions each.subscriptions)
 next_normal c (stmt.CreateTrigger g) each normal h = with_triggers c _ each (AllByRecursion-append _ c.triggers (trigger_of g) each.triggers normal)
 next_normal c (stmt.DropTrigger n) each normal h = with_triggers c _ each (AllByRecursion-filter _ _ c.triggers each.triggers)
-next_normal c (stmt.Dml d) each normal h = each
-next_normal c (stmt.Select q) each normal h = each
-next_normal c stmt.Commit each normal h = each
-next_normal c stmt.Rollback each normal h = each
-next_normal c (stmt.Passthrough p) each normal h = each
-next_normal c stmt.PassthroughStop each normal h = each
+next_normal c _ each normal h = each

@@ -310,38 +310,15 @@ stands_next c (stmt.GrantConsolidate g) stands h = with_user c (user_of true g) 
 stands_next c (stmt.CreateSubscription r) stands h = create_subscription c r stands h
 stands_next c (stmt.StartSubscription r) stands h = start_subscription c r stands h
 stands_next c (stmt.StopSubscription r) stands h = stop_subscription c r stands
-stands_next c (stmt.Synchronize r) stands h = stands
 stands_next c (stmt.DropSubscription r) stands h = drop_subscription c r stands
 stands_next c (stmt.CreateTrigger g) stands h = create_trigger c g stands h
 stands_next c (stmt.DropTrigger n) stands h = drop_trigger c n stands
-stands_next c (stmt.Dml d) stands h = stands
-stands_next c (stmt.Select s) stands h = stands
-stands_next c stmt.Commit stands h = stands
-stands_next c stmt.Rollback stands h = stands
-stands_next c (stmt.Passthrough p) stands h = stands
-stands_next c stmt.PassthroughStop stands h = stands
+stands_next c _ stands h = stands
 
 pub publisher_next : (c : Lists) (s : Stmt) → (next c s).publisher ≡ c.publisher
 unfolding next
 publisher_next c (stmt.CreateTable t) = refl
-publisher_next c (stmt.DropTable n) = refl
-publisher_next c (stmt.CreatePublication p) = refl
-publisher_next c (stmt.DropPublication n) = refl
-publisher_next c (stmt.GrantRemote g) = refl
-publisher_next c (stmt.GrantConsolidate g) = refl
-publisher_next c (stmt.CreateSubscription r) = refl
-publisher_next c (stmt.StartSubscription r) = refl
-publisher_next c (stmt.StopSubscription r) = refl
-publisher_next c (stmt.Synchronize r) = refl
-publisher_next c (stmt.DropSubscription r) = refl
-publisher_next c (stmt.CreateTrigger g) = refl
-publisher_next c (stmt.DropTrigger n) = refl
-publisher_next c (stmt.Dml d) = refl
-publisher_next c (stmt.Select s) = refl
-publisher_next c stmt.Commit = refl
-publisher_next c stmt.Rollback = refl
-publisher_next c (stmt.Passthrough p) = refl
-publisher_next c stmt.PassthroughStop = refl
+publisher_next c _ = refl
 
 -- ---- each catalog that statements have made
 

@@ -21,7 +21,7 @@ use Rattle.sr_catalog_script_laws.proofs.Standing.{Clash, IsFree}
 
 -- ---- clashes
 
-bytes_eq-turned : (a b : List ℕ) → bytes_eq a b ≡ false → bytes_eq b a ≡ false
+pub bytes_eq-turned : (a b : List ℕ) → bytes_eq a b ≡ false → bytes_eq b a ≡ false
 bytes_eq-turned a b h = false_from_ne_true _ (λ e.
     let same : b ≡ a = (bytes_eq-Decides b a).0 e in
     let is : bytes_eq a b ≡ true = (bytes_eq-Decides a b).1 (sym same) in

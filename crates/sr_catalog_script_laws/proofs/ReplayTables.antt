@@ -24,7 +24,7 @@ use Rattle.sr_catalog_script_laws.proofs.Standing.{HasRoom, TableStands, table_r
 
 -- ---- the columns of a key by name and by place
 
-slice_get-map : {A B : Type 0} (f : A → B) (xs : List A) (i : ℕ) → slice_get (map f xs) i ≡ option_map f (slice_get xs i)
+pub slice_get-map : {A B : Type 0} (f : A → B) (xs : List A) (i : ℕ) → slice_get (map f xs) i ≡ option_map f (slice_get xs i)
 slice_get-map f [] i = refl
 slice_get-map f (x ∷ xs) zero = refl
 slice_get-map f (x ∷ xs) (suc i) = slice_get-map f xs i

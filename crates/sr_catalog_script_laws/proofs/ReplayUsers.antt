@@ -12,7 +12,7 @@ use Rattle.sr_ast.specs.declared.create.Grant.{Grant}
 use Rattle.sr_ast.specs.declared.stmt.Stmt.TheVariants as stmt
 use Rattle.sr_catalog_schema.specs.Catalogs.{Lists, nothing_but}
 use Rattle.sr_catalog_change.specs.Changes.{causes, refusal, next}
-use Rattle.sr_catalog_script_laws.specs.Inner.Scripts.{grant_rule, grant_of}
+use Rattle.sr_catalog_script_laws.specs.Inner.Scripts.{grant_rule, grant_of, user_at}
 use Rattle.sr_catalog_ddl.specs.Users.{is_bad_address, address_of, grant_causes, user_of}
 use Rattle.sr_catalog_schema.specs.declared.user.User.{User}
 use Rattle.sr_catalog_script_laws.proofs.ReplayCauses.{NoCause, no_cause_of, refused_alike, where_true-None}
@@ -89,9 +89,6 @@ unfolding user_of
 made_alike c above g none =
     let good : is_bad_address g.address ≡ false = good_address c above g none in
     granted_causes _ c above _ g refl refl refl (good_again g.user g.address good ∙ sym good)
-
-abbrev user_at : List ℕ → Bool → List ℕ → User
-user_at name above address = record { name = name; above = above; address = address }
 
 makes_itself : (above : Bool) (g : Grant) → user_of above (grant_rule (user_of above g)) ≡ user_of above g
 unfolding user_of

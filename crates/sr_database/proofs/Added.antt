@@ -24,6 +24,7 @@ use Rattle.sr_site.specs.Seen.{Seen}
 use Rattle.sr_database_meaning.specs.Events.{commit}
 use Rattle.sr_database_meaning.specs.Standing.{bodies}
 use Rattle.sr_database_meaning.specs.Traces.{Went}
+use Rattle.sr_database_meaning.proofs.Standing.{some_byte}
 use Rattle.sr_database.specs.Commits.{IsPrepared, framed_size}
 use Rattle.sr_database.specs.Inner.Commits.{CanCommit, CanCommitSome}
 use Rattle.sr_database.specs.Databases.{IsOf, IsOfSome, IsDatabase}
@@ -42,15 +43,6 @@ longest (entries.Ddl text) = omega arith
 longest (entries.Sync user tables) = omega arith
 longest (entries.Pass users only text changes) = omega arith
 longest (entries.Note user note) = omega arith
-
-some_byte : (e : Entry) → 1 ≤ length (entry_spelling e)
-unfolding entry_spelling
-some_byte (entries.Own changes) = omega arith
-some_byte (entries.From user at ops) = omega arith
-some_byte (entries.Ddl text) = omega arith
-some_byte (entries.Sync user tables) = omega arith
-some_byte (entries.Pass users only text changes) = omega arith
-some_byte (entries.Note user note) = omega arith
 
 pub short_is_body : (e : Entry) (body : List ℕ) → body ≡ entry_spelling e → length body ≤ longest_body e → IsBody body
 short_is_body e body is short = (omega (arith, some_byte e, ap length is), omega (arith, short, longest e))

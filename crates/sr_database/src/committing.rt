@@ -25,10 +25,10 @@ ghost use Rattle.sr_database_files.specs.declared.fault.DatabaseFault.TheVariant
 use crate::bookkeeping::Books;
 use crate::database::Database;
 use crate::settling::settle;
-use sr_base::Offset;
+use sr_base::{FARTHEST_OFFSET, Offset};
 use sr_catalog::Catalog;
 use sr_database_files::DatabaseFault;
-use sr_logfile::{LogFile, frame};
+use sr_logfile::{EMPTY_LOG, LogFile, frame};
 use sr_logform::{Change, Entry, farthest_end, longest_body, write_entry};
 use sr_rows::Rows;
 use sr_site::Site;
@@ -128,9 +128,9 @@ fn no_room(log: &LogFile, length: u64, bound: u64) -> Option<(u64, u64)>
 {
     let base = log.base().0;
     let end = log.end().0;
-    let place = 17 + (end - base);
+    let place = EMPTY_LOG + (end - base);
     let need = length + 5;
-    if place + need > bound || end + need > LAST_OFFSET {
+    if place + need > bound || end + need > FARTHEST_OFFSET {
         return Some((place, need));
     }
     None
@@ -164,6 +164,3 @@ fn append<S: Site>(
         Err(_) => Err(DatabaseFault::Disk),
     }
 }
-
-/// The last offset: 2^62.
-const LAST_OFFSET: u64 = 4_611_686_018_427_387_904;

@@ -1,7 +1,8 @@
-ghost use Rattle.std.specs.Prelude.{◌≡◌, ◌≤◌, ◌^◌, [], ℕ, true, List, length, IsTrue, IfOk, IfErr, OnOk};
+ghost use Rattle.std.specs.Prelude.{◌≡◌, ◌≤◌, [], ℕ, true, List, length, IsTrue, IfOk, IfErr, OnOk};
 ghost use Rattle.sr_book.specs.Entries.{Name as AName};
 ghost use Rattle.sr_database_history.specs.Recorded.{Recorded};
 ghost use Rattle.sr_base.specs.Fields.{IsName};
+ghost use Rattle.sr_base.specs.Values.{farthest_offset};
 ghost use Rattle.sr_logfile.specs.Inner.Moments.{IsAsRead};
 ghost use Rattle.sr_logfile.specs.Records.{HasHeader};
 ghost use Rattle.sr_catalog_schema.specs.Catalogs.{nothing_but};
@@ -123,7 +124,7 @@ fn replay_all<S: Site>(
     requires header { IsTrue (S.seen site.old).observable → HasHeader 0 (bytes_of (S.seen site.old).files log) }
     requires new { IsReplayed replay.old.catalog replay.old.rows replay.old.books 0 publisher.now [] }
     ensures replayed { IfOk result (λ end. HasReplayed replay.new.catalog replay.new.rows replay.new.books end publisher.now log (S.seen site.old)) }
-    ensures end { IfOk result (λ end. end ≤ 2 ^ 62) }
+    ensures end { IfOk result (λ end. end ≤ farthest_offset) }
     ensures read { ReadAlone (S.seen site.old) (S.seen site.new) }
     ensures steady { OnOk result ((S.seen site.new).disk_faults ≡ (S.seen site.old).disk_faults) }
     ensures cause { IfErr result (ReplayCause log publisher.now (S.seen site.old) (S.seen site.new)) }
@@ -145,7 +146,7 @@ fn database_of(
     log: File,
     end: u64,
 ) -> Database
-    requires end { end ≤ 2 ^ 62 }
+    requires end { end ≤ farthest_offset }
     requires replayed { IsReplayedBehind replay.catalog replay.rows replay.books end base_catalog }
     ensures ready { (result.log.usable ≡ true) × (result.pending ≡ []) }
     ensures file { result.log.file ≡ log }

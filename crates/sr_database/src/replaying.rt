@@ -3,9 +3,11 @@
 ghost use Rattle.std.specs.Prelude.{◌≡◌, ◌<◌, ◌≤◌, ◌+◌, ◌^◌, [], length, drop, IsTrue, IfOk, IfErr, OnOk, IfSome, IfNone, vec_len};
 ghost use Rattle.std.specs.FinMap as map;
 ghost use Rattle.sr_base.specs.Fields.{IsName};
+ghost use Rattle.sr_base.specs.Values.{farthest_offset};
 ghost use Rattle.sr_book.specs.Books.{with_taken, with_note};
 ghost use Rattle.sr_database_history.specs.Recorded.{Recorded, entry_of};
 ghost use Rattle.sr_logfile.specs.Inner.Heads.{HasWhole};
+ghost use Rattle.sr_logfile.specs.Records.{header_size};
 ghost use Rattle.sr_logform.specs.Entries.{entry_spelling, IsEntry};
 ghost use Rattle.sr_site.specs.Files.{bytes_of};
 ghost use Rattle.sr_database.specs.Books.{book_in};
@@ -19,7 +21,7 @@ use sr_book::{Book, Note};
 use sr_catalog::Catalog;
 use sr_database_files::{DatabaseFault, log_fault};
 use sr_database_fold::go_on;
-use sr_logfile::record_end;
+use sr_logfile::{HEADER, record_end};
 use sr_logform::{Entry, longest_body, read_entry};
 use sr_rows::Rows;
 use sr_site::{Disk, File, Site};
@@ -61,11 +63,11 @@ pub(crate) fn next_entry<S: Site>(
     position: u64,
     size: u64,
 ) -> Result<Option<u64>, DatabaseFault>
-    requires order { position ≤ 2 ^ 62 }
+    requires order { position ≤ farthest_offset }
     requires size { IsTrue (S.seen site.old).observable → size ≡ length (bytes_of (S.seen site.old).files log) }
     requires replayed { IsReplayedOf replay.old.catalog replay.old.rows replay.old.books position publisher.now }
     ensures next { IfOk result (IsNextEntry replay.old.catalog replay.new.catalog replay.old.rows replay.new.rows replay.old.books replay.new.books position publisher.now log (S.seen site.old)) }
-    ensures onward { IfOk result (λ found. IfSome found (λ end. (position < end) × (end ≤ 2 ^ 62))) }
+    ensures onward { IfOk result (λ found. IfSome found (λ end. (position < end) × (end ≤ farthest_offset))) }
     ensures read { ReadAlone (S.seen site.old) (S.seen site.new) }
     ensures steady { OnOk result ((S.seen site.new).disk_faults ≡ (S.seen site.old).disk_faults) }
     ensures cause { IfErr result (RecordCause log publisher.now replay.old.catalog replay.old.rows replay.old.books position (S.seen site.old) (S.seen site.new)) }
@@ -90,15 +92,15 @@ fn read_record<S: Site>(
     position: u64,
     end: u64,
 ) -> Result<(), DatabaseFault>
-    requires order { (position < end) × (end ≤ 2 ^ 62) }
-    requires whole { IsTrue (S.seen site.old).observable → HasWhole position (drop (16 + position) (bytes_of (S.seen site.old).files log)) end }
+    requires order { (position < end) × (end ≤ farthest_offset) }
+    requires whole { IsTrue (S.seen site.old).observable → HasWhole position (drop (header_size + position) (bytes_of (S.seen site.old).files log)) end }
     requires replayed { IsReplayedOf replay.old.catalog replay.old.rows replay.old.books position publisher.now }
     ensures on { OnOk result (IsReadOn replay.old.catalog replay.new.catalog replay.old.rows replay.new.rows replay.old.books replay.new.books position end publisher.now log (S.seen site.old)) }
     ensures read { ReadAlone (S.seen site.old) (S.seen site.new) }
     ensures steady { OnOk result ((S.seen site.new).disk_faults ≡ (S.seen site.old).disk_faults) }
     ensures cause { IfErr result (RecordCause log publisher.now replay.old.catalog replay.old.rows replay.old.books position (S.seen site.old) (S.seen site.new)) }
 {
-    let place = 16 + position;
+    let place = HEADER + position;
     let Some(count) = body_length(position, end) else {
         return Err(DatabaseFault::Damaged {
             file: log,
@@ -128,7 +130,7 @@ fn read_record<S: Site>(
 
 /// The length of the body of a record between two gates, where these are far enough from one another.
 fn body_length(position: u64, end: u64) -> Option<usize>
-    requires limit { position ≤ 2 ^ 62 }
+    requires limit { position ≤ farthest_offset }
     ensures some { IfSome result (λ count. position + (count + 5) ≡ end) }
     ensures none { IfNone result (end < position + 5) }
 {

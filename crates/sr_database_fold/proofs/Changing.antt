@@ -8,9 +8,10 @@ use Rattle.sr_exec_dml.specs.Applying.{place_of, with_row, without_row, applied_
 use Rattle.sr_exec_dml.specs.Inner.Conditions.{RowsFit}
 use Rattle.sr_exec_fits.specs.Rows.{IsRow}
 use Rattle.sr_exec_dml.specs.FittingChanges.{FitsAt, IsFitChange, ChangesFit}
-use Rattle.sr_exec_dml.specs.Statements.{key_of, table_named}
+use Rattle.sr_exec_where.specs.Keys.{key_of}
+use Rattle.sr_exec_dml.specs.Statements.{table_named}
 use Rattle.sr_exec_dml.proofs.Applied.{fitting_changes_keep}
-use Rattle.sr_exec_dml.proofs.Fixed.{same_name}
+use Rattle.sr_exec_where.proofs.Fixed.{same_name}
 use Rattle.sr_exec_dml.proofs.Over.{over}
 use Rattle.sr_logform.specs.declared.change.Change.{Change}
 use Rattle.sr_rows.specs.Marks.{RowMap, rows_of_table}

@@ -6,5 +6,4 @@ pub mod Marking
 pub mod Meant
 pub mod Named
 pub mod Taking
-pub mod Ties
 pub mod Told

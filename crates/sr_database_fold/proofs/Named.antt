@@ -11,7 +11,8 @@ use Rattle.sr_base_dates.specs.Fitting.{fitted}
 use Rattle.sr_exec_dml.specs.Applying.{applied_in, applied}
 use Rattle.sr_exec_fits.specs.Rows.{IsRow}
 use Rattle.sr_exec_dml.specs.FittingChanges.{IsFitChange, ChangesFit}
-use Rattle.sr_exec_dml.specs.Statements.{key_of, table_named}
+use Rattle.sr_exec_where.specs.Keys.{key_of}
+use Rattle.sr_exec_dml.specs.Statements.{table_named}
 use Rattle.sr_database_history.specs.Fitting.{fitted_in, all_there, IsInsertion, IsNamedKey, AreNamedRows}
 use Rattle.sr_logform.specs.declared.change.Change.{Change}
 use Rattle.sr_rows.specs.Marks.{RowMap}

@@ -8,14 +8,15 @@ ghost use Rattle.std.specs.Option.{option_copied};
 ghost use Rattle.std.specs.List.{AllByRecursion};
 ghost use Rattle.sr_exec_dml.specs.Applying.{with_row, without_row};
 ghost use Rattle.sr_exec_dml.specs.Inner.Conditions.{RowsFit};
-ghost use Rattle.sr_exec_dml.specs.Statements.{key_of as key_at, table_named};
+ghost use Rattle.sr_exec_where.specs.Keys.{key_of as key_at};
+ghost use Rattle.sr_exec_dml.specs.Statements.{table_named};
 ghost use Rattle.sr_rows.specs.Inner.Steps.{at_mark};
 ghost use Rattle.sr_catalog_schema.specs.Catalogs.{Lists};
 ghost use Rattle.sr_database_fold.specs.Inner.Answers.{Tells};
 ghost use Rattle.sr_database_fold.specs.Inner.Movements.{Differs, IsHeld, change_of, MayCome, IsThere, MayBecome, KeyWhere};
 ghost use Rattle.sr_database_fold.specs.Inner.Told.{ChangeTold, ChangesTold};
 
-use crate::keys::{is_key, is_same_row, key_of};
+use crate::keys::key_of;
 use sr_base::{Copied, Key, Name, NoMemory, Row};
 use sr_catalog::{Catalog, Table};
 use sr_exec_fits::is_row;
@@ -185,7 +186,8 @@ fn kept_key(
         return Ok(None);
     };
     let new_key = key_of(alloc, table, after)?;
-    if !is_key(&key, &new_key) {
+    let same = key == new_key;
+    if !same {
         return Ok(None);
     }
     Ok(Some(new_key))
@@ -196,6 +198,6 @@ fn is_held(held: Option<&Row>, row: &Row) -> bool
 {
     match held {
         None => false,
-        Some(held) => is_same_row(held, row),
+        Some(held) => *held == *row,
     }
 }

@@ -3,14 +3,14 @@
 ghost use Rattle.std.specs.Prelude.{◌≡◌, ◌↔◌, IfOk, IsTrue};
 ghost use Rattle.std.specs.List.{AllByRecursion};
 ghost use Rattle.sr_exec_dml.specs.Inner.Conditions.{RowsFit};
-ghost use Rattle.sr_exec_dml.specs.Statements.{key_of};
+ghost use Rattle.sr_exec_where.specs.Keys.{key_of};
 ghost use Rattle.sr_database_history.specs.Fitting.{IsInsertion, AreNamedRows};
 ghost use Rattle.sr_rows.specs.Inner.Steps.{at_mark};
 ghost use Rattle.sr_database_fold.specs.Inner.Movements.{Differs};
 ghost use Rattle.sr_database_fold.specs.Inner.Told.{ConflictTold};
 
 use crate::changes::{go_on_changes, go_on_row};
-use crate::keys::{is_key, key_of};
+use crate::keys::key_of;
 use crate::naming::named_key;
 use sr_base::{Key, Name, NoMemory, Row, Value};
 use sr_catalog::{Catalog, Table};
@@ -102,5 +102,5 @@ fn have_key(
 {
     let old_key = key_of(alloc, table, before)?;
     let new_key = key_of(alloc, table, after)?;
-    Ok(is_key(&old_key, key) && is_key(&new_key, key))
+    Ok(old_key == *key && new_key == *key)
 }

@@ -90,24 +90,7 @@ fn is_possible(alloc: Global, catalog: &Catalog, rows: &Rows, stmt: &Stmt) -> Re
 {
     match stmt {
         Stmt::Dml(dml) => has_changes(alloc, catalog, rows, dml),
-        Stmt::CreateTable(_)
-        | Stmt::DropTable(_)
-        | Stmt::CreatePublication(_)
-        | Stmt::DropPublication(_)
-        | Stmt::GrantRemote(_)
-        | Stmt::GrantConsolidate(_)
-        | Stmt::CreateSubscription(_)
-        | Stmt::StartSubscription(_)
-        | Stmt::StopSubscription(_)
-        | Stmt::Synchronize(_)
-        | Stmt::DropSubscription(_)
-        | Stmt::CreateTrigger(_)
-        | Stmt::DropTrigger(_)
-        | Stmt::Select(_)
-        | Stmt::Commit
-        | Stmt::Rollback
-        | Stmt::Passthrough(_)
-        | Stmt::PassthroughStop => Ok(true),
+        _ => Ok(true),
     }
 }
 
@@ -175,23 +158,6 @@ pub(crate) fn drop_rows(rows: &mut Rows, stmt: &Stmt)
 {
     match stmt {
         Stmt::DropTable(name) => rows.clear(name),
-        Stmt::CreateTable(_)
-        | Stmt::CreatePublication(_)
-        | Stmt::DropPublication(_)
-        | Stmt::GrantRemote(_)
-        | Stmt::GrantConsolidate(_)
-        | Stmt::CreateSubscription(_)
-        | Stmt::StartSubscription(_)
-        | Stmt::StopSubscription(_)
-        | Stmt::Synchronize(_)
-        | Stmt::DropSubscription(_)
-        | Stmt::CreateTrigger(_)
-        | Stmt::DropTrigger(_)
-        | Stmt::Dml(_)
-        | Stmt::Select(_)
-        | Stmt::Commit
-        | Stmt::Rollback
-        | Stmt::Passthrough(_)
-        | Stmt::PassthroughStop => {}
+        _ => {}
     }
 }

@@ -259,24 +259,7 @@ fn empty_dropped(
 {
     match stmt {
         Stmt::DropTable(name) => empty(alloc, catalog, rows, name),
-        Stmt::CreateTable(_)
-        | Stmt::CreatePublication(_)
-        | Stmt::DropPublication(_)
-        | Stmt::GrantRemote(_)
-        | Stmt::GrantConsolidate(_)
-        | Stmt::CreateSubscription(_)
-        | Stmt::StartSubscription(_)
-        | Stmt::StopSubscription(_)
-        | Stmt::Synchronize(_)
-        | Stmt::DropSubscription(_)
-        | Stmt::CreateTrigger(_)
-        | Stmt::DropTrigger(_)
-        | Stmt::Dml(_)
-        | Stmt::Select(_)
-        | Stmt::Commit
-        | Stmt::Rollback
-        | Stmt::Passthrough(_)
-        | Stmt::PassthroughStop => Ok(()),
+        _ => Ok(()),
     }
 }
 

@@ -4,7 +4,8 @@ use Rattle.sr_base.specs.declared.value.Value.{Value as Cell}
 use Rattle.sr_book.specs.Entries.{Name}
 use Rattle.sr_exec_dml.specs.Applying.{applied_in, applied}
 use Rattle.sr_exec_dml.specs.FittingChanges.{IsFitChange, ChangesFit}
-use Rattle.sr_exec_dml.specs.Statements.{key_of, table_named}
+use Rattle.sr_exec_where.specs.Keys.{key_of}
+use Rattle.sr_exec_dml.specs.Statements.{table_named}
 use Rattle.sr_logform.specs.declared.change.Change.{Change}
 use Rattle.sr_logform.specs.declared.op.Op.TheVariants.{Set}
 use Rattle.sr_rows.specs.Marks.{RowMap, rows_of_table}

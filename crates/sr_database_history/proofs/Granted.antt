@@ -1,6 +1,5 @@
 -- What stands behind grants.
-use Rattle.std.proofs.Common.{◌≡◌, ◌+◌, ◌++◌, Bool, true, false, ℕ, List, [], ◌∷◌, Option, Some, None, IsSome}
-use Rattle.std.proofs.Common.{bytes_eq, refl, sym, ap, subst, ◌∙◌, if◌then◌else◌}
+use Rattle.std.proofs.Common.{◌≡◌, ◌+◌, ◌++◌, Bool, true, false, ℕ, List, [], ◌∷◌, Option, Some, None, IsSome, bytes_eq, refl, sym, ap, subst, ◌∙◌, if◌then◌else◌}
 use Rattle.sr_ast.specs.declared.stmt.Stmt.{Stmt}
 use Rattle.sr_ast.specs.declared.stmt.Stmt.TheVariants as stmt
 use Rattle.sr_book.specs.Books.{new_book, with_taken, with_note}
@@ -10,16 +9,14 @@ use Rattle.sr_book.specs.Histories.{book_from}
 use Rattle.sr_book.proofs.Folds.{book_from-append}
 use Rattle.sr_catalog_change.specs.Changes.{next as catalog_after}
 use Rattle.sr_catalog_ddl.specs.Users.{user_of}
-use Rattle.sr_exec_dml.proofs.Fixed.{same_name}
+use Rattle.sr_exec_where.proofs.Fixed.{same_name}
 use Rattle.sr_logform.specs.declared.change.Change.{Change}
 use Rattle.sr_catalog_schema.specs.Catalogs.{Lists}
 use Rattle.sr_catalog_schema.specs.Members.{user_name}
 use Rattle.sr_catalog_schema.specs.Names.{named}
 use Rattle.sr_catalog_schema.specs.declared.user.User.{User}
-use Rattle.sr_database_history.specs.Recorded.{Done, plain, ran, conflict, clash}
-use Rattle.sr_database_history.specs.Recorded.{Recorded, own, taken, ddl, sync, pass, note}
-use Rattle.sr_database_history.specs.Folds.{State, fresh, with_changes, with_statement, after_done, after_dones, after_pass, next}
-use Rattle.sr_database_history.specs.Folds.{state_from, state_of, size, sees, books_of}
+use Rattle.sr_database_history.specs.Recorded.{Done, plain, ran, conflict, clash, Recorded, own, taken, ddl, sync, pass, note}
+use Rattle.sr_database_history.specs.Folds.{State, fresh, with_changes, with_statement, after_done, after_dones, after_pass, next, state_from, state_of, size, sees, books_of}
 use Rattle.sr_database_history.specs.Fitting.{Knows, FitsState, stored_from, Stored}
 use Rattle.sr_database_history.proofs.Tables.{find_first}
 
@@ -64,7 +61,7 @@ stays_known s (sync other tables) user knows = knows
 stays_known s (pass users only statement changes) user knows = pass_knows only statement changes s user knows
 stays_known s (note other what) user knows = knows
 
-known_from : (s : State) (rs : List Recorded) (user : Name) → Knows s user → Knows (state_from s rs) user
+pub known_from : (s : State) (rs : List Recorded) (user : Name) → Knows s user → Knows (state_from s rs) user
 known_from s [] user knows = knows
 known_from s (r ∷ rs) user knows = known_from (next s r) rs user (stays_known s r user knows)
 

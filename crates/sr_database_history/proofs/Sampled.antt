@@ -4,7 +4,6 @@ use Rattle.std.proofs.Common.{refl, sym, ap, subst, ◌∙◌, arith, bytes_eq, 
 use Rattle.std.specs.Prelude.{pos, slice_index_or}
 use Rattle.std.specs.FinMap as map_of
 use Rattle.std.specs.FinMap.{get, get-empty, get-insert, get-remove}
-use Rattle.sr_base.specs.declared.value.Kind.TheVariants as kind
 use Rattle.sr_base.specs.declared.value.Value.{Value as Cell}
 use Rattle.sr_base.specs.declared.value.Value.TheVariants.{Null, Int}
 use Rattle.sr_base.specs.Fields.{IsName, IsText, IsListOf}
@@ -21,8 +20,9 @@ use Rattle.sr_ast.specs.declared.stmt.Stmt.{Stmt}
 use Rattle.sr_ast.specs.declared.stmt.Stmt.TheVariants.{CreateTable as Create, DropTable, GrantRemote}
 use Rattle.sr_ast.specs.Layout.{printed, column_rule_pieces, create_table_pieces, grant_pieces, stmt_pieces}
 use Rattle.sr_catalog_change.specs.Changes.{next as catalog_after, refusal, drop_table_causes}
-use Rattle.sr_catalog_ddl.specs.Tables.{table_of, create_table_causes}
+use Rattle.sr_catalog_ddl.specs.Tables.{table_of, create_table_causes, column_of}
 use Rattle.sr_catalog_ddl.specs.Users.{user_of, grant_causes}
+use Rattle.sr_catalog_script_laws.specs.Inner.Scripts.{user_at}
 use Rattle.sr_catalog_schema.specs.Causes.{first_fault}
 use Rattle.sr_catalog_schema.specs.Catalogs.{Lists}
 use Rattle.sr_catalog_schema.specs.Members.{table_name}
@@ -49,7 +49,7 @@ use Rattle.sr_exec_dml.specs.FittingChanges.{IsFitChange}
 use Rattle.sr_logform.specs.Limits.{longest_body}
 use Rattle.sr_database_history.specs.Folds.{State, fresh, with_statement, next, state_of, size, end_of}
 use Rattle.sr_database_history.proofs.Tables.{left_at}
-use Rattle.sr_database_history.specs.Inner.Sample.{cons, r1, table_t, table_u, column_id, column_n, create_t, create_u, row, inserted, from_r1, sample}
+use Rattle.sr_database_history.specs.Inner.Sample.{cons, r1, table_t, table_u, column_id, column_n, create_t, create_u, row, inserted, from_r1, sample, integer, grant}
 
 -- ---- names that are no key words
 
@@ -76,19 +76,19 @@ free_r1 : (k : Keyword) → IsKeyword r1 k → named k ≡ Some r1
 free_r1 key.Old h = apart (ap (bytes_eq r1) h)
 free_r1 k h = apart (ap (bytes_eq r1) h)
 
-plain_t : IsPlain table_t
+pub plain_t : IsPlain table_t
 plain_t = record { written = refl; free = free_t }
 
 plain_u : IsPlain table_u
 plain_u = record { written = refl; free = free_u }
 
-plain_id : IsPlain column_id
+pub plain_id : IsPlain column_id
 plain_id = record { written = refl; free = free_id }
 
 plain_n : IsPlain column_n
 plain_n = record { written = refl; free = free_n }
 
-plain_r1 : IsPlain r1
+pub plain_r1 : IsPlain r1
 plain_r1 = record { written = refl; free = free_r1 }
 
 -- ---- statements
@@ -98,7 +98,7 @@ not_in_key : (k : ℕ) → k < 1 → slice_index_or (column_id ∷ []) k column_
 not_in_key zero le is = cc
 not_in_key (suc k) le is = omega (arith, le)
 
-normal_t : IsNormal (Create create_t)
+pub normal_t : IsNormal (Create create_t)
 normal_t = record {
   name = plain_t;
   columns = (
@@ -116,10 +116,10 @@ normal_t = record {
   key = (plain_id, tt);
 }
 
-normal_u : IsNormal (Create create_u)
+pub normal_u : IsNormal (Create create_u)
 normal_u = record { name = plain_u; columns = (record { name = plain_id; kind = tt; not_null = λ h. refl }, tt); key = (plain_id, tt) }
 
-normal_grant : IsNormal (GrantRemote (record { user = r1; address = None }))
+normal_grant : IsNormal (GrantRemote (grant r1))
 normal_grant = (plain_r1, tt)
 
 -- ---- texts and values
@@ -128,7 +128,7 @@ normal_grant = (plain_r1, tt)
 below : (byte : ℕ) → nat_lt byte 128 ≡ true → byte < 128
 below byte h = grind (arith, nat_tests)
 
-all_ascii : (bytes : List ℕ) → list_all (λ byte. nat_lt byte 128) bytes ≡ true → IsAscii bytes
+pub all_ascii : (bytes : List ℕ) → list_all (λ byte. nat_lt byte 128) bytes ≡ true → IsAscii bytes
 all_ascii [] h = IsAscii-nil
 all_ascii (byte ∷ bytes) h =
     let both = and_parts (nat_lt byte 128) (list_all (λ b. nat_lt b 128) bytes) h in
@@ -145,7 +145,7 @@ text_u : IsText (printed (Create create_u))
 unfolding column_rule_pieces create_table_pieces stmt_pieces
 text_u = record { short = omega arith; utf8 = ascii_utf8 _ refl }
 
-text_grant : IsText (printed (GrantRemote (record { user = r1; address = None })))
+text_grant : IsText (printed (GrantRemote (grant r1)))
 unfolding grant_pieces stmt_pieces
 text_grant = record { short = omega arith; utf8 = ascii_utf8 _ refl }
 
@@ -224,7 +224,7 @@ spelled_t : IsEntry (entry_of (ddl (Create create_t)))
 unfolding IsEntry
 spelled_t = text_t
 
-spelled_grant : IsEntry (entry_of (ddl (GrantRemote (record { user = r1; address = None }))))
+spelled_grant : IsEntry (entry_of (ddl (GrantRemote (grant r1))))
 unfolding IsEntry
 spelled_grant = text_grant
 
@@ -256,15 +256,15 @@ spelled_note = (refl, tt)
 abbrev the_t : Table
 the_t = record {
   name = table_t;
-  columns = record { name = column_id; kind = kind.Int; not_null = true } ∷ record { name = column_n; kind = kind.Int; not_null = false } ∷ [];
+  columns = column_of (integer column_id true) ∷ column_of (integer column_n false) ∷ [];
   key = 0 ∷ [];
 }
 
 abbrev the_u : Table
-the_u = record { name = table_u; columns = record { name = column_id; kind = kind.Int; not_null = true } ∷ []; key = 0 ∷ [] }
+the_u = record { name = table_u; columns = column_of (integer column_id true) ∷ []; key = 0 ∷ [] }
 
 abbrev the_user : User
-the_user = record { name = r1; above = false; address = r1 }
+the_user = user_at r1 false r1
 
 abbrev catalog_with : List User → List Table → Lists
 catalog_with users tables = record { publisher = cons; users = users; tables = tables; publications = []; triggers = []; subscriptions = [] }
@@ -311,7 +311,7 @@ abbrev e2 : Recorded
 e2 = own (inserted (row 1 (Int (pos 2147483647))) ∷ [])
 
 abbrev e3 : Recorded
-e3 = ddl (GrantRemote (record { user = r1; address = None }))
+e3 = ddl (GrantRemote (grant r1))
 
 abbrev e4 : Recorded
 e4 = sync r1 ((table_t, row 1 (Int (pos 2147483647)) ∷ []) ∷ [])

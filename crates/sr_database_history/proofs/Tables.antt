@@ -1,6 +1,5 @@
 -- Rows that fit a catalog fit what an accepted statement makes of it.
-use Rattle.std.proofs.Common.{◌≡◌, ◌++◌, Bool, true, false, not, cond, ℕ, List, [], ◌∷◌, Option, Some, None, IsSome}
-use Rattle.std.proofs.Common.{bytes_eq, refl, sym, ap, subst, ◌∙◌, find, filter}
+use Rattle.std.proofs.Common.{◌≡◌, ◌++◌, Bool, true, false, not, cond, ℕ, List, [], ◌∷◌, Option, Some, None, IsSome, bytes_eq, refl, sym, ap, subst, ◌∙◌, find, filter}
 use Rattle.std.specs.Option.{is_some}
 use Rattle.std.specs.Cmp.{eq_by_cmp_equiv}
 use Rattle.std.specs.Ordering.{eq_by_cmp}
@@ -16,7 +15,7 @@ use Rattle.sr_catalog_change.specs.Changes.{refusal, next}
 use Rattle.sr_catalog_ddl.specs.Tables.{table_of}
 use Rattle.sr_exec_dml.specs.Inner.Conditions.{TableFits, RowsFit}
 use Rattle.sr_exec_dml.specs.Statements.{table_named}
-use Rattle.sr_exec_dml.proofs.Fixed.{same_name}
+use Rattle.sr_exec_where.proofs.Fixed.{same_name}
 use Rattle.sr_catalog_script_laws.proofs.ReplayLists.{found_as_taken, named-without}
 use Rattle.sr_catalog_script_laws.proofs.ReplayTables.{table_made}
 use Rattle.sr_rows.specs.Marks.{Place, RowMap}

@@ -1,7 +1,8 @@
 -- Which entry fits which state, and which histories may stand in a log.
-use Rattle.std.specs.Prelude.{◌≡◌, ⊤, ℕ, ◌+◌, ◌≤◌, ◌^◌, Bool, true, false, cond, List, [], ◌∷◌, length, map, Option, Some, None, IsSome, IsTrue, Result, Ok, Err, slice_get, bytes_eq}
+use Rattle.std.specs.Prelude.{◌≡◌, ⊤, ℕ, ◌+◌, ◌≤◌, Bool, true, false, cond, List, [], ◌∷◌, length, map, Option, Some, None, IsSome, IsTrue, Result, Ok, Err, slice_get, bytes_eq}
 use Rattle.std.specs.List.{AllByRecursion}
 use Rattle.sr_base.specs.declared.value.Value.{Value as Cell}
+use Rattle.sr_base.specs.Values.{farthest_offset}
 use Rattle.sr_ast.specs.Statements.{is_ddl}
 use Rattle.sr_ast.specs.declared.stmt.Stmt.{Stmt}
 use Rattle.sr_ast.specs.declared.stmt.Stmt.TheVariants as stmt
@@ -11,7 +12,8 @@ use Rattle.sr_base_dates.specs.Fitting.{fitted}
 use Rattle.sr_exec_fits.specs.Rows.{IsRow}
 use Rattle.sr_exec_dml.specs.FittingChanges.{ChangesFit}
 use Rattle.sr_exec_dml.specs.declared.changes.Changes.{Changes}
-use Rattle.sr_exec_dml.specs.Statements.{done, key_of, table_named}
+use Rattle.sr_exec_dml.specs.Statements.{done, table_named}
+use Rattle.sr_exec_where.specs.Keys.{key_of}
 use Rattle.sr_logform.specs.declared.change.Change.{Change}
 use Rattle.sr_logform.specs.declared.op.Op.{Op}
 use Rattle.sr_logform.specs.declared.op.Op.TheVariants as ops
@@ -23,8 +25,7 @@ use Rattle.sr_catalog_schema.specs.Members.{user_name}
 use Rattle.sr_catalog_schema.specs.Names.{named}
 use Rattle.sr_catalog_schema.specs.declared.table.Column.{Column}
 use Rattle.sr_catalog_schema.specs.declared.table.Table.{Table}
-use Rattle.sr_database_history.specs.Recorded.{Done, plain, ran, conflict, clash}
-use Rattle.sr_database_history.specs.Recorded.{Recorded, own, taken, ddl, sync, pass, note, entry_of, IsRecorded}
+use Rattle.sr_database_history.specs.Recorded.{Done, plain, ran, conflict, clash, Recorded, own, taken, ddl, sync, pass, note, entry_of, IsRecorded}
 use Rattle.sr_database_history.specs.Folds.{State, fresh, done_changes, after_done, next, size}
 
 -- ---- parts of an entry
@@ -139,7 +140,7 @@ pub record Fits (s : State) (place : ℕ) (r : Recorded) : Type 0 where
   pub meant : IsRecorded r
   pub spelled : IsEntry (entry_of r)
   pub short : size r ≤ longest_body (entry_of r)
-  pub ends : place + (size r + 5) ≤ 2 ^ 62
+  pub ends : place + (size r + 5) ≤ farthest_offset
   pub state : FitsState s r
 
 -- each entry fits the state and the offset that those before it leave

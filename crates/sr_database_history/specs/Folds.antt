@@ -35,25 +35,8 @@ with_changes changes s = record { catalog = s.catalog; rows = applied s.catalog 
 
 -- the rows that a statement on the catalog leaves: DROP TABLE takes those of its table away
 abbrev pub rows_left : Stmt → RowMap → RowMap
-rows_left (stmt.CreateTable t) rows = rows
 rows_left (stmt.DropTable name) rows = without_table rows name
-rows_left (stmt.CreatePublication p) rows = rows
-rows_left (stmt.DropPublication name) rows = rows
-rows_left (stmt.GrantRemote g) rows = rows
-rows_left (stmt.GrantConsolidate g) rows = rows
-rows_left (stmt.CreateSubscription r) rows = rows
-rows_left (stmt.StartSubscription r) rows = rows
-rows_left (stmt.StopSubscription r) rows = rows
-rows_left (stmt.Synchronize r) rows = rows
-rows_left (stmt.DropSubscription r) rows = rows
-rows_left (stmt.CreateTrigger t) rows = rows
-rows_left (stmt.DropTrigger name) rows = rows
-rows_left (stmt.Dml d) rows = rows
-rows_left (stmt.Select q) rows = rows
-rows_left stmt.Commit rows = rows
-rows_left stmt.Rollback rows = rows
-rows_left (stmt.Passthrough p) rows = rows
-rows_left stmt.PassthroughStop rows = rows
+rows_left _ rows = rows
 
 -- with a statement applied to the catalog. A statement on rows changes nothing here: its changes stand in the log
 unfoldable pub with_statement : Stmt → State → State

@@ -14,11 +14,11 @@ ghost use Rattle.sr_logform.specs.declared.op.Op.{Op as AnOp};
 ghost use Rattle.sr_logform.specs.declared.op.Op.TheVariants.{Set};
 ghost use Rattle.sr_logform.specs.declared.outcome.Clash.{Clash as Why};
 ghost use Rattle.sr_rows.specs.Marks.{rows_of_table};
-ghost use Rattle.sr_database_history.specs.Folds.{State, after_done, next, with_statement};
+ghost use Rattle.sr_database_history.specs.Folds.{State, after_done, next, row_change, with_statement};
 ghost use Rattle.sr_database_history.specs.Recorded.{Done, plain, ran, conflict, clash, own, taken, ddl, sync, pass, note};
 
 /// What an entry does: an Own applies its changes; a From its ops one after the other, each with the changes of its outcome, an Exec that
-/// ran with its statement too, a conflict with what the triggers inserted and then its row, a clash with nothing; a statement applies
+/// ran with its statement too, a conflict with what the triggers inserted and then its row, of a Set that of the table it names, a clash with nothing; a statement applies
 /// to the catalog; and one that is passed on and ran here applies its changes and then itself.
 #[tactic(auto, unfolding(crate::specs::Folds::next, crate::specs::Folds::with_statement))]
 pub fn entries_do()
@@ -30,10 +30,10 @@ pub fn entries_do()
         → after_done (plain op changes) s ≡ record s { rows = applied s.catalog changes s.rows } }
     ensures ran { (s : State) (statement : Statement) (changes : List RowChange)
         → after_done (ran statement changes) s ≡ with_statement statement (next s (own changes)) }
-    ensures conflict { (s : State) (table : Name) (key : List (Name × Cell)) (columns : List (Name × Cell × Cell)) (inserts : List RowChange)
-        (before after : List Cell)
-        → after_done (conflict (Set table key columns) inserts before after) s
-        ≡ next s (own (inserts ++ record { table = table; before = Some before; after = Some after } ∷ [])) }
+    ensures conflict { (s : State) (op : AnOp) (inserts : List RowChange) (before after : List Cell)
+        → after_done (conflict op inserts before after) s ≡ next s (own (inserts ++ row_change op before after ∷ [])) }
+    ensures row { (table : Name) (key : List (Name × Cell)) (columns : List (Name × Cell × Cell)) (before after : List Cell)
+        → row_change (Set table key columns) before after ≡ record { table = table; before = Some before; after = Some after } }
     ensures clash { (s : State) (op : AnOp) (why : Why) → after_done (clash op why) s ≡ s }
     ensures ddl { (s : State) (statement : Statement) → next s (ddl statement) ≡ with_statement statement s }
     ensures catalog { (s : State) (statement : Statement) → (with_statement statement s).catalog ≡ catalog_after s.catalog statement }

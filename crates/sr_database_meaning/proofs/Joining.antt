@@ -16,7 +16,7 @@ commits_more [] more = refl
 commits_more (commit r ∷ trace) more = ap (λ (l : List Recorded). r ∷ l) (commits_more trace more)
 commits_more (put address name bytes ∷ trace) more = commits_more trace more
 
-trace_puts : (trace more : List Event) → puts (trace ++ more) ≡ puts trace ++ puts more
+pub trace_puts : (trace more : List Event) → puts (trace ++ more) ≡ puts trace ++ puts more
 trace_puts [] more = refl
 trace_puts (commit r ∷ trace) more = trace_puts trace more
 trace_puts (put address name bytes ∷ trace) more = ap (λ (l : List PutFile). (address, name, bytes) ∷ l) (trace_puts trace more)

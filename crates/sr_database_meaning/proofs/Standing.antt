@@ -79,7 +79,7 @@ longest (entries.Sync user tables) = omega arith
 longest (entries.Pass users only text changes) = omega arith
 longest (entries.Note user note) = omega arith
 
-some_byte : (e : Entry) → 1 ≤ length (entry_spelling e)
+pub some_byte : (e : Entry) → 1 ≤ length (entry_spelling e)
 unfolding entry_spelling
 some_byte (entries.Own changes) = omega arith
 some_byte (entries.From user at ops) = omega arith

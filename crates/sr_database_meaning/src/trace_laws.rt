@@ -1,16 +1,17 @@
 //! Traces of commits and puts. Each function does nothing: it carries laws as its clauses.
 
-ghost use Rattle.std.specs.Prelude.{◌≡◌, ◌⊎◌, Bool, List, ℕ, [], ◌∷◌, ◌++◌};
+ghost use Rattle.std.specs.Prelude.{◌≡◌, Bool, List, ℕ, [], ◌∷◌, ◌++◌};
 ghost use Rattle.sr_book.specs.Entries.{Name};
 ghost use Rattle.sr_database_history.specs.Recorded.{Recorded};
 ghost use Rattle.sr_site.specs.Files.{Files};
-ghost use Rattle.sr_site.specs.Happenings.{Happening, mail_in, sent};
-ghost use Rattle.sr_site.specs.Images.{IsImage, IsSettled, RestsThroughout};
+ghost use Rattle.sr_site.specs.Happenings.{Happening, sent};
+ghost use Rattle.sr_site.specs.Images.{IsImage, IsSettled};
 ghost use Rattle.sr_site.specs.Seen.{Seen};
 ghost use Rattle.sr_database_meaning.specs.Events.{Event, commit, put, commits, puts, puts_in, attaches_in};
 ghost use Rattle.sr_database_meaning.specs.Inner.Events.{AreQuiet};
+ghost use Rattle.sr_database_meaning.specs.Inner.Going.{HasPassedJoints, WhereOneIsCommitted, WhereOneIsPut};
 ghost use Rattle.sr_database_meaning.specs.Standing.{StandsAs};
-ghost use Rattle.sr_database_meaning.specs.Traces.{Joint, MayStandFor, IsOnTrace, Went};
+ghost use Rattle.sr_database_meaning.specs.Traces.{MayStandFor, IsOnTrace, Went};
 
 /// Where nothing happens, and where nothing happens but listings, fetches and removals, a settled site goes through the empty trace, and a
 /// crash leaves what it might have left before.
@@ -27,20 +28,16 @@ pub fn nothing_is_no_event()
 /// the site goes through that one commit.
 #[tactic(auto, using(crate::proofs::Going::one_commit))]
 pub fn a_commit_is_an_event()
-    ensures went_one_commit { (before now : Seen) (publisher : Name) (es : List Recorded) (r : Recorded) → now.observable ≡ before.observable → now.first ≡ before.first
-        → IsSettled (StandsAs publisher es) before → mail_in now.happened ≡ mail_in before.happened → attaches_in now.happened ≡ attaches_in before.happened
-        → ¬ (now.happened ≡ before.happened)
-        → RestsThroughout (λ image. StandsAs publisher es image ⊎ StandsAs publisher (es ++ r ∷ []) image) before now
-        → Went before now publisher es (commit r ∷ []) }
+    ensures went_one_commit { (before now : Seen) (publisher : Name) (es : List Recorded) (r : Recorded)
+        → WhereOneIsCommitted before now publisher es r (Went before now publisher es (commit r ∷ [])) }
 {}
 
 /// Where one put happens, done or not, a settled site goes through that one item, and a crash leaves what it
 /// might have left before.
 #[tactic(auto, using(crate::proofs::Going::one_put, crate::proofs::Going::put_before))]
 pub fn a_put_is_an_event()
-    ensures went_one_put { (before now : Seen) (publisher : Name) (es : List Recorded) (address name bytes : List ℕ) (done : Bool) → IsSettled (StandsAs publisher es) before
-        → now.observable ≡ before.observable → now.first ≡ before.first → now.happened ≡ sent address name bytes done ∷ before.happened
-        → Went before now publisher es (put address name bytes ∷ []) }
+    ensures went_one_put { (before now : Seen) (publisher : Name) (es : List Recorded) (address name bytes : List ℕ) (done : Bool)
+        → WhereOneIsPut before now publisher es (sent address name bytes done) (Went before now publisher es (put address name bytes ∷ [])) }
     ensures images { (before now : Seen) (address name bytes : List ℕ) (done : Bool) (image : Files) → now.first ≡ before.first
         → now.happened ≡ sent address name bytes done ∷ before.happened → IsImage now image → IsImage before image }
 {}
@@ -63,8 +60,7 @@ pub fn traces_tell()
     ensures moments { (before now : Seen) (publisher : Name) (es : List Recorded) (trace : List Event) (later earlier : List Happening) → Went before now publisher es trace
         → now.happened ≡ later ++ (earlier ++ before.happened) → IsOnTrace before.first publisher es before.happened trace earlier }
     ensures joints { (before now : Seen) (publisher : Name) (es : List Recorded) (trace : List Event) → Went before now publisher es trace
-        → (prefix back : List Event) (event : Event) → trace ≡ prefix ++ event ∷ back
-        → (more : List Happening) × (now.happened ≡ more ++ before.happened) × Joint before.first publisher es before.happened prefix more }
+        → HasPassedJoints before now publisher es trace }
     ensures grows { (before now : Seen) (publisher : Name) (es : List Recorded) (trace : List Event) → Went before now publisher es trace
         → (now.observable ≡ before.observable) × (now.first ≡ before.first) }
     ensures attached { (before now : Seen) (publisher : Name) (es : List Recorded) (trace : List Event) → Went before now publisher es trace

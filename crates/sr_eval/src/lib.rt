@@ -20,6 +20,7 @@ mod values;
 mod worth;
 
 pub use bound::Bound;
+pub use comparison::is_null;
 pub use evaluation::{eval, holds, holds_plain};
 pub use fault::EvalFault;
 pub use laws::{

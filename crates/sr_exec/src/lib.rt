@@ -11,6 +11,7 @@ mod execution;
 pub use applying::apply;
 pub use execution::{exec, exec_reusing};
 pub use sr_exec_dml::{
-    Changes, changes_are_where_rows_differ, changes_fit, changes_make_the_rows_afterwards, key_of,
+    Changes, changes_are_where_rows_differ, changes_fit, changes_make_the_rows_afterwards,
     rows_stay_fitting,
 };
+pub use sr_exec_where::key_of;

@@ -17,9 +17,11 @@ use Rattle.sr_catalog_schema.specs.Catalogs.{Lists}
 use Rattle.sr_catalog_schema.specs.declared.table.Table.{Table}
 use Rattle.sr_exec_dml.specs.Applying.{place_of, without_row, with_row, applied_in, applied}
 use Rattle.sr_exec_dml.specs.Inner.Conditions.{TableFits}
-use Rattle.sr_exec_dml.specs.Holding.{under, one_of, is_same_row, keys_of, doubled, changes_at, changes_of}
+use Rattle.sr_exec_dml.specs.Holding.{under, one_of, keys_of, doubled, changes_at, changes_of}
+use Rattle.sr_logform.specs.Outcomes.{is_same_row}
 use Rattle.sr_exec_dml.specs.Inner.Laws.{StandUnderKeys, RowsBecome, OthersStay}
-use Rattle.sr_exec_dml.specs.Statements.{key_of, table_named}
+use Rattle.sr_exec_where.specs.Keys.{key_of}
+use Rattle.sr_exec_dml.specs.Statements.{table_named}
 use Rattle.sr_exec_dml.proofs.Differing.{undoubled-Ok}
 use Rattle.sr_exec_dml.proofs.Folding.{Key, has, same_key, itself}
 use Rattle.sr_exec_dml.proofs.Outcomes.{not_there, row_under}

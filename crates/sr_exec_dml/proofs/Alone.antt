@@ -16,13 +16,14 @@ use Rattle.sr_exec_dml.specs.declared.edit.Edit.TheVariants.{Gone, Moved}
 use Rattle.sr_exec_dml.specs.declared.effect.RowEffect.{RowEffect}
 use Rattle.sr_exec_dml.specs.declared.effect.RowEffect.TheVariants.{Stays, Goes, Becomes}
 use Rattle.sr_exec_dml.specs.Inner.Conditions.{TableFits}
-use Rattle.sr_exec_dml.specs.Inner.Edits.{AreEdits, edit_at, with_pick, with_edit, picks_of}
-use Rattle.sr_exec_dml.specs.Inner.Fixing.{only_key, one_pick}
+use Rattle.sr_exec_dml.specs.Inner.Edits.{AreEdits, edit_at, with_pick, with_edit, picks_of, one_pick}
+use Rattle.sr_exec_where.specs.Inner.Fixing.{only_key}
 use Rattle.sr_exec_dml.specs.Holding.{with_change}
 use Rattle.sr_exec_dml.specs.Sequences.{followed}
-use Rattle.sr_exec_dml.specs.Statements.{counted, key_of, effect_of, effects_of, moved}
+use Rattle.sr_exec_dml.specs.Statements.{counted, effect_of, effects_of, moved}
+use Rattle.sr_exec_where.specs.Keys.{key_of}
 use Rattle.sr_exec_dml.proofs.Effects.{moved_are, moved_fault}
-use Rattle.sr_exec_dml.proofs.Fixed.{only_picks}
+use Rattle.sr_exec_dml.proofs.Picked.{only_picks}
 use Rattle.sr_exec_dml.proofs.Folding.{Key}
 
 -- the edits of one key

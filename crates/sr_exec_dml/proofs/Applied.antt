@@ -1,7 +1,6 @@
 -- Where rows fit, those with the changes of a statement applied fit.
 use Rattle.std.proofs.Common.{◌≡◌, ◌++◌, Bool, true, false, cond, map, length, ℕ, List, [], ◌∷◌, Option, Some, None, IsSome, Result, Ok, Err, bytes_eq, refl, sym, ap, subst, ◌∙◌}
-use Rattle.std.specs.List.{AllByRecursion}
-use Rattle.std.specs.List.{find as find_in}
+use Rattle.std.specs.List.{AllByRecursion, find as find_in}
 use Rattle.std.specs.Cmp.{Equal-is}
 use Rattle.std.specs.Ordering.{eq_by_cmp}
 use Rattle.std.specs.FinMap.{get, empty, insert, remove, get-empty, get-insert, get-remove, find}
@@ -20,7 +19,7 @@ use Rattle.sr_catalog_schema.specs.declared.table.Table.{Table}
 use Rattle.sr_catalog_schema.specs.declared.fault.DmlFault.{DmlFault}
 use Rattle.sr_exec_dml.specs.declared.changes.Changes.{Changes}
 use Rattle.sr_exec_dml.specs.Applying.{place_of, without_row, with_row, applied_in, applied}
-use Rattle.sr_exec_dml.specs.Checks.{unknown_condition, bad_condition}
+use Rattle.sr_exec_where.specs.Checks.{unknown_condition, bad_condition, unknown_in_insert, bad_in_insert, unknown_in_update, bad_in_update}
 use Rattle.sr_catalog_schema.specs.Members.{scope_of}
 use Rattle.sr_exec_dml.specs.Inner.Conditions.{TableFits, RowsFit}
 use Rattle.sr_exec_fits.specs.Rows.{IsRow}
@@ -28,11 +27,12 @@ use Rattle.sr_exec_dml.specs.Holding.{held}
 use Rattle.sr_exec_dml.specs.FittingChanges.{FitsAt, ChangesFit}
 use Rattle.sr_exec_dml.specs.Inner.Laws.{StandUnderKeys, NoRowsFit, RowsStayFit, FittingChangesKeepFit, StatementsChangesFit}
 use Rattle.sr_exec_dml.specs.Sequences.{followed}
-use Rattle.sr_exec_dml.specs.Statements.{in_order, key_of, entry_of, counted, unknown_in_insert, bad_in_insert, inserted_rows, inserted, staying, becoming, selections, moved, effects_of, unknown_in_update, bad_in_update, updated, deleted, on_table, table_named}
+use Rattle.sr_exec_dml.specs.Statements.{in_order, entry_of, counted, inserted_rows, inserted, staying, becoming, selections, moved, effects_of, updated, deleted, on_table, table_named}
+use Rattle.sr_exec_where.specs.Keys.{key_of}
 use Rattle.sr_exec_dml.proofs.Afterwards.{all_stand}
 use Rattle.sr_exec_dml.proofs.FitChanges.{both_stand, entries_stand, moved_stand, held_changes_fit}
 use Rattle.sr_exec_dml.proofs.Folding.{Key}
-use Rattle.sr_exec_dml.proofs.Fixed.{same_name}
+use Rattle.sr_exec_where.proofs.Fixed.{same_name}
 use Rattle.sr_exec_dml.proofs.Keeping.{AllFit, inserts_keep_fit, moves_keep_fit}
 
 -- the rows of a table as a list fit it

@@ -5,7 +5,8 @@ use Rattle.std.specs.Ordering.{is_eq}
 use Rattle.sr_base.specs.Order.{key_cmp}
 use Rattle.sr_rows.specs.Walks.{Entry}
 use Rattle.sr_logform.specs.declared.change.Change.{Change}
-use Rattle.sr_exec_dml.specs.Holding.{under, are_two, one_of, is_same_row, keys_of, doubled, changes_at, changes_of, undoubled}
+use Rattle.sr_exec_dml.specs.Holding.{under, are_two, one_of, keys_of, doubled, changes_at, changes_of, undoubled}
+use Rattle.sr_logform.specs.Outcomes.{is_same_row}
 use Rattle.sr_exec_dml.specs.Inner.Laws.{IsDifference, IsAmong, HoldsOneEach, ChangesDiffer, DifferencesChange}
 use Rattle.sr_exec_dml.proofs.Folding.{Key, has, same_key}
 use Rattle.sr_exec_dml.proofs.Outcomes.{not_there}

@@ -16,7 +16,8 @@ use Rattle.sr_exec_dml.specs.Applying.{applied_in}
 use Rattle.sr_exec_dml.specs.Inner.Conditions.{TableFits}
 use Rattle.sr_exec_fits.specs.Rows.{IsRow}
 use Rattle.sr_exec_dml.specs.FittingChanges.{FitsAt, ChangesFit}
-use Rattle.sr_exec_dml.specs.Holding.{under, one_of, is_same_row, keys_of, doubled, changes_at, changes_of, held}
+use Rattle.sr_exec_dml.specs.Holding.{under, one_of, keys_of, doubled, changes_at, changes_of, held}
+use Rattle.sr_logform.specs.Outcomes.{is_same_row}
 use Rattle.sr_exec_dml.specs.Inner.Laws.{StandUnderKeys}
 use Rattle.sr_exec_dml.specs.Statements.{entry_of, staying, becoming, table_named}
 use Rattle.sr_exec_dml.proofs.Afterwards.{stands, all_stand, changed_at}

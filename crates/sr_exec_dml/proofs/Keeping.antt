@@ -21,13 +21,14 @@ use Rattle.sr_catalog_schema.specs.declared.fault.DmlFault.{DmlFault}
 use Rattle.sr_catalog_schema.specs.declared.fault.DmlFault.TheVariants as fault
 use Rattle.sr_exec_dml.specs.declared.effect.RowEffect.{RowEffect}
 use Rattle.sr_exec_dml.specs.declared.effect.RowEffect.TheVariants.{Stays, Goes, Becomes}
-use Rattle.sr_exec_dml.specs.Checks.{Scope}
+use Rattle.sr_exec_where.specs.Checks.{Scope}
 use Rattle.sr_catalog_schema.specs.Members.{scope_of}
 use Rattle.sr_exec_fits.specs.Rows.{IsRow}
 use Rattle.sr_exec_fits.proofs.Rows.{row_parts, row_made}
 use Rattle.sr_exec_dml.specs.Sequences.{each, front, followed}
-use Rattle.sr_exec_dml.specs.Statements.{names_of, entry_of, inserted_rows, selected, effect_selected, effect_if, effect_of, effects_of, staying, becoming}
-use Rattle.sr_exec_dml.specs.Storing.{allowed, fitting, stored, constant, value_for, inserted_row, set_for, updated_value, updated_row}
+use Rattle.sr_exec_where.specs.Naming.{names_of, set_for}
+use Rattle.sr_exec_dml.specs.Statements.{entry_of, inserted_rows, selected, effect_selected, effect_if, effect_of, effects_of, staying, becoming}
+use Rattle.sr_exec_dml.specs.Storing.{allowed, fitting, stored, constant, value_for, inserted_row, updated_value, updated_row}
 
 -- what fits stays as it is
 fitted_int : (b : Bool) (n : ℤ) (w : Value) → is_int n ≡ b → (if b then Some (Int n) else None) ≡ Some w → fitted w kind.Int ≡ Some w

@@ -5,12 +5,12 @@ pub mod Differing
 pub mod Effects
 pub mod FitChanges
 pub mod Fitted
-pub mod Fixed
 pub mod Folding
 pub mod Keeping
 pub mod Outcomes
 pub mod Over
 pub mod Pended
+pub mod Picked
 pub mod Placed
 pub mod Putting
 pub mod Readied

@@ -10,7 +10,7 @@ use Rattle.sr_rows.proofs.Gathering.{exact_places}
 use Rattle.sr_catalog_schema.specs.declared.table.Table.{Table}
 use Rattle.sr_logform.specs.declared.change.Change.{Change}
 use Rattle.sr_exec_dml.specs.Applying.{place_of, without_row, with_row, applied_in}
-use Rattle.sr_exec_dml.specs.Statements.{key_of}
+use Rattle.sr_exec_where.specs.Keys.{key_of}
 
 -- what is put at a place need not be taken from there first
 pub over : (rows : RowMap) (p : Place) (row : List Cell) → insert (remove rows p) p row ≡ insert rows p row

@@ -10,13 +10,15 @@ use Rattle.sr_catalog_schema.specs.declared.table.Table.{Table}
 use Rattle.sr_catalog_schema.specs.Members.{scope_of}
 use Rattle.sr_exec_dml.specs.declared.effect.RowEffect.{RowEffect}
 use Rattle.sr_exec_dml.specs.declared.effect.RowEffect.TheVariants.{Becomes}
-use Rattle.sr_exec_dml.specs.declared.prepared.Prepared.{Prepared}
+use Rattle.sr_exec_where.specs.declared.prepared.Prepared.{Prepared}
 use Rattle.sr_exec_dml.specs.Inner.Edits.{prefixed}
 use Rattle.sr_exec_dml.specs.declared.pending.Pending.{Pending}
 use Rattle.sr_exec_dml.specs.Inner.Pending.{and_pending, Adds, AreWhole, Awaits}
-use Rattle.sr_exec_dml.specs.Inner.Preparing.{IsPrepared, new_row, resolution_in, selected_at}
+use Rattle.sr_exec_where.specs.Inner.Preparing.{IsPrepared, resolution_in}
+use Rattle.sr_exec_dml.specs.Inner.Making.{new_row, selected_at}
 use Rattle.sr_exec_dml.specs.Sequences.{followed}
-use Rattle.sr_exec_dml.specs.Statements.{effect_of, effect_if, effect_selected, key_of, selected}
+use Rattle.sr_exec_dml.specs.Statements.{effect_of, effect_if, effect_selected, selected}
+use Rattle.sr_exec_where.specs.Keys.{key_of}
 use Rattle.sr_exec_dml.specs.Storing.{updated_row}
 use Rattle.sr_exec_dml.specs.Inner.Unmoving.{Counted, and_change}
 use Rattle.sr_exec_dml.proofs.Readied.{selected_by, updated_by}

@@ -23,7 +23,8 @@ use Rattle.sr_exec_dml.specs.declared.effect.RowEffect.TheVariants.{Stays, Goes,
 use Rattle.sr_exec_dml.specs.Inner.Edits.{Edited, edit_at, is_taken, AreEdits, with_edit, settled, picked, taken_of, put_of}
 use Rattle.sr_exec_dml.specs.Holding.{under, with_change}
 use Rattle.sr_exec_dml.specs.Sequences.{front, followed}
-use Rattle.sr_exec_dml.specs.Statements.{key_of, selections, counted, effect_of, effects_of, moved}
+use Rattle.sr_exec_where.specs.Keys.{key_of}
+use Rattle.sr_exec_dml.specs.Statements.{selections, counted, effect_of, effects_of, moved}
 use Rattle.sr_exec_dml.specs.Inner.Unmoving.{Counted, and_change, with_effect, unmoved, behind, KeepsKey, Keeps, KeepKeys}
 use Rattle.sr_exec_dml.proofs.Folding.{Key, same_key}
 use Rattle.sr_exec_dml.proofs.Effects.{Fated, one_each, length_picked, moved_by}

@@ -1,7 +1,6 @@
 -- A statement that is made ready does what it does by its names.
-use Rattle.std.proofs.Common.{◌≡◌, ℕ, suc, Bool, true, false, cond, bytes_eq, slice_get, map, List, [], ◌∷◌, ◌++◌, Option, Some, None, IfSome, IsSome, Result, Ok, Err, refl, sym, ap, subst, ◌∙◌}
+use Rattle.std.proofs.Common.{◌≡◌, ℕ, suc, Bool, true, false, cond, bytes_eq, slice_get, map, List, [], ◌∷◌, Option, Some, None, IfSome, IsSome, Result, Ok, Err, refl, sym, ap, subst, ◌∙◌}
 use Rattle.std.specs.Option.{option_copied, option_map, option_and_then}
-use Rattle.std.proofs.lemmas.List.{append-nil, append_assoc, map-append}
 use Rattle.sr_base.specs.declared.value.Value.{Value}
 use Rattle.sr_ast.specs.Exprs.{term_of}
 use Rattle.sr_ast.specs.declared.expr.Expr.{Expr}
@@ -11,14 +10,16 @@ use Rattle.sr_eval.proofs.Places.{position_next, resolved_meaning}
 use Rattle.sr_catalog_schema.specs.declared.table.Column.{Column}
 use Rattle.sr_catalog_schema.specs.declared.table.Table.{Table}
 use Rattle.sr_catalog_schema.specs.declared.fault.DmlFault.{DmlFault}
-use Rattle.sr_exec_dml.specs.Checks.{Scope}
+use Rattle.sr_exec_where.specs.Checks.{Scope}
 use Rattle.sr_catalog_schema.specs.Members.{scope_of}
-use Rattle.sr_exec_dml.specs.Inner.Preparing.{resolved_in, sets_in, resolution_in, IsPrepared, selected_at, new_value, new_row, place_among, places_in, given_value, given_row}
+use Rattle.sr_exec_where.specs.Inner.Preparing.{resolved_in, sets_in, resolution_in, IsPrepared, place_among, places_in}
+use Rattle.sr_exec_dml.specs.Inner.Making.{selected_at, new_value, new_row, given_value, given_row}
 use Rattle.sr_exec_dml.specs.Sequences.{each, followed, front}
 use Rattle.sr_exec_dml.specs.Statements.{tested, selected, effect_if, effect_of, effect_selected}
-use Rattle.sr_exec_dml.specs.Storing.{constant, fitting, inserted_row, set_for, stored, updated_value, updated_row, value_for}
+use Rattle.sr_exec_dml.specs.Storing.{constant, fitting, inserted_row, stored, updated_value, updated_row, value_for}
+use Rattle.sr_exec_where.specs.Naming.{set_for}
 use Rattle.sr_exec_dml.specs.declared.effect.RowEffect.TheVariants.{Becomes}
-use Rattle.sr_exec_dml.specs.declared.prepared.Prepared.{Prepared}
+use Rattle.sr_exec_where.specs.declared.prepared.Prepared.{Prepared}
 
 -- a column takes the value that there is
 pub stored_value : (column : Column) (m : Option Meaning) (v : Value) → option_map cell_of m ≡ Some v → stored column m ≡ fitting column (fitted v column.kind)
@@ -72,9 +73,6 @@ effect_unmade table p row f h there is made = go (option_copied p.sets) refl the
       ap (λ (o : Option (List (List ℕ × Expr))). effect_of table o p.condition.now row) e
       ∙ (ap (λ (r : Result Bool DmlFault). followed r (λ is_selected. effect_if is_selected (effect_selected table (Some s) row))) (sym (selected_by table p row h) ∙ is)
       ∙ ap (λ (r : Result (List Value) DmlFault). followed r (λ new. Ok (Becomes new))) (sym (updated_by table p row s h e) ∙ made))
-
--- one more column
-pub ruleset one_more = (map-append, append_assoc, append-nil)
 
 -- the value that is given for a column stands at its place
 here_or_behind : (b : Bool) (e : Expr) (es : List Expr) (found : Option Expr) (place : Option ℕ) → found ≡ option_and_then (slice_get es) place

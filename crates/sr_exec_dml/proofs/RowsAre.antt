@@ -20,18 +20,18 @@ use Rattle.sr_catalog_schema.specs.declared.table.Table.{Table}
 use Rattle.sr_catalog_schema.specs.declared.fault.DmlFault.{DmlFault}
 use Rattle.sr_exec_dml.specs.declared.changes.Changes.{Changes}
 use Rattle.sr_exec_dml.specs.Applying.{applied}
-use Rattle.sr_exec_dml.specs.Checks.{unknown_condition, bad_condition}
+use Rattle.sr_exec_where.specs.Checks.{unknown_condition, bad_condition, unknown_in_insert, bad_in_insert, unknown_in_update, bad_in_update}
 use Rattle.sr_catalog_schema.specs.Members.{scope_of}
 use Rattle.sr_exec_dml.specs.Inner.Conditions.{TableFits}
 use Rattle.sr_exec_dml.specs.Holding.{under, one_of, held}
 use Rattle.sr_exec_dml.specs.Inner.Laws.{StandUnderKeys, RowsAreThoseAfter}
 use Rattle.sr_exec_dml.specs.Inner.RowsAfter.{replaced, where_Ok, after_insert, after_move, in_table}
 use Rattle.sr_exec_dml.specs.Sequences.{followed}
-use Rattle.sr_exec_dml.specs.Statements.{entry_of, counted, unknown_in_insert, bad_in_insert, inserted_rows, inserted, staying, becoming, selections, moved, effects_of, unknown_in_update, bad_in_update, updated, deleted, on_table, table_named}
+use Rattle.sr_exec_dml.specs.Statements.{entry_of, counted, inserted_rows, inserted, staying, becoming, selections, moved, effects_of, updated, deleted, on_table, table_named}
 use Rattle.sr_exec_dml.proofs.Afterwards.{all_stand, same_place, apart, rows_become, others_stay}
 use Rattle.sr_exec_dml.proofs.Applied.{in_order-Ok, followed-Ok, own_name}
 use Rattle.sr_exec_dml.proofs.FitChanges.{both_stand, entries_stand, moved_stand}
-use Rattle.sr_exec_dml.proofs.Fixed.{same_name}
+use Rattle.sr_exec_where.proofs.Fixed.{same_name}
 use Rattle.sr_exec_dml.proofs.Folding.{Key}
 
 -- a table that was taken out has no rows, and the others keep theirs

@@ -6,7 +6,8 @@ use Rattle.sr_rows.specs.Marks.{Place, RowMap}
 use Rattle.sr_logform.specs.declared.change.Change.{Change}
 use Rattle.sr_catalog_schema.specs.Catalogs.{Lists}
 use Rattle.sr_catalog_schema.specs.declared.table.Table.{Table}
-use Rattle.sr_exec_dml.specs.Statements.{key_of, table_named}
+use Rattle.sr_exec_where.specs.Keys.{key_of}
+use Rattle.sr_exec_dml.specs.Statements.{table_named}
 
 -- where a row of a table stands: under its key
 abbrev pub place_of : Table → List Cell → Place

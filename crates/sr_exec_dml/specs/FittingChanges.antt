@@ -7,7 +7,8 @@ use Rattle.sr_catalog_schema.specs.Catalogs.{Lists}
 use Rattle.sr_catalog_schema.specs.declared.table.Table.{Table}
 use Rattle.sr_exec_dml.specs.Applying.{applied_in}
 use Rattle.sr_exec_fits.specs.Rows.{IsRow}
-use Rattle.sr_exec_dml.specs.Statements.{key_of, table_named}
+use Rattle.sr_exec_where.specs.Keys.{key_of}
+use Rattle.sr_exec_dml.specs.Statements.{table_named}
 
 -- a row, if there is one, fits the table and has the key
 abbrev pub FitsAt : Table → List Cell → Option (List Cell) → Type 0

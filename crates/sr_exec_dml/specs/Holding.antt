@@ -6,6 +6,7 @@ use Rattle.sr_base.specs.declared.value.Value.{Value as Cell}
 use Rattle.sr_base.specs.Order.{key_cmp}
 use Rattle.sr_rows.specs.Walks.{Entry}
 use Rattle.sr_logform.specs.declared.change.Change.{Change}
+use Rattle.sr_logform.specs.Outcomes.{is_same_row}
 use Rattle.sr_catalog_schema.specs.declared.fault.DmlFault.{DmlFault}
 use Rattle.sr_catalog_schema.specs.declared.fault.DmlFault.TheVariants.{Duplicate}
 
@@ -24,13 +25,6 @@ are_two (row ∷ other ∷ rows) = true
 abbrev pub one_of : List (List Cell) → Option (List Cell)
 one_of [] = None
 one_of (row ∷ rows) = Some row
-
--- whether both are none, or equal rows
-abbrev pub is_same_row : Option (List Cell) → Option (List Cell) → Bool
-is_same_row None None = true
-is_same_row None (Some after) = false
-is_same_row (Some before) None = false
-is_same_row (Some before) (Some after) = is_eq (key_cmp before after)
 
 -- the keys of the rows before and after, each once, ascending
 abbrev pub keys_of : List Entry → List Entry → List (List Cell)

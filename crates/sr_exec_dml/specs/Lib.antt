@@ -1,5 +1,4 @@
 pub mod Applying
-pub mod Checks
 pub mod FittingChanges
 pub mod Holding
 pub mod Sequences

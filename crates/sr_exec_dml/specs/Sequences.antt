@@ -1,15 +1,5 @@
--- First things, and lists of answers.
-use Rattle.std.specs.Prelude.{List, [], ◌∷◌, Option, Some, None, Result, Ok, Err}
-
--- this one, or else the other one
-abbrev pub or_else : {A : Type 0} → Option A → Option A → Option A
-or_else None other = other
-or_else (Some x) other = Some x
-
--- the first that the items of a list give
-abbrev pub first_in : {A B : Type 0} → (A → Option B) → List A → Option B
-first_in f [] = None
-first_in f (x ∷ xs) = or_else (f x) (first_in f xs)
+-- Lists of answers.
+use Rattle.std.specs.Prelude.{List, [], ◌∷◌, Result, Ok, Err}
 
 -- an answer before those of the rest: the first fault is the answer
 abbrev pub front : {A E : Type 0} → Result A E → Result (List A) E → Result (List A) E

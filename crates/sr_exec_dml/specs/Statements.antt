@@ -1,7 +1,6 @@
 -- What INSERT, UPDATE and DELETE do to the rows of a table.
-use Rattle.std.specs.Prelude.{ℕ, ◌+◌, Bool, true, false, List, [], ◌∷◌, ◌++◌, map, length, Option, Some, None, Result, Ok, Err, slice_get, unwrap_or}
+use Rattle.std.specs.Prelude.{ℕ, ◌+◌, Bool, true, false, List, [], ◌∷◌, ◌++◌, map, length, Option, Some, None, Result, Ok, Err}
 use Rattle.sr_base.specs.declared.value.Value.{Value as Cell}
-use Rattle.sr_base.specs.declared.value.Value.TheVariants.{Null}
 use Rattle.sr_ast.specs.Exprs.{term_of}
 use Rattle.sr_ast.specs.declared.expr.Expr.{Expr}
 use Rattle.sr_ast.specs.declared.query.Dml.{Dml}
@@ -15,17 +14,18 @@ use Rattle.sr_rows.specs.Walks.{Entry, table_rows}
 use Rattle.sr_logform.specs.declared.change.Change.{Change}
 use Rattle.sr_catalog_schema.specs.Catalogs.{Lists}
 use Rattle.sr_catalog_schema.specs.Names.{named}
-use Rattle.sr_catalog_schema.specs.declared.table.Column.{Column}
 use Rattle.sr_catalog_schema.specs.declared.table.Table.{Table}
 use Rattle.sr_catalog_schema.specs.declared.fault.DmlFault.{DmlFault}
 use Rattle.sr_catalog_schema.specs.declared.fault.DmlFault.TheVariants.{NoTable, NoColumn, BadValue, Overflow}
 use Rattle.sr_exec_dml.specs.declared.changes.Changes.{Changes}
 use Rattle.sr_exec_dml.specs.declared.effect.RowEffect.{RowEffect}
 use Rattle.sr_exec_dml.specs.declared.effect.RowEffect.TheVariants.{Stays, Goes, Becomes}
-use Rattle.sr_exec_dml.specs.Checks.{Scope, no_column, unknown_in, unknown_set, unknown_condition, named_again, bad_row, bad_sets, bad_condition}
+use Rattle.sr_exec_where.specs.Checks.{Scope, unknown_condition, bad_condition, unknown_in_insert, bad_in_insert, unknown_in_update, bad_in_update}
+use Rattle.sr_exec_where.specs.Keys.{key_of}
+use Rattle.sr_exec_where.specs.Naming.{names_of}
 use Rattle.sr_catalog_schema.specs.Members.{scope_of}
 use Rattle.sr_exec_dml.specs.Holding.{held}
-use Rattle.sr_exec_dml.specs.Sequences.{or_else, first_in, each, followed}
+use Rattle.sr_exec_dml.specs.Sequences.{each, followed}
 use Rattle.sr_exec_dml.specs.Storing.{inserted_row, updated_row}
 
 -- the order of refusals after NoTable: the leftmost unknown column, the leftmost wrong class, count or column named twice, and
@@ -35,10 +35,6 @@ in_order (Some column) bad rows = Err (NoColumn column)
 in_order None (Some name) rows = Err (BadValue name)
 in_order None None rows = rows
 
--- the key of a row: its values at the key's places
-abbrev pub key_of : List ℕ → List Cell → List Cell
-key_of places row = map (λ place. unwrap_or (slice_get row place) Null) places
-
 -- a row under its key
 abbrev pub entry_of : Table → List Cell → Entry
 entry_of table row = (key_of table.key row, row)
@@ -46,19 +42,6 @@ entry_of table row = (key_of table.key row, row)
 -- the changes, and the number of rows that the statement is answered with
 abbrev pub counted : ℕ → List Change → Result Changes DmlFault
 counted count list = Ok (record { list = list; count = count })
-
--- the columns that an INSERT names: all of them where it names none
-abbrev pub names_of : List Column → List (List ℕ) → List (List ℕ)
-names_of columns [] = map (λ c. c.name) columns
-names_of columns (name ∷ names) = name ∷ names
-
--- the leftmost unknown column of an INSERT, whose values are constant
-abbrev pub unknown_in_insert : Table → Insert → Option (List ℕ)
-unknown_in_insert table i = or_else (first_in (no_column table.columns) i.columns) (first_in (first_in (unknown_in [])) i.rows)
-
--- the leftmost column named twice, wrong class or wrong count of an INSERT
-abbrev pub bad_in_insert : Table → Insert → Option (List ℕ)
-bad_in_insert table i = or_else (named_again [] i.columns) (first_in (bad_row table.name (names_of table.columns i.columns)) i.rows)
 
 -- the rows of an INSERT as written, or the first fault of one
 abbrev pub inserted_rows : Table → Insert → Result (List (List Cell)) DmlFault
@@ -123,24 +106,18 @@ moved table before effects = followed (held table.name before (staying before ef
 abbrev pub effects_of : Table → Option (List (List ℕ × Expr)) → Option Expr → List Entry → Result (List RowEffect) DmlFault
 effects_of table sets condition before = each (λ e. effect_of table sets condition e.1) before
 
--- the leftmost unknown column of an UPDATE
-abbrev pub unknown_in_update : Table → Update → Option (List ℕ)
-unknown_in_update table u = or_else (first_in (unknown_set table) u.sets) (unknown_condition (scope_of table) u.condition)
-
--- the leftmost column named twice or wrong class of an UPDATE
-abbrev pub bad_in_update : Table → Update → Option (List ℕ)
-bad_in_update table u = or_else (bad_sets (scope_of table) [] u.sets) (bad_condition (scope_of table) table.name u.condition)
+-- the rows that a condition selects are moved, by the effects on the old rows
+abbrev pub moved_selected : Table → Option (List (List ℕ × Expr)) → Option Expr → List Entry → Result Changes DmlFault
+moved_selected table sets condition before = followed (effects_of table sets condition before) (moved table before)
 
 -- UPDATE evaluates all rows on the old ones
 abbrev pub updated : Table → Update → List Entry → Result Changes DmlFault
-updated table u before =
-    in_order (unknown_in_update table u) (bad_in_update table u) (followed (effects_of table (Some u.sets) u.condition before) (moved table before))
+updated table u before = in_order (unknown_in_update table u) (bad_in_update table u) (moved_selected table (Some u.sets) u.condition before)
 
 -- DELETE takes the rows whose condition is true
 abbrev pub deleted : Table → Delete → List Entry → Result Changes DmlFault
 deleted table d before =
-    in_order (unknown_condition (scope_of table) d.condition) (bad_condition (scope_of table) table.name d.condition)
-    (followed (effects_of table None d.condition before) (moved table before))
+    in_order (unknown_condition (scope_of table) d.condition) (bad_condition (scope_of table) table.name d.condition) (moved_selected table None d.condition before)
 
 -- a statement on a table that is there
 abbrev pub on_table : {A : Type 0} → List ℕ → Option Table → (Table → Result A DmlFault) → Result A DmlFault

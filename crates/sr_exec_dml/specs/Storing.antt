@@ -10,7 +10,8 @@ use Rattle.sr_eval.specs.Meanings.Meaning.{value}
 use Rattle.sr_catalog_schema.specs.declared.table.Column.{Column}
 use Rattle.sr_catalog_schema.specs.declared.fault.DmlFault.{DmlFault}
 use Rattle.sr_catalog_schema.specs.declared.fault.DmlFault.TheVariants as fault
-use Rattle.sr_exec_dml.specs.Checks.{Scope}
+use Rattle.sr_exec_where.specs.Checks.{Scope}
+use Rattle.sr_exec_where.specs.Naming.{set_for}
 use Rattle.sr_exec_dml.specs.Sequences.{front}
 
 -- a value that fits, where NULL may be forbidden
@@ -46,11 +47,6 @@ constant (Some e) = meaning [] [] (term_of e)
 abbrev pub inserted_row : List (List ℕ) → List Expr → List Column → Result (List Cell) DmlFault
 inserted_row names es [] = Ok []
 inserted_row names es (c ∷ columns) = front (stored c (constant (value_for names es c.name))) (inserted_row names es columns)
-
--- the expression that an UPDATE assigns to a column
-abbrev pub set_for : List (List ℕ × Expr) → List ℕ → Option Expr
-set_for [] column = None
-set_for (s ∷ sets) column = cond (bytes_eq s.0 column) (Some s.1) (set_for sets column)
 
 -- what a column takes in an UPDATE: its value on the old row, or the value that it has
 abbrev pub updated_value : Scope → List Cell → Column → Cell → Option Expr → Result Cell DmlFault

@@ -2,12 +2,13 @@ ghost use Rattle.std.specs.Prelude.{◌≡◌, ◌≤◌, cond, length, IfOk, On
 ghost use Rattle.std.specs.Option.{option_copied};
 ghost use Rattle.sr_rows.specs.Inner.Steps.{GoesOn};
 ghost use Rattle.sr_exec_dml.specs.Applying.{without_row, with_row, applied_in, applied};
-ghost use Rattle.sr_exec_dml.specs.Statements.{key_of, table_named};
+ghost use Rattle.sr_exec_where.specs.Keys.{key_of};
+ghost use Rattle.sr_exec_dml.specs.Statements.{table_named};
 ghost use Rattle.sr_catalog_schema.specs.Catalogs.{Lists};
 
-use crate::keys::key_of;
 use sr_base::{Copied, Name, NoMemory, Row, Value};
 use sr_catalog_schema::Table;
+use sr_exec_where::key_of;
 use sr_logform::Change;
 use sr_rows::{AtHand, Rows};
 use std::alloc::Global;

@@ -3,10 +3,10 @@ ghost use Rattle.sr_exec_dml.specs.Statements.{deleted};
 ghost use Rattle.sr_rows.specs.Walks.{table_rows};
 
 use crate::changes::Changes;
-use crate::classes::{bad_condition, unknown_condition};
 use crate::moving::moved;
 use sr_ast::Delete;
 use sr_catalog_schema::{DmlFault, Table};
+use sr_exec_where::{bad_condition, unknown_condition};
 use sr_logform::Change;
 use sr_rows::Rows;
 use std::alloc::Global;

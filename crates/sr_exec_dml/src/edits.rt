@@ -5,9 +5,9 @@ ghost use Rattle.sr_exec_dml.specs.Inner.Edits.{AreEdits, put_of, taken_of};
 ghost use Rattle.sr_exec_dml.specs.Statements.{entry_of};
 
 use crate::edit::{Edits, put, take};
-use crate::keys::key_of;
 use sr_base::{Key, NoMemory, Row};
 use sr_catalog_schema::Table;
+use sr_exec_where::key_of;
 use std::alloc::Global;
 use std::collections::BTreeMap;
 

@@ -1,24 +1,21 @@
-ghost use Rattle.std.specs.Prelude.{◌≡◌, ◌≢◌, ◌++◌, ◌∷◌, [], map, slice_get, MatchResult};
+ghost use Rattle.std.specs.Prelude.{◌≡◌, ◌++◌, ◌∷◌, [], map, slice_get, MatchResult};
 ghost use Rattle.std.specs.Option.{option_and_then, option_copied};
-ghost use Rattle.sr_exec_dml.specs.Inner.Conditions.{Answers};
+ghost use Rattle.sr_exec_dml.specs.Inner.Conditions.{Answers, AnswersBy};
 ghost use Rattle.sr_exec_dml.specs.Holding.{held};
-ghost use Rattle.sr_exec_dml.specs.Inner.Preparing.{given_row, given_value};
+ghost use Rattle.sr_exec_dml.specs.Inner.Making.{given_row, given_value};
 ghost use Rattle.sr_exec_dml.specs.Sequences.{each};
 ghost use Rattle.sr_exec_dml.specs.Statements.{inserted, entry_of};
 ghost use Rattle.sr_exec_dml.specs.Storing.{inserted_row};
 ghost use Rattle.sr_rows.specs.Walks.{table_rows};
 
 use crate::changes::Changes;
-use crate::checks::{bad_in_insert, unknown_in_insert};
 use crate::edits::edits_of_rows;
-use crate::lists::push;
-use crate::names::names_of;
-use crate::prepared::places_in;
 use crate::settling::{put_row, settle};
 use crate::storing::{fitting, stored};
 use sr_ast::{Expr, Insert};
 use sr_base::{Name, Row, Seq, Value};
 use sr_catalog_schema::{Column, DmlFault, Table};
+use sr_exec_where::{bad_in_insert, names_of, places_in, push, unknown_in_insert};
 use sr_logform::Change;
 use sr_rows::Rows;
 use std::alloc::Global;
@@ -88,7 +85,7 @@ fn inserted_rows(
     names: &[Name],
     rows: &[Seq<Expr>],
 ) -> Result<Vec<Row>, DmlFault>
-    ensures answer { MatchResult result (λ added. each (λ es. inserted_row names.now es table.now.columns) rows.now ≡ Ok added.items) (λ fault. fault ≢ DmlFault.Memory → each (λ es. inserted_row names.now es table.now.columns) rows.now ≡ Err fault) }
+    ensures answer { AnswersBy result (λ added. added.items) (each (λ es. inserted_row names.now es table.now.columns) rows.now) }
 {
     let columns = table.columns.as_slice();
     let places = places_in(alloc, names, columns)?;
@@ -102,7 +99,7 @@ fn given_rows(
     places: &[Option<usize>],
     rows: &[Seq<Expr>],
 ) -> Result<Vec<Row>, DmlFault>
-    ensures answer { MatchResult result (λ added. each (λ es. given_row es columns.now places.now) rows.now ≡ Ok added.items) (λ fault. fault ≢ DmlFault.Memory → each (λ es. given_row es columns.now places.now) rows.now ≡ Err fault) }
+    ensures answer { AnswersBy result (λ added. added.items) (each (λ es. given_row es columns.now places.now) rows.now) }
 {
     let mut added = Vec::with_capacity(alloc, rows.len())?;
     let mut left = rows;

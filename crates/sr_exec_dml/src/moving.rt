@@ -1,30 +1,28 @@
-ghost use Rattle.std.specs.Prelude.{◌≡◌, ◌≢◌, [], ℕ, List, Option, Ok, IfOk, IfSome, OnOk, MatchResult};
+ghost use Rattle.std.specs.Prelude.{◌≡◌, [], ℕ, List, Option, Ok, IfSome, OnOk};
 ghost use Rattle.sr_ast.specs.declared.expr.Expr.{Expr as AnExpr};
 ghost use Rattle.std.specs.Option.{option_copied};
-ghost use Rattle.sr_exec_dml.specs.Checks.{bad_sets, bad_condition};
+ghost use Rattle.sr_exec_where.specs.Checks.{bad_sets, bad_condition};
 ghost use Rattle.sr_catalog_schema.specs.Members.{scope_of};
-ghost use Rattle.sr_exec_dml.specs.Inner.Conditions.{Answers, TableFits};
+ghost use Rattle.sr_exec_dml.specs.Inner.Conditions.{Answers, AnswersBy, TableFits};
 ghost use Rattle.sr_exec_dml.specs.Inner.Edits.{picks_of, with_pick, prefixed, Picks};
-ghost use Rattle.sr_exec_dml.specs.Inner.Fixing.{only_key};
-ghost use Rattle.sr_exec_dml.specs.Inner.Preparing.{IsPrepared, resolution_in, selected_at};
-ghost use Rattle.sr_exec_dml.specs.Sequences.{followed};
-ghost use Rattle.sr_exec_dml.specs.Statements.{effect_of, effects_of, moved as moved_rows};
+ghost use Rattle.sr_exec_where.specs.Inner.Fixing.{only_key};
+ghost use Rattle.sr_exec_where.specs.Inner.Preparing.{IsPrepared, resolution_in};
+ghost use Rattle.sr_exec_dml.specs.Inner.Making.{selected_at, effect_by};
+ghost use Rattle.sr_exec_dml.specs.Statements.{moved_selected};
 ghost use Rattle.sr_rows.specs.Walks.{table_rows};
 
 use crate::changes::Changes;
 use crate::edits::edits_of_picks;
 use crate::effect::RowEffect;
-use crate::fixing::fixed_key;
-use crate::lists::push;
 use crate::placing::unmoved;
-use crate::prepared::{Prepared, prepare};
 use crate::settling::settle;
 use crate::single::moved_at;
 use crate::updating::updated_row;
-use sr_ast::{Expr, is_plain};
+use sr_ast::Expr;
 use sr_base::{Copied, Key, Name, NoMemory, Row, Value};
 use sr_catalog_schema::{DmlFault, Table};
 use sr_eval::{EvalFault, Resolved, is_resolved_true};
+use sr_exec_where::{Prepared, only_key, prepare, push};
 use sr_logform::Change;
 use sr_rows::Rows;
 use std::alloc::Global;
@@ -41,7 +39,7 @@ pub(crate) fn moved(
     requires rows { TableFits table.now rows.now.rows }
     requires condition { bad_condition (scope_of table.now) table.now.name condition.now ≡ None }
     requires sets { IfSome (option_copied sets) (λ s. bad_sets (scope_of table.now) [] s ≡ None) }
-    ensures answer { Answers result (followed (effects_of table.now (option_copied sets.entry) condition.now (table_rows rows.now.rows table.now.name)) (moved_rows table.now (table_rows rows.now.rows table.now.name))) }
+    ensures answer { Answers result (moved_selected table.now (option_copied sets.entry) condition.now (table_rows rows.now.rows table.now.name)) }
 {
     let prepared = prepare(alloc, table, sets, condition)?;
     if let Some(key) = only_key(alloc, table, condition)? {
@@ -63,25 +61,12 @@ pub(crate) fn settle_picks(
     picks: Vec<(Key, Option<Row>)>,
 ) -> Result<Changes, DmlFault>
     ensures answer { (sets : Option (List (List ℕ × AnExpr))) (condition : Option AnExpr) → picks_of table.now sets condition (table_rows rows.now.rows table.now.name) ≡ Ok picks.items
-        → Answers result (followed (effects_of table.now sets condition (table_rows rows.now.rows table.now.name)) (moved_rows table.now (table_rows rows.now.rows table.now.name))) }
+        → Answers result (moved_selected table.now sets condition (table_rows rows.now.rows table.now.name)) }
 {
     let count = picks.len() as u64;
     let edits = edits_of_picks(alloc, table, picks)?;
     let list = settle(alloc, &table.name, rows, edits)?;
     Ok(Changes { list, count })
-}
-
-/// The key of the only row that can be selected: where a condition without arithmetic fixes it.
-fn only_key(alloc: Global, table: &Table, condition: &Option<Expr>) -> Result<Option<Key>, NoMemory>
-    ensures key { IfOk result (λ found. found ≡ only_key table.now condition.now) }
-{
-    let Some(condition) = condition else {
-        return Ok(None);
-    };
-    if !is_plain(condition) {
-        return Ok(None);
-    }
-    fixed_key(alloc, table, condition)
 }
 
 /// What is picked of all rows, in the order of their keys. Each row of the table takes the time of its condition.
@@ -92,8 +77,7 @@ fn picks_along(
     prepared: &Prepared,
 ) -> Result<Vec<(Key, Option<Row>)>, DmlFault>
     requires prepared { IsPrepared table.now prepared.now }
-    ensures answer { MatchResult result (λ picks. picks_of table.now (option_copied prepared.now.sets) prepared.now.condition.now (table_rows rows.now.rows table.now.name) ≡ Ok picks.items)
-        (λ fault. fault ≢ DmlFault.Memory → picks_of table.now (option_copied prepared.now.sets) prepared.now.condition.now (table_rows rows.now.rows table.now.name) ≡ Err fault) }
+    ensures answer { AnswersBy result (λ picks. picks.items) (picks_of table.now (option_copied prepared.now.sets) prepared.now.condition.now (table_rows rows.now.rows table.now.name)) }
 {
     let mut picks = Vec::new(alloc);
     let mut walk = rows.walk(&table.name);
@@ -129,7 +113,7 @@ pub(crate) fn effect_of(
     row: &[Value],
 ) -> Result<RowEffect, DmlFault>
     requires prepared { IsPrepared table.now prepared.now }
-    ensures answer { Answers result (effect_of table.now (option_copied prepared.now.sets) prepared.now.condition.now row.now) }
+    ensures answer { Answers result (effect_by table.now prepared.now row.now) }
 {
     if !selected(&prepared.resolved_condition, row)? {
         return Ok(RowEffect::Stays);

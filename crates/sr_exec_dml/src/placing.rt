@@ -1,11 +1,10 @@
 //! UPDATE and DELETE where each row that is selected keeps its key: one walk, and no key is built or looked up.
 
-ghost use Rattle.std.specs.Prelude.{◌≡◌, ◌≢◌, Ok, Err, IfSome, IfOk, OnOk, IsTrue, MatchResult};
+ghost use Rattle.std.specs.Prelude.{◌≡◌, Ok, IfOk, OnOk, IsTrue};
 ghost use Rattle.std.specs.Option.{option_copied};
-ghost use Rattle.sr_exec_dml.specs.Inner.Conditions.{TableFits};
-ghost use Rattle.sr_exec_dml.specs.Inner.Preparing.{IsPrepared};
-ghost use Rattle.sr_exec_dml.specs.Sequences.{followed};
-ghost use Rattle.sr_exec_dml.specs.Statements.{effects_of, moved as moved_rows};
+ghost use Rattle.sr_exec_dml.specs.Inner.Conditions.{MayAnswer, TableFits};
+ghost use Rattle.sr_exec_where.specs.Inner.Preparing.{IsPrepared};
+ghost use Rattle.sr_exec_dml.specs.Statements.{moved_selected};
 ghost use Rattle.sr_exec_dml.specs.Inner.Unmoving.{Counted, and_change, with_effect, behind, KeepsKey};
 ghost use Rattle.sr_rows.specs.Walks.{table_rows};
 
@@ -14,11 +13,11 @@ use crate::changes::Changes;
 use crate::effect::RowEffect;
 use crate::lists::emptied;
 use crate::moving::effect_of;
-use crate::prepared::Prepared;
 use crate::settling::note;
 use crate::together::{rows_together, unmoved_together};
 use sr_base::{Name, NoMemory, Row, Seq};
 use sr_catalog_schema::{DmlFault, Table};
+use sr_exec_where::Prepared;
 use sr_logform::Change;
 use sr_rows::Rows;
 use std::alloc::{AllocError, Global};
@@ -43,8 +42,7 @@ pub(crate) fn unmoved(
 ) -> Result<Option<Changes>, DmlFault>
     requires prepared { IsPrepared table.now prepared.now }
     requires rows { TableFits table.now rows.now.rows }
-    ensures answer { MatchResult result (λ found. IfSome found (λ changes. followed (effects_of table.now (option_copied prepared.now.sets) prepared.now.condition.now (table_rows rows.now.rows table.now.name)) (moved_rows table.now (table_rows rows.now.rows table.now.name)) ≡ Ok changes))
-        (λ fault. fault ≢ DmlFault.Memory → followed (effects_of table.now (option_copied prepared.now.sets) prepared.now.condition.now (table_rows rows.now.rows table.now.name)) (moved_rows table.now (table_rows rows.now.rows table.now.name)) ≡ Err fault) }
+    ensures answer { MayAnswer result (moved_selected table.now (option_copied prepared.now.sets) prepared.now.condition.now (table_rows rows.now.rows table.now.name)) }
 {
     if prepared.sets.is_some() {
         let together = rows_together(table.columns.as_slice());
@@ -65,8 +63,7 @@ fn unmoved_alone(
 ) -> Result<Option<Changes>, DmlFault>
     requires prepared { IsPrepared table.now prepared.now }
     requires rows { TableFits table.now rows.now.rows }
-    ensures answer { MatchResult result (λ found. IfSome found (λ changes. followed (effects_of table.now (option_copied prepared.now.sets) prepared.now.condition.now (table_rows rows.now.rows table.now.name)) (moved_rows table.now (table_rows rows.now.rows table.now.name)) ≡ Ok changes))
-        (λ fault. fault ≢ DmlFault.Memory → followed (effects_of table.now (option_copied prepared.now.sets) prepared.now.condition.now (table_rows rows.now.rows table.now.name)) (moved_rows table.now (table_rows rows.now.rows table.now.name)) ≡ Err fault) }
+    ensures answer { MayAnswer result (moved_selected table.now (option_copied prepared.now.sets) prepared.now.condition.now (table_rows rows.now.rows table.now.name)) }
 {
     let mut found = Found {
         list: emptied(spare),

@@ -1,19 +1,19 @@
-ghost use Rattle.std.specs.Prelude.{◌≡◌, ◌≢◌, ◌++◌, ◌∷◌, [], Err, None, Some, IfOk, OnOk, List, MatchResult, Result};
+ghost use Rattle.std.specs.Prelude.{◌≡◌, ◌++◌, ◌∷◌, [], Err, None, Some, IfOk, OnOk, List, Result};
 ghost use Rattle.std.specs.Option.{option_copied};
 ghost use Rattle.sr_logform.specs.declared.change.Change.{Change as AChange};
 ghost use Rattle.sr_exec_dml.specs.Inner.Conditions.{Answers};
-ghost use Rattle.sr_exec_dml.specs.Inner.Edits.{prefixed, settled, with_edit};
-ghost use Rattle.sr_exec_dml.specs.Holding.{is_same_row, with_change};
-ghost use Rattle.sr_exec_dml.specs.Statements.{key_of};
-ghost use Rattle.sr_catalog_schema.specs.declared.fault.DmlFault.{DmlFault as AFault};
+ghost use Rattle.sr_exec_dml.specs.Inner.Edits.{Notes, settled, with_edit};
+ghost use Rattle.sr_exec_dml.specs.Holding.{with_change};
+ghost use Rattle.sr_logform.specs.Outcomes.{is_same_row};
+ghost use Rattle.sr_exec_where.specs.Keys.{key_of};
 ghost use Rattle.sr_exec_dml.specs.declared.edit.Edit.TheVariants.{New};
 ghost use Rattle.sr_rows.specs.Marks.{rows_of_table};
 
 use crate::edit::{Edit, Edits};
-use crate::keys::key_of;
-use crate::lists::{emptied, push};
+use crate::lists::emptied;
 use sr_base::{Copied, Key, Name, NoMemory, Row, Seq};
 use sr_catalog_schema::{DmlFault, Table};
+use sr_exec_where::{key_of, push};
 use sr_logform::Change;
 use sr_rows::Rows;
 use std::alloc::Global;
@@ -44,8 +44,7 @@ fn settle_one(
     edit: Edit,
     changes: &mut Vec<Change>,
 ) -> Result<(), DmlFault>
-    ensures noted { MatchResult result (λ _. (rest : Result (List AChange) AFault) → prefixed changes.old.items (with_edit table.now key (rows_of_table rows.now.rows table.now key) edit rest) ≡ prefixed changes.new.items rest)
-        (λ fault. fault ≢ DmlFault.Memory → (rest : Result (List AChange) AFault) → with_edit table.now key (rows_of_table rows.now.rows table.now key) edit rest ≡ Err fault) }
+    ensures noted { Notes result changes.old.items (with_edit table.now key (rows_of_table rows.now.rows table.now key) edit) changes.new.items }
 {
     let held = rows.get(table, &key);
     match edit {
@@ -132,7 +131,7 @@ pub(crate) fn note_updated(
 ) -> Result<(), NoMemory>
     ensures noted { OnOk result ((later : List AChange) → changes.old.items ++ with_change table.now (Some old) (Some new) later ≡ changes.new.items ++ later) }
 {
-    if old.values().cmp(new.values()).is_eq() {
+    if old == new {
         return Ok(());
     }
     let change = Change {
@@ -159,7 +158,7 @@ fn is_same_row(before: Option<&Row>, after: &Option<Row>) -> bool
         None => after.is_none(),
         Some(before) => match after {
             None => false,
-            Some(after) => before.values().cmp(after.values()).is_eq(),
+            Some(after) => *before == *after,
         },
     }
 }

@@ -1,25 +1,24 @@
 //! UPDATE and DELETE where the condition fixes the key: only the row under it can be selected, and it is looked up once.
 
-ghost use Rattle.std.specs.Prelude.{◌≡◌, [], ◌∷◌, Some, IfOk};
+ghost use Rattle.std.specs.Prelude.{◌≡◌, [], Some, IfOk};
 ghost use Rattle.std.specs.Option.{option_copied};
 ghost use Rattle.sr_exec_dml.specs.Inner.Conditions.{Answers, TableFits};
-ghost use Rattle.sr_exec_dml.specs.Inner.Fixing.{only_key};
+ghost use Rattle.sr_exec_where.specs.Inner.Fixing.{only_key};
 ghost use Rattle.sr_exec_dml.specs.Holding.{with_change};
-ghost use Rattle.sr_exec_dml.specs.Inner.Preparing.{IsPrepared};
-ghost use Rattle.sr_exec_dml.specs.Sequences.{followed};
-ghost use Rattle.sr_exec_dml.specs.Statements.{effects_of, moved as moved_rows};
+ghost use Rattle.sr_exec_where.specs.Inner.Preparing.{IsPrepared};
+ghost use Rattle.sr_exec_dml.specs.Statements.{moved_selected};
 ghost use Rattle.sr_rows.specs.Walks.{table_rows};
 
 use crate::applying::is_same_key;
 use crate::changes::Changes;
 use crate::effect::RowEffect;
-use crate::lists::{emptied, push};
+use crate::lists::emptied;
 use crate::moving::{effect_of, settle_picks};
-use crate::prepared::Prepared;
 use crate::settling::note;
 use sr_base::{Copied, Key, Name, NoMemory, Row, Seq};
 use sr_catalog_schema::{DmlFault, Table};
 use sr_eval::and_holds_where_both_hold;
+use sr_exec_where::{Prepared, push};
 use sr_logform::Change;
 use sr_rows::Rows;
 use std::alloc::Global;
@@ -37,7 +36,7 @@ pub(crate) fn moved_at(
     requires prepared { IsPrepared table.now prepared.now }
     requires rows { TableFits table.now rows.now.rows }
     requires key { only_key table.now prepared.now.condition.now ≡ Some key.now }
-    ensures answer { Answers result (followed (effects_of table.now (option_copied prepared.now.sets) prepared.now.condition.now (table_rows rows.now.rows table.now.name)) (moved_rows table.now (table_rows rows.now.rows table.now.name))) }
+    ensures answer { Answers result (moved_selected table.now (option_copied prepared.now.sets) prepared.now.condition.now (table_rows rows.now.rows table.now.name)) }
 {
     and_holds_where_both_hold();
     let Some(row) = rows.get(&table.name, key) else {

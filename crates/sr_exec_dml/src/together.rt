@@ -1,29 +1,30 @@
 //! UPDATE where each row that is selected keeps its key, of rows that are small: they are noted several at a time, and the new ones of a time
 //! share a block of memory.
 
-ghost use Rattle.std.specs.Prelude.{◌≡◌, ◌≢◌, [], length, Ok, Err, IfSome, IfOk, IsSome, OnOk, IsTrue, MatchResult, map};
+ghost use Rattle.std.specs.Prelude.{◌≡◌, ◌≢◌, [], length, Ok, Err, IsSome, OnOk, IsTrue, MatchResult, map};
 ghost use Rattle.std.specs.Option.{option_copied};
-ghost use Rattle.sr_exec_dml.specs.Inner.Conditions.{TableFits};
+ghost use Rattle.sr_exec_dml.specs.Inner.Conditions.{MayAnswer, TableFits, Tells};
 ghost use Rattle.sr_exec_dml.specs.Inner.Edits.{prefixed};
-ghost use Rattle.sr_exec_dml.specs.Inner.Pending.{and_pending, Adds, AreWhole, Awaits};
-ghost use Rattle.sr_exec_dml.specs.Inner.Preparing.{IsPrepared, new_row, resolution_in};
-ghost use Rattle.sr_exec_dml.specs.Sequences.{followed};
-ghost use Rattle.sr_exec_dml.specs.Statements.{effect_of, effects_of, key_of, moved as moved_rows};
+ghost use Rattle.sr_exec_dml.specs.Inner.Pending.{pended, Adds, AreWhole, Awaits};
+ghost use Rattle.sr_exec_where.specs.Inner.Preparing.{IsPrepared, resolution_in};
+ghost use Rattle.sr_exec_dml.specs.Inner.Making.{new_row, effect_by};
+ghost use Rattle.sr_exec_dml.specs.Statements.{effect_of, moved_selected};
+ghost use Rattle.sr_exec_where.specs.Keys.{key_of};
 ghost use Rattle.sr_exec_dml.specs.Inner.Unmoving.{Counted, and_change, behind};
 ghost use Rattle.sr_rows.specs.Walks.{table_rows};
 
 use crate::applying::is_same_key;
 use crate::changes::Changes;
-use crate::lists::{emptied, push};
+use crate::lists::emptied;
 use crate::moving::selected;
 use crate::pending::Pending;
 use crate::placing::Found;
-use crate::prepared::Prepared;
 use crate::settling::note_updated;
 use crate::updating::new_value;
 use sr_base::{Copied, Kind, Name, NoMemory, Row, RowBlock, Seq, Value};
 use sr_catalog_schema::{Column, DmlFault, Table};
 use sr_eval::Resolved;
+use sr_exec_where::{Prepared, push};
 use sr_logform::Change;
 use sr_rows::Rows;
 use std::alloc::{AllocError, Global};
@@ -68,8 +69,7 @@ pub(crate) fn unmoved_together(
     requires prepared { IsPrepared table.now prepared.now }
     requires rows { TableFits table.now rows.now.rows }
     requires sets { IsSome (option_copied prepared.now.sets) }
-    ensures answer { MatchResult result (λ found. IfSome found (λ changes. followed (effects_of table.now (option_copied prepared.now.sets) prepared.now.condition.now (table_rows rows.now.rows table.now.name)) (moved_rows table.now (table_rows rows.now.rows table.now.name)) ≡ Ok changes))
-        (λ fault. fault ≢ DmlFault.Memory → followed (effects_of table.now (option_copied prepared.now.sets) prepared.now.condition.now (table_rows rows.now.rows table.now.name)) (moved_rows table.now (table_rows rows.now.rows table.now.name)) ≡ Err fault) }
+    ensures answer { MayAnswer result (moved_selected table.now (option_copied prepared.now.sets) prepared.now.condition.now (table_rows rows.now.rows table.now.name)) }
 {
     let mut found = Found {
         list: emptied(spare),
@@ -106,8 +106,8 @@ fn await_row(
     requires prepared { IsPrepared table.now prepared.now }
     requires sets { IsSome (option_copied prepared.now.sets) }
     requires whole { AreWhole (length table.now.columns) pending.old.olds.items pending.old.values.items }
-    ensures answer { MatchResult result (λ is_kept. IsTrue is_kept → Awaits table.now row.now (effect_of table.now (option_copied prepared.now.sets) prepared.now.condition.now row.now) pending.old pending.new)
-        (λ fault. fault ≢ DmlFault.Memory → effect_of table.now (option_copied prepared.now.sets) prepared.now.condition.now row.now ≡ Err fault) }
+    ensures answer { Tells result (λ is_kept. IsTrue is_kept → Awaits table.now row.now (effect_by table.now prepared.now row.now) pending.old pending.new)
+        (effect_by table.now prepared.now row.now) }
 {
     let start = pending.values.len();
     if !add_effect(alloc, table, prepared, row.values(), &mut pending.values)? {
@@ -166,8 +166,8 @@ fn add_updated(
     columns: &[Column],
     values: &mut Vec<Value>,
 ) -> Result<(), DmlFault>
-    ensures answer { MatchResult result (λ _. prefixed values.old.items (new_row row.now columns.now row.now (map resolution_in sets.now)) ≡ Ok values.new.items)
-        (λ fault. fault ≢ DmlFault.Memory → new_row row.now columns.now row.now (map resolution_in sets.now) ≡ Err fault) }
+    ensures answer { Tells result (λ _. prefixed values.old.items (new_row row.now columns.now row.now (map resolution_in sets.now)) ≡ Ok values.new.items)
+        (new_row row.now columns.now row.now (map resolution_in sets.now)) }
 {
     let mut left = columns;
     let mut olds = row;
@@ -198,7 +198,7 @@ fn note_full(
     pending: &mut Pending,
 ) -> Result<(), NoMemory>
     requires whole { AreWhole (length table.now.columns) pending.old.olds.items pending.old.values.items }
-    ensures noted { OnOk result ((rest : Counted) → behind found.old.list.items found.old.count (and_pending table.now.name (length table.now.columns) pending.old.olds.items pending.old.values.items rest) ≡ behind found.new.list.items found.new.count (and_pending table.now.name (length table.now.columns) pending.new.olds.items pending.new.values.items rest)) }
+    ensures noted { OnOk result ((rest : Counted) → behind found.old.list.items found.old.count (pended table.now pending.old rest) ≡ behind found.new.list.items found.new.count (pended table.now pending.new rest)) }
     ensures whole { OnOk result (AreWhole (length table.now.columns) pending.new.olds.items pending.new.values.items) }
 {
     if pending.olds.len() < together {
@@ -216,7 +216,7 @@ fn note_all(
     pending: &mut Pending,
 ) -> Result<(), NoMemory>
     requires whole { AreWhole (length table.now.columns) pending.old.olds.items pending.old.values.items }
-    ensures noted { OnOk result ((rest : Counted) → behind found.old.list.items found.old.count (and_pending table.now.name (length table.now.columns) pending.old.olds.items pending.old.values.items rest) ≡ behind found.new.list.items found.new.count rest) }
+    ensures noted { OnOk result ((rest : Counted) → behind found.old.list.items found.old.count (pended table.now pending.old rest) ≡ behind found.new.list.items found.new.count rest) }
     ensures olds { OnOk result (pending.new.olds.items ≡ []) }
     ensures values { OnOk result (pending.new.values.items ≡ []) }
 {

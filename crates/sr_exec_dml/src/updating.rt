@@ -1,23 +1,19 @@
-ghost use Rattle.std.specs.Prelude.{◌≡◌, [], map, None, IfOk};
-ghost use Rattle.std.specs.Option.{option_copied};
-ghost use Rattle.sr_exec_dml.specs.Checks.{bad_sets};
+ghost use Rattle.std.specs.Prelude.{map, None};
+ghost use Rattle.sr_exec_where.specs.Checks.{unknown_in_update, bad_in_update};
 ghost use Rattle.sr_exec_dml.specs.Inner.Conditions.{Answers, TableFits};
-ghost use Rattle.sr_exec_dml.specs.Statements.{unknown_in_update, bad_in_update, updated};
-ghost use Rattle.sr_exec_dml.specs.Inner.Preparing.{new_row, new_value, resolution_in};
-ghost use Rattle.sr_exec_dml.specs.Storing.{set_for};
+ghost use Rattle.sr_exec_dml.specs.Statements.{updated};
+ghost use Rattle.sr_exec_dml.specs.Inner.Making.{new_row, new_value};
+ghost use Rattle.sr_exec_where.specs.Inner.Preparing.{resolution_in};
 ghost use Rattle.sr_rows.specs.Walks.{table_rows};
 
 use crate::changes::Changes;
-use crate::checks::{bad_sets, unknown_in_sets};
-use crate::classes::{bad_condition, unknown_condition};
-use crate::lists::push;
 use crate::moving::moved;
-use crate::names::is_same;
 use crate::storing::stored_at;
-use sr_ast::{Expr, Update};
-use sr_base::{Copied, Name, NoMemory, Row, Seq, Value};
+use sr_ast::Update;
+use sr_base::{Copied, Row, Seq, Value};
 use sr_catalog_schema::{Column, DmlFault, Table};
 use sr_eval::Resolved;
+use sr_exec_where::{bad_in_update, push, unknown_in_update};
 use sr_logform::Change;
 use sr_rows::Rows;
 use std::alloc::Global;
@@ -49,28 +45,6 @@ pub fn update(
         &update.condition,
         spare,
     )
-}
-
-fn unknown_in_update(
-    alloc: Global,
-    table: &Table,
-    update: &Update,
-) -> Result<Option<Name>, NoMemory>
-    ensures unknown { IfOk result (λ found. found ≡ unknown_in_update table.now update.now) }
-{
-    match unknown_in_sets(alloc, table, update.sets.as_slice())? {
-        Some(unknown) => Ok(Some(unknown)),
-        None => unknown_condition(alloc, table, &update.condition),
-    }
-}
-
-fn bad_in_update(alloc: Global, table: &Table, update: &Update) -> Result<Option<Name>, NoMemory>
-    ensures bad { IfOk result (λ found. found ≡ bad_in_update table.now update.now) }
-{
-    match bad_sets(alloc, table, update.sets.as_slice())? {
-        Some(bad) => Ok(Some(bad)),
-        None => bad_condition(alloc, table, &update.condition),
-    }
 }
 
 /// The row that an UPDATE makes of a row, by what each column takes. A row of two values takes one block of memory.
@@ -137,18 +111,4 @@ pub(crate) fn new_value(
         None => Ok(old.copy(alloc)?),
         Some(resolved) => stored_at(alloc, column, row, resolved),
     }
-}
-
-/// The expression that is assigned to a column. It looks at each assignment up to the column's.
-pub(crate) fn set_for<'a>(sets: &'a [(Name, Expr)], column: &Name) -> Option<&'a Expr>
-    ensures { option_copied result ≡ set_for sets.now column.now }
-{
-    let mut left = sets;
-    'sets: while let Some((set, rest)) = left.split_first() {
-        if is_same(&set.0, column) {
-            return Some(&set.1);
-        }
-        left = rest;
-    }
-    None
 }

@@ -4,11 +4,11 @@ ghost use Rattle.std.specs.Prelude.{◌≡◌, ◌↔◌, IsTrue};
 ghost use Rattle.sr_base.specs.declared.value.Kind.TheVariants.{Varchar};
 ghost use Rattle.sr_base.specs.declared.value.Value.TheVariants.{Int, Str};
 ghost use Rattle.sr_base_dates.specs.Fitting.{fitted};
-ghost use Rattle.sr_eval.specs.Comparisons.{is_null};
 ghost use Rattle.sr_exec_fits.specs.Rows.{IsRow, is_kept, is_row, may_hold};
 
 use sr_base::{Kind, Text, Value};
 use sr_catalog_schema::Column;
+use sr_eval::is_null;
 
 /// Whether a row fits columns: it has one value for each, fitting leaves each as it is, and no NOT NULL column holds NULL.
 ///
@@ -78,14 +78,4 @@ fn is_text_kept(text: &Text, limit: u16) -> bool
     ensures { result ≡ is_kept (fitted (Str text.now) (Varchar limit)) (Str text.now) }
 {
     text.bytes().len() <= usize::from(limit)
-}
-
-/// Whether a value is NULL.
-pub fn is_null(value: &Value) -> bool
-    ensures null { result ≡ is_null value.now }
-{
-    match value {
-        Value::Null => true,
-        Value::Int(_) | Value::Big(_) | Value::Str(_) | Value::Date(_) => false,
-    }
 }

@@ -6,4 +6,4 @@
 
 mod fitting;
 
-pub use fitting::{is_null, is_row};
+pub use fitting::is_row;

@@ -48,7 +48,7 @@ abbrev pub mark : (at n : ℕ) (kind : TokenKind) → Token
 mark at n kind = record { kind = kind; start = at; end = at + n }
 
 -- the first of two fronts that a token and what follows it make
-seam_same : (word after w a : List ℕ) → word ++ after ≡ w ++ a → length word ≡ length w → (word ≡ w) × (after ≡ a)
+pub seam_same : (word after w a : List ℕ) → word ++ after ≡ w ++ a → length word ≡ length w → (word ≡ w) × (after ≡ a)
 seam_same [] after [] a e n = (refl, e)
 seam_same [] after (b ∷ w) a e n = absurd (omega arith)
 seam_same (b ∷ word) after [] a e n = absurd (omega arith)

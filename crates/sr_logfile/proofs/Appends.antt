@@ -4,15 +4,8 @@ use Rattle.std.specs.Prelude.{OnErr}
 use Rattle.std.proofs.lemmas.List.{take_at, drop_at, drop_more}
 use Rattle.sr_site.specs.declared.file.File.{File}
 use Rattle.sr_site.specs.declared.file.File.TheVariants.{Root, Log0, Log1, Snap0, Snap1}
-use Rattle.sr_site.specs.Files.{Files, bytes_of, with_bytes, overwritten, IsTorn, OthersStay}
+use Rattle.sr_site.specs.Files.{Files, overwritten, IsTorn, OthersStay}
 use Rattle.sr_logfile.specs.Inner.Appends.{GoesOn, HasRecord, HasPart, LeavesPart, LeavesRecord}
-
-pub bytes_of-with_bytes : (files : Files) (file : File) (bytes : List ℕ) → bytes_of (with_bytes files file bytes) file ≡ bytes
-bytes_of-with_bytes files Root bytes = refl
-bytes_of-with_bytes files Log0 bytes = refl
-bytes_of-with_bytes files Log1 bytes = refl
-bytes_of-with_bytes files Snap0 bytes = refl
-bytes_of-with_bytes files Snap1 bytes = refl
 
 -- no file differs
 pub OthersStay-same : (file : File) (old new : Files) → new ≡ old → OthersStay file old new

@@ -11,7 +11,8 @@ use Rattle.sr_logfile.specs.Logs.{gate_of}
 use Rattle.sr_logfile.specs.Inner.Logs.{IsLog}
 use Rattle.sr_logfile.specs.Inner.Moments.{HasOrLacks, IsAsRead, IsPartPut}
 use Rattle.sr_logfile.specs.Records.{open_records, body_of, IsFramed}
-use Rattle.sr_logfile.proofs.Appends.{bytes_of-with_bytes, first_torn, first_written, second_torn, second_part, nothing_put}
+use Rattle.sr_logfile.proofs.Appends.{first_torn, first_written, second_torn, second_part, nothing_put}
+use Rattle.sr_site.proofs.Images.{bytes_of-with_bytes}
 use Rattle.sr_logfile.proofs.Commits.{part_committed, length-framed}
 use Rattle.sr_logfile.proofs.Records.{length-push}
 

@@ -1,6 +1,7 @@
 -- Where a log is damaged.
-use Rattle.std.specs.Prelude.{◌≡◌, ℕ, ◌+◌, ◌^◌, ◌≤◌, ◌⊎◌, List, ◌∷◌, ◌++◌, length}
+use Rattle.std.specs.Prelude.{◌≡◌, ℕ, ◌+◌, ◌≤◌, ◌⊎◌, List, ◌∷◌, ◌++◌, length}
 use Rattle.std.specs.List.{AllByRecursion}
+use Rattle.sr_base.specs.Values.{farthest_offset}
 use Rattle.sr_logfile.specs.Records.{header, record_of, open_records, IsBody, HasHeader, Spells}
 
 -- what follows an open gate at a stream position begins with a whole record of that body: it fits in front of the last offset, and a gate
@@ -10,7 +11,7 @@ pub record BeginsRecord (body : List ℕ) (position : ℕ) (rest : List ℕ) : T
   pub more : List ℕ
   pub rest_is : rest ≡ record_of body ++ gate ∷ more
   pub is_body : IsBody body
-  pub limit : position + 5 + length body ≤ 2 ^ 62
+  pub limit : position + 5 + length body ≤ farthest_offset
 
 -- no base has its header there
 abbrev pub LacksHeader : List ℕ → Type 0
@@ -24,7 +25,7 @@ pub record LacksRecord (bytes : List ℕ) (place : ℕ) : Type 0 where
   pub bytes_are : bytes ≡ (header base ++ open_records bodies) ++ 1 ∷ rest
   pub place_is : place ≡ length (header base ++ open_records bodies)
   pub all_bodies : AllByRecursion IsBody bodies
-  pub limit : base + length (open_records bodies) ≤ 2 ^ 62
+  pub limit : base + length (open_records bodies) ≤ farthest_offset
   pub broken : (body : List ℕ) → BeginsRecord body (base + length (open_records bodies)) rest → ⊥
 
 -- a log file is damaged at a place: at 0 where its header is not whole, else at the gate of the first open record that is not as written

@@ -1,11 +1,13 @@
 -- Where the gate of a log stands in its file, and when a record has no room.
-use Rattle.std.specs.Prelude.{ℕ, ◌+◌, ◌-◌, ◌^◌, ◌<◌, ◌⊎◌}
+use Rattle.std.specs.Prelude.{ℕ, ◌+◌, ◌-◌, ◌<◌, ◌⊎◌}
+use Rattle.sr_base.specs.Values.{farthest_offset}
 use Rattle.sr_logfile.specs.Log.{Log}
+use Rattle.sr_logfile.specs.Records.{header_size}
 
 -- the place in the file of the log's first closed gate
 abbrev pub gate_of : Log → ℕ
-gate_of log = 16 + (log.end - log.base)
+gate_of log = header_size + (log.end - log.base)
 
 -- a record of so many framed bytes has no room: in the file up to a bound, or in front of the last offset
 abbrev pub IsFull : Log → ℕ → ℕ → Type 0
-IsFull log count bound = (bound < gate_of log + 1 + count) ⊎ (2 ^ 62 < log.end + count)
+IsFull log count bound = (bound < gate_of log + 1 + count) ⊎ (farthest_offset < log.end + count)

@@ -2,8 +2,16 @@
 use Rattle.std.specs.Prelude.{◌≡◌, ◌≢◌, ℕ, ◌+◌, ◌-◌, ◌^◌, ◌≤◌, List, [], ◌∷◌, ◌++◌, length, take, drop}
 use Rattle.std.specs.Int.{w32, w64, to_be_bytes}
 use Rattle.std.specs.List.{AllByRecursion}
+use Rattle.sr_base.specs.Values.{farthest_offset}
 
--- the 16 bytes before the first gate: SRLOG001 and the base
+-- how many bytes stand before the first gate, and how many a log without records has: those, and a closed gate
+abbrev pub header_size : ℕ
+header_size = 16
+
+abbrev pub empty_log : ℕ
+empty_log = 17
+
+-- the bytes before the first gate: SRLOG001 and the base
 abbrev pub header : ℕ → List ℕ
 header base = (83 ∷ 82 ∷ 76 ∷ 79 ∷ 71 ∷ 48 ∷ 48 ∷ 49 ∷ []) ++ to_be_bytes w64 base
 
@@ -38,7 +46,7 @@ pub record HasHeader (base : ℕ) (bytes : List ℕ) : Type 0 where
   pub gate : ℕ
   pub rest : List ℕ
   pub bytes_are : bytes ≡ header base ++ gate ∷ rest
-  pub limit : base ≤ 2 ^ 62
+  pub limit : base ≤ farthest_offset
 
 -- the bytes of a log file stand for a base and the records' bodies: the header, each record behind an open gate, a closed gate, and bytes
 -- without a meaning
@@ -48,4 +56,4 @@ pub record Spells (base : ℕ) (bodies : List (List ℕ)) (bytes : List ℕ) : T
   pub bytes_are : bytes ≡ (header base ++ open_records bodies) ++ gate ∷ rest
   pub closed : gate ≢ 1
   pub all_bodies : AllByRecursion IsBody bodies
-  pub limit : base + length (open_records bodies) ≤ 2 ^ 62
+  pub limit : base + length (open_records bodies) ≤ farthest_offset

@@ -8,16 +8,16 @@ use crate::fault::LogFault;
 use sr_site::{Disk, File};
 
 /// The bytes before the first gate.
-pub(crate) const HEADER: u64 = 16;
+pub const HEADER: u64 = 16;
+
+/// The bytes of a log without records: a header and a closed gate.
+pub const EMPTY_LOG: u64 = 17;
 
 /// The bytes of a gate and the length behind it.
 pub(crate) const RECORD_HEAD: u64 = 5;
 
 /// The longest body: 64 MiB.
 pub(crate) const LONGEST_BODY: u64 = 67_108_864;
-
-/// The last stream position: 2^62.
-pub(crate) const LAST_OFFSET: u64 = 4_611_686_018_427_387_904;
 
 /// What stands at the place of a gate.
 #[derive(Clone, Copy)]

@@ -1,21 +1,21 @@
-ghost use Rattle.std.specs.Prelude.{◌≡◌, ◌⊎◌, ◌+◌, ◌^◌, ◌≤◌, [], ◌∷◌, ◌++◌, List, ℕ, length, true, IsTrue, IfOk, OnOk, OnErr, IfErr, Err, is_ok};
+ghost use Rattle.std.specs.Prelude.{◌≡◌, ◌+◌, ◌^◌, ◌≤◌, [], ◌∷◌, ◌++◌, List, ℕ, length, true, IsTrue, IfOk, OnOk, OnErr, IfErr, Err, is_ok};
 ghost use Rattle.sr_site.specs.Inner.Happenings.{Made};
 ghost use Rattle.sr_site.specs.Images.{IsSettled, KeepsOthers, RestsThroughout};
 ghost use Rattle.sr_logfile.specs.Inner.Calls.{commit_calls};
-ghost use Rattle.sr_logfile.specs.Inner.Moments.{HasOrLacks, IsAsRead};
+ghost use Rattle.sr_logfile.specs.Inner.Moments.{HasOrLacks, IsAsRead, SpellsOrLacks};
 ghost use Rattle.sr_site.specs.Causes.{DiskStays};
-ghost use Rattle.sr_site.specs.Files.{bytes_of, OthersStay};
+ghost use Rattle.sr_site.specs.Files.{OthersStay};
 ghost use Rattle.sr_logfile.specs.Inner.Faults.{CommitCause};
 ghost use Rattle.sr_logfile.specs.Logs.{IsFull, gate_of};
 ghost use Rattle.sr_logfile.specs.Inner.Logs.{IsLog, HasLog, longer};
 ghost use Rattle.sr_logfile.specs.Inner.Log.{InOrder};
-ghost use Rattle.sr_logfile.specs.Records.{IsFramed, Spells, body_of};
+ghost use Rattle.sr_logfile.specs.Records.{IsFramed, body_of};
 ghost use Rattle.sr_logfile.specs.declared.fault.LogFault.TheVariants.{Full};
 
 use crate::appending::append;
 use crate::fault::LogFault;
-use crate::head::{HEADER, LAST_OFFSET};
-use sr_base::Offset;
+use crate::head::HEADER;
+use sr_base::{FARTHEST_OFFSET, Offset};
 use sr_site::{Disk, File};
 use std::marker::Model;
 
@@ -103,7 +103,7 @@ impl LogFile {
         ensures log { OnOk result (self.new ≡ longer self.old (length framed.now)) }
         ensures has_log { IsTrue (S.seen site.old).observable → OnOk result (HasLog self.new (S.seen site.new).files) }
         ensures record { IsTrue (S.seen site.old).observable → OnOk result ((bodies : List (List ℕ)) → IsLog self.old bodies (S.seen site.old).files → IsLog self.new (bodies ++ body_of framed.now ∷ []) (S.seen site.new).files) }
-        ensures stands { IsTrue (S.seen site.old).observable → OnErr result ((bodies : List (List ℕ)) → IsLog self.old bodies (S.seen site.old).files → Spells self.old.base bodies (bytes_of (S.seen site.new).files self.old.file) ⊎ Spells self.old.base (bodies ++ body_of framed.now ∷ []) (bytes_of (S.seen site.new).files self.old.file)) }
+        ensures stands { IsTrue (S.seen site.old).observable → OnErr result ((bodies : List (List ℕ)) → IsLog self.old bodies (S.seen site.old).files → SpellsOrLacks self.old bodies framed.now (S.seen site.new).files) }
         ensures happened { IsTrue (S.seen site.old).observable → (IsFull self.old (length framed.now) bound → ⊥) → Made (commit_calls self.old.file (gate_of self.old) framed.now) (S.seen site.old).happened (S.seen site.new).happened (is_ok result) }
         ensures room { OnOk result (IsFull self.old (length framed.now) bound → ⊥) }
         ensures moments { IsTrue (S.seen site.old).observable → (bodies : List (List ℕ)) → IsLog self.old bodies (S.seen site.old).files → IsSettled (IsLog self.old bodies) (S.seen site.old) → RestsThroughout (HasOrLacks self.old bodies framed.now) (S.seen site.old) (S.seen site.new) }
@@ -117,7 +117,7 @@ impl LogFile {
     {
         let gate = HEADER + (self.end - self.base);
         let need = framed.len() as u64;
-        if need > LAST_OFFSET || gate + 1 + need > bound || self.end + need > LAST_OFFSET {
+        if need > FARTHEST_OFFSET || gate + 1 + need > bound || self.end + need > FARTHEST_OFFSET {
             return Err(LogFault::Full {
                 end: gate + 1,
                 need,

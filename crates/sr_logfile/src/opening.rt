@@ -1,5 +1,6 @@
-ghost use Rattle.std.specs.Prelude.{◌≡◌, ◌∷◌, ◌+◌, ◌-◌, ◌^◌, ◌≤◌, ◌<◌, List, ℕ, length, take, drop, true, IsTrue, IfOk, OnOk, IfErr, IfSome, IsErr, IsNone};
+ghost use Rattle.std.specs.Prelude.{◌≡◌, ◌∷◌, ◌+◌, ◌-◌, ◌≤◌, ◌<◌, List, ℕ, length, take, drop, true, IsTrue, IfOk, OnOk, IfErr, IfSome, IsErr, IsNone};
 ghost use Rattle.std.specs.Option.{SomeIff};
+ghost use Rattle.sr_base.specs.Values.{farthest_offset};
 ghost use Rattle.sr_site.specs.Images.{IsSettled, KeepsOthers, RestsThroughout};
 ghost use Rattle.sr_logfile.specs.Inner.Calls.{HasSynced};
 ghost use Rattle.sr_logfile.specs.Inner.Moments.{IsAsRead};
@@ -10,11 +11,12 @@ ghost use Rattle.sr_logfile.specs.Inner.Faults.{HeaderCause, IsDisk, IsDiskOrDam
 ghost use Rattle.sr_logfile.specs.Inner.Heads.{FitsBody, IsRecordEnd, RecordCause, RecordsCause, SpellsTo};
 ghost use Rattle.sr_logfile.specs.Inner.Log.{InOrder};
 ghost use Rattle.sr_logfile.specs.Inner.Logs.{HasLog, IsLog};
-ghost use Rattle.sr_logfile.specs.Records.{HasHeader, Spells, header};
+ghost use Rattle.sr_logfile.specs.Records.{HasHeader, Spells, header, header_size};
 
 use crate::fault::LogFault;
-use crate::head::{HEADER, Head, LAST_OFFSET, LONGEST_BODY, RECORD_HEAD, head_at};
+use crate::head::{HEADER, Head, LONGEST_BODY, RECORD_HEAD, head_at};
 use crate::log::LogFile;
+use sr_base::FARTHEST_OFFSET;
 use sr_site::{Disk, File};
 
 /// Opens the file as a log: its records are those up to the first closed gate.
@@ -59,7 +61,7 @@ fn read_records<S: Disk>(site: &mut S, file: File) -> Result<LogFile, LogFault>
 /// The base that the file's header has, where a gate stands behind it. `Damaged { at: 0 }` comes exactly where there is no such header.
 pub fn base_of<S: Disk>(site: &mut S, file: File) -> Result<u64, LogFault>
     ensures header { IsTrue (S.seen site.old).observable → IfOk result (λ base. HasHeader base (bytes_of (S.seen site.old).files file)) }
-    ensures limit { IfOk result (λ base. base ≤ 2 ^ 62) }
+    ensures limit { IfOk result (λ base. base ≤ farthest_offset) }
     ensures files { IsTrue (S.seen site.old).observable → (S.seen site.new).files ≡ (S.seen site.old).files }
     ensures happened { IsTrue (S.seen site.old).observable → (S.seen site.new).happened ≡ (S.seen site.old).happened }
     ensures stays { DiskStays (S.seen site.old) (S.seen site.new) }
@@ -76,8 +78,8 @@ pub fn base_of<S: Disk>(site: &mut S, file: File) -> Result<u64, LogFault>
 
 /// The base in the header at the front of 17 bytes, if they have one.
 fn base_in(prefix: &[u8; 17]) -> Option<u64>
-    ensures some { IfSome result (λ base. (take 16 prefix.now ≡ header base) × (base ≤ 2 ^ 62)) }
-    ensures none { IsNone result → (base : ℕ) → base ≤ 2 ^ 62 → take 16 prefix.now ≡ header base → ⊥ }
+    ensures some { IfSome result (λ base. (take header_size prefix.now ≡ header base) × (base ≤ farthest_offset)) }
+    ensures none { IsNone result → (base : ℕ) → base ≤ farthest_offset → take header_size prefix.now ≡ header base → ⊥ }
 {
     let [
         b'S',
@@ -102,13 +104,17 @@ fn base_in(prefix: &[u8; 17]) -> Option<u64>
         return None;
     };
     let base = u64::from_be_bytes([a, b, c, d, e, f, g, h]);
-    if base > LAST_OFFSET { None } else { Some(base) }
+    if base > FARTHEST_OFFSET {
+        None
+    } else {
+        Some(base)
+    }
 }
 
 /// The position of the first closed gate: that of the header's gate is `base`, and the file has `size` bytes.
 #[tactic(auto, using(crate::proofs::Scans::scanning))]
 fn end_of<S: Disk>(site: &mut S, file: File, base: u64, size: u64) -> Result<u64, LogFault>
-    requires limit { base ≤ 2 ^ 62 }
+    requires limit { base ≤ farthest_offset }
     requires header { IsTrue (S.seen site.old).observable → HasHeader base (bytes_of (S.seen site.old).files file) }
     requires size { IsTrue (S.seen site.old).observable → size ≡ length (bytes_of (S.seen site.old).files file) }
     ensures spelled { IsTrue (S.seen site.old).observable → IfOk result (λ end. SpellsTo base end (bytes_of (S.seen site.old).files file)) }
@@ -137,13 +143,13 @@ pub fn record_end<S: Disk>(
 ) -> Result<Option<u64>, LogFault>
     requires order { InOrder base position }
     requires size { IsTrue (S.seen site.old).observable → size ≡ length (bytes_of (S.seen site.old).files file) }
-    ensures record { IsTrue (S.seen site.old).observable → IfOk result (IsRecordEnd position (drop (16 + (position - base)) (bytes_of (S.seen site.old).files file))) }
-    ensures onward { IfOk result (λ found. IfSome found (λ end. (position < end) × (end ≤ 2 ^ 62))) }
+    ensures record { IsTrue (S.seen site.old).observable → IfOk result (IsRecordEnd position (drop (header_size + (position - base)) (bytes_of (S.seen site.old).files file))) }
+    ensures onward { IfOk result (λ found. IfSome found (λ end. (position < end) × (end ≤ farthest_offset))) }
     ensures files { IsTrue (S.seen site.old).observable → (S.seen site.new).files ≡ (S.seen site.old).files }
     ensures happened { IsTrue (S.seen site.old).observable → (S.seen site.new).happened ≡ (S.seen site.old).happened }
     ensures stays { DiskStays (S.seen site.old) (S.seen site.new) }
     ensures steady { OnOk result ((S.seen site.new).disk_faults ≡ (S.seen site.old).disk_faults) }
-    ensures cause { IfErr result (RecordCause file (16 + (position - base)) position (S.seen site.old) (S.seen site.new)) }
+    ensures cause { IfErr result (RecordCause file (header_size + (position - base)) position (S.seen site.old) (S.seen site.new)) }
 {
     let place = HEADER + (position - base);
     match head_at(site, file, place)? {
@@ -158,8 +164,8 @@ pub fn record_end<S: Disk>(
 
 /// The position behind a body of that length whose gate stands at `place`, where it is whole in a file of `size` bytes.
 fn end_behind(place: u64, position: u64, length: u32, size: u64) -> Option<u64>
-    requires place { place ≤ 2 ^ 62 + 16 }
-    requires position { position ≤ 2 ^ 62 }
+    requires place { place ≤ farthest_offset + header_size }
+    requires position { position ≤ farthest_offset }
     ensures { SomeIff result (FitsBody place position length size) (position + 5 + length) }
 {
     let length = length as u64;
@@ -167,7 +173,7 @@ fn end_behind(place: u64, position: u64, length: u32, size: u64) -> Option<u64>
     if length == 0
         || length > LONGEST_BODY
         || place + RECORD_HEAD + length >= size
-        || end > LAST_OFFSET
+        || end > FARTHEST_OFFSET
     {
         return None;
     }

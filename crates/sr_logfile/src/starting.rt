@@ -1,4 +1,5 @@
-ghost use Rattle.std.specs.Prelude.{◌≡◌, ◌^◌, ◌≤◌, ◌⊎◌, [], ◌∷◌, length, IsTrue, OnOk, OnErr, IfErr, is_ok};
+ghost use Rattle.std.specs.Prelude.{◌≡◌, ◌≤◌, ◌⊎◌, [], ◌∷◌, length, IsTrue, OnOk, OnErr, IfErr, is_ok};
+ghost use Rattle.sr_base.specs.Values.{farthest_offset};
 ghost use Rattle.sr_site.specs.Inner.Happenings.{Made};
 ghost use Rattle.sr_site.specs.Images.{IsSettled, RestsThroughout};
 ghost use Rattle.sr_logfile.specs.Inner.Calls.{fresh_calls};
@@ -6,7 +7,7 @@ ghost use Rattle.sr_logfile.specs.Inner.Moments.{IsAsRead, IsPartFresh};
 ghost use Rattle.sr_site.specs.Causes.{DiskStays};
 ghost use Rattle.sr_site.specs.Files.{bytes_of, with_bytes, OthersStay};
 ghost use Rattle.sr_logfile.specs.Inner.Faults.{FreshCause};
-ghost use Rattle.sr_logfile.specs.Records.{Spells};
+ghost use Rattle.sr_logfile.specs.Records.{Spells, empty_log};
 ghost use Rattle.sr_logfile.specs.Inner.Records.{fresh_bytes};
 
 use crate::fault::LogFault;
@@ -18,10 +19,10 @@ use sr_site::{Disk, File};
 /// It cuts the file to nothing, writes the 17 bytes and syncs. After `Disk` the file is no longer than it was, or has no more than
 /// these 17 bytes; nothing is said of which they are. A crash at any moment leaves no more of it, and the other files as they were.
 pub fn fresh<S: Disk>(site: &mut S, file: File, base: Offset) -> Result<(), LogFault>
-    requires base { base.0 ≤ 2 ^ 62 }
+    requires base { base.0 ≤ farthest_offset }
     ensures bytes { IsTrue (S.seen site.old).observable → OnOk result ((S.seen site.new).files ≡ with_bytes (S.seen site.old).files file (fresh_bytes base.0)) }
     ensures empty { IsTrue (S.seen site.old).observable → OnOk result (Spells base.0 [] (bytes_of (S.seen site.new).files file)) }
-    ensures left { IsTrue (S.seen site.old).observable → OnErr result ((length (bytes_of (S.seen site.new).files file) ≤ length (bytes_of (S.seen site.old).files file)) ⊎ (length (bytes_of (S.seen site.new).files file) ≤ 17)) }
+    ensures left { IsTrue (S.seen site.old).observable → OnErr result ((length (bytes_of (S.seen site.new).files file) ≤ length (bytes_of (S.seen site.old).files file)) ⊎ (length (bytes_of (S.seen site.new).files file) ≤ empty_log)) }
     ensures others { IsTrue (S.seen site.old).observable → OthersStay file (S.seen site.old).files (S.seen site.new).files }
     ensures happened { IsTrue (S.seen site.old).observable → Made (fresh_calls file base.0) (S.seen site.old).happened (S.seen site.new).happened (is_ok result) }
     ensures moments { IsTrue (S.seen site.old).observable → RestsThroughout (IsPartFresh file (S.seen site.old)) (S.seen site.old) (S.seen site.new) }

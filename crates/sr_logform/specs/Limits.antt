@@ -22,6 +22,10 @@ longest_body (Sync user tables) = sync_body
 longest_body (Pass users only text changes) = short_body
 longest_body (Note user note) = short_body
 
+-- the longest encoding of a transaction for a partner: 64 MiB
+abbrev pub longest_transaction : ℕ
+longest_transaction = 67108864
+
 -- 960 MiB and 1 GiB
 abbrev pub local_end : ℕ
 local_end = 1006632960

@@ -1,8 +1,10 @@
 -- Changes, outcomes and notes of a book: their bytes, and how they are read.
-use Rattle.std.specs.Prelude.{◌≡◌, ℕ, ◌<◌, ◌^◌, ⊤, List, [], ◌∷◌, ◌++◌, Option, IfSome}
+use Rattle.std.specs.Prelude.{◌≡◌, ℕ, ◌<◌, ◌^◌, ⊤, Bool, true, false, List, [], ◌∷◌, ◌++◌, Option, Some, None, IfSome}
 use Rattle.std.specs.Int.{w32, w64, to_be_bytes}
+use Rattle.std.specs.Ordering.{is_eq}
 use Rattle.sr_base.specs.declared.value.Value.{Value}
 use Rattle.sr_base.specs.Fields.{name_spelling, IsName, list_spelling, IsListOf, option_spelling}
+use Rattle.sr_base.specs.Order.{key_cmp}
 use Rattle.sr_base.specs.Values.{row_spelling, IsValue, IsShort, offset_spelling, IsOffset}
 use Rattle.sr_book.specs.declared.note.Note.{Note}
 use Rattle.sr_book.specs.declared.note.Note.TheVariants as notes
@@ -13,6 +15,13 @@ use Rattle.sr_logform.specs.declared.outcome.Outcome.{Outcome}
 use Rattle.sr_logform.specs.declared.outcome.Outcome.TheVariants as outcomes
 
 -- ---- changes: a name, the row before if there is one, and the row after if there is one
+
+-- whether both rows are none, or equal
+abbrev pub is_same_row : Option (List Value) → Option (List Value) → Bool
+is_same_row None None = true
+is_same_row None (Some after) = false
+is_same_row (Some before) None = false
+is_same_row (Some before) (Some after) = is_eq (key_cmp before after)
 
 abbrev pub change_spelling : Change → List ℕ
 change_spelling c = name_spelling c.table ++ option_spelling row_spelling c.before ++ option_spelling row_spelling c.after

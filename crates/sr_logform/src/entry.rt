@@ -1,3 +1,6 @@
+ghost use Rattle.std.specs.Prelude.{◌≡◌, IfOk};
+ghost use Rattle.sr_logform.specs.declared.entry.Entry.TheVariants.{Note as note_entry};
+
 use crate::change::Change;
 use crate::op::Op;
 use crate::outcome::Outcome;
@@ -35,6 +38,18 @@ pub enum Entry {
         user: Name,
         note: Note,
     },
+}
+
+impl Entry {
+    /// The entry of a note in a user's book.
+    pub fn note(alloc: Global, user: &Name, note: Note) -> Result<Entry, NoMemory>
+        ensures entry { IfOk result (λ entry. entry ≡ note_entry user.now note) }
+    {
+        Ok(Entry::Note {
+            user: user.copy(alloc)?,
+            note,
+        })
+    }
 }
 
 impl Copied for Entry {

@@ -3,9 +3,8 @@
 ghost use Rattle.std.specs.Prelude.{◌≡◌};
 ghost use Rattle.sr_base.specs.Values.{IsValue, IsShort};
 ghost use Rattle.sr_logform.specs.Inner.OutcomeLaws.{images_format, change_format};
-ghost use Rattle.sr_logform.specs.Outcomes.{ImagesHave, change_spelling, IsChange, IsShortChange};
+ghost use Rattle.sr_logform.specs.Outcomes.{ImagesHave, change_spelling, IsChange, IsShortChange, is_same_row};
 ghost use Rattle.sr_logform.specs.Inner.Outcomes.{images_at, images_spelling, change_at};
-ghost use Rattle.sr_logform.specs.Inner.Rules.{is_same_row};
 
 use crate::change::Change;
 use sr_base::{Broken, Field, Name, NoMemory, Row, write_pair, write_triple};
@@ -45,7 +44,7 @@ fn are_same(before: &Option<Row>, after: &Option<Row>) -> bool
         None => after.is_none(),
         Some(before) => match after {
             None => false,
-            Some(after) => before.values().cmp(after.values()).is_eq(),
+            Some(after) => *before == *after,
         },
     }
 }

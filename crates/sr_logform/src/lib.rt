@@ -29,7 +29,7 @@ pub use entry::Entry;
 pub use laws::{
     an_entry_is_as_long_as_its_ops, each_has_one_spelling, what_has_a_spelling_can_be_written,
 };
-pub use limits::{farthest_end, longest_body};
+pub use limits::{LONGEST_TRANSACTION, farthest_end, longest_body};
 pub use op::{Op, Transaction};
 pub use outcome::{Clash, Outcome};
 pub use reading::{read_entry, read_op};

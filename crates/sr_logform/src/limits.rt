@@ -14,6 +14,9 @@ const SYNC_BODY: u64 = 16_777_216;
 /// The longest body of a From: 64 MiB.
 const FROM_BODY: u64 = 67_108_864;
 
+/// The longest encoding of a transaction for a partner, in bytes: 64 MiB.
+pub const LONGEST_TRANSACTION: u64 = 67_108_864;
+
 /// The farthest end of a log file behind an Own, a Ddl, a Pass and a Sync: 960 MiB.
 const LOCAL_END: u64 = 1_006_632_960;
 

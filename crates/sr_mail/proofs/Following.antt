@@ -4,7 +4,7 @@ use Rattle.std.specs.BTreeMap.{get, is_at}
 use Rattle.std.specs.Cmp.{unsigned_ties}
 use Rattle.std.specs.List.{list_any, AllByRecursion}
 use Rattle.std.specs.Ordering.{nat_cmp}
-use Rattle.std.proofs.lemmas.Bool.{cases_lt, cases_eq}
+use Rattle.std.proofs.lemmas.Bool.{cases_lt, cases_eq, or_right, or_left}
 use Rattle.std.proofs.lemmas.List.Folds.{list_any-append}
 use Rattle.sr_mail.specs.declared.piece.Piece.{Piece}
 use Rattle.sr_mail.specs.declared.reach.Reach.{Reach}
@@ -12,13 +12,6 @@ use Rattle.sr_mail.specs.Seen.{covers, Cover}
 use Rattle.sr_mail.specs.Inner.Tracking.{Waits, Follows, IsSettled, IsSame, NowWaits}
 use Rattle.sr_mail.proofs.Covered.{covers-at, covers-here}
 use Rattle.sr_mail_cut.proofs.Lists.{AllByRecursion-append, AllByRecursion-map}
-
-or_left : (a b : Bool) → a ≡ true → (a || b) ≡ true
-or_left a b e = rw e refl
-
-or_right : (a b : Bool) → b ≡ true → (a || b) ≡ true
-or_right true b e = refl
-or_right false b e = e
 
 -- a place stays covered, and a piece more covers its own
 pub covered-more : (pieces : List Piece) (p : Piece) (place : ℕ) → IsTrue (list_any (covers place) pieces) → IsTrue (list_any (covers place) (pieces ++ p ∷ []))

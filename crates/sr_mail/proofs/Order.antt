@@ -1,28 +1,11 @@
 -- Windows in their order.
-use Rattle.std.proofs.Common.{◌≡◌, ℕ, ◌⊎◌, inl, inr, Bool, true, false, ◌&&◌, ◌||◌, ◌==◌, nat_lt, refl, sym, ap, ◌∙◌, arith, subst}
-use Rattle.std.proofs.lemmas.Bool.{eqb-true, lt-ltb, ltb-true}
+use Rattle.std.proofs.Common.{◌≡◌, ℕ, inl, inr, Bool, true, false, ◌&&◌, ◌||◌, ◌==◌, nat_lt, refl, sym, ap, ◌∙◌, arith, subst}
+use Rattle.std.proofs.lemmas.Bool.{eqb-true, lt-ltb, ltb-true, and_from, or_right, or_left, or_cases}
 use Rattle.sr_mail.specs.declared.window.Window.{Window}
 use Rattle.sr_mail.specs.Seen.{ComesBefore, same_window}
 use Rattle.sr_mail.specs.Inner.Shelves.{is_before}
 use Rattle.sr_mail_cut.proofs.Lists.{three_ways}
-
-both_true : (a b : Bool) → (a && b) ≡ true → (a ≡ true) × (b ≡ true)
-both_true true b e = (refl, e)
-both_true false b e = absurd cc
-
-one_true : (a b : Bool) → (a || b) ≡ true → (a ≡ true) ⊎ (b ≡ true)
-one_true true b e = inl refl
-one_true false b e = inr e
-
-left_true : (a b : Bool) → a ≡ true → (a || b) ≡ true
-left_true a b e = rw e refl
-
-right_true : (a b : Bool) → b ≡ true → (a || b) ≡ true
-right_true true b e = refl
-right_true false b e = e
-
-and_true : (a b : Bool) → a ≡ true → b ≡ true → (a && b) ≡ true
-and_true a b e f = rw (e, f) refl
+use Rattle.sr_base.proofs.Truths.{both_true}
 
 not_true : (b : Bool) → ¬ (b ≡ true) → b ≡ false
 not_true true h = absurd (h refl)
@@ -40,11 +23,11 @@ same_parts a b c d m n e f g = rw (e, f, g) refl
 
 -- the test of the order tells it
 pub before-is : (w v : Window) → is_before w v ≡ true → ComesBefore w v
-before-is w v e = elim (one_true (nat_lt w.prev v.prev) ((w.prev == v.prev) && (nat_lt w.upto v.upto || ((w.upto == v.upto) && nat_lt w.total v.total))) e) [
+before-is w v e = elim (or_cases (nat_lt w.prev v.prev) ((w.prev == v.prev) && (nat_lt w.upto v.upto || ((w.upto == v.upto) && nat_lt w.total v.total))) e) [
   | inl first ↦ inl (ltb-true w.prev v.prev first)
   | inr tie ↦
       let a = both_true (w.prev == v.prev) (nat_lt w.upto v.upto || ((w.upto == v.upto) && nat_lt w.total v.total)) tie in
-      elim (one_true (nat_lt w.upto v.upto) ((w.upto == v.upto) && nat_lt w.total v.total) a.1) [
+      elim (or_cases (nat_lt w.upto v.upto) ((w.upto == v.upto) && nat_lt w.total v.total) a.1) [
         | inl second ↦ inr (eqb-true w.prev v.prev a.0, inl (ltb-true w.upto v.upto second))
         | inr tie' ↦
             let b = both_true (w.upto == v.upto) (nat_lt w.total v.total) tie' in
@@ -56,16 +39,16 @@ same_number : (a b : ℕ) → a ≡ b → (a == b) ≡ true
 same_number a b e = grind arith
 
 pub is-before : (w v : Window) → ComesBefore w v → is_before w v ≡ true
-is-before w v (inl first) = left_true (nat_lt w.prev v.prev) ((w.prev == v.prev) && (nat_lt w.upto v.upto || ((w.upto == v.upto) && nat_lt w.total v.total))) (lt-ltb w.prev v.prev first)
+is-before w v (inl first) = or_left (nat_lt w.prev v.prev) ((w.prev == v.prev) && (nat_lt w.upto v.upto || ((w.upto == v.upto) && nat_lt w.total v.total))) (lt-ltb w.prev v.prev first)
 is-before w v (inr (e, inl second)) =
-    right_true (nat_lt w.prev v.prev) ((w.prev == v.prev) && (nat_lt w.upto v.upto || ((w.upto == v.upto) && nat_lt w.total v.total)))
-    (and_true (w.prev == v.prev) (nat_lt w.upto v.upto || ((w.upto == v.upto) && nat_lt w.total v.total)) (same_number w.prev v.prev e)
-    (left_true (nat_lt w.upto v.upto) ((w.upto == v.upto) && nat_lt w.total v.total) (lt-ltb w.upto v.upto second)))
+    or_right (nat_lt w.prev v.prev) ((w.prev == v.prev) && (nat_lt w.upto v.upto || ((w.upto == v.upto) && nat_lt w.total v.total)))
+    (and_from (w.prev == v.prev) (nat_lt w.upto v.upto || ((w.upto == v.upto) && nat_lt w.total v.total)) (same_number w.prev v.prev e)
+    (or_left (nat_lt w.upto v.upto) ((w.upto == v.upto) && nat_lt w.total v.total) (lt-ltb w.upto v.upto second)))
 is-before w v (inr (e, inr (f, third))) =
-    right_true (nat_lt w.prev v.prev) ((w.prev == v.prev) && (nat_lt w.upto v.upto || ((w.upto == v.upto) && nat_lt w.total v.total)))
-    (and_true (w.prev == v.prev) (nat_lt w.upto v.upto || ((w.upto == v.upto) && nat_lt w.total v.total)) (same_number w.prev v.prev e)
-    (right_true (nat_lt w.upto v.upto) ((w.upto == v.upto) && nat_lt w.total v.total)
-    (and_true (w.upto == v.upto) (nat_lt w.total v.total) (same_number w.upto v.upto f) (lt-ltb w.total v.total third))))
+    or_right (nat_lt w.prev v.prev) ((w.prev == v.prev) && (nat_lt w.upto v.upto || ((w.upto == v.upto) && nat_lt w.total v.total)))
+    (and_from (w.prev == v.prev) (nat_lt w.upto v.upto || ((w.upto == v.upto) && nat_lt w.total v.total)) (same_number w.prev v.prev e)
+    (or_right (nat_lt w.upto v.upto) ((w.upto == v.upto) && nat_lt w.total v.total)
+    (and_from (w.upto == v.upto) (nat_lt w.total v.total) (same_number w.upto v.upto f) (lt-ltb w.total v.total third))))
 
 pub comes-on : (w v u : Window) → ComesBefore w v → ComesBefore v u → ComesBefore w u
 comes-on w v u (inl a) (inl b) = inl (omega arith)
@@ -93,8 +76,8 @@ same-is w v e =
 
 pub is-same : (w v : Window) → w ≡ v → same_window w v ≡ true
 is-same w v e =
-    and_true ((w.prev == v.prev) && (w.upto == v.upto)) (w.total == v.total)
-    (and_true (w.prev == v.prev) (w.upto == v.upto) (same_number w.prev v.prev (ap (λ (x : Window). x.prev) e)) (same_number w.upto v.upto (ap (λ (x : Window). x.upto) e)))
+    and_from ((w.prev == v.prev) && (w.upto == v.upto)) (w.total == v.total)
+    (and_from (w.prev == v.prev) (w.upto == v.upto) (same_number w.prev v.prev (ap (λ (x : Window). x.prev) e)) (same_number w.upto v.upto (ap (λ (x : Window). x.upto) e)))
     (same_number w.total v.total (ap (λ (x : Window). x.total) e))
 
 pub not_before_itself : (w v : Window) → w ≡ v → is_before w v ≡ false

@@ -1,8 +1,8 @@
 -- Few spans that cover as much as all.
-use Rattle.std.proofs.Common.{◌≡◌, ℕ, zero, suc, ◌+◌, ◌<◌, ◌≤◌, ◌⊎◌, inl, inr, Bool, true, false, ◌||◌, Some, List, [], ◌∷◌, ◌++◌, length, get_or, IsTrue, refl, sym, ap, ◌∙◌, arith, append_assoc, subst}
+use Rattle.std.proofs.Common.{◌≡◌, ℕ, zero, suc, ◌+◌, ◌<◌, ◌≤◌, inl, inr, Bool, true, false, ◌||◌, Some, List, [], ◌∷◌, ◌++◌, length, get_or, IsTrue, refl, sym, ap, ◌∙◌, arith, append_assoc, subst}
 use Rattle.std.specs.List.{list_any, AllByRecursion, Contains}
 use Rattle.std.specs.Prelude.{slice_get}
-use Rattle.std.proofs.lemmas.Bool.{cases_lt}
+use Rattle.std.proofs.lemmas.Bool.{cases_lt, or_right, or_left, or_cases}
 use Rattle.std.proofs.lemmas.List.{length-append, get_or_at, get_or_append_left}
 use Rattle.std.proofs.lemmas.List.Folds.{list_any-append}
 use Rattle.sr_mail.specs.declared.piece.Piece.{Piece}
@@ -34,17 +34,6 @@ has-here place s le lt = grind arith
 
 pub has-at : (place : ℕ) (s : Span) → has_place place s ≡ true → (s.0 ≤ place) × (place < s.1)
 has-at place s e = (grind arith, grind arith)
-
-or_left : (a b : Bool) → a ≡ true → (a || b) ≡ true
-or_left a b e = rw e refl
-
-or_right : (a b : Bool) → b ≡ true → (a || b) ≡ true
-or_right true b e = refl
-or_right false b e = e
-
-or_cases : (a b : Bool) → (a || b) ≡ true → (a ≡ true) ⊎ (b ≡ true)
-or_cases true b e = inl refl
-or_cases false b e = inr e
 
 -- no span of these has a place behind which they end, or before which they begin
 ended : (place : ℕ) (spans : List Span) → AllByRecursion (λ s. s.1 ≤ place) spans → list_any (has_place place) spans ≡ true → ⊥

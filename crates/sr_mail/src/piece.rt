@@ -56,7 +56,7 @@ pub(crate) fn piece_of(name: Text, message: &Message) -> Piece
 
 impl Piece {
     /// The window that it is of.
-    pub(crate) fn window(&self) -> Window
+    pub fn window(&self) -> Window
         ensures { result ≡ window_of self.now }
     {
         Window {

@@ -4,7 +4,8 @@ use Rattle.std.specs.List.{AllByRecursion}
 use Rattle.std.proofs.lemmas.List.{append-nil, take-append-drop, drop_more}
 use Rattle.sr_logform.specs.declared.op.Transaction.{Transaction}
 use Rattle.sr_logform.specs.Ops.{transaction_spelling, IsTransaction}
-use Rattle.sr_mail_cut.specs.Bodies.{body_spelling, first_long, longest_transaction}
+use Rattle.sr_mail_cut.specs.Bodies.{body_spelling, first_long}
+use Rattle.sr_logform.specs.Limits.{longest_transaction}
 use Rattle.sr_mail_cut.specs.declared.too_long.TooLong.{TooLong}
 use Rattle.sr_mail_cut.specs.declared.too_long.TooLong.TheVariants as long
 use Rattle.sr_mail_cut.specs.Inner.Cuts.{CutCause}

@@ -8,7 +8,8 @@ use Rattle.sr_base.specs.declared.offset.Offset.{Offset}
 use Rattle.sr_logform.specs.declared.op.Transaction.{Transaction}
 use Rattle.sr_logform.specs.Ops.{transaction_spelling}
 use Rattle.sr_mail_cut.specs.declared.head.Head.{Head}
-use Rattle.sr_mail_cut.specs.Bodies.{body_spelling, RisesPast, last_at, longest_transaction, first_long}
+use Rattle.sr_mail_cut.specs.Bodies.{body_spelling, RisesPast, last_at, first_long}
+use Rattle.sr_logform.specs.Limits.{longest_transaction}
 use Rattle.sr_mail_cut.specs.Cuts.{carrying, file_length, Parcel, IsParcel, AreFragments, transactions_of, messages_from, messages_of, all_messages, AreCut}
 use Rattle.sr_mail_cut.specs.Truths.{between, IsTrueOf}
 use Rattle.sr_mail_cut.proofs.Parting.{filled}

@@ -3,6 +3,7 @@ use Rattle.std.specs.Prelude.{ℕ, ◌<◌, ⊤, List, [], ◌∷◌, length, Op
 use Rattle.std.specs.List.{flat_map, AllByRecursion}
 use Rattle.sr_base.specs.declared.offset.Offset.{Offset}
 use Rattle.sr_logform.specs.declared.op.Transaction.{Transaction}
+use Rattle.sr_logform.specs.Limits.{longest_transaction}
 use Rattle.sr_logform.specs.Ops.{transaction_spelling, IsTransaction}
 
 -- the bytes of a body
@@ -33,10 +34,6 @@ last_at offset (t ∷ ts) = last_at t.at ts
 abbrev pub last_offset : List Transaction → Option Offset
 last_offset [] = None
 last_offset (t ∷ ts) = Some (last_at t.at ts)
-
--- the longest encoding of a transaction for a partner: 64 MiB
-abbrev pub longest_transaction : ℕ
-longest_transaction = 67108864
 
 -- the length of the first encoding that is longer
 abbrev pub first_long : List Transaction → Option ℕ

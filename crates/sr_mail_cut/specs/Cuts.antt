@@ -8,6 +8,13 @@ use Rattle.sr_mail_cut.specs.declared.head.Head.{Head}
 use Rattle.sr_mail_cut.specs.Bodies.{body_spelling, last_at}
 use Rattle.sr_msgform.specs.declared.message.Message.{Message}
 
+-- the least and the most bytes that a message may be limited to
+abbrev pub least_message : ℕ
+least_message = 10000
+
+abbrev pub most_message : ℕ
+most_message = 1048576
+
 -- the message with this head that carries a fragment of a window's body
 abbrev pub carrying : Head → Offset → Offset → ℕ → ℕ → List ℕ → Message
 carrying head prev upto total start fragment = record {

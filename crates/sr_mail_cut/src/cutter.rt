@@ -1,14 +1,13 @@
 //! Transactions cut into messages one by one.
 
-ghost use Rattle.std.specs.Prelude.{◌≡◌, ℕ, ◌+◌, ◌++◌, ◌≤◌, ◌<◌, false, IsTrue, List, [], ◌∷◌, length, IfOk, IfErr, OnOk, OnErr};
-ghost use Rattle.std.specs.List.{concat};
+ghost use Rattle.std.specs.Prelude.{◌≡◌, ◌+◌, ◌++◌, ◌≤◌, ◌<◌, false, IsTrue, List, [], ◌∷◌, length, IfOk, IfErr, OnOk, OnErr};
 ghost use Rattle.sr_base.specs.declared.offset.Offset.{Offset as Place};
 ghost use Rattle.sr_logform.specs.declared.op.Transaction.{Transaction as ATransaction};
 ghost use Rattle.sr_logform.specs.Ops.{transaction_spelling};
 ghost use Rattle.sr_logform.specs.Inner.Ops.{IsShortTransaction};
-ghost use Rattle.sr_mail_cut.specs.Bodies.{longest_transaction};
-ghost use Rattle.sr_mail_cut.specs.Cuts.{Cutting, HasGiven, AreCut, file_length, AreFragments, messages_from};
-ghost use Rattle.sr_mail_cut.specs.Inner.Cuts.{CutCause, messages_held};
+ghost use Rattle.sr_logform.specs.Limits.{longest_transaction};
+ghost use Rattle.sr_mail_cut.specs.Cuts.{Cutting, HasGiven, AreCut, file_length};
+ghost use Rattle.sr_mail_cut.specs.Inner.Cuts.{AreOfHeldAndParted, CutCause, messages_held, IsMessageLimit};
 ghost use Rattle.sr_msgform.specs.declared.message.Message.{Message as AMessage};
 
 use crate::encoded::Encoded;
@@ -17,13 +16,10 @@ use crate::fragments::{Span, add_messages, message_of, room};
 use crate::head::Head;
 use crate::too_long::TooLong;
 use sr_base::{Copied, NoMemory, Offset, Seq};
-use sr_logform::Transaction;
+use sr_logform::{LONGEST_TRANSACTION, Transaction};
 use sr_msgform::Message;
 use std::alloc::Global;
 use std::marker::Model;
-
-/// The longest encoding of one transaction, in bytes.
-const LONGEST_TRANSACTION: u64 = 67_108_864;
 
 /// Cuts transactions into messages as they come, and holds of them at most what one message carries.
 ///
@@ -44,19 +40,19 @@ pub struct Cutter {
 impl Model for Cutter {
     ghost use Rattle.std.specs.Prelude.{◌≤◌, length};
     ghost use Rattle.sr_mail_cut.specs.Cuts.{Cutting, file_length};
+    ghost use Rattle.sr_mail_cut.specs.Inner.Cuts.{IsMessageLimit};
 
     ghost Value = { Cutting };
 
     ghost view = { λ c. record { head = c.head; limit = c.limit; prev = c.prev; upto = c.upto; body = c.body.items } };
 
-    ghost invariant = { λ c. (10000 ≤ c.limit) × (c.limit ≤ 1048576) × (file_length c.head (length c.body.items) ≤ c.limit) };
+    ghost invariant = { λ c. IsMessageLimit c.limit × (file_length c.head (length c.body.items) ≤ c.limit) };
 }
 
 impl Cutter {
     /// A cutter of messages of at most `length` bytes whose first window begins at `prev`.
     pub fn new(alloc: Global, head: &Head, prev: Offset, length: u32) -> Result<Cutter, NoMemory>
-        requires least { 10000 ≤ length }
-        requires most { length ≤ 1048576 }
+        requires limit { IsMessageLimit length }
         ensures made { IfOk result (λ cutter. cutter ≡ record { head = head.now; limit = length; prev = prev; upto = prev; body = [] }) }
         ensures begins { IfOk result (λ cutter. HasGiven cutter prev [] []) }
     {
@@ -161,8 +157,7 @@ impl Cutter {
         requires some { 0 < total }
         requires total { total ≡ length encoded.bytes }
         requires room { file_length self.old.head encoded.room ≡ self.old.limit }
-        ensures messages { IfOk result (λ messages. (fragments : List (List ℕ)) × AreFragments self.old.head self.old.limit fragments × (concat fragments ≡ encoded.bytes)
-            × (messages.items ≡ messages_held self.old.head self.old.prev self.old.upto self.old.body ++ messages_from self.old.head self.old.upto at total 0 fragments)) }
+        ensures messages { IfOk result (λ messages. AreOfHeldAndParted self.old at total encoded.bytes messages.items) }
         ensures ok { OnOk result (self.new ≡ record { head = self.old.head; limit = self.old.limit; prev = at; upto = at; body = [] }) }
         ensures err { OnErr result (self.new ≡ self.old) }
     {

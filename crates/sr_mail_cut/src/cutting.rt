@@ -1,11 +1,11 @@
 //! Transactions cut into messages at once.
 
-ghost use Rattle.std.specs.Prelude.{◌≡◌, ◌++◌, ◌∷◌, [], ◌≤◌, None, IfOk, IfErr, OnOk};
+ghost use Rattle.std.specs.Prelude.{◌≡◌, ◌++◌, ◌∷◌, [], None, IfOk, IfErr, OnOk};
 ghost use Rattle.std.specs.List.{AllByRecursion};
 ghost use Rattle.sr_logform.specs.Inner.Ops.{IsShortTransaction};
 ghost use Rattle.sr_mail_cut.specs.Bodies.{first_long};
 ghost use Rattle.sr_mail_cut.specs.Cuts.{IsCut, AreCut, bodyless};
-ghost use Rattle.sr_mail_cut.specs.Inner.Cuts.{CutCause};
+ghost use Rattle.sr_mail_cut.specs.Inner.Cuts.{CutCause, IsMessageLimit};
 
 use crate::cutter::Cutter;
 use crate::fragments::{Span, message_of};
@@ -28,8 +28,7 @@ pub fn cut(
     length: u32,
 ) -> Result<Vec<Message>, TooLong>
     requires each { AllByRecursion IsShortTransaction transactions.now }
-    requires least { 10000 ≤ length }
-    requires most { length ≤ 1048576 }
+    requires limit { IsMessageLimit length }
     ensures cut { IfOk result (λ messages. IsCut head.now prev transactions.now length messages.items) }
     ensures fits { OnOk result (first_long transactions.now ≡ None) }
     ensures cause { IfErr result (CutCause transactions.now) }
@@ -63,8 +62,7 @@ fn cut_all(
     length: u32,
 ) -> Result<Vec<Message>, TooLong>
     requires each { AllByRecursion IsShortTransaction transactions.now }
-    requires least { 10000 ≤ length }
-    requires most { length ≤ 1048576 }
+    requires limit { IsMessageLimit length }
     ensures cut { IfOk result (λ messages. AreCut head.now prev transactions.now length messages.items) }
     ensures fits { OnOk result (first_long transactions.now ≡ None) }
     ensures cause { IfErr result (CutCause transactions.now) }

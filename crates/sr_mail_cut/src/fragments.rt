@@ -2,7 +2,7 @@
 
 ghost use Rattle.std.specs.Prelude.{◌≡◌, ◌<◌, ◌≤◌, ◌^◌, ◌++◌, length, IfOk, OnOk};
 ghost use Rattle.std.specs.List.{concat};
-ghost use Rattle.sr_mail_cut.specs.Cuts.{carrying, file_length, messages_from};
+ghost use Rattle.sr_mail_cut.specs.Cuts.{carrying, file_length, messages_from, least_message};
 
 use crate::head::Head;
 use sr_base::{Copied, NoMemory, Offset, Seq};
@@ -22,7 +22,7 @@ pub(crate) struct Span {
 
 /// How many bytes of a body a message of at most `length` bytes carries.
 pub(crate) fn room(head: &Head, length: u32) -> u32
-    requires { 10000 ≤ length }
+    requires { least_message ≤ length }
     ensures room { file_length head.now result ≡ length }
     ensures some { 9000 ≤ result }
 {

@@ -8,9 +8,9 @@ ghost use Rattle.sr_logform.specs.Ops.{IsTransaction};
 ghost use Rattle.sr_mail_cut.specs.declared.head.Head.{Head as AHead};
 ghost use Rattle.sr_mail_cut.specs.Bodies.{body_spelling, RisesPast, first_long};
 ghost use Rattle.sr_mail_cut.specs.Cuts.{AreCut, file_length};
+ghost use Rattle.sr_mail_cut.specs.Inner.Cuts.{CountsItsAsk, KeepRulesWithin};
 ghost use Rattle.sr_mail_cut.specs.Truths.{IsTrueOf};
 ghost use Rattle.sr_msgform.specs.declared.message.Message.{Message as AMessage};
-ghost use Rattle.sr_msgform.specs.Messages.{KeepsRules, message_length};
 
 /// No bytes are the body of two lists of transactions.
 pub fn a_body_is_spelled_once()
@@ -25,7 +25,7 @@ pub fn there_is_one_cut()
 
 /// Each message of a cut keeps the rules of messages, and its file has at most `limit` bytes.
 pub fn a_cut_keeps_the_rules()
-    ensures { (head : AHead) (prev : Place) (transactions : List ATransaction) (limit : ℕ) (messages : List AMessage) → (head.ask_count ≡ 0 → head.ask_offset.0 ≡ 0) → limit ≤ 2097152 → RisesPast prev.0 transactions → first_long transactions ≡ None → AreCut head prev transactions limit messages → AllByRecursion (λ m. KeepsRules m × (message_length m ≤ limit)) messages }
+    ensures { (head : AHead) (prev : Place) (transactions : List ATransaction) (limit : ℕ) (messages : List AMessage) → CountsItsAsk head → limit ≤ 2097152 → RisesPast prev.0 transactions → first_long transactions ≡ None → AreCut head prev transactions limit messages → KeepRulesWithin limit messages }
 {}
 
 /// Each message of a cut is true of the transactions: it carries a part of those that lie in its window, and all of them where they are two or more.

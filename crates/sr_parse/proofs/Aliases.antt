@@ -67,8 +67,7 @@ number Remote = 2
 
 number_small : (x : Image) → number x < 3
 number_small Old = omega arith
-number_small New = omega arith
-number_small Remote = omega arith
+number_small _ = omega arith
 
 abbrev image_of : ℕ → Image
 image_of zero = Old
@@ -77,8 +76,7 @@ image_of (suc (suc n)) = Remote
 
 number_back : (x : Image) → image_of (number x) ≡ x
 number_back Old = refl
-number_back New = refl
-number_back Remote = refl
+number_back _ = refl
 
 apart_numbers : {x y : Image} → (x ≡ y → ⊥) → number x ≡ number y → ⊥
 apart_numbers {x = x} {y = y} d e = d (sym (number_back x) ∙ (ap image_of e ∙ number_back y))

@@ -17,11 +17,12 @@ use Rattle.sr_parse_reader.specs.Inner.Reading.{Alike, Reading, Anywhere, Before
 use Rattle.sr_parse_reader.specs.Inner.Productions.{Word, Mark}
 use Rattle.sr_parse_grammar.proofs.Steps.{Stop-begins}
 use Rattle.sr_parse_grammar.proofs.Lists.{Closes-stop}
-use Rattle.sr_parse_reader.proofs.Conditions.{Lacks, condition_sample, passed_by}
+use Rattle.sr_parse_reader.proofs.Conditions.{Lacks}
+use Rattle.sr_parse_reader.proofs.Samples.{condition_sample}
 use Rattle.sr_parse_grammar.proofs.Selecting.{led_stops}
 use Rattle.sr_parse_grammar.proofs.Cataloguing.{is_subscribe, subscribed_stops}
 use Rattle.sr_parse_reader.proofs.Parts.{Seq, Sample, Leads, cast, cast_goes, goes_first}
-use Rattle.sr_parse_reader.proofs.Starts.{standing, lacks, word_sample, sign_sample, name_sample}
+use Rattle.sr_parse_reader.proofs.Starts.{standing, lacks, word_sample, sign_sample, name_sample, nothing_read}
 
 -- ---- what subscribes
 
@@ -39,7 +40,7 @@ subscribed_absent absent there alike None rest h = (refl, h)
 subscribed_absent absent there alike (Some x) rest (next, w, h) = absurd (lacks alike absent w)
 
 pub subscribed_none : {before here : Symbols} → here ≡ before → Lacks key.Subscribe before → Reading IsSubscribed Closes before here (Ok None)
-subscribed_none e absent = passed_by IsSubscribed Closes None e (λ after. refl) (λ there alike y rest h p. subscribed_absent absent there alike y rest h)
+subscribed_none e absent = nothing_read IsSubscribed Closes None e (λ after. refl) (λ there alike y rest h p. subscribed_absent absent there alike y rest h)
 
 subscribed_back : {before middle : Symbols} → IsWord before key.Subscribe middle → (b : Symbols) (y : Option Expr) (a : Symbols) → Alike before b → IsSubscribed b y a → Closes a
     → (x : Unit {0} × (Unit {0} × Expr)) × SubscribedParts b x a × Stop expression_goes a × (subscribed_of x ≡ y)

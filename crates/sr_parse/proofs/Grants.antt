@@ -25,8 +25,7 @@ use Rattle.sr_parse_grammar.proofs.Cataloguing.{literal_no_minus}
 use Rattle.sr_parse_grammar.proofs.Granted.{is_type, grant_of, grant_proper}
 use Rattle.sr_parse_reader.proofs.Parts.{Seq, Sample, cast, goes_first, recast, whole_read}
 use Rattle.sr_parse_reader.proofs.Optionals.{led_read}
-use Rattle.sr_parse_reader.proofs.Starts.{meant_one, standing, one_read, none_read, lacks, word_sample, name_sample}
-use Rattle.sr_parse_reader.proofs.Conditions.{passed_by}
+use Rattle.sr_parse_reader.proofs.Starts.{meant_one, standing, one_read, none_read, lacks, word_sample, name_sample, nothing_read}
 
 -- ---- literals with a sign
 
@@ -75,7 +74,7 @@ given_absent absent there alike None rest h = (refl, h)
 given_absent absent there alike (Some v) rest (inside, close, o, h, c) = absurd (lacks alike absent o)
 
 pub given_none : {before here : Symbols} → here ≡ before → ((rest : Symbols) → IsSign before mark.Open rest → ⊥) → Reading IsGiven (Stop is_open) before here (Ok None)
-given_none e absent = passed_by IsGiven (Stop is_open) None e (λ after. refl) (λ there alike y rest h p. given_absent absent there alike y rest h)
+given_none e absent = nothing_read IsGiven (Stop is_open) None e (λ after. refl) (λ there alike y rest h p. given_absent absent there alike y rest h)
 
 given_back : {before next : Symbols} → IsSign before mark.Open next → (b : Symbols) (y : Option Value) (a : Symbols) → Alike before b → IsGiven b y a → Stop is_open a
     → (x : Unit {0} × (Value × Unit {0})) × GivenParts b x a × Anywhere a × (given_of x ≡ y)

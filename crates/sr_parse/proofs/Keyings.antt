@@ -15,6 +15,7 @@ use Rattle.sr_parse_grammar.specs.Symbols.{Symbols, first, word, sign, IsName, I
 use Rattle.sr_parse.specs.Inner.Keys.{IsSetOf}
 use Rattle.sr_parse_grammar.specs.Tables.{IsColumns, IsColumnRule, IsKeyWords, IsKeyed, AreNormal, IsTable}
 use Rattle.sr_parse_grammar.specs.Inner.Going.{Stop, rule_starts}
+use Rattle.sr_parse_grammar.specs.Inner.Made.{column_of as column}
 use Rattle.sr_parse_reader.specs.Inner.Reading.{Alike, WasRead, Reading, Anywhere, BeforeSign}
 use Rattle.sr_parse_reader.specs.Inner.Reading.Reading.{read, refused, memory}
 use Rattle.sr_parse_reader.specs.Inner.Productions.{Word, Mark, Keyed, Ruled}
@@ -215,7 +216,7 @@ key_unread {after = after} {columns = columns} a none c w (refused r) = refused 
 
 -- the normal form of columns
 abbrev normal_of : List (List ℕ) → ColumnRule → ColumnRule
-normal_of k w = let set : BTreeSet (List ℕ) = record { keys = k } in record { name = w.name; kind = w.kind; not_null = contains name_cmp set w.name || w.not_null }
+normal_of k w = let set : BTreeSet (List ℕ) = record { keys = k } in column w.name w.kind (contains name_cmp set w.name || w.not_null)
 
 set_of : (k : List (List ℕ)) → let set : BTreeSet (List ℕ) = record { keys = k } in IsSetOf set k
 set_of k n = let set : BTreeSet (List ℕ) = record { keys = k } in btree_set_contains_iff {R = name_cmp} name_cmp_total exact_bytes set n

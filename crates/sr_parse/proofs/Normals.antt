@@ -1,5 +1,6 @@
 -- Columns in the normal form, the last one first, and the names of the key as a set.
 use Rattle.std.proofs.Common.{◌≡◌, ℕ, Bool, true, false, ◌||◌, cond, List, [], ◌∷◌, ◌++◌, reverse, IsTrue, ◌↔◌, Contains, ◌⊎◌, inl, inr, refl, sym, subst, ap, ◌∙◌, append_assoc}
+use Rattle.std.proofs.Math.Bool.{or-false}
 use Rattle.std.proofs.lemmas.List.{reverse-append, append-nil}
 use Rattle.std.proofs.lemmas.Map.Lookups.{exact_bytes}
 use Rattle.std.proofs.lemmas.Map.Views.{btree_set_contains_iff}
@@ -9,6 +10,7 @@ use Rattle.std.specs.Ordering.{is_eq}
 use Rattle.std.specs.List.{list_any}
 use Rattle.std.specs.BTreeMap.{is_at}
 use Rattle.std.specs.BTreeSet.{BTreeSet, contains, Updates}
+use Rattle.std.proofs.lemmas.Bool.{or_right, or_left, or_cases}
 use Rattle.sr_base.specs.Order.{name_cmp}
 use Rattle.sr_base.specs.Inner.Order.{name_cmp_total}
 use Rattle.sr_ast.specs.declared.create.ColumnRule.{ColumnRule}
@@ -35,18 +37,6 @@ NormalSoFar-more key all left rest columns more w c h e is m = record {
 pub NormalSoFar-end : (key : List (List ℕ)) (all left columns turned : List ColumnRule) → NormalSoFar key all left columns → left ≡ [] → turned ≡ reverse columns → AreNormal key all turned
 NormalSoFar-end key all left columns turned h e t =
     subst (λ c. AreNormal key all c) (sym t) (subst (λ a. AreNormal key a (reverse columns)) (sym (h.whole ∙ ap (λ l. l ++ h.read) e)) h.normal)
-
-or_cases : (a b : Bool) → (a || b) ≡ true → (a ≡ true) ⊎ (b ≡ true)
-or_cases true b e = inl refl
-or_cases false b e = inr e
-
-or_left : (a b : Bool) → a ≡ true → (a || b) ≡ true
-or_left true b e = refl
-or_left false b e = absurd (cc)
-
-or_right : (a b : Bool) → b ≡ true → (a || b) ≡ true
-or_right true b e = refl
-or_right false b e = e
 
 normal_back : (P : Type 0) (a b : Bool) → (IsTrue a ↔ P) → (a ≡ true) ⊎ (b ≡ true) → IsTrue b ⊎ P
 normal_back P a b i (inl e) = inr (i.0 e)
@@ -99,9 +89,8 @@ flipped m n = both_ways (is_eq (name_cmp m n)) (is_eq (name_cmp n m)) (found_bac
 
 step : (c e a : Bool) → (c || (e || a)) ≡ (cond e true c || a)
 step true true a = refl
-step true false a = refl
 step false true a = refl
-step false false a = refl
+step _ _ a = refl
 
 pub Gathers-more : (names : List (List ℕ)) (set new : BTreeSet (List ℕ)) (left after : List (List ℕ)) (x : List ℕ) → Gathers names set left → left ≡ x ∷ after → Updates name_cmp set new x true → Gathers names new after
 Gathers-more names set new left after x g e u = record {
@@ -113,13 +102,9 @@ Gathers-more names set new left after x g e u = record {
       ∙ (step (contains name_cmp set n) (is_eq (name_cmp n x)) (among n after) ∙ sym (ap (λ (b : Bool). b || among n after) two)));
 }
 
-or_none : (a : Bool) → (a || false) ≡ a
-or_none true = refl
-or_none false = refl
-
 pub Gathers-end : (names : List (List ℕ)) (set : BTreeSet (List ℕ)) (left : List (List ℕ)) → Gathers names set left → left ≡ [] → IsSetOf set names
 Gathers-end names set left g e = λ n.
     let as_set : BTreeSet (List ℕ) = record { keys = names } in
     let i = btree_set_contains_iff {R = name_cmp} name_cmp_total exact_bytes as_set n in
-    let same : among n names ≡ contains name_cmp set n = g.same n ∙ (ap (λ (l : List (List ℕ)). contains name_cmp set n || among n l) e ∙ or_none (contains name_cmp set n)) in
+    let same : among n names ≡ contains name_cmp set n = g.same n ∙ (ap (λ (l : List (List ℕ)). contains name_cmp set n || among n l) e ∙ or-false (contains name_cmp set n)) in
     (λ h. i.0 (same ∙ h), λ h. sym same ∙ i.1 h)

@@ -13,6 +13,7 @@ use Rattle.sr_parse_grammar.specs.Catalog.{IsKind}
 use Rattle.sr_parse_grammar.specs.Tables.{IsRules}
 use Rattle.sr_parse_grammar.specs.Tables.IsRules.{none}
 use Rattle.sr_parse_grammar.specs.Inner.Going.{Stop, rule_starts}
+use Rattle.sr_parse_grammar.specs.Inner.Made.{column_of as column}
 use Rattle.sr_parse_reader.specs.Inner.Reading.{Alike, Reading, Anywhere, mapped}
 use Rattle.sr_parse_reader.specs.Inner.Reading.Reading.{read, refused, memory}
 use Rattle.sr_parse_reader.specs.Inner.Productions.{Word, Ruled, Rules}
@@ -136,7 +137,7 @@ typed_sample may = goes_first IsKind (Rules may) [] kind_sample (rules_sample ma
 
 -- the column, and the key with it
 abbrev pub column_of : List (List ℕ) → List ℕ × (Kind × (Bool × Bool × Bool)) → ColumnRule × List (List ℕ)
-column_of held p = (record { name = p.0; kind = p.1.0; not_null = p.1.1.0 }, if p.1.1.2 then p.0 ∷ [] else held)
+column_of held p = (column p.0 p.1.0 p.1.1.0, if p.1.1.2 then p.0 ∷ [] else held)
 
 pub column_to : (may : Bool) (held : List (List ℕ)) → (may ≡ true → held ≡ []) → (b : Symbols) (x : List ℕ × (Kind × (Bool × Bool × Bool))) (a : Symbols) → ColumnParts may b x a → Ruled held b (column_of held x) a
 column_to may held free b x a h = record {

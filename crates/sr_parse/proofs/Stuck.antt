@@ -4,7 +4,7 @@ use Rattle.std.proofs.lemmas.List.{append-nil}
 use Rattle.sr_ast.specs.declared.stmt.Stmt.{Stmt}
 use Rattle.sr_lex.specs.declared.token.Token.{Token}
 use Rattle.sr_lex.specs.declared.token.TokenKind.{TokenKind}
-use Rattle.sr_lex.specs.declared.token.TokenKind.TheVariants.{Word, Number, TopNumber, Str, Sign}
+use Rattle.sr_lex.specs.declared.token.TokenKind.TheVariants.{Word, Number, Sign}
 use Rattle.sr_lex.specs.Tokens.{IsToken, IsTokens, Takes, is_sign, is_lone, is_dash, is_behind_less, begins}
 use Rattle.sr_lex.specs.Tokens.Skips.{none, blank}
 use Rattle.sr_parse_grammar.specs.Symbols.{Symbols}
@@ -24,37 +24,29 @@ use Rattle.sr_parse_grammar.proofs.Lexemes.Lexes.{done, token}
 -- ---- a token alone, and before a space
 
 lone_sign : (p q r s x y z : Bool) → (p || (q && x) || (r && y) || (s && z)) ≡ true → (p || (q && true) || (r && true) || (s && true)) ≡ true
-lone_sign true q r s x y z h = refl
-lone_sign false true r s x y z h = refl
-lone_sign false false true s x y z h = refl
-lone_sign false false false true x y z h = refl
 lone_sign false false false false x y z h = h
+lone_sign p q r s x y z h = refl
 
 sign_alone : (word rest : List ℕ) → is_sign word rest ≡ true → is_sign word [] ≡ true
-sign_alone [] rest h = h
 sign_alone (a ∷ []) rest h = lone_sign (is_lone a) (is_dash a) (nat_eq a 60) (nat_eq a 62) (not (begins is_dash rest)) (not (begins is_behind_less rest)) (not (begins (λ b. nat_eq b 61) rest)) h
 sign_alone (a ∷ b ∷ []) rest h = h
-sign_alone (a ∷ b ∷ c ∷ more) rest h = h
+sign_alone _ rest h = h
 
 token_alone : (kind : TokenKind) (word rest : List ℕ) → IsToken kind word rest → IsToken kind word []
 token_alone Word word rest h = (h.0, refl)
 token_alone (Number n) word rest h = (h.0, h.1, h.2, refl)
-token_alone TopNumber word rest h = (h.0, h.1, refl)
-token_alone (Str t) word rest h = (h.0, h.1, refl)
 token_alone Sign word rest h = sign_alone word rest h
+token_alone _ word rest h = (h.0, h.1, refl)
 
 sign_spaced : (word rest : List ℕ) → is_sign word [] ≡ true → is_sign word (32 ∷ rest) ≡ true
-sign_spaced [] rest h = h
-sign_spaced (a ∷ []) rest h = h
 sign_spaced (a ∷ b ∷ []) rest h = h
-sign_spaced (a ∷ b ∷ c ∷ more) rest h = h
+sign_spaced _ rest h = h
 
 token_spaced : (kind : TokenKind) (word rest : List ℕ) → IsToken kind word [] → IsToken kind word (32 ∷ rest)
 token_spaced Word word rest h = (h.0, refl)
 token_spaced (Number n) word rest h = (h.0, h.1, h.2, refl)
-token_spaced TopNumber word rest h = (h.0, h.1, refl)
-token_spaced (Str t) word rest h = (h.0, h.1, refl)
 token_spaced Sign word rest h = sign_spaced word rest h
+token_spaced _ word rest h = (h.0, h.1, refl)
 
 -- ---- symbols that tokens mean are the symbols of a text
 

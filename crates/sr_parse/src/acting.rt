@@ -10,9 +10,6 @@ use sr_base::{Name, Seq};
 use sr_parse_grammar::Sign;
 use sr_parse_reader::{Broken, Reader, expr, row};
 
-/// How many IFs may stand in one another.
-pub const IFS: usize = 200;
-
 /// The actions up to END or ELSE, each with its `;`.
 #[cycle(acting)]
 pub fn actions(reader: &mut Reader, ifs: usize) -> Result<Actions, Broken>

@@ -25,11 +25,11 @@ ghost use Rattle.sr_parse_grammar.specs.Triggers.{IsOf, AreAliases, IsVariable, 
 ghost use Rattle.sr_ast.specs.declared.keyword.Keyword.TheVariants as key;
 ghost use Rattle.sr_parse_grammar.specs.declared.symbol.Sign.TheVariants as mark;
 
-use crate::acting::{IFS, actions};
+use crate::acting::actions;
 use crate::normal::normal;
 use sr_ast::{
-    ArticleRule, ColumnRule, CreatePublication, CreateTable, CreateTrigger, Expr, Grant, Image,
-    Keyword, SubscriptionRule,
+    ArticleRule, ColumnRule, CreatePublication, CreateTable, CreateTrigger, DEEPEST, Expr, Grant,
+    Image, Keyword, SubscriptionRule,
 };
 use sr_base::{Kind, Name, Seq, Text, Value};
 use sr_parse_grammar::{Sign, Symbol};
@@ -359,7 +359,7 @@ pub fn create_trigger(reader: &mut Reader) -> Result<CreateTrigger, Broken>
     let aliases = aliases(reader)?;
     for_each_row(reader)?;
     let variables = variables(reader)?;
-    let actions = actions(reader, IFS)?;
+    let actions = actions(reader, DEEPEST)?;
     reader.keyword(Keyword::End)?;
     Ok(CreateTrigger {
         name,

@@ -6,7 +6,8 @@ ghost use Rattle.sr_ast.specs.declared.stmt.Stmt.{Stmt as Statement};
 ghost use Rattle.sr_parse.specs.Prints.{Prints};
 
 use crate::parsing::parse;
-use sr_ast::{Stmt, print};
+use sr_ast::Stmt;
+use sr_ast_print::print;
 use sr_base::{Copied, NoMemory, Text};
 use sr_parse_grammar::ParseFault;
 use std::alloc::{AllocError, Global};

@@ -1,9 +1,10 @@
 -- Tables: symbols spell one at most.
-use Rattle.std.proofs.Common.{◌≡◌, ℕ, Bool, true, false, ◌||◌, List, [], ◌∷◌, ◌++◌, map, if◌then◌else◌, ◌↔◌, IsTrue, Contains, refl, sym, subst, ap, ◌∙◌, inl, inr, ◌⊎◌}
+use Rattle.std.proofs.Common.{◌≡◌, ℕ, Bool, true, false, ◌||◌, List, [], ◌∷◌, ◌++◌, map, if◌then◌else◌, ◌↔◌, IsTrue, Contains, refl, sym, subst, ap, ◌∙◌, inl, inr, ◌⊎◌, rules}
+use Rattle.std.proofs.Math.Bool.{or-false, or-true}
+use Rattle.std.proofs.lemmas.List.Recursion.{or_push}
 use Rattle.std.proofs.lemmas.List.{map-append}
 use Rattle.sr_ast.specs.declared.create.CreateTable.{CreateTable}
 use Rattle.sr_ast.specs.declared.create.ColumnRule.{ColumnRule}
-use Rattle.sr_base.specs.declared.value.Kind.{Kind}
 use Rattle.sr_ast.specs.declared.keyword.Keyword.TheVariants as kw
 use Rattle.sr_parse_grammar.specs.declared.symbol.Sign.TheVariants as mark
 use Rattle.sr_parse_grammar.specs.Symbols.{Symbols, word, IsName, IsSign}
@@ -15,6 +16,7 @@ use Rattle.sr_parse_grammar.specs.Tables.{IsRules, IsColumns, IsColumnRule, IsKe
 use Rattle.sr_parse_grammar.specs.Tables.IsRules.{none, not_null, null, primary}
 use Rattle.sr_parse_grammar.specs.Tables.IsColumns.{one, more}
 use Rattle.sr_parse_grammar.specs.Inner.Going.{Stop, is_comma, rule_starts, Closes}
+use Rattle.sr_parse_grammar.specs.Inner.Made.{column_of}
 use Rattle.sr_parse_grammar.proofs.Steps.{Stop-at, Stop-begins, IsName-once, Once, two_parts, three_parts}
 use Rattle.sr_parse_grammar.proofs.Expressing.{no_key_name}
 use Rattle.sr_parse_grammar.proofs.Lists.{Last, Listed-once, Row-once, Any, NamesListed-once, Closes-stop, closing}
@@ -33,19 +35,13 @@ IsRule before is_key after = before ≡ word kw.Primary ∷ word kw.Key ∷ afte
 
 rule_once : Once IsRule Any
 rule_once before bars_null after bars_null rest h k p q = (refl, cc)
-rule_once before bars_null after lets_null rest h k p q = absurd (cc)
-rule_once before bars_null after is_key rest h k p q = absurd (cc)
-rule_once before lets_null after bars_null rest h k p q = absurd (cc)
 rule_once before lets_null after lets_null rest h k p q = (refl, cc)
-rule_once before lets_null after is_key rest h k p q = absurd (cc)
-rule_once before is_key after bars_null rest h k p q = absurd (cc)
-rule_once before is_key after lets_null rest h k p q = absurd (cc)
 rule_once before is_key after is_key rest h k p q = (refl, cc)
+rule_once before _ after _ rest h k p q = absurd (cc)
 
 no_rule : (before : Symbols) (r : Rule) (after : Symbols) → Stop rule_starts before → IsRule before r after → ⊥
 no_rule before bars_null after p h = Stop-begins rule_starts h refl p
-no_rule before lets_null after p h = Stop-begins rule_starts h refl p
-no_rule before is_key after p h = Stop-begins rule_starts h refl p
+no_rule before _ after p h = Stop-begins rule_starts h refl p
 
 abbrev bars : Rule → Bool
 bars bars_null = true
@@ -60,22 +56,9 @@ flag : (Rule → Bool) → List Rule → Bool
 flag test [] = false
 flag test (r ∷ rs) = test r || flag test rs
 
-or_false : (a : Bool) → (a || false) ≡ a
-or_false true = refl
-or_false false = refl
-
-or_true : (a : Bool) → (a || true) ≡ true
-or_true true = refl
-or_true false = refl
-
-or_assoc : (a b c : Bool) → (a || (b || c)) ≡ ((a || b) || c)
-or_assoc true b c = refl
-or_assoc false b c = refl
-
 flag-more : (test : Rule → Bool) (rs : List Rule) (r : Rule) → flag test (rs ++ r ∷ []) ≡ (flag test rs || test r)
 unfolding flag
-flag-more test [] r = or_false (test r)
-flag-more test (x ∷ rs) r = ap (λ (b : Bool). test x || b) (flag-more test rs r) ∙ or_assoc (test x) (flag test rs) (test r)
+flag-more test rs r = or_push (flag test) test refl (λ x xs. refl) rs r
 
 record Ruled (before : Symbols) (n p : Bool) (after : Symbols) : Type 0 where
   rules : List Rule
@@ -93,22 +76,22 @@ ruled (not_null {primary = p} h e) =
     let r = ruled h in record {
       rules = r.rules ++ bars_null ∷ [];
       row = appended r.row e;
-      bars_is = sym (flag-more bars r.rules bars_null ∙ or_true (flag bars r.rules));
-      keys_is = r.keys_is ∙ sym (flag-more keys r.rules bars_null ∙ or_false (flag keys r.rules));
+      bars_is = sym (flag-more bars r.rules bars_null ∙ or-true (flag bars r.rules));
+      keys_is = r.keys_is ∙ sym (flag-more keys r.rules bars_null ∙ or-false (flag keys r.rules));
     }
 ruled (null h e) =
     let r = ruled h in record {
       rules = r.rules ++ lets_null ∷ [];
       row = appended r.row e;
-      bars_is = r.bars_is ∙ sym (flag-more bars r.rules lets_null ∙ or_false (flag bars r.rules));
-      keys_is = r.keys_is ∙ sym (flag-more keys r.rules lets_null ∙ or_false (flag keys r.rules));
+      bars_is = r.bars_is ∙ sym (flag-more bars r.rules lets_null ∙ or-false (flag bars r.rules));
+      keys_is = r.keys_is ∙ sym (flag-more keys r.rules lets_null ∙ or-false (flag keys r.rules));
     }
 ruled (primary h e) =
     let r = ruled h in record {
       rules = r.rules ++ is_key ∷ [];
       row = appended r.row e;
-      bars_is = r.bars_is ∙ sym (flag-more bars r.rules is_key ∙ or_false (flag bars r.rules));
-      keys_is = sym (flag-more keys r.rules is_key ∙ or_true (flag keys r.rules));
+      bars_is = r.bars_is ∙ sym (flag-more bars r.rules is_key ∙ or-false (flag bars r.rules));
+      keys_is = sym (flag-more keys r.rules is_key ∙ or-true (flag keys r.rules));
     }
 
 rules_once : {before here after rest : Symbols} {n u p m v q : Bool} → before ≡ here → IsRules before n u p after → IsRules here m v q rest → Stop rule_starts after → Stop rule_starts rest → (n ≡ m) × (p ≡ q) × (after ≡ rest)
@@ -131,7 +114,7 @@ record IsMarked (before : Symbols) (x : Marked) (after : Symbols) : Type 0 where
   rules : IsRules ruled_ x.0.not_null null_ x.1 after
 
 column_same : (s t : ColumnRule) → s.name ≡ t.name → s.kind ≡ t.kind → s.not_null ≡ t.not_null → s ≡ t
-column_same s t a b c = three_parts (λ (n : List ℕ) (k : Kind) (b : Bool). let x : ColumnRule = record { name = n; kind = k; not_null = b } in x) a b c
+column_same s t a b c = three_parts column_of a b c
 
 marked_once : Once IsMarked Closes
 marked_once before x after y rest h k p q =
@@ -233,11 +216,8 @@ normal_same key w c d h k =
 
 normal_once : (key : List (List ℕ)) (written cs ds : List ColumnRule) → AreNormal key written cs → AreNormal key written ds → cs ≡ ds
 normal_once key [] [] [] h k = refl
-normal_once key [] [] (d ∷ ds) h k = absurd k
-normal_once key [] (c ∷ cs) ds h k = absurd h
-normal_once key (w ∷ ws) [] ds h k = absurd h
-normal_once key (w ∷ ws) (c ∷ cs) [] h k = absurd k
 normal_once key (w ∷ ws) (c ∷ cs) (d ∷ ds) h k = two_parts (λ (x : ColumnRule) (xs : List ColumnRule). x ∷ xs) (normal_same key w c d h.0 k.0) (normal_once key ws cs ds h.1 k.1)
+normal_once key _ _ _ h k = search rules
 
 pub normals_once : (key lock : List (List ℕ)) (written other cs ds : List ColumnRule) → key ≡ lock → written ≡ other → AreNormal key written cs → AreNormal lock other ds → cs ≡ ds
 normals_once key lock written other cs ds e f h k =

@@ -20,9 +20,8 @@ use Rattle.sr_parse_grammar.proofs.Settled.{past_two, expr_gives, condition_give
 pub kind_gives : Gives IsKind IsNormalKind
 kind_gives before after kind.Int (inl w) h = (tt, (past w h).1)
 kind_gives before after kind.Int (inr w) h = (tt, (past w h).1)
-kind_gives before after kind.Big w h = (tt, (past w h).1)
 kind_gives before after (kind.Varchar n) x h = ((x.length.least, x.length.most), (past x.closed (past x.length.number (past_two x.opened h)).1).1)
-kind_gives before after kind.Date w h = (tt, (past w h).1)
+kind_gives before after _ w h = (tt, (past w h).1)
 
 -- ---- publications, users and subscriptions
 

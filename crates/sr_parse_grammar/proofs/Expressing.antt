@@ -1,5 +1,5 @@
 -- Symbols spell one expression at most.
-use Rattle.std.proofs.Common.{◌≡◌, ℕ, List, ◌∷◌, Option, Some, None, refl, sym, subst, ap, ◌∙◌, inl, inr}
+use Rattle.std.proofs.Common.{◌≡◌, ℕ, List, ◌∷◌, Option, Some, None, refl, sym, subst, ap, ◌∙◌, inl, inr, rules}
 use Rattle.sr_ast.specs.Terms.{Term}
 use Rattle.sr_ast.specs.Terms.Term.{literal, column, unary, binary}
 use Rattle.sr_ast.specs.Exprs.{term_of}
@@ -39,12 +39,7 @@ null_test_once before one.IsNull after one.IsNull rest h k = (refl, cc)
 null_test_once before one.IsNull after one.IsNotNull rest h k = absurd (cc)
 null_test_once before one.IsNotNull after one.IsNull rest h k = absurd (cc)
 null_test_once before one.IsNotNull after one.IsNotNull rest h k = (refl, cc)
-null_test_once before one.IsNull after one.Not rest h k = absurd k
-null_test_once before one.IsNull after one.Negate rest h k = absurd k
-null_test_once before one.IsNotNull after one.Not rest h k = absurd k
-null_test_once before one.IsNotNull after one.Negate rest h k = absurd k
-null_test_once before one.Not after y rest h k = absurd h
-null_test_once before one.Negate after y rest h k = absurd h
+null_test_once before _ after _ rest h k = search rules
 
 date_no_literal : {before after rest : Symbols} {v w : Value} → IsSingle before v after → IsDate before w rest → ⊥
 date_no_literal {v = v} l d =
@@ -204,15 +199,11 @@ expr_of (binary op a b) = BinaryExpr op a b
 
 pub term_of-expr_of : (t : Term) → term_of (expr_of t) ≡ t
 term_of-expr_of (literal v) = refl
-term_of-expr_of (column t n) = refl
-term_of-expr_of (unary op a) = refl
-term_of-expr_of (binary op a b) = refl
+term_of-expr_of _ = refl
 
 pub expr_of-term_of : (e : Expr) → expr_of (term_of e) ≡ e
 expr_of-term_of (Literal v) = refl
-expr_of-term_of (Column t n) = refl
-expr_of-term_of (UnaryExpr op a) = refl
-expr_of-term_of (BinaryExpr op a b) = refl
+expr_of-term_of _ = refl
 
 term_of_once : (a b : Expr) → term_of a ≡ term_of b → a ≡ b
 term_of_once (Literal v) (Literal w) e = cc

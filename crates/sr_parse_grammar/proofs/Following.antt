@@ -1,5 +1,6 @@
 -- With what an expression begins, and with what it goes on.
 use Rattle.std.proofs.Common.{◌≡◌, ℕ, Bool, true, false, ◌||◌, List, Option, Some, None, refl, sym, subst, inl, inr}
+use Rattle.std.proofs.lemmas.Bool.{or_left as or_first, or_right as or_true}
 use Rattle.sr_ast.specs.Terms.{Term}
 use Rattle.sr_ast.specs.declared.operator.Binary.{Binary}
 use Rattle.sr_base.specs.declared.value.Value.{Value}
@@ -18,7 +19,7 @@ use Rattle.sr_parse_grammar.specs.declared.level.Level.{Level}
 use Rattle.sr_parse_grammar.specs.declared.level.Level.TheVariants.{Or, And, Sum, Product}
 use Rattle.sr_parse_grammar.proofs.Turning.{Spot, beneath, Turn}
 use Rattle.sr_parse_grammar.proofs.Turning.Spot.{whole, behind, denial, relation, tail, signing, atom}
-use Rattle.sr_parse_grammar.proofs.Turning.Turn.{chain, stop, step, refused, affirmed, measured, alone, against, tested, below, turned, plain, value, called, within}
+use Rattle.sr_parse_grammar.proofs.Turning.Turn.{chain, refused, affirmed, measured, below, turned, plain, value, called, within}
 
 pub is_there-Some : {A : Type 0} (o : Option A) (x : A) → o ≡ Some x → is_there o ≡ true
 is_there-Some o x e = subst (λ o. is_there o ≡ true) (sym e) refl
@@ -30,14 +31,6 @@ or_left false b h = refl
 pub or_right : (a b : Bool) → (a || b) ≡ false → b ≡ false
 or_right true b h = absurd (cc)
 or_right false b h = h
-
-or_true : (a b : Bool) → b ≡ true → (a || b) ≡ true
-or_true true b h = refl
-or_true false b h = h
-
-or_first : (a b : Bool) → a ≡ true → (a || b) ≡ true
-or_first true b h = refl
-or_first false b h = absurd (cc)
 
 abbrev pub joint_goes : Level → Symbol → Bool
 joint_goes j = goes_on (tightness j)
@@ -54,18 +47,14 @@ goes atom = is_dot
 -- what stops a level stops the tighter one
 pub beneath_fewer : (j : Level) (s : Symbol) → joint_goes j s ≡ false → goes (beneath j) s ≡ false
 beneath_fewer Or s h = or_right _ _ h
-beneath_fewer And s h = or_right _ _ h
-beneath_fewer Sum s h = or_right _ _ h
-beneath_fewer Product s h = or_right _ _ h
+beneath_fewer _ s h = or_right _ _ h
 
 pub sum_fewer : (s : Symbol) → relation_goes s ≡ false → sum_goes s ≡ false
 sum_fewer s h = or_right _ _ h
 
 pub joint_joins : (j : Level) (s : Symbol) (op : Binary) → joins (tightness j) s ≡ Some op → joint_goes j s ≡ true
 joint_joins Or s op e = or_first _ _ (is_there-Some _ _ e)
-joint_joins And s op e = or_first _ _ (is_there-Some _ _ e)
-joint_joins Sum s op e = or_first _ _ (is_there-Some _ _ e)
-joint_joins Product s op e = or_first _ _ (is_there-Some _ _ e)
+joint_joins _ s op e = or_first _ _ (is_there-Some _ _ e)
 
 pub relation_compares : (s : Symbol) (op : Binary) → compares s ≡ Some op → relation_goes s ≡ true
 relation_compares s op e = or_first _ _ (or_first _ _ (is_there-Some _ _ e))
@@ -81,8 +70,7 @@ and_stops s op e = absurd (cc)
 
 sum_stops : (s : Symbol) (op : Binary) → joins sum s ≡ Some op → factor_goes s ≡ false
 sum_stops (symbol.Sign sign.Plus) op e = refl
-sum_stops (symbol.Sign sign.Minus) op e = refl
-sum_stops s op e = absurd (cc)
+sum_stops _ op e = cc
 
 product_stops : (s : Symbol) (op : Binary) → joins product s ≡ Some op → is_dot s ≡ false
 product_stops (symbol.Sign sign.Times) op e = refl
@@ -96,12 +84,7 @@ joint_stops Product s op e = product_stops s op e
 
 pub compare_stops : (s : Symbol) (op : Binary) → compares s ≡ Some op → sum_goes s ≡ false
 compare_stops (symbol.Sign sign.Equal) op e = refl
-compare_stops (symbol.Sign sign.Unequal) op e = refl
-compare_stops (symbol.Sign sign.Less) op e = refl
-compare_stops (symbol.Sign sign.AtMost) op e = refl
-compare_stops (symbol.Sign sign.Greater) op e = refl
-compare_stops (symbol.Sign sign.AtLeast) op e = refl
-compare_stops s op e = absurd (cc)
+compare_stops _ op e = cc
 
 -- the symbols with which an operand begins, with a sign too, with NOT too
 abbrev pub is_open_or_date : Symbol → Bool
@@ -129,8 +112,7 @@ expression_starts s = is_not s || signed_starts s
 abbrev pub joint_starts : Level → Symbol → Bool
 joint_starts Or = expression_starts
 joint_starts And = expression_starts
-joint_starts Sum = signed_starts
-joint_starts Product = signed_starts
+joint_starts j = signed_starts
 
 abbrev pub Starts : Spot → Symbols → Type 0
 Starts (whole j) before = Begins (joint_starts j) before
@@ -143,9 +125,7 @@ Starts atom before = Begins atom_starts before
 
 beneath_starts : (j : Level) (before : Symbols) → Starts (beneath j) before → Starts (whole j) before
 beneath_starts Or before h = h
-beneath_starts And before h = h
-beneath_starts Sum before h = h
-beneath_starts Product before h = h
+beneath_starts _ before h = h
 
 literal_starts : (before after : Symbols) (v : Value) → IsLiteral before v after → Begins atom_starts before
 literal_starts before after v (inl l) = Begins-at atom_starts l.stands (or_first _ _ (is_there-Some _ _ l.means))
@@ -160,28 +140,18 @@ column_starts before after (Some table) name (dot, next, n, d, m) = name_starts 
 
 pub turn_starts : {room : ℕ} {p : Spot} {before after : Symbols} {t : Term} → Turn p room before t after → Starts p before
 turn_starts (chain {j = j} {before = before} h more) = beneath_starts j before (turn_starts h)
-turn_starts stop = tt
-turn_starts (step o y more) = tt
 turn_starts (refused w x) = Begins-at expression_starts w refl
 turn_starts (affirmed {before = before} h) = Begins-more signed_starts expression_starts before (λ s e. or_true _ _ e) (turn_starts h)
 turn_starts (measured h more) = turn_starts h
-turn_starts alone = tt
-turn_starts (against o y) = tt
-turn_starts (tested w n) = tt
 turn_starts (below s n) = Begins-at signed_starts s refl
 turn_starts (turned s n x) = Begins-at signed_starts s refl
 turn_starts (plain {before = before} h) = Begins-more atom_starts signed_starts before (λ s e. or_true _ _ e) (turn_starts h)
 turn_starts (value {before = before} {after = after} {v = v} l) = literal_starts before after v l
 turn_starts (called {before = before} {after = after} {table = table} {name = name} c) = column_starts before after table name c
 turn_starts (within p o x c) = Begins-at atom_starts o refl
+turn_starts _ = tt
 
 -- no name is a literal
 pub literal_no_name : (s : Symbol) (v : Value) (n : List ℕ) → literal_meant s ≡ Some v → name_meant s ≡ Some n → ⊥
-literal_no_name (symbol.Number m) v n e f = cc
-literal_no_name (symbol.Text t) v n e f = cc
-literal_no_name (symbol.Name m) v n e f = cc
-literal_no_name symbol.TopNumber v n e f = cc
-literal_no_name symbol.Other v n e f = cc
-literal_no_name (symbol.Sign m) v n e f = cc
 literal_no_name (symbol.Keyword key.Null) v n e f = cc
-literal_no_name (symbol.Keyword k) v n e f = cc
+literal_no_name _ v n e f = cc

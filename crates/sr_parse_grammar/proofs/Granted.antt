@@ -14,6 +14,7 @@ use Rattle.sr_parse_grammar.specs.Parts.{Seq}
 use Rattle.sr_parse_grammar.specs.Inner.Scripts.{IsBehindTwo}
 use Rattle.sr_parse_grammar.specs.Catalog.{IsAddress, IsGrant}
 use Rattle.sr_parse_grammar.specs.Inner.Going.{Ends}
+use Rattle.sr_parse_grammar.specs.Inner.Made.{grant_of as grant}
 use Rattle.sr_parse_grammar.proofs.Steps.{onward}
 use Rattle.sr_parse_grammar.proofs.Lists.{Ends-stop}
 use Rattle.sr_parse_grammar.proofs.Saying.{Says, Spelt, phrase, phrase_says, joined_says}
@@ -36,7 +37,7 @@ pub user_proper : Proper (Seq IsName IsAddress) Ends (λ p. IsPlain p.0 × IsNon
 user_proper = both (λ b y a h q. tt) name_proper address_proper
 
 abbrev pub grant_of : List ℕ × Option (List ℕ) → Grant
-grant_of p = record { user = p.0; address = p.1 }
+grant_of p = grant p.0 p.1
 
 pub grant_proper : Proper IsGrant Ends IsNormalGrant (λ g. word (codes "TO") ∷ word g.user ∷ led (codes "TYPE FILE ADDRESS") text_pieces g.address)
 grant_proper = made (λ g. (g.user, g.address)) grant_of (λ g. refl) (λ p. refl) (behind key.To user_proper)

@@ -1,5 +1,5 @@
 -- Key words in a table.
-use Rattle.std.proofs.Common.{◌≡◌, ℕ, zero, suc, ◌<◌, Bool, true, false, ◌&&◌, ◌||◌, List, [], ◌∷◌, map, length, drop, refl, sym, ap, ◌∙◌, arith}
+use Rattle.std.proofs.Common.{◌≡◌, ℕ, zero, suc, ◌<◌, Bool, true, false, ◌||◌, List, [], ◌∷◌, map, length, drop, refl, sym, ap, ◌∙◌, arith}
 use Rattle.std.proofs.Common.{Bor, slice_index_or}
 use Rattle.std.proofs.lemmas.Slice.Eq.{bytes_eq-Decides}
 use Rattle.std.specs.List.{list_all}
@@ -7,6 +7,7 @@ use Rattle.std.specs.Str.{bytes_eq}
 use Rattle.sr_ast.specs.declared.keyword.Keyword.{Keyword}
 use Rattle.sr_ast.specs.Keywords.{lower, spelling, IsKeyword}
 use Rattle.sr_parse_grammar.specs.Inner.Keywords.{Entries, are_spelled, has}
+use Rattle.sr_base.proofs.Truths.{both_true}
 
 -- an entry and a row of the table, as they lie in memory
 abbrev pub Entry : Type 0
@@ -23,10 +24,6 @@ plain entries = map (λ (entry : Entry). (entry.0, entry.1.now)) entries
 pub record Left (word : List ℕ) (entries left : List Entry) : Type 0 where
   pub spelled : are_spelled (plain left) ≡ true
   pub has_it : (k : Keyword) → has (plain entries) k ≡ true → IsKeyword word k → has (plain left) k ≡ true
-
-both_true : (a b : Bool) → (a && b) ≡ true → (a ≡ true) × (b ≡ true)
-both_true true b e = (refl, e)
-both_true false b e = absurd (cc)
 
 either_true : (a b : Bool) → (a || b) ≡ true → (a ≡ true → ⊥) → b ≡ true
 either_true true b e not_a = absurd (not_a refl)

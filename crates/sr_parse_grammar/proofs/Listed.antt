@@ -11,19 +11,19 @@ use Rattle.sr_parse_grammar.specs.Listing.Row.{none, then}
 use Rattle.sr_ast.specs.Normal.{IsSomeOf}
 use Rattle.sr_parse_grammar.proofs.Saying.{Says, Spelt, regrouped, comma_says, open_parenthesis_says, close_parenthesis_says}
 
--- what goes on a list
-record GoesOn {A : Type 0} (X : Symbols → A → Symbols → Type 0) (xs : List A) (pieces : List Piece) (after : Symbols) : Type 0 where
+-- what goes on items that are spelled as a list is
+record GoesOn {A : Type 0} (L : Symbols → List A → Symbols → Type 0) (xs : List A) (pieces : List Piece) (after : Symbols) : Type 0 where
   middle : Symbols
   says : Says pieces middle
-  goes : (before : Symbols) (prefix : List A) → Listed X before prefix middle → Listed X before (prefix ++ xs) after
+  goes : (before : Symbols) (prefix : List A) → L before prefix middle → L before (prefix ++ xs) after
+
+-- nothing does
+nothing_on : {A : Type 0} (L : Symbols → List A → Symbols → Type 0) (ps : List Piece) (after : Symbols) → Says ps after → GoesOn L [] ps after
+nothing_on L ps after h = record { middle = after; says = h; goes = λ before prefix l. subst (λ ys. L before ys after) (sym (append-nil prefix)) l }
 
 module _ {A : Type 0} (X : Symbols → A → Symbols → Type 0) (P : A → Type 0) (f : A → List Piece) (spelt : (x : A) → P x → Spelt X x (f x)) where
-  goes_on : (xs : List A) → AllByRecursion P xs → (ps : List Piece) (after : Symbols) → Says ps after → GoesOn X xs (more_listed f xs ++ ps) after
-  goes_on [] all ps after h = record {
-    middle = after;
-    says = h;
-    goes = λ before prefix l. subst (λ (ys : List A). Listed X before ys after) (sym (append-nil prefix)) l;
-  }
+  goes_on : (xs : List A) → AllByRecursion P xs → (ps : List Piece) (after : Symbols) → Says ps after → GoesOn (Listed X) xs (more_listed f xs ++ ps) after
+  goes_on [] all ps after h = nothing_on (Listed X) ps after h
   goes_on (x ∷ xs) all ps after h =
       let rest = goes_on xs all.1 ps after h in
       let item = spelt x all.0 (more_listed f xs ++ ps) rest.middle rest.says in
@@ -40,19 +40,9 @@ module _ {A : Type 0} (X : Symbols → A → Symbols → Type 0) (P : A → Type
       let item = spelt x all.0 (more_listed f xs ++ ps) rest.middle rest.says in
       (item.0, regrouped (f x) (more_listed f xs) ps item.1, rest.goes item.0 (x ∷ []) (one item.2))
 
--- what goes on a row
-record StandsOn {A : Type 0} (X : Symbols → A → Symbols → Type 0) (xs : List A) (pieces : List Piece) (after : Symbols) : Type 0 where
-  middle : Symbols
-  says : Says pieces middle
-  goes : (before : Symbols) (prefix : List A) → Row X before prefix middle → Row X before (prefix ++ xs) after
-
 module _ {A : Type 0} (X : Symbols → A → Symbols → Type 0) (P : A → Type 0) (f : A → List Piece) (spelt : (x : A) → P x → Spelt X x (f x)) where
-  stands_on : (xs : List A) → AllByRecursion P xs → (ps : List Piece) (after : Symbols) → Says ps after → StandsOn X xs (in_row f xs ++ ps) after
-  stands_on [] all ps after h = record {
-    middle = after;
-    says = h;
-    goes = λ before prefix l. subst (λ (ys : List A). Row X before ys after) (sym (append-nil prefix)) l;
-  }
+  stands_on : (xs : List A) → AllByRecursion P xs → (ps : List Piece) (after : Symbols) → Says ps after → GoesOn (Row X) xs (in_row f xs ++ ps) after
+  stands_on [] all ps after h = nothing_on (Row X) ps after h
   stands_on (x ∷ xs) all ps after h =
       let rest = stands_on xs all.1 ps after h in
       let item = spelt x all.0 (in_row f xs ++ ps) rest.middle rest.says in

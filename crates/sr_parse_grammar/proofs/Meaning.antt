@@ -1,5 +1,5 @@
 -- The tokens of a text are one list, they mean one list of symbols, and these spell one script.
-use Rattle.std.proofs.Common.{◌≡◌, ℕ, ◌+◌, ◌≤◌, List, [], ◌∷◌, ◌++◌, length, slice_range, Option, Some, None, refl, sym, subst, ap, ◌∙◌, arith, length-append}
+use Rattle.std.proofs.Common.{◌≡◌, ℕ, ◌+◌, ◌≤◌, List, [], ◌∷◌, ◌++◌, length, slice_range, Option, Some, None, refl, sym, subst, ap, ◌∙◌, arith, length-append, rules}
 use Rattle.sr_lex.specs.declared.token.Token.{Token}
 use Rattle.sr_lex.specs.declared.token.TokenKind.{TokenKind}
 use Rattle.sr_lex.specs.declared.token.TokenKind.TheVariants as token
@@ -7,6 +7,7 @@ use Rattle.sr_lex.specs.Tokens.{Skips, IsToken, TakesToken, Takes, IsTokens}
 use Rattle.sr_lex.specs.Inner.Reading.{token_at, after_gap}
 use Rattle.sr_lex.proofs.Gaps.{after_gap-skips}
 use Rattle.sr_lex.proofs.Marks.{token_at-again, token_bare}
+use Rattle.sr_lex.proofs.Walk.{seam_same}
 use Rattle.sr_ast.specs.declared.stmt.Stmt.{Stmt}
 use Rattle.sr_parse_grammar.specs.declared.symbol.Symbol.{Symbol}
 use Rattle.sr_parse_grammar.specs.declared.symbol.Symbol.TheVariants as symbol
@@ -18,59 +19,28 @@ use Rattle.sr_parse_grammar.proofs.Statements.{script_once}
 use Rattle.sr_parse_grammar.proofs.Steps.{two_parts, three_parts}
 
 word_once : (word : List ℕ) (s t : Symbol) → IsWordSymbol word s → IsWordSymbol word t → s ≡ t
-word_once word (symbol.Number n) t h k = absurd h
-word_once word symbol.TopNumber t h k = absurd h
-word_once word (symbol.Text n) t h k = absurd h
-word_once word (symbol.Sign n) t h k = absurd h
-word_once word (symbol.Keyword a) (symbol.Number n) h k = absurd k
-word_once word (symbol.Keyword a) symbol.TopNumber h k = absurd k
-word_once word (symbol.Keyword a) (symbol.Text n) h k = absurd k
-word_once word (symbol.Keyword a) (symbol.Sign n) h k = absurd k
 word_once word (symbol.Keyword a) (symbol.Keyword b) h k = ap symbol.Keyword (keyword_once word a b h k)
 word_once word (symbol.Keyword a) (symbol.Name n) h k = absurd (k.0 a h)
 word_once word (symbol.Keyword a) symbol.Other h k = absurd (k.0 a h)
-word_once word (symbol.Name a) (symbol.Number n) h k = absurd k
-word_once word (symbol.Name a) symbol.TopNumber h k = absurd k
-word_once word (symbol.Name a) (symbol.Text n) h k = absurd k
-word_once word (symbol.Name a) (symbol.Sign n) h k = absurd k
 word_once word (symbol.Name a) (symbol.Keyword b) h k = absurd (h.0 b k)
 word_once word (symbol.Name a) (symbol.Name b) h k = ap symbol.Name (h.2 ∙ sym k.2)
 word_once word (symbol.Name a) symbol.Other h k = absurd (k.1 h.1)
-word_once word symbol.Other (symbol.Number n) h k = absurd k
-word_once word symbol.Other symbol.TopNumber h k = absurd k
-word_once word symbol.Other (symbol.Text n) h k = absurd k
-word_once word symbol.Other (symbol.Sign n) h k = absurd k
 word_once word symbol.Other (symbol.Keyword b) h k = absurd (h.0 b k)
 word_once word symbol.Other (symbol.Name b) h k = absurd (h.1 k.1)
 word_once word symbol.Other symbol.Other h k = refl
+word_once word _ _ h k = search rules
 
 mark_once : (word : List ℕ) (s t : Symbol) → IsSignSymbol word s → IsSignSymbol word t → s ≡ t
-mark_once word (symbol.Number n) t h k = absurd h
-mark_once word symbol.TopNumber t h k = absurd h
-mark_once word (symbol.Text n) t h k = absurd h
-mark_once word (symbol.Keyword n) t h k = absurd h
-mark_once word (symbol.Name n) t h k = absurd h
-mark_once word (symbol.Sign a) (symbol.Number n) h k = absurd k
-mark_once word (symbol.Sign a) symbol.TopNumber h k = absurd k
-mark_once word (symbol.Sign a) (symbol.Text n) h k = absurd k
-mark_once word (symbol.Sign a) (symbol.Keyword n) h k = absurd k
-mark_once word (symbol.Sign a) (symbol.Name n) h k = absurd k
 mark_once word (symbol.Sign a) (symbol.Sign b) h k = ap symbol.Sign (sign_once word a b h k)
 mark_once word (symbol.Sign a) symbol.Other h k = absurd (k a h)
-mark_once word symbol.Other (symbol.Number n) h k = absurd k
-mark_once word symbol.Other symbol.TopNumber h k = absurd k
-mark_once word symbol.Other (symbol.Text n) h k = absurd k
-mark_once word symbol.Other (symbol.Keyword n) h k = absurd k
-mark_once word symbol.Other (symbol.Name n) h k = absurd k
 mark_once word symbol.Other (symbol.Sign b) h k = absurd (h b k)
 mark_once word symbol.Other symbol.Other h k = refl
+mark_once word _ _ h k = search rules
 
 meant_once : (word : List ℕ) (kind : TokenKind) (s t : Symbol) → IsSymbolOf word kind s → IsSymbolOf word kind t → s ≡ t
 meant_once word token.Word s t h k = word_once word s t h k
-meant_once word (token.Number n) s t h k = h ∙ sym k
-meant_once word token.TopNumber s t h k = h ∙ sym k
-meant_once word (token.Str n) s t h k = h ∙ sym k
 meant_once word token.Sign s t h k = mark_once word s t h k
+meant_once word _ s t h k = h ∙ sym k
 
 -- the tokens lie within the text
 record Within (text : List ℕ) (t : Token) : Type 0 where
@@ -90,11 +60,8 @@ symbol_once text t s u w h k =
 symbols_once : (text : List ℕ) (tokens : List Token) (xs ys : Symbols) → AllWithin text tokens → AreSymbols text tokens xs → AreSymbols text tokens ys → xs ≡ ys
 unfolding AllWithin
 symbols_once text [] [] [] w h k = refl
-symbols_once text [] [] (y ∷ ys) w h k = absurd k
-symbols_once text [] (x ∷ xs) ys w h k = absurd h
-symbols_once text (t ∷ tokens) [] ys w h k = absurd h
-symbols_once text (t ∷ tokens) (x ∷ xs) [] w h k = absurd k
 symbols_once text (t ∷ tokens) (x ∷ xs) (y ∷ ys) w h k = two_parts (λ (s : Symbol) (ss : Symbols). s ∷ ss) (symbol_once text t x y w.0 h.0 k.0) (symbols_once text tokens xs ys w.1 h.1 k.1)
+symbols_once text _ _ _ w h k = search rules
 
 all_within : (text : List ℕ) (at : ℕ) (bytes : List ℕ) (tokens : List Token) → at + length bytes ≤ length text → Takes at bytes tokens [] → AllWithin text tokens
 unfolding AllWithin
@@ -110,16 +77,6 @@ no_token kind word rest is e =
     let again : token_at (word ++ rest) ≡ Some (kind, length word) = token_at-again kind word rest is in
     let none : token_at (word ++ rest) ≡ None = ap token_at e in
     let clash : ◌≡◌ {A = Option (TokenKind × ℕ)} (Some (kind, length word)) None = sym again ∙ none in cc
-
-seam_once : (word after w a : List ℕ) → word ++ after ≡ w ++ a → length word ≡ length w → (word ≡ w) × (after ≡ a)
-seam_once [] after [] a e n = (refl, e)
-seam_once [] after (b ∷ w) a e n = absurd (omega arith)
-seam_once (b ∷ word) after [] a e n = absurd (omega arith)
-seam_once (b ∷ word) after (c ∷ w) a e n =
-    let tails : word ++ after ≡ w ++ a = cc in
-    let heads : b ≡ c = cc in
-    let both = seam_once word after w a tails (omega arith) in
-    (cc, both.1)
 
 taken_at : (kind : TokenKind) (word rest bytes : List ℕ) → Skips bytes (word ++ rest) → IsToken kind word rest → after_gap bytes ≡ word ++ rest
 taken_at kind word rest bytes s is = after_gap-skips s ∙ token_bare kind word rest is
@@ -142,7 +99,7 @@ token_once at bytes t after u rest h k =
     let pair : both ≡ other = pair_once both other (sym first ∙ (ap token_at one_place ∙ second)) in
     let kind : t.kind ≡ u.kind = ap (λ (p : TokenKind × ℕ). p.0) pair in
     let long : length h.word ≡ length k.word = ap (λ (p : TokenKind × ℕ). p.1) pair in
-    let parts = seam_once h.word after k.word rest one_place long in
+    let parts = seam_same h.word after k.word rest one_place long in
     let lengths : length (h.word ++ after) ≡ length (k.word ++ rest) = ap (λ (l : List ℕ). length l) one_place in
     let hs = h.start in let ks = k.start in let he = h.end in let ke = k.end in
     let start : t.start ≡ u.start = omega arith in

@@ -17,7 +17,7 @@ use Rattle.sr_ast.specs.declared.keyword.Keyword.TheVariants as key
 use Rattle.sr_parse_grammar.specs.declared.symbol.Sign.TheVariants as mark
 use Rattle.sr_parse_grammar.specs.declared.symbol.Symbol.{Symbol}
 use Rattle.sr_parse_grammar.specs.declared.symbol.Symbol.TheVariants as symbol
-use Rattle.sr_parse_grammar.specs.Symbols.{Symbols, word, sign, IsName, IsWord, IsSign}
+use Rattle.sr_parse_grammar.specs.Symbols.{Symbols, sign, IsName, IsWord, IsSign}
 use Rattle.sr_parse_grammar.specs.Listing.{Listed}
 use Rattle.sr_parse_grammar.specs.Expressions.{IsExpr}
 use Rattle.sr_parse_grammar.specs.Writing.{IsLed, IsCondition, IsRow, IsInsert, IsSet, IsUpdate, IsDelete, IsAggregated, IsAggregate, IsItem, IsItems, IsSource, IsJoinWord, IsJoin, IsDirection, IsOrder, IsOrdering, IsSelect}
@@ -113,57 +113,37 @@ aggregated_once e h k =
 aggregate_once : (k : Keyword) (before : Symbols) (x : Expr) (after : Symbols) (y : Expr) (rest : Symbols) → IsAggregate k before x after → IsAggregate k before y rest → (x ≡ y) × (after ≡ rest)
 aggregate_once k before x after y rest (next, w, h) (next', w', h') = let same : next ≡ next' = cc in aggregated_once same h h'
 
-aggregates_apart : (k l : Keyword) (before : Symbols) (x : Expr) (after : Symbols) (y : Expr) (rest : Symbols) → (symbol.Keyword k ≡ symbol.Keyword l → ⊥) → IsAggregate k before x after → IsAggregate l before y rest → ⊥
-aggregates_apart k l before x after y rest apart (next, w, h) (next', w', h') = apart (cc)
+-- with what an item begins
+abbrev pub Heads : Item → Symbols → Type 0
+Heads (item.Value e) before = Begins expression_starts before
+Heads item.Count before = (next : Symbols) × IsWord before key.Count next
+Heads (item.Sum e) before = (next : Symbols) × IsWord before key.Sum next
+Heads (item.Min e) before = (next : Symbols) × IsWord before key.Min next
+Heads (item.Max e) before = (next : Symbols) × IsWord before key.Max next
 
-aggregate_no_value : (k : Keyword) (before : Symbols) (x : Expr) (after : Symbols) (y : Expr) (rest : Symbols) → expression_starts (symbol.Keyword k) ≡ false → IsAggregate k before x after → IsExpr before y rest → ⊥
-aggregate_no_value k before x after y rest none (next, w, h) e = Begins-not expression_starts w none (IsExpr-starts e)
-
-aggregate_no_count : (k : Keyword) (before : Symbols) (x : Expr) (after rest : Symbols) → (symbol.Keyword k ≡ symbol.Keyword key.Count → ⊥) → IsAggregate k before x after
-    → before ≡ word key.Count ∷ sign mark.Open ∷ sign mark.Times ∷ sign mark.Close ∷ rest → ⊥
-aggregate_no_count k before x after rest apart (next, w, h) e = apart (cc)
+pub item_heads : (before : Symbols) (x : Item) (after : Symbols) → IsItem before x after → Heads x before
+item_heads before (item.Value e) after h = IsExpr-starts h
+item_heads before item.Count after h = (sign mark.Open ∷ sign mark.Times ∷ sign mark.Close ∷ after, h)
+item_heads before _ after (next, w, h) = (next, w)
 
 item_once : Once IsItem (Stop expression_goes)
 item_once before (item.Value e) after (item.Value f) rest h k p q = let s = IsExpr-once refl h k p q in (ap item.Value s.0, s.1)
-item_once before (item.Value e) after item.Count rest h k p q = absurd (Begins-not expression_starts k refl (IsExpr-starts h))
-item_once before (item.Value e) after (item.Sum f) rest h k p q = absurd (aggregate_no_value key.Sum before f rest e after refl k h)
-item_once before (item.Value e) after (item.Min f) rest h k p q = absurd (aggregate_no_value key.Min before f rest e after refl k h)
-item_once before (item.Value e) after (item.Max f) rest h k p q = absurd (aggregate_no_value key.Max before f rest e after refl k h)
-item_once before item.Count after (item.Value e) rest h k p q = absurd (Begins-not expression_starts h refl (IsExpr-starts k))
 item_once before item.Count after item.Count rest h k p q = (refl, cc)
-item_once before item.Count after (item.Sum f) rest h k p q = absurd (aggregate_no_count key.Sum before f rest after (λ e. cc) k h)
-item_once before item.Count after (item.Min f) rest h k p q = absurd (aggregate_no_count key.Min before f rest after (λ e. cc) k h)
-item_once before item.Count after (item.Max f) rest h k p q = absurd (aggregate_no_count key.Max before f rest after (λ e. cc) k h)
-item_once before (item.Sum f) after (item.Value e) rest h k p q = absurd (aggregate_no_value key.Sum before f after e rest refl h k)
-item_once before (item.Sum f) after item.Count rest h k p q = absurd (aggregate_no_count key.Sum before f after rest (λ e. cc) h k)
 item_once before (item.Sum e) after (item.Sum f) rest h k p q = let s = aggregate_once key.Sum before e after f rest h k in (ap item.Sum s.0, s.1)
-item_once before (item.Sum e) after (item.Min f) rest h k p q = absurd (aggregates_apart key.Sum key.Min before e after f rest (λ e. cc) h k)
-item_once before (item.Sum e) after (item.Max f) rest h k p q = absurd (aggregates_apart key.Sum key.Max before e after f rest (λ e. cc) h k)
-item_once before (item.Min f) after (item.Value e) rest h k p q = absurd (aggregate_no_value key.Min before f after e rest refl h k)
-item_once before (item.Min f) after item.Count rest h k p q = absurd (aggregate_no_count key.Min before f after rest (λ e. cc) h k)
-item_once before (item.Min e) after (item.Sum f) rest h k p q = absurd (aggregates_apart key.Min key.Sum before e after f rest (λ e. cc) h k)
 item_once before (item.Min e) after (item.Min f) rest h k p q = let s = aggregate_once key.Min before e after f rest h k in (ap item.Min s.0, s.1)
-item_once before (item.Min e) after (item.Max f) rest h k p q = absurd (aggregates_apart key.Min key.Max before e after f rest (λ e. cc) h k)
-item_once before (item.Max f) after (item.Value e) rest h k p q = absurd (aggregate_no_value key.Max before f after e rest refl h k)
-item_once before (item.Max f) after item.Count rest h k p q = absurd (aggregate_no_count key.Max before f after rest (λ e. cc) h k)
-item_once before (item.Max e) after (item.Sum f) rest h k p q = absurd (aggregates_apart key.Max key.Sum before e after f rest (λ e. cc) h k)
-item_once before (item.Max e) after (item.Min f) rest h k p q = absurd (aggregates_apart key.Max key.Min before e after f rest (λ e. cc) h k)
 item_once before (item.Max e) after (item.Max f) rest h k p q = let s = aggregate_once key.Max before e after f rest h k in (ap item.Max s.0, s.1)
+item_once before (item.Value e) after y rest h k p q = absurd (Begins-not expression_starts (item_heads before y rest k).1 refl (IsExpr-starts h))
+item_once before x after (item.Value f) rest h k p q = absurd (Begins-not expression_starts (item_heads before x after h).1 refl (IsExpr-starts k))
+item_once before x after y rest h k p q = let s = (item_heads before x after h).1 in let t = (item_heads before y rest k).1 in absurd (cc)
 
 -- no item begins with `*`
 not_times : Symbols → Type 0
 not_times before = (next : Symbols) → IsSign before mark.Times next → ⊥
 
-aggregate_no_times : (k : Keyword) (before : Symbols) (x : Expr) (after next : Symbols) → IsAggregate k before x after → IsSign before mark.Times next → ⊥
-aggregate_no_times k before x after next (inside, w, h) t = cc
-
 item_begins : (before : Symbols) (x : Item) (after : Symbols) → IsItem before x after → not_times before
 unfolding not_times
 item_begins before (item.Value e) after h next t = Begins-not expression_starts t refl (IsExpr-starts h)
-item_begins before item.Count after h next t = cc
-item_begins before (item.Sum e) after h next t = aggregate_no_times key.Sum before e after next h t
-item_begins before (item.Min e) after h next t = aggregate_no_times key.Min before e after next h t
-item_begins before (item.Max e) after h next t = aggregate_no_times key.Max before e after next h t
+item_begins before x after h next t = let s = (item_heads before x after h).1 in cc
 
 pub items_no_times : (before next : Symbols) (xs : List Item) (after : Symbols) → Listed IsItem before xs after → IsSign before mark.Times next → ⊥
 unfolding not_times

@@ -37,10 +37,7 @@ abbrev pub IsSound : Symbol → Type 0
 IsSound (symbol.Name n) = IsPlain n
 IsSound (symbol.Number n) = (m : ℕ) × (n ≡ pos m) × (m < 2 ^ 63)
 IsSound (symbol.Text t) = IsUtf8 t
-IsSound symbol.TopNumber = ⊤
-IsSound symbol.Other = ⊤
-IsSound (symbol.Keyword k) = ⊤
-IsSound (symbol.Sign s) = ⊤
+IsSound s = ⊤
 
 abbrev pub AreSound : Symbols → Type 0
 AreSound symbols = AllByRecursion IsSound symbols
@@ -62,22 +59,16 @@ word_plain word free is =
     record { written = low; free = λ k e. absurd (free k (sym (name-lower (lower word) low) ∙ e)) }
 
 word_sound : (word : List ℕ) (s : Symbol) → IsWordSymbol word s → IsSound s
-word_sound word (symbol.Keyword k) h = tt
 word_sound word (symbol.Name n) h = subst IsPlain (sym h.2) (word_plain word h.0 h.1)
-word_sound word symbol.Other h = tt
 word_sound word (symbol.Number n) h = absurd h
-word_sound word symbol.TopNumber h = tt
 word_sound word (symbol.Text t) h = absurd h
-word_sound word (symbol.Sign s) h = tt
+word_sound word _ h = tt
 
 sign_sound : (word : List ℕ) (s : Symbol) → IsSignSymbol word s → IsSound s
-sign_sound word (symbol.Keyword k) h = tt
 sign_sound word (symbol.Name n) h = absurd h
-sign_sound word symbol.Other h = tt
 sign_sound word (symbol.Number n) h = absurd h
-sign_sound word symbol.TopNumber h = tt
 sign_sound word (symbol.Text t) h = absurd h
-sign_sound word (symbol.Sign s) h = tt
+sign_sound word _ h = tt
 
 token_sound : (kind : TokenKind) (word rest bytes : List ℕ) (s : Symbol) → IsToken kind word rest → IsSymbolOf bytes kind s → IsSound s
 token_sound token.Word word rest bytes s t h = word_sound bytes s h
@@ -119,11 +110,7 @@ keyword_plain k name e =
 name_plain : (s : Symbol) (name : List ℕ) → name_meant s ≡ Some name → IsSound s → IsPlain name
 name_plain (symbol.Name n) name e h = subst IsPlain (some_same n name e) h
 name_plain (symbol.Keyword k) name e h = keyword_plain k name e
-name_plain (symbol.Number n) name e h = absurd cc
-name_plain symbol.TopNumber name e h = absurd cc
-name_plain (symbol.Text t) name e h = absurd cc
-name_plain (symbol.Sign s) name e h = absurd cc
-name_plain symbol.Other name e h = absurd cc
+name_plain _ name e h = absurd cc
 
 pub name_gives : Gives IsName IsPlain
 name_gives before after name x h = let p = past x.stands h in (name_plain x.word name x.means p.0, p.1)
@@ -149,10 +136,7 @@ literal_normal (symbol.Number n) v e (m, is, small) =
     same_value (number_value n) v e (subst (λ (z : ℤ). IsNormalValue (number_value z)) (sym is) (value_normal (pos m) (record { sfits = small })))
 literal_normal (symbol.Text t) v e h = same_value (value.Str t) v e h
 literal_normal (symbol.Keyword k) v e h = keyword_literal k v e
-literal_normal (symbol.Name n) v e h = absurd cc
-literal_normal symbol.TopNumber v e h = absurd cc
-literal_normal (symbol.Sign s) v e h = absurd cc
-literal_normal symbol.Other v e h = absurd cc
+literal_normal _ v e h = absurd cc
 
 negative_number : (m : ℕ) → m < 2 ^ 63 → FitsSigned w64 (neg_ℤ (pos m))
 negative_number zero h = record { sfits = h }
@@ -163,11 +147,7 @@ negative_normal (symbol.Number n) v e (m, is, small) =
     let meant : negative_meant (symbol.Number (pos m)) ≡ Some v = ap (λ z. negative_meant (symbol.Number z)) (sym is) ∙ e in
     same_value (number_value (neg_ℤ (pos m))) v meant (value_normal (neg_ℤ (pos m)) (negative_number m small))
 negative_normal symbol.TopNumber v e h = same_value (value.Big (neg_ℤ (pos (2 ^ 63)))) v e (refl, record { sfits = omega arith })
-negative_normal (symbol.Text t) v e h = absurd cc
-negative_normal (symbol.Keyword k) v e h = absurd cc
-negative_normal (symbol.Name n) v e h = absurd cc
-negative_normal (symbol.Sign s) v e h = absurd cc
-negative_normal symbol.Other v e h = absurd cc
+negative_normal _ v e h = absurd cc
 
 pub literal_gives : Gives IsLiteral IsNormalValue
 literal_gives before after v (inl x) h = let p = past x.stands h in (literal_normal x.written v x.means p.0, p.1)

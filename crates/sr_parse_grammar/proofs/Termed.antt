@@ -83,38 +83,26 @@ greater_sign rest e = rw e refl
 pub operator_lexeme : (op : Binary) → IsLexeme (sign_word op) (operator op)
 operator_lexeme Or = record { kind = kind.Word; stands = λ rest apart. (refl, no_part rest apart); means = refl }
 operator_lexeme And = record { kind = kind.Word; stands = λ rest apart. (refl, no_part rest apart); means = refl }
-operator_lexeme Equal = record { kind = kind.Sign; stands = λ rest apart. refl; means = refl }
-operator_lexeme Unequal = record { kind = kind.Sign; stands = λ rest apart. refl; means = refl }
 operator_lexeme Less = record { kind = kind.Sign; stands = λ rest apart. less_sign rest (no_longer rest apart); means = refl }
-operator_lexeme AtMost = record { kind = kind.Sign; stands = λ rest apart. refl; means = refl }
 operator_lexeme Greater = record { kind = kind.Sign; stands = λ rest apart. greater_sign rest (no_equal rest apart); means = refl }
-operator_lexeme AtLeast = record { kind = kind.Sign; stands = λ rest apart. refl; means = refl }
-operator_lexeme Add = record { kind = kind.Sign; stands = λ rest apart. refl; means = refl }
 operator_lexeme Subtract = record { kind = kind.Sign; stands = λ rest apart. dash_sign rest (no_dash rest apart); means = refl }
-operator_lexeme Multiply = record { kind = kind.Sign; stands = λ rest apart. refl; means = refl }
+operator_lexeme _ = record { kind = kind.Sign; stands = λ rest apart. refl; means = refl }
 
 -- two operands and the operator between them
 operated : {room : ℕ} {before next after : Symbols} (op : Binary) {a b : Term}
     → Reads signed room before a (operator op ∷ next) → Reads signed room next b after → Reads disjunction room before (binary op a b) after
 operated Or a b = joined (at_disjunction a) (record { written = operator Or; stands = refl; means = refl }) (at_conjunction b)
 operated And a b = loose (joined (at_conjunction a) (record { written = operator And; stands = refl; means = refl }) (at_negation b))
-operated Equal a b = of_comparison (compared (at_sum a) (record { written = operator Equal; stands = refl; means = refl }) (at_sum b))
-operated Unequal a b = of_comparison (compared (at_sum a) (record { written = operator Unequal; stands = refl; means = refl }) (at_sum b))
-operated Less a b = of_comparison (compared (at_sum a) (record { written = operator Less; stands = refl; means = refl }) (at_sum b))
-operated AtMost a b = of_comparison (compared (at_sum a) (record { written = operator AtMost; stands = refl; means = refl }) (at_sum b))
-operated Greater a b = of_comparison (compared (at_sum a) (record { written = operator Greater; stands = refl; means = refl }) (at_sum b))
-operated AtLeast a b = of_comparison (compared (at_sum a) (record { written = operator AtLeast; stands = refl; means = refl }) (at_sum b))
 operated Add a b = of_sum (joined (at_sum a) (record { written = operator Add; stands = refl; means = refl }) (at_product b))
 operated Subtract a b = of_sum (joined (at_sum a) (record { written = operator Subtract; stands = refl; means = refl }) (at_product b))
 operated Multiply a b = of_sum (loose (joined (at_product a) (record { written = operator Multiply; stands = refl; means = refl }) b))
+operated op a b = of_comparison (compared (at_sum a) (record { written = operator op; stands = refl; means = refl }) (at_sum b))
 
 -- ---- terms
 
-depth-some : (t : Term) → 0 < depth t
+pub depth-some : (t : Term) → 0 < depth t
 depth-some (literal v) = omega arith
-depth-some (column t n) = omega arith
-depth-some (unary op a) = omega arith
-depth-some (binary op a b) = omega arith
+depth-some _ = omega arith
 
 column_read : (room : ℕ) (table : Option (List ℕ)) (name : List ℕ) → IsNormalTerm (column table name) → Spelt (Reads signed room) (column table name) (column_pieces table name)
 column_read room table name p ps after h = let c = column_spelt table name p ps after h in (c.0, c.1, loose (named c.2))

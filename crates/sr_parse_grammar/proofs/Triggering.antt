@@ -22,7 +22,7 @@ use Rattle.sr_parse_grammar.specs.Inner.Going.{Stop, Begins, is_dot, expression_
 use Rattle.sr_parse_grammar.proofs.Steps.{Stop-at, Begins-at, Stop-begins, IsName-once, Once, two_parts, six_parts}
 use Rattle.sr_parse_grammar.proofs.Expressing.{IsExpr-once, column_once}
 use Rattle.sr_parse_grammar.proofs.Lists.{End, Row-once, Any, NamesListed-once, IsNames-once}
-use Rattle.sr_parse_grammar.proofs.Selecting.{row_once}
+use Rattle.sr_parse_grammar.proofs.Selecting.{row_once, clash}
 use Rattle.sr_parse_grammar.proofs.Cataloguing.{kind_once}
 
 assigned_once : {before here after rest : Symbols} {a b : Option (List ℕ)} {n m : List ℕ} {e f : Expr} → before ≡ here → IsAssigned before a n e after → IsAssigned here b m f rest
@@ -80,10 +80,6 @@ deed_begins (inserts w h) = Begins-at is_act w refl
 deed_begins (tests w e t xs f) = Begins-at is_act w refl
 deed_begins (chooses w e t xs o ys f) = Begins-at is_act w refl
 
-clash : (before : Symbols) → Begins is_act before → Stop is_act before → ⊥
-clash [] b s = b
-clash (x ∷ before) b s = let e : true ≡ false = cc in cc
-
 abbrev Until : Amount → Symbols → Type 0
 Until one after = Stop expression_goes after
 Until many after = Stop is_act after
@@ -93,8 +89,8 @@ moved {a = a} {after = after} {xs = xs} e h = subst (λ (s : Symbols). Deeds a s
 
 deeds_once : {a : Amount} {before after rest : Symbols} {xs ys : List Action} → Deeds a before xs after → Deeds a before ys rest → Until a after → Until a rest → (xs ≡ ys) × (after ≡ rest)
 deeds_once finish finish p q = (refl, refl)
-deeds_once (finish {after = before}) (foremost d s others) p q = absurd (clash before (deed_begins d) p)
-deeds_once (foremost d s others) (finish {after = before}) p q = absurd (clash before (deed_begins d) q)
+deeds_once (finish {after = before}) (foremost d s others) p q = absurd (clash is_act before (deed_begins d) p)
+deeds_once (foremost d s others) (finish {after = before}) p q = absurd (clash is_act before (deed_begins d) q)
 deeds_once (foremost {here = here} d s others) (foremost {here = here'} d' s' others') p q =
     let x = deeds_once d d' (Stop-at expression_goes s refl) (Stop-at expression_goes s' refl) in
     let m = x.1 in let same : here ≡ here' = cc in
@@ -171,17 +167,11 @@ pub image_once : (x y : Image) → symbol.Keyword (image_word x) ≡ symbol.Keyw
 image_once Old Old e = refl
 image_once New New e = refl
 image_once Remote Remote e = refl
-image_once Old New e = absurd (cc)
-image_once Old Remote e = absurd (cc)
-image_once New Old e = absurd (cc)
-image_once New Remote e = absurd (cc)
-image_once Remote Old e = absurd (cc)
-image_once Remote New e = absurd (cc)
+image_once _ _ e = absurd (cc)
 
 pub image_is : (x : Image) → is_image (symbol.Keyword (image_word x)) ≡ true
 image_is Old = refl
-image_is New = refl
-image_is Remote = refl
+image_is _ = refl
 
 alias_once : Once IsAlias Any
 alias_once before x after y rest h k p q =

@@ -73,25 +73,19 @@ longer : {room : ℕ} {j : Level} {before middle next after : Symbols} {op : Bin
 longer (chain h more) o y = chain h (further more o y)
 
 loosened : (k : Tightness) {room : ℕ} {before after : Symbols} {t : Term} → Turn (spot_of (tighter k)) room before t after → Turn (spot_of k) room before t after
-loosened disjunction h = chain h stop
-loosened conjunction h = chain h stop
 loosened negation h = affirmed h
 loosened comparison h = measured h alone
-loosened sum h = chain h stop
-loosened product h = chain h stop
 loosened signed h = plain h
 loosened operand h = h
+loosened _ h = chain h stop
 
 lengthened : (k : Tightness) {room : ℕ} {before middle next after : Symbols} {op : Binary} {a b : Term}
     → Turn (spot_of k) room before a middle → Operator (joins k) middle op next → Turn (spot_of (tighter k)) room next b after → Turn (spot_of k) room before (binary op a b) after
-lengthened disjunction h o y = longer h o y
-lengthened conjunction h o y = longer h o y
 lengthened negation h o y = absurd (let m = o.means in cc)
 lengthened comparison h o y = absurd (let m = o.means in cc)
-lengthened sum h o y = longer h o y
-lengthened product h o y = longer h o y
 lengthened signed h o y = absurd (let m = o.means in cc)
 lengthened operand h o y = absurd (let m = o.means in cc)
+lengthened _ h o y = longer h o y
 
 pub turned_round : {k : Tightness} {room : ℕ} {before after : Symbols} {t : Term} → Reads k room before t after → Turn (spot_of k) room before t after
 turned_round (loose {k = k} h) = loosened k (turned_round h)

@@ -1,6 +1,6 @@
 -- Expressions of the grammar, from loose to tight.
 use Rattle.std.specs.Prelude.{◌≡◌, ℕ, ◌-◌, ◌<◌, ◌≤◌, List, ◌∷◌, Option, Some, None}
-use Rattle.sr_ast.specs.Terms.{Term, depth}
+use Rattle.sr_ast.specs.Terms.{Term, depth, deepest}
 use Rattle.sr_ast.specs.Terms.Term.{literal, column, unary, binary}
 use Rattle.sr_ast.specs.Exprs.{term_of}
 use Rattle.sr_ast.specs.declared.expr.Expr.{Expr}
@@ -95,5 +95,5 @@ pub data Reads : Tightness → ℕ → Symbols → Term → Symbols → Type 0 w
 
 -- a whole expression: at most 200 deep, with at most 200 parentheses open
 pub record IsExpr (before : Symbols) (e : Expr) (after : Symbols) : Type 0 where
-  pub reads : Reads disjunction 200 before (term_of e) after
-  pub shallow : depth (term_of e) ≤ 200
+  pub reads : Reads disjunction deepest before (term_of e) after
+  pub shallow : depth (term_of e) ≤ deepest

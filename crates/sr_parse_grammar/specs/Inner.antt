@@ -4,6 +4,7 @@ pub mod Forms
 pub mod Going
 pub mod Keywords
 pub mod Levels
+pub mod Made
 pub mod Meant
 pub mod Scripts
 pub mod Symbols

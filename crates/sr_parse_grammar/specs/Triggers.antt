@@ -12,6 +12,7 @@ use Rattle.sr_ast.specs.declared.create.Image.{Image}
 use Rattle.sr_ast.specs.declared.create.Image.TheVariants.{Old, New, Remote}
 use Rattle.sr_ast.specs.declared.keyword.Keyword.{Keyword}
 use Rattle.sr_ast.specs.declared.keyword.Keyword.TheVariants as key
+use Rattle.sr_ast.specs.Terms.{deepest}
 use Rattle.sr_parse_grammar.specs.declared.symbol.Sign.TheVariants as mark
 use Rattle.sr_parse_grammar.specs.Symbols.{Symbols, word, IsName, IsWord, IsSign}
 use Rattle.sr_parse_grammar.specs.Listing.{Listed, Row, IsNames}
@@ -123,5 +124,5 @@ pub record IsTrigger (before : Symbols) (c : CreateTrigger) (after : Symbols) : 
   pub aliases : AreAliases aliases_ c.aliases for_
   pub each : for_ ≡ word key.For ∷ word key.Each ∷ word key.Row ∷ word key.Begin ∷ variables_
   pub variables : Row IsVariable variables_ c.variables actions_
-  pub actions : IsActions 200 actions_ c.actions end_
+  pub actions : IsActions deepest actions_ c.actions end_
   pub end : IsWord end_ key.End after

@@ -43,10 +43,7 @@ spelt : (s : Symbol) (after : Symbols) → is_operand s ≡ true → Operand (s 
 spelt (symbol.Number n) after e = record { term = literal (number_value n); reads = λ room. single (inl (record { written = symbol.Number n; stands = refl; means = refl })); flat = refl }
 spelt (symbol.Text t) after e = record { term = literal (Str t); reads = λ room. single (inl (record { written = symbol.Text t; stands = refl; means = refl })); flat = refl }
 spelt (symbol.Name n) after e = record { term = column None n; reads = λ room. named (record { word = symbol.Name n; stands = refl; means = refl }); flat = refl }
-spelt (symbol.Keyword k) after e = absurd (cc)
-spelt symbol.TopNumber after e = absurd (cc)
-spelt (symbol.Sign s) after e = absurd (cc)
-spelt symbol.Other after e = absurd (cc)
+spelt _ after e = absurd (cc)
 
 operand_of : (level : Tightness) (before : Symbols) → IsAlone level before → Operand before
 operand_of level [] alone = absurd alone

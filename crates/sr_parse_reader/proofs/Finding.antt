@@ -16,7 +16,7 @@ use Rattle.sr_parse_reader.specs.declared.reader.Broken.TheVariants.{Memory, Ref
 use Rattle.sr_parse_reader.specs.declared.exprs.Room.{Room}
 use Rattle.sr_parse_reader.specs.declared.exprs.Sized.{Sized}
 use Rattle.sr_parse_grammar.specs.declared.level.Level.{Level}
-use Rattle.sr_parse_grammar.specs.declared.level.Level.TheVariants.{Or, And, Sum, Product}
+use Rattle.sr_parse_grammar.specs.declared.level.Level.TheVariants.{Or}
 use Rattle.sr_parse_grammar.specs.Symbols.{Symbols, first, IsName, IsWord, IsSign}
 use Rattle.sr_parse_grammar.specs.Inner.Symbols.{behind as rest_of}
 use Rattle.sr_parse_grammar.specs.Literals.{IsLiteral, negative_meant, begins_number}
@@ -29,6 +29,7 @@ use Rattle.sr_parse_reader.specs.Inner.Reading.{Gives}
 use Rattle.sr_parse_grammar.specs.Inner.Going.{Stop, goes_on, sum_goes, relation_goes, expression_goes}
 use Rattle.sr_parse_grammar.proofs.Steps.{Stop-at, Stop-begins, Stop-fewer, Begins-not}
 use Rattle.sr_parse_grammar.proofs.Turning.{Spot, beneath, Turn, turned_round}
+use Rattle.sr_parse_grammar.proofs.Termed.{depth-some}
 use Rattle.sr_parse_grammar.proofs.Turning.Spot.{whole, behind, denial, relation, tail, signing, atom}
 use Rattle.sr_parse_grammar.proofs.Turning.Turn.{chain, stop, step, refused, affirmed, measured, alone, against, tested, below, turned, plain, value, called, within}
 use Rattle.sr_parse_grammar.proofs.Following.{goes, joint_joins, relation_compares, sum_fewer, turn_starts, signed_starts, atom_starts}
@@ -51,9 +52,7 @@ Meant atom room before t after = Reads operand room before t after
 
 raised : (j : Level) (room : ℕ) (before : Symbols) (t : Term) (after : Symbols) → Meant (beneath j) room before t after → Reads (tighter (tightness j)) room before t after
 raised Or room before t after h = h
-raised And room before t after h = h
-raised Sum room before t after h = h
-raised Product room before t after h = h
+raised _ room before t after h = h
 
 pub turned_back : {p : Spot} {room : ℕ} {before after : Symbols} {t : Term} → Turn p room before t after → Meant p room before t after
 turned_back (chain {room = r} {j = j} {before = before} {middle = m} {a = a} h more) = turned_back more before (loose (raised j r before a m (turned_back h)))
@@ -80,9 +79,7 @@ deeper (step more_op y more) = let d = deeper more in omega (arith, d)
 -- what is read between the operators of a level
 beneath_stops : (j : Level) (after : Symbols) → Stop (goes (beneath j)) after → Stop (goes_on (tighter (tightness j))) after
 beneath_stops Or after h = h
-beneath_stops And after h = h
-beneath_stops Sum after h = h
-beneath_stops Product after h = h
+beneath_stops _ after h = h
 
 -- the first operand of a level, and what follows it
 pub record First (level : Level) (room limit : ℕ) (before : Symbols) (t : Term) (after : Symbols) : Type 0 where
@@ -95,9 +92,7 @@ pub record First (level : Level) (room limit : ℕ) (before : Symbols) (t : Term
 
 rounded : (level : Level) {room : ℕ} {before after : Symbols} {t : Term} → Reads (tightness level) room before t after → Turn (whole level) room before t after
 rounded Or h = turned_round h
-rounded And h = turned_round h
-rounded Sum h = turned_round h
-rounded Product h = turned_round h
+rounded _ h = turned_round h
 
 first_in : {level : Level} {room limit : ℕ} {before after : Symbols} {t : Term} → Turn (whole level) room before t after → depth t ≤ limit → Stop (goes_on (tightness level)) after → First level room limit before t after
 first_in (chain {room = r} {j = j} {before = b} {middle = m} {after = after} {a = a} h more) d s =
@@ -202,18 +197,11 @@ next_found {level = level} {inner = inner} {next = next} {left = left} {op = op}
     let read = finds n.part n.middle (subst (λ i. Reads (tighter (tightness level)) i next n.part n.middle) (sym p) n.reads) (omega (arith, less, r)) n.stops in
     moved_on (is ∙ ap (λ b. binary op left b) read.0) read.1 n.more
 
-some_depth : (t : Term) → 0 < depth t
-some_depth (literal v) = omega arith
-some_depth (column t n) = omega arith
-some_depth (unary op a) = omega arith
-some_depth (binary op a b) = omega arith
-
 -- ---- comparisons
 
 tail_deeper : {room : ℕ} {before after : Symbols} {a t : Term} → Turn (tail a) room before t after → depth a ≤ depth t
 tail_deeper alone = omega arith
-tail_deeper (against o y) = omega arith
-tail_deeper (tested w n) = omega arith
+tail_deeper _ = omega arith
 
 -- what a comparison still has to read behind its first sum
 abbrev pub Awaits : Room → Symbols → Symbols → Term → Type 0
@@ -358,7 +346,7 @@ under_depth u = ap depth u.is
 
 pub denied_refused : {room : Room} {before next : Symbols} (there : Symbols) → IsWord before key.Not next → room.depth < 2 → Finds negation room before there (Err Refused)
 denied_refused there w few = λ t after h d s.
-    let u = denied_in (turned_round h) w in let deep = under_depth u in let some = some_depth u.part in absurd (omega (arith, few, d, deep, some))
+    let u = denied_in (turned_round h) w in let deep = under_depth u in let some = depth-some u.part in absurd (omega (arith, few, d, deep, some))
 
 -- ---- a `-`
 
@@ -393,7 +381,7 @@ minus_in (plain h) m none = absurd (Begins-not atom_starts m refl (turn_starts h
 
 pub minus_refused : {room : Room} {before next : Symbols} (there : Symbols) → IsSign before sign.Minus next → begins_number next ≡ None → room.depth < 2 → Finds signed room before there (Err Refused)
 minus_refused there m none few = λ t after h d s.
-    let u = minus_in (turned_round h) m none in let deep = under_depth u in let some = some_depth u.part in absurd (omega (arith, few, d, deep, some))
+    let u = minus_in (turned_round h) m none in let deep = under_depth u in let some = depth-some u.part in absurd (omega (arith, few, d, deep, some))
 
 pub minus_fails : {room inner : Room} {before next : Symbols} (new there : Symbols) {e : Broken} → IsSign before sign.Minus next → begins_number next ≡ None → inner.depth + 1 ≡ room.depth → inner.parentheses ≡ room.parentheses
     → Finds signed inner next new (Err e) → Finds signed room before there (Err e)

@@ -16,15 +16,13 @@ use Rattle.sr_parse_grammar.proofs.Steps.{Begins-not}
 use Rattle.sr_parse_grammar.proofs.Following.{expression_starts}
 use Rattle.sr_parse_grammar.proofs.Expressing.{IsExpr-starts}
 use Rattle.sr_parse_reader.proofs.Lines.{Begun}
-use Rattle.sr_parse_grammar.proofs.Selecting.{join_word_begins, join_word_is, clash, items_no_times}
+use Rattle.sr_parse_grammar.proofs.Selecting.{join_word_begins, join_word_is, clash, items_no_times, item_heads}
 
 -- behind `COUNT`
 pub Item-count : {before next : Symbols} → IsWord before key.Count next → (x : Item) (rest : Symbols) → IsItem before x rest → (x ≡ item.Count) × (next ≡ sign mark.Open ∷ sign mark.Times ∷ sign mark.Close ∷ rest)
 Item-count w (item.Value e) rest h = absurd (Begins-not expression_starts w refl (IsExpr-starts h))
 Item-count w item.Count rest h = (refl, cc)
-Item-count w (item.Sum e) rest (at, v, h) = absurd (cc)
-Item-count w (item.Min e) rest (at, v, h) = absurd (cc)
-Item-count w (item.Max e) rest (at, v, h) = absurd (cc)
+Item-count {before = before} w x rest h = let s = (item_heads before x rest h).1 in absurd (cc)
 
 aggregate_here : (k : Keyword) {before next : Symbols} → IsWord before k next → (e : Expr) (rest : Symbols) → IsAggregate k before e rest → IsAggregated next e rest
 aggregate_here k {next = next} w e rest (at, v, h) = let same : next ≡ at = cc in subst (λ (b : Symbols). IsAggregated b e rest) (sym same) h
@@ -32,24 +30,18 @@ aggregate_here k {next = next} w e rest (at, v, h) = let same : next ≡ at = cc
 -- behind `SUM`, `MIN` and `MAX`
 pub Item-sum : {before next : Symbols} → IsWord before key.Sum next → (x : Item) (rest : Symbols) → IsItem before x rest → (e : Expr) × (x ≡ item.Sum e) × IsAggregated next e rest
 Item-sum w (item.Value e) rest h = absurd (Begins-not expression_starts w refl (IsExpr-starts h))
-Item-sum w item.Count rest h = absurd (cc)
 Item-sum w (item.Sum e) rest h = (e, refl, aggregate_here key.Sum w e rest h)
-Item-sum w (item.Min e) rest (at, v, h) = absurd (cc)
-Item-sum w (item.Max e) rest (at, v, h) = absurd (cc)
+Item-sum {before = before} w x rest h = let s = (item_heads before x rest h).1 in absurd (cc)
 
 pub Item-min : {before next : Symbols} → IsWord before key.Min next → (x : Item) (rest : Symbols) → IsItem before x rest → (e : Expr) × (x ≡ item.Min e) × IsAggregated next e rest
 Item-min w (item.Value e) rest h = absurd (Begins-not expression_starts w refl (IsExpr-starts h))
-Item-min w item.Count rest h = absurd (cc)
-Item-min w (item.Sum e) rest (at, v, h) = absurd (cc)
 Item-min w (item.Min e) rest h = (e, refl, aggregate_here key.Min w e rest h)
-Item-min w (item.Max e) rest (at, v, h) = absurd (cc)
+Item-min {before = before} w x rest h = let s = (item_heads before x rest h).1 in absurd (cc)
 
 pub Item-max : {before next : Symbols} → IsWord before key.Max next → (x : Item) (rest : Symbols) → IsItem before x rest → (e : Expr) × (x ≡ item.Max e) × IsAggregated next e rest
 Item-max w (item.Value e) rest h = absurd (Begins-not expression_starts w refl (IsExpr-starts h))
-Item-max w item.Count rest h = absurd (cc)
-Item-max w (item.Sum e) rest (at, v, h) = absurd (cc)
-Item-max w (item.Min e) rest (at, v, h) = absurd (cc)
 Item-max w (item.Max e) rest h = (e, refl, aggregate_here key.Max w e rest h)
+Item-max {before = before} w x rest h = let s = (item_heads before x rest h).1 in absurd (cc)
 
 -- behind `*`
 pub Items-all : {before next : Symbols} → IsSign before mark.Times next → (x : Items) (rest : Symbols) → IsItems before x rest → (x ≡ All) × (next ≡ rest)

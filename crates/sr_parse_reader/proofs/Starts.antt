@@ -25,19 +25,7 @@ use Rattle.sr_parse_reader.proofs.Parts.{Sample}
 
 is_mark : (s : Sign) → is_sign (sign_text s) [] ≡ true
 is_mark mark.Open = refl
-is_mark mark.Close = refl
-is_mark mark.Comma = refl
-is_mark mark.Semicolon = refl
-is_mark mark.Dot = refl
-is_mark mark.Plus = refl
-is_mark mark.Minus = refl
-is_mark mark.Times = refl
-is_mark mark.Equal = refl
-is_mark mark.Unequal = refl
-is_mark mark.Less = refl
-is_mark mark.AtMost = refl
-is_mark mark.Greater = refl
-is_mark mark.AtLeast = refl
+is_mark _ = refl
 
 pub meant_sign : (s : Sign) → IsMeant (sign s)
 meant_sign s = (sign_text s, token.Sign, is_mark s, refl)

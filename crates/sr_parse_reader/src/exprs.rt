@@ -2,7 +2,7 @@ ghost use Rattle.std.specs.Prelude.{◌≡◌, ◌+◌, ◌<◌, ◌≤◌, leng
 ghost use Rattle.std.specs.Option.{option_copied, option_and_then};
 ghost use Rattle.sr_ast.specs.Terms.Term.{unary, binary};
 ghost use Rattle.sr_ast.specs.Exprs.{term_of};
-ghost use Rattle.sr_ast.specs.Terms.{depth};
+ghost use Rattle.sr_ast.specs.Terms.{depth, deepest};
 ghost use Rattle.sr_parse_reader.specs.Inner.Reading.{Reading, Anywhere, mapped};
 ghost use Rattle.sr_parse_reader.specs.Inner.Productions.{Named, ReadsLevel};
 ghost use Rattle.sr_parse_reader.specs.Inner.Alone.{IsAlone, is_operand, is_loose};
@@ -15,7 +15,7 @@ ghost use Rattle.sr_parse_grammar.specs.Inner.Expressions.{IsDeep};
 ghost use Rattle.sr_parse_grammar.specs.Expressions.Tightness.{negation, comparison, signed, operand};
 
 use crate::reader::{Broken, Reader};
-use sr_ast::{Binary, Expr, Keyword, Operand, Unary};
+use sr_ast::{Binary, DEEPEST, Expr, Keyword, Operand, Unary};
 use sr_base::Value;
 use sr_base_dates::day_of;
 use sr_parse_grammar::{Level, Sign, Symbol};
@@ -29,8 +29,8 @@ pub struct Room {
 
 /// The room of an expression that stands in no other.
 pub const WHOLE: Room = Room {
-    depth: 200,
-    parentheses: 200,
+    depth: DEEPEST,
+    parentheses: DEEPEST,
 };
 
 /// An expression and its depth.
@@ -153,7 +153,7 @@ fn operator_at(level: Level, symbol: Option<&Symbol>) -> Option<Binary>
 }
 
 fn joined(reader: &Reader, operator: Binary, left: Sized, right: Sized) -> Result<Sized, Broken>
-    requires small { (left.depth ≤ 200) × (right.depth ≤ 200) }
+    requires small { (left.depth ≤ deepest) × (right.depth ≤ deepest) }
     ensures term { IfOk result (λ sized. term_of sized.expr ≡ binary operator (term_of left.expr) (term_of right.expr)) }
     ensures depth { IfOk result (λ sized. sized.depth ≡ max left.depth right.depth + 1) }
     ensures memory { IfErr result (λ e. e ≡ Memory) }
@@ -168,7 +168,7 @@ fn joined(reader: &Reader, operator: Binary, left: Sized, right: Sized) -> Resul
 }
 
 fn over(reader: &Reader, operator: Unary, operand: Sized) -> Result<Sized, Broken>
-    requires small { operand.depth ≤ 200 }
+    requires small { operand.depth ≤ deepest }
     ensures term { IfOk result (λ sized. term_of sized.expr ≡ unary operator (term_of operand.expr)) }
     ensures depth { IfOk result (λ sized. sized.depth ≡ operand.depth + 1) }
     ensures memory { IfErr result (λ e. e ≡ Memory) }
@@ -183,7 +183,7 @@ fn over(reader: &Reader, operator: Unary, operand: Sized) -> Result<Sized, Broke
 
 #[cycle(exprs)]
 fn chain(reader: &mut Reader, level: Level, room: Room) -> Result<Sized, Broken>
-    requires room { (0 < room.depth) × (room.depth ≤ 200) }
+    requires room { (0 < room.depth) × (room.depth ≤ deepest) }
     ensures deep { IfOk result (λ sized. IsDeep (term_of sized.expr) sized.depth room.depth) }
     ensures reads { ReadsLevel (tightness level) room reader.old reader.new result }
     ensures shorter { length reader.new ≤ length reader.old }
@@ -207,7 +207,7 @@ fn chain(reader: &mut Reader, level: Level, room: Room) -> Result<Sized, Broken>
 
 #[cycle(exprs)]
 fn part(reader: &mut Reader, level: Level, room: Room) -> Result<Sized, Broken>
-    requires room { (0 < room.depth) × (room.depth ≤ 200) }
+    requires room { (0 < room.depth) × (room.depth ≤ deepest) }
     ensures deep { IfOk result (λ sized. IsDeep (term_of sized.expr) sized.depth room.depth) }
     ensures reads { ReadsLevel (tighter (tightness level)) room reader.old reader.new result }
     ensures shorter { length reader.new ≤ length reader.old }
@@ -223,7 +223,7 @@ fn part(reader: &mut Reader, level: Level, room: Room) -> Result<Sized, Broken>
 
 #[cycle(exprs)]
 fn negation(reader: &mut Reader, room: Room) -> Result<Sized, Broken>
-    requires room { (0 < room.depth) × (room.depth ≤ 200) }
+    requires room { (0 < room.depth) × (room.depth ≤ deepest) }
     ensures deep { IfOk result (λ sized. IsDeep (term_of sized.expr) sized.depth room.depth) }
     ensures reads { ReadsLevel negation room reader.old reader.new result }
     ensures shorter { length reader.new ≤ length reader.old }
@@ -258,7 +258,7 @@ fn comparison_at(symbol: Option<&Symbol>) -> Option<Binary>
 
 #[cycle(exprs)]
 fn comparison(reader: &mut Reader, room: Room) -> Result<Sized, Broken>
-    requires room { (0 < room.depth) × (room.depth ≤ 200) }
+    requires room { (0 < room.depth) × (room.depth ≤ deepest) }
     ensures deep { IfOk result (λ sized. IsDeep (term_of sized.expr) sized.depth room.depth) }
     ensures reads { ReadsLevel comparison room reader.old reader.new result }
     ensures shorter { length reader.new ≤ length reader.old }
@@ -302,7 +302,7 @@ fn null_test(reader: &mut Reader) -> Result<Unary, Broken>
 
 #[cycle(exprs)]
 fn signed(reader: &mut Reader, room: Room) -> Result<Sized, Broken>
-    requires room { (0 < room.depth) × (room.depth ≤ 200) }
+    requires room { (0 < room.depth) × (room.depth ≤ deepest) }
     ensures deep { IfOk result (λ sized. IsDeep (term_of sized.expr) sized.depth room.depth) }
     ensures reads { ReadsLevel signed room reader.old reader.new result }
     ensures shorter { length reader.new ≤ length reader.old }
@@ -363,7 +363,7 @@ pub fn value_of(number: i64) -> Value
 
 #[cycle(exprs)]
 fn primary(reader: &mut Reader, room: Room) -> Result<Sized, Broken>
-    requires room { (0 < room.depth) × (room.depth ≤ 200) }
+    requires room { (0 < room.depth) × (room.depth ≤ deepest) }
     ensures deep { IfOk result (λ sized. IsDeep (term_of sized.expr) sized.depth room.depth) }
     ensures reads { ReadsLevel operand room reader.old reader.new result }
     ensures shorter { length reader.new ≤ length reader.old }

@@ -1,11 +1,12 @@
 -- A row is seen where it fits and some subscription holds it.
-use Rattle.std.proofs.Common.{◌≡◌, ℕ, Bool, true, false, ◌&&◌, ◌||◌, cond, List, [], ◌∷◌, Option, Some, None, is_some, option_map, find, filter_map, bytes_eq, refl, sym, ap, ap₂, subst, ◌∙◌}
+use Rattle.std.proofs.Common.{◌≡◌, ℕ, Bool, true, false, ◌&&◌, ◌||◌, cond, List, [], ◌∷◌, Option, Some, None, is_some, option_map, find, filter_map, bytes_eq, refl, sym, ap, ap₂, ◌∙◌}
 use Rattle.std.specs.List.{list_any, cons_option, AllByRecursion}
-use Rattle.std.proofs.lemmas.Bool.{and_parts, false_from_ne_true}
+use Rattle.std.proofs.lemmas.Bool.{false_from_ne_true}
 use Rattle.std.proofs.lemmas.Slice.Eq.{bytes_eq-Decides}
 use Rattle.sr_ast.specs.Exprs.{term_of}
 use Rattle.sr_ast.specs.declared.expr.Expr.{Expr}
 use Rattle.sr_base.specs.declared.value.Value.{Value as Cell}
+use Rattle.sr_base.proofs.Truths.{some_is}
 use Rattle.sr_catalog_ddl.specs.Subscriptions.{articles_of}
 use Rattle.sr_exec_dml.specs.Statements.{table_named}
 use Rattle.sr_catalog_script_laws.specs.Inner.Scripts.{IsMade}
@@ -23,9 +24,6 @@ use Rattle.sr_publish.specs.Inner.Laws.{values_in, holds_by, holds, IsTheSource}
 use Rattle.sr_publish.specs.SubscribedTables.{is_live, article_in, source_in, source_of, value_in, subscribed_table_by, subscribed_table_in, subscribed_table_of}
 use Rattle.sr_publish.specs.Views.{meets, by_value, equals, is_one_of, goes_to, is_in, shown, shown_in, seen}
 use Rattle.sr_publish.proofs.Sources.{source_parts, one_source}
-
-some_is : {A : Type 0} {x y : A} → Some x ≡ Some y → x ≡ y
-some_is e = cc
 
 -- ---- tests
 

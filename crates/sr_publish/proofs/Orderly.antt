@@ -1,9 +1,9 @@
 -- What a catalog keeps of tables and articles.
-use Rattle.std.proofs.Common.{◌≡◌, ◌≤◌, ◌⊎◌, inl, inr, ℕ, suc, Bool, true, false, not, ◌||◌, cond, List, [], ◌∷◌, ◌++◌, length, map, Option, Some, None, is_some, option_map, find, filter_map, position, slice_get, nat_eq, bytes_eq, refl, sym, ap, ap₂, subst, ◌∙◌, arith}
+use Rattle.std.proofs.Common.{◌≡◌, ◌≤◌, inl, inr, ℕ, suc, Bool, true, false, not, ◌||◌, cond, List, [], ◌∷◌, ◌++◌, length, map, Option, Some, None, is_some, find, filter_map, slice_get, nat_eq, bytes_eq, refl, sym, ap, ap₂, subst, ◌∙◌, arith}
 use Rattle.std.specs.Prelude.{nat_lt}
 use Rattle.std.specs.List.{list_any, cons_option, AllByRecursion, IsDistinct}
 use Rattle.std.specs.Cmp.{IsEquivalence}
-use Rattle.std.proofs.lemmas.Bool.{or_parts, or_cases, not-true, false_from_ne_true}
+use Rattle.std.proofs.lemmas.Bool.{or_parts, or_cases, false_from_ne_true}
 use Rattle.std.proofs.lemmas.Bool.Decides.{nat_tests}
 use Rattle.std.proofs.lemmas.List.{length-map}
 use Rattle.std.proofs.lemmas.Map.Made.{length-le_from_is_member}
@@ -11,9 +11,9 @@ use Rattle.std.proofs.lemmas.Slice.Eq.{bytes_eq-Decides}
 use Rattle.sr_ast.specs.declared.create.ArticleRule.{ArticleRule}
 use Rattle.sr_ast.specs.declared.create.ColumnRule.{ColumnRule}
 use Rattle.sr_ast.specs.declared.stmt.Stmt.TheVariants as stmt
-use Rattle.sr_catalog_ddl.specs.Publications.{twice_in_articles, taken_or_twice, absent_in, absent_in_table, absent_column, key_lacking, key_outside_columns, key_outside, table_in, create_publication_causes, columns_of, article_of, publication_of}
+use Rattle.sr_catalog_ddl.specs.Publications.{twice_in_articles, absent_in, key_lacking, key_outside, table_in, create_publication_causes, columns_of, article_of, publication_of}
 use Rattle.sr_catalog_ddl.specs.Subscriptions.{articles_of}
-use Rattle.sr_catalog_ddl.specs.Tables.{rule_name, column_of, table_of, create_table_causes}
+use Rattle.sr_catalog_ddl.specs.Tables.{rule_name, table_of, create_table_causes}
 use Rattle.sr_exec_dml.specs.Statements.{table_named}
 use Rattle.sr_logform.specs.Rules.{AreDistinct}
 use Rattle.sr_catalog_script_laws.specs.Inner.Scripts.{IsMade, column_rule, article_rule}
@@ -33,11 +33,9 @@ use Rattle.sr_catalog_schema.specs.declared.subscription.Subscription.{Subscript
 use Rattle.sr_catalog_schema.specs.declared.table.Column.{Column}
 use Rattle.sr_catalog_schema.specs.declared.table.Table.{Table}
 use Rattle.sr_publish.specs.Inner.Laws.{AreAt, HasKey, IsInOrder}
-use Rattle.sr_publish.specs.SubscribedTables.{SubscribedTable, is_live, article_in, source_in, source_of, subscribed_table_by, subscribed_table_in, subscribed_table_of}
+use Rattle.sr_publish.specs.SubscribedTables.{SubscribedTable, article_in, source_in, source_of, subscribed_table_by, subscribed_table_in, subscribed_table_of}
 use Rattle.sr_publish.proofs.Sources.{source_parts}
-
-some_is : {A : Type 0} {x y : A} → Some x ≡ Some y → x ≡ y
-some_is e = cc
+use Rattle.sr_base.proofs.Truths.{some_is}
 
 -- ---- names
 
@@ -116,14 +114,14 @@ absent_none there (n ∷ names) h =
 
 -- ---- finding
 
-found_in : {A : Type 0} (P : A → Type 0) (p : A → Bool) (xs : List A) (x : A) → AllByRecursion P xs → find p xs ≡ Some x → P x
+pub found_in : {A : Type 0} (P : A → Type 0) (p : A → Bool) (xs : List A) (x : A) → AllByRecursion P xs → find p xs ≡ Some x → P x
 found_in P p [] x all e = cc
 found_in P p (y ∷ xs) x all e = go (p y) e (found_in P p xs x all.1) where
   go : (b : Bool) → cond b (Some y) (find p xs) ≡ Some x → (find p xs ≡ Some x → P x) → P x
   go true h rest = subst P (some_is h) all.0
   go false h rest = rest h
 
-find_passes : {A : Type 0} (p : A → Bool) (xs : List A) (x : A) → find p xs ≡ Some x → p x ≡ true
+pub find_passes : {A : Type 0} (p : A → Bool) (xs : List A) (x : A) → find p xs ≡ Some x → p x ≡ true
 find_passes p [] x e = cc
 find_passes p (y ∷ xs) x e = go (p y) refl e (find_passes p xs x) where
   go : (b : Bool) → p y ≡ b → cond b (Some y) (find p xs) ≡ Some x → (find p xs ≡ Some x → p x ≡ true) → p x ≡ true

@@ -1,12 +1,10 @@
 -- A user has a table by one article alone, and a row is seen where a subscription holds it.
-use Rattle.std.proofs.Common.{◌≡◌, ℕ, Bool, true, false, ◌&&◌, ◌||◌, cond, List, [], ◌∷◌, map, Option, Some, None, is_some, option_map, find, filter_map, bytes_eq, refl, sym, ap, ap₂, subst, ◌∙◌}
+use Rattle.std.proofs.Common.{◌≡◌, ℕ, Bool, true, false, ◌||◌, cond, List, [], ◌∷◌, Option, Some, None, is_some, option_map, find, bytes_eq, refl, sym, ap, ap₂, ◌∙◌}
 use Rattle.std.specs.List.{list_any, AllByRecursion}
-use Rattle.std.proofs.lemmas.Bool.{and_parts, and_from, false_from_ne_true}
+use Rattle.std.proofs.lemmas.Bool.{and_parts}
 use Rattle.std.proofs.lemmas.Slice.Eq.{bytes_eq-Decides}
-use Rattle.sr_ast.specs.Exprs.{term_of}
-use Rattle.sr_ast.specs.declared.expr.Expr.{Expr}
 use Rattle.sr_ast.specs.declared.stmt.Stmt.TheVariants.{DropTable}
-use Rattle.sr_base.specs.declared.value.Value.{Value as Cell}
+use Rattle.sr_base.proofs.Truths.{some_is}
 use Rattle.sr_catalog_change.specs.Changes.{publication_names, is_used, drop_table_causes, refusal}
 use Rattle.sr_catalog_ddl.specs.Subscriptions.{articles_of, has_article}
 use Rattle.sr_exec_dml.specs.Statements.{table_named}
@@ -14,7 +12,7 @@ use Rattle.sr_catalog_script_laws.specs.Inner.Scripts.{IsMade, subscription_rule
 use Rattle.sr_catalog_script_laws.proofs.ReplayCauses.{where_true-None, no_cause_of}
 use Rattle.sr_catalog_script_laws.proofs.ReplayLists.{AllByRecursion-step, AllByRecursion-both, found_as_taken}
 use Rattle.sr_catalog_script_laws.proofs.ReplayNexts.{made_stands}
-use Rattle.sr_catalog_script_laws.proofs.Standing.{Clash, IsFree, Stands}
+use Rattle.sr_catalog_script_laws.proofs.Standing.{Clash, IsFree}
 use Rattle.sr_catalog_schema.specs.Catalogs.{Lists}
 use Rattle.sr_catalog_schema.specs.Firsts.{first_of, first_among}
 use Rattle.sr_catalog_schema.specs.Members.{publication_name}
@@ -23,13 +21,9 @@ use Rattle.sr_catalog_schema.specs.declared.publication.Article.{Article}
 use Rattle.sr_catalog_schema.specs.declared.publication.Publication.{Publication}
 use Rattle.sr_catalog_schema.specs.declared.subscription.Subscription.{Subscription}
 use Rattle.sr_catalog_schema.specs.declared.table.Table.{Table}
-use Rattle.sr_exec_fits.specs.Rows.{is_row}
-use Rattle.sr_publish.specs.Inner.Laws.{values_in, holds_by, holds, IsTheSource}
-use Rattle.sr_publish.specs.SubscribedTables.{SubscribedTable, is_live, article_in, source_in, source_of, value_in, subscribed_table_by, subscribed_table_in, subscribed_table_of}
-use Rattle.sr_publish.specs.Views.{meets, by_value, equals, is_one_of, goes_to, is_in, shown_in, seen}
-
-some_is : {A : Type 0} {x y : A} → Some x ≡ Some y → x ≡ y
-some_is e = cc
+use Rattle.sr_publish.specs.Inner.Laws.{holds, IsTheSource}
+use Rattle.sr_publish.specs.SubscribedTables.{is_live, article_in, source_in, source_of, subscribed_table_by, subscribed_table_in, subscribed_table_of}
+use Rattle.sr_publish.specs.Views.{seen}
 
 same_bytes : (a b : List ℕ) → bytes_eq a b ≡ true → a ≡ b
 same_bytes a b e = (bytes_eq-Decides a b).0 e
@@ -125,7 +119,7 @@ module _ (c : Lists) (user table : List ℕ) where
 
 -- ---- dropped tables
 
-none_of : {A : Type 0} (p : A → Bool) (xs : List A) → list_any p xs ≡ false → find p xs ≡ None
+pub none_of : {A : Type 0} (p : A → Bool) (xs : List A) → list_any p xs ≡ false → find p xs ≡ None
 none_of p [] e = refl
 none_of p (x ∷ xs) e = go (p x) e (none_of p xs) where
   go : (b : Bool) → (b || list_any p xs) ≡ false → (list_any p xs ≡ false → find p xs ≡ None) → cond b (Some x) (find p xs) ≡ None

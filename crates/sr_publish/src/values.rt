@@ -4,7 +4,7 @@ ghost use Rattle.std.specs.Prelude.{◌≡◌, IfOk, slice_get, unwrap_or};
 ghost use Rattle.std.specs.Ordering.{eq_by_cmp};
 ghost use Rattle.sr_base.specs.Order.{value_cmp};
 ghost use Rattle.sr_base.specs.declared.value.Value.TheVariants.{Null};
-ghost use Rattle.sr_exec_dml.specs.Statements.{key_of};
+ghost use Rattle.sr_exec_where.specs.Keys.{key_of};
 
 use sr_base::{Copied, NoMemory, Seq, Value};
 use std::alloc::{AllocError, Global};

@@ -16,7 +16,7 @@ use Rattle.sr_eval.specs.declared.bound.Bound.{Bound}
 use Rattle.sr_rows.specs.Marks.{RowMap, rows_of_table}
 use Rattle.sr_catalog_schema.specs.Catalogs.{Lists}
 use Rattle.sr_catalog_schema.specs.declared.fault.DmlFault.{DmlFault}
-use Rattle.sr_exec_dml.specs.Checks.{Scope}
+use Rattle.sr_exec_where.specs.Checks.{Scope}
 use Rattle.sr_exec_dml.specs.Inner.Edits.{prefixed}
 use Rattle.sr_exec_dml.specs.Sequences.{front, each}
 use Rattle.sr_exec_dml.proofs.Fitted.{prefixed-none}
@@ -24,7 +24,7 @@ use Rattle.sr_query.specs.Checks.{all_pass, are_distinct, are_good_items, is_agg
 use Rattle.sr_query.specs.Combinations.{combinations, kept, meets, over_each, with_kept}
 use Rattle.sr_query.specs.Inner.Candidates.{as_rows}
 use Rattle.sr_query.specs.Inner.Equations.{equations}
-use Rattle.sr_query.specs.Inner.Lookups.{fixed_key, over_one}
+use Rattle.sr_query.specs.Inner.Lookups.{equated_key, over_one}
 use Rattle.sr_query.specs.Inner.Walks.{IsAlone, IsJoined, bounds_of, found, seen}
 use Rattle.sr_query.specs.Sources.{Origin, alias_of, as_origin, conditions_of, origins_of, rows_by_key, sources_of, table_of}
 use Rattle.sr_query.specs.declared.joined.Combination.{Combination}
@@ -51,7 +51,7 @@ all_left rows scope conditions joined = ap (kept scope conditions) (each_alone (
 
 -- under a key that is fixed
 pub one_left : (rows : RowMap) (scope : Scope) (conditions : List Expr) (joined : Joined) (key : List Cell) → IsJoined rows joined → AndIsBoth
-    → fixed_key [] joined.scope (equations scope conditions) joined.table.now.key ≡ Some key
+    → equated_key [] joined.scope (equations scope conditions) joined.table.now.key ≡ Some key
     → kept scope conditions (combinations [] (seen rows joined ∷ [])) ≡ kept scope conditions (as_rows (rows_of_table rows joined.table.now.name key))
 one_left rows scope conditions joined key source both fixed =
     let found = rows_of_table rows joined.table.now.name key in

@@ -14,7 +14,7 @@ use Rattle.sr_exec_dml.specs.Sequences.{front}
 use Rattle.sr_exec_fits.proofs.Rows.{row_of}
 use Rattle.sr_query.specs.Combinations.{combinations, kept, over_each}
 use Rattle.sr_query.specs.Sources.{Origin, rows_by_key}
-use Rattle.sr_exec_dml.specs.Checks.{Scope}
+use Rattle.sr_exec_where.specs.Checks.{Scope}
 use Rattle.sr_query.specs.Inner.Walks.{IsJoined, AreJoined, seen}
 use Rattle.sr_query.specs.declared.joined.Joined.{Joined}
 

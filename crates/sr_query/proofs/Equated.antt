@@ -1,32 +1,23 @@
 -- A condition that is true on a combination has the columns of the key equal to what it fixes for them.
-use Rattle.std.proofs.Common.{◌≡◌, ◌&&◌, ◌||◌, Bool, true, false, cond, ℕ, zero, suc, ◌+◌, nat_eq, ℤ, List, [], ◌∷◌, ◌++◌, length, Option, Some, None}
-use Rattle.std.proofs.Common.{IsSome, unwrap_or, slice_get, ◌⊎◌, inl, inr, Result, Ok, refl, sym, ap, subst, arith, ◌∙◌}
+use Rattle.std.proofs.Common.{◌≡◌, Bool, true, false, cond, ℕ, zero, suc, ◌+◌, nat_eq, List, [], ◌∷◌, ◌++◌, length, Option, Some, None, IsSome, unwrap_or, slice_get, ◌⊎◌, inl, inr, Result, Ok, refl, sym, ap, subst, arith, ◌∙◌}
 use Rattle.std.specs.Option.{option_map}
-use Rattle.std.specs.declared.cmp.Ordering.{Ordering}
 use Rattle.std.specs.declared.cmp.Ordering.TheVariants.{Less, Equal, Greater}
-use Rattle.std.specs.Ordering.{is_eq, int_cmp, nat_cmp, ordering_then}
-use Rattle.std.specs.Cmp.Lexicographic.{slice_cmp}
-use Rattle.std.specs.FinMap.{int_cmp-IsAntisymmetric}
 use Rattle.std.proofs.lemmas.Bool.{eqb-true}
-use Rattle.std.proofs.lemmas.Map.Lookups.{exact_bytes}
 use Rattle.sr_base_dates.specs.Fitting.{fitted}
 use Rattle.sr_base.specs.Order.{compared}
 use Rattle.sr_base.specs.declared.value.Kind.{Kind}
 use Rattle.sr_base.specs.declared.value.Value.{Value}
-use Rattle.sr_base.specs.declared.value.Value.TheVariants.{Null, Int, Big, Str, Date}
+use Rattle.sr_base.specs.declared.value.Value.TheVariants.{Null}
 use Rattle.sr_ast.specs.Exprs.{term_of}
 use Rattle.sr_ast.specs.Terms.{Term}
 use Rattle.sr_ast.specs.Terms.Term.{literal as a_literal, column as a_column, unary as a_unary, binary as a_binary}
 use Rattle.sr_ast.specs.declared.expr.Expr.{Expr}
-use Rattle.sr_ast.specs.declared.operator.Unary.{Unary}
-use Rattle.sr_ast.specs.declared.operator.Unary.TheVariants.{Not, IsNull, IsNotNull, Negate}
 use Rattle.sr_ast.specs.declared.operator.Binary.{Binary}
 use Rattle.sr_ast.specs.declared.operator.Binary.TheVariants as op
 use Rattle.sr_eval.specs.Bounds.{IsRowOf}
-use Rattle.sr_eval.specs.Comparisons.{tested}
 use Rattle.sr_eval.specs.Inner.Laws.{AndIsBoth}
 use Rattle.sr_eval.specs.Meanings.{Meaning, meaning, binary_meaning, of_both, is_true}
-use Rattle.sr_eval.specs.Meanings.Meaning.{value, truth}
+use Rattle.sr_eval.specs.Meanings.Meaning.{value}
 use Rattle.sr_eval.specs.Inner.Resolutions.{Resolution, meaning_at, at_place as at_resolution}
 use Rattle.sr_eval.specs.Inner.Resolutions.Resolution.{literal, place, unary, binary}
 use Rattle.sr_ast.specs.Uses.{is_plain}
@@ -34,61 +25,22 @@ use Rattle.sr_ast.specs.Inner.Classes.{place_of}
 use Rattle.sr_eval.proofs.Plain.{plain_have_values}
 use Rattle.sr_eval.proofs.Places.{resolved_meaning}
 use Rattle.sr_catalog_schema.specs.declared.fault.DmlFault.{DmlFault}
-use Rattle.sr_exec_dml.specs.Checks.{Scope}
-use Rattle.sr_exec_dml.specs.Inner.Fixing.{with_value}
-use Rattle.sr_exec_dml.specs.Sequences.{or_else}
-use Rattle.sr_exec_dml.specs.Statements.{key_of, tested as tested_meaning}
+use Rattle.sr_exec_where.specs.Checks.{Scope}
+use Rattle.sr_exec_where.specs.Inner.Fixing.{with_value}
+use Rattle.sr_catalog_schema.specs.Firsts.{first_of}
+use Rattle.sr_exec_where.specs.Keys.{key_of}
+use Rattle.sr_exec_dml.specs.Statements.{tested as tested_meaning}
+use Rattle.sr_exec_where.proofs.Fixed.{fitted_alike, equal_order}
+use Rattle.sr_base.proofs.Truths.{both_true}
 use Rattle.sr_query.specs.Combinations.{meets, and_then}
 use Rattle.sr_query.specs.Inner.Equations.{Equation, of_column, of_sides, side_in, equations_binary, equations_in, equations}
-use Rattle.sr_query.specs.Inner.Lookups.{held_as, known_value, equated_one, equated, fixed_value, fixed_key}
+use Rattle.sr_query.specs.Inner.Lookups.{fitted_or_given, known_value, equated_one, equated, fixed_value, equated_key}
 
 abbrev Key : Type 0
 Key = List Value
 
--- values that compare as equal fit a column alike
-same_first : (a b : Ordering) → ordering_then a b ≡ Equal → a ≡ Equal
-same_first Less b h = cc
-same_first Equal b h = refl
-same_first Greater b h = cc
-
-same_number : (n m : ℤ) → ◌≡◌ {A = Option Ordering} (Some (ordering_then (int_cmp n m) Equal)) (Some Equal) → n ≡ m
-same_number n m h = let e : ordering_then (int_cmp n m) Equal ≡ Equal = cc in int_cmp-IsAntisymmetric n m (same_first (int_cmp n m) Equal e)
-
-same_text : (s t : List ℕ) → ◌≡◌ {A = Option Ordering} (Some (slice_cmp nat_cmp s t)) (Some Equal) → s ≡ t
-same_text s t h = let e : slice_cmp nat_cmp s t ≡ Equal = cc in exact_bytes s t e
-
-fitted_alike : (a b : Value) (k : Kind) → compared a b ≡ Some Equal → fitted a k ≡ fitted b k
-fitted_alike Null b k h = cc
-fitted_alike (Int n) Null k h = cc
-fitted_alike (Int n) (Int m) k h = ap (λ x. fitted (Int x) k) (same_number n m h)
-fitted_alike (Int n) (Big m) k h = ap (λ x. fitted (Big x) k) (same_number n m h)
-fitted_alike (Int n) (Str t) k h = cc
-fitted_alike (Int n) (Date d) k h = cc
-fitted_alike (Big n) Null k h = cc
-fitted_alike (Big n) (Int m) k h = ap (λ x. fitted (Int x) k) (same_number n m h)
-fitted_alike (Big n) (Big m) k h = ap (λ x. fitted (Big x) k) (same_number n m h)
-fitted_alike (Big n) (Str t) k h = cc
-fitted_alike (Big n) (Date d) k h = cc
-fitted_alike (Str s) Null k h = cc
-fitted_alike (Str s) (Int m) k h = cc
-fitted_alike (Str s) (Big m) k h = cc
-fitted_alike (Str s) (Str t) k h = ap (λ x. fitted (Str x) k) (same_text s t h)
-fitted_alike (Str s) (Date d) k h = cc
-fitted_alike (Date c) Null k h = cc
-fitted_alike (Date c) (Int m) k h = cc
-fitted_alike (Date c) (Big m) k h = cc
-fitted_alike (Date c) (Str t) k h = cc
-fitted_alike (Date c) (Date d) k h = ap (λ x. fitted (Date x) k) (same_number c d h)
-
-held_is : (v w : Value) (k : Kind) → fitted w k ≡ Some w → fitted v k ≡ fitted w k → w ≡ held_as k v
+held_is : (v w : Value) (k : Kind) → fitted w k ≡ Some w → fitted v k ≡ fitted w k → w ≡ fitted_or_given k v
 held_is v w k fits alike = ap (λ o. unwrap_or o v) (sym fits ∙ sym alike)
-
--- an equation that is true has equal sides
-equal_order : (o : Option Ordering) → is_true (Some (truth (tested is_eq o))) ≡ true → o ≡ Some Equal
-equal_order None h = cc
-equal_order (Some Less) h = cc
-equal_order (Some Equal) h = refl
-equal_order (Some Greater) h = cc
 
 equal_sides : (m n : Option Meaning) (x v : Value) → m ≡ Some (value x) → n ≡ Some (value v) → is_true (of_both (binary_meaning op.Equal) m n) ≡ true
     → compared x v ≡ Some Equal
@@ -96,10 +48,6 @@ equal_sides m n x v is_m is_n h =
     equal_order (compared x v)
     (sym (ap (λ o. is_true (of_both (binary_meaning op.Equal) o n)) is_m
     ∙ ap (λ o. is_true (of_both (binary_meaning op.Equal) (Some (value x)) o)) is_n) ∙ h)
-
-both_true : (a b : Bool) → (a && b) ≡ true → (a ≡ true) × (b ≡ true)
-both_true true b h = (refl, h)
-both_true false b h = cc
 
 -- what stands at a place, or NULL where there is nothing
 abbrev pub at_place : Key → ℕ → Value
@@ -243,7 +191,7 @@ module _ (scope columns : Scope) (values row others : Key) (fits : IsRowOf colum
 
   module _ (n : ℕ) (c : Option (List ℕ) × List ℕ × Kind) (there : slice_get columns n ≡ Some c) where
     abbrev Holds : Value → Type 0
-    Holds v = at_place row n ≡ held_as c.2 v
+    Holds v = at_place row n ≡ fitted_or_given c.2 v
 
     one_is : (e : Equation) (v : Value) → AreAlike (at_place all_here e.0) (side_value scope all_here and_is_both e.1) → equated_one values n e ≡ Some v → Holds v
     one_is e v so h = go (nat_eq e.0 (length values + n)) refl h where
@@ -258,7 +206,7 @@ module _ (scope columns : Scope) (values row others : Key) (fits : IsRowOf colum
     equated_is : (es : List Equation) (v : Value) → AreSoHere es → equated values n es ≡ Some v → Holds v
     equated_is [] v so h = cc
     equated_is (e ∷ es) v so h = go (equated_one values n e) refl h (equated_is es v so.1) where
-      go : (o : Option Value) → equated_one values n e ≡ o → or_else o (equated values n es) ≡ Some v → (equated values n es ≡ Some v → Holds v) → Holds v
+      go : (o : Option Value) → equated_one values n e ≡ o → first_of o (equated values n es) ≡ Some v → (equated values n es ≡ Some v → Holds v) → Holds v
       go None is k rest = rest k
       go (Some w) is k rest = let same : w ≡ v = cc in one_is e v so.0 (is ∙ ap Some same)
 
@@ -266,14 +214,14 @@ module _ (scope columns : Scope) (values row others : Key) (fits : IsRowOf colum
       → fixed_value values es n o ≡ Some w → at_place row n ≡ w
   value_is es n None w so there h = cc
   value_is es n (Some c) w so there h = go (equated values n es) refl h where
-    go : (o : Option Value) → equated values n es ≡ o → option_map (held_as c.2) o ≡ Some w → at_place row n ≡ w
+    go : (o : Option Value) → equated values n es ≡ o → option_map (fitted_or_given c.2) o ≡ Some w → at_place row n ≡ w
     go None e k = cc
-    go (Some v) e k = let same : held_as c.2 v ≡ w = cc in equated_is n c there es v so e ∙ same
+    go (Some v) e k = let same : fitted_or_given c.2 v ≡ w = cc in equated_is n c there es v so e ∙ same
 
   -- the row stands under the key that equations fix which say what is so
-  key_by : (es : List Equation) (places : List ℕ) (key : Key) → AreSoHere es → fixed_key values columns es places ≡ Some key → key_of places row ≡ key
+  key_by : (es : List Equation) (places : List ℕ) (key : Key) → AreSoHere es → equated_key values columns es places ≡ Some key → key_of places row ≡ key
   key_by es [] key so h = cc
-  key_by es (n ∷ places) key so h = go (fixed_value values es n (slice_get columns n)) (fixed_key values columns es places) refl
+  key_by es (n ∷ places) key so h = go (fixed_value values es n (slice_get columns n)) (equated_key values columns es places) refl
       (λ ws. key_by es places ws so) h where
         go : (v : Option Value) (rest : Option Key) → fixed_value values es n (slice_get columns n) ≡ v
             → ((ws : Key) → rest ≡ Some ws → key_of places row ≡ ws) → with_value v rest ≡ Some key → key_of (n ∷ places) row ≡ key
@@ -286,6 +234,6 @@ module _ (scope columns : Scope) (values row others : Key) (fits : IsRowOf colum
             (λ i. here i ∷ there i) ∙ is
 
   -- the conditions are not met, or the row stands under the key that they fix
-  pub key_is : (es : List Expr) (places : List ℕ) (key : Key) → fixed_key values columns (equations scope es) places ≡ Some key
+  pub key_is : (es : List Expr) (places : List ℕ) (key : Key) → equated_key values columns (equations scope es) places ≡ Some key
       → (meets scope es all_here ≡ Ok false) ⊎ (key_of places row ≡ key)
   key_is es places key h = elim (by_conditions scope all_here and_is_both es) [ inl n ↦ inl n | inr so ↦ inr (key_by (equations scope es) places key so h) ]

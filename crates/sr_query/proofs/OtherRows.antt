@@ -1,7 +1,6 @@
 -- The rows of a source under another key than the one that the conditions fix stand in no combination that is kept.
 use Rattle.std.specs.FinMap.{find}
-use Rattle.std.proofs.Common.{◌≡◌, ◌≢◌, Bool, true, false, cond, map, List, [], ◌∷◌, ◌++◌, Some, inl, inr, Result, Ok, Err}
-use Rattle.std.proofs.Common.{MatchResult, refl, sym, ap, subst, ◌∙◌}
+use Rattle.std.proofs.Common.{◌≡◌, ◌≢◌, Bool, true, false, cond, map, List, [], ◌∷◌, ◌++◌, Some, inl, inr, Result, Ok, Err, MatchResult, refl, sym, ap, subst, ◌∙◌}
 use Rattle.std.proofs.lemmas.List.{append-nil, append_assoc}
 use Rattle.std.specs.List.{AllByRecursion}
 use Rattle.std.specs.Ordering.{is_eq}
@@ -17,7 +16,7 @@ use Rattle.sr_rows.specs.Inner.Walks.{Rises}
 use Rattle.sr_rows.proofs.Listing.{each_found, get-table_rows, table_rows-rise}
 use Rattle.sr_catalog_schema.specs.declared.fault.DmlFault.{DmlFault}
 use Rattle.sr_catalog_schema.specs.declared.fault.DmlFault.TheVariants.{Memory}
-use Rattle.sr_exec_dml.specs.Checks.{Scope}
+use Rattle.sr_exec_where.specs.Checks.{Scope}
 use Rattle.sr_exec_dml.specs.Inner.Edits.{prefixed}
 use Rattle.sr_exec_dml.specs.Holding.{under, one_of}
 use Rattle.sr_exec_dml.proofs.Folding.{itself}
@@ -25,7 +24,7 @@ use Rattle.sr_exec_dml.proofs.Outcomes.{above_same, row_under}
 use Rattle.sr_query.specs.Combinations.{combinations, kept, meets, over_each, with_kept}
 use Rattle.sr_query.specs.Inner.Combinations.{Keeps}
 use Rattle.sr_query.specs.Inner.Equations.{equations}
-use Rattle.sr_query.specs.Inner.Lookups.{fixed_key, over_one}
+use Rattle.sr_query.specs.Inner.Lookups.{equated_key, over_one}
 use Rattle.sr_query.specs.Sources.{Origin}
 use Rattle.sr_query.specs.Inner.Walks.{IsJoined, seen}
 use Rattle.sr_query.specs.declared.joined.Joined.{Joined}
@@ -94,7 +93,7 @@ module _ (scope : Scope) (conditions : List Expr) where
 -- the same of a source whose key is fixed
 module _ (rows : RowMap) (scope : Scope) (conditions : List Expr) (bounds : List Bound) (joined : Joined) (after : List Joined) (key : Key)
     (source : IsJoined rows joined) (and_is_both : AndIsBoth)
-    (fixed : fixed_key (values_of bounds) joined.scope (equations scope conditions) joined.table.now.key ≡ Some key) where
+    (fixed : equated_key (values_of bounds) joined.scope (equations scope conditions) joined.table.now.key ≡ Some key) where
   abbrev entries : List Entry
   entries = table_rows rows joined.table.now.name
 

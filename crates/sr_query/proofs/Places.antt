@@ -10,7 +10,7 @@ use Rattle.sr_eval.specs.Inner.Bounds.{values_of}
 use Rattle.sr_eval.specs.declared.bound.Bound.{Bound}
 use Rattle.sr_eval.specs.Meanings.{value_at}
 use Rattle.sr_eval.proofs.Places.{found_at-place, value_found}
-use Rattle.sr_exec_dml.specs.Checks.{Scope}
+use Rattle.sr_exec_where.specs.Checks.{Scope}
 use Rattle.sr_query.specs.Orders.{rank_of, ranks_of}
 use Rattle.sr_query.specs.Inner.Orders.{at_place, placed_in, ranks_at}
 

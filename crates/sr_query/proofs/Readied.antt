@@ -13,12 +13,12 @@ use Rattle.sr_eval.proofs.Places.{resolved_meaning}
 use Rattle.sr_eval.specs.Meanings.{meaning}
 use Rattle.sr_eval.specs.Inner.Resolutions.{Resolution}
 use Rattle.sr_eval.specs.Inner.Resolving.{resolution_of}
-use Rattle.sr_exec_dml.specs.Checks.{Scope}
+use Rattle.sr_exec_where.specs.Checks.{Scope}
 use Rattle.sr_exec_dml.specs.Sequences.{front, each}
 use Rattle.sr_exec_dml.specs.Statements.{tested}
 use Rattle.sr_query.specs.Combinations.{meets, and_then}
 use Rattle.sr_query.specs.Inner.Equations.{equation_of, equations}
-use Rattle.sr_query.specs.Inner.Lookups.{fixed_key}
+use Rattle.sr_query.specs.Inner.Lookups.{equated_key}
 use Rattle.sr_query.specs.Orders.{ranks_of}
 use Rattle.sr_query.specs.Inner.Orders.{placed_in}
 use Rattle.sr_query.specs.Inner.Preparing.{resolved_in, IsPrepared, meets_at, value_by, resolved_item, resolved_items, row_by, placed_row}
@@ -44,8 +44,8 @@ met_by p values h = ap (meets_at values) h.conditions ∙ meets_same p.scope.now
 
 -- the key that they fix for a source
 pub fixed_by : (p : Prepared) (values : List Value) (columns : Scope) (places : List ℕ) → IsPrepared p
-    → fixed_key values columns (map equation_of p.equations) places ≡ fixed_key values columns (equations p.scope.now (conditions_of p.select.now)) places
-fixed_by p values columns places h = ap (λ es. fixed_key values columns es places) h.equations
+    → equated_key values columns (map equation_of p.equations) places ≡ equated_key values columns (equations p.scope.now (conditions_of p.select.now)) places
+fixed_by p values columns places h = ap (λ es. equated_key values columns es places) h.equations
 
 -- the value of an expression
 value_same : (scope : Scope) (e : Expr) (values : List Value) → value_by (resolved_in scope e) values ≡ value_in scope e values

@@ -11,7 +11,7 @@ use Rattle.sr_eval.specs.Inner.Resolutions.{Resolution, meaning_at}
 use Rattle.sr_eval.specs.Numbers.{big_of}
 use Rattle.sr_catalog_schema.specs.declared.fault.DmlFault.{DmlFault}
 use Rattle.sr_catalog_schema.specs.declared.fault.DmlFault.TheVariants.{Overflow}
-use Rattle.sr_exec_dml.specs.Checks.{Scope}
+use Rattle.sr_exec_where.specs.Checks.{Scope}
 use Rattle.sr_exec_dml.specs.Sequences.{front, each, followed}
 use Rattle.sr_exec_dml.specs.Statements.{tested}
 use Rattle.sr_query.specs.Combinations.{kept, meets, and_then, with_kept}

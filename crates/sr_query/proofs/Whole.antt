@@ -14,7 +14,7 @@ use Rattle.sr_eval.specs.declared.bound.Bound.{Bound}
 use Rattle.sr_rows.specs.Marks.{RowMap}
 use Rattle.sr_catalog_schema.specs.Catalogs.{Lists}
 use Rattle.sr_catalog_schema.specs.declared.fault.DmlFault.{DmlFault}
-use Rattle.sr_exec_dml.specs.Checks.{Scope}
+use Rattle.sr_exec_where.specs.Checks.{Scope}
 use Rattle.sr_exec_dml.specs.Inner.Edits.{prefixed}
 use Rattle.sr_exec_dml.specs.Sequences.{each, followed}
 use Rattle.sr_exec_dml.specs.Statements.{in_order}

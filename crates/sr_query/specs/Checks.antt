@@ -17,8 +17,8 @@ use Rattle.sr_ast.specs.declared.query.Join.{Join}
 use Rattle.sr_ast.specs.declared.query.OrderBy.{OrderBy}
 use Rattle.sr_ast.specs.declared.query.Select.{Select}
 use Rattle.sr_ast.specs.Uses.{gives_value, gives_truth}
-use Rattle.sr_exec_dml.specs.Checks.{Scope, unknown_in, is_among}
-use Rattle.sr_exec_dml.specs.Sequences.{or_else, first_in}
+use Rattle.sr_exec_where.specs.Checks.{Scope, unknown_in, is_among}
+use Rattle.sr_catalog_schema.specs.Firsts.{first_of, first_among}
 use Rattle.sr_query.specs.Sources.{sources_of, conditions_of, alias_of}
 
 -- the leftmost unknown column of an item
@@ -32,7 +32,7 @@ unknown_in_item scope (item.Max e) = unknown_in scope e
 -- of the items
 abbrev pub unknown_in_items : Scope → Items → Option (List ℕ)
 unknown_in_items scope items.All = None
-unknown_in_items scope (items.Each list) = first_in (unknown_in_item scope) list
+unknown_in_items scope (items.Each list) = first_among (unknown_in_item scope) list
 
 -- a column of ORDER BY that is not there
 abbrev pub no_kind : List ℕ → Option Kind → Option (List ℕ)
@@ -45,7 +45,7 @@ unknown_in_order scope o = no_kind o.column (kind_of scope o.table o.column)
 -- the leftmost unknown column: of the items, the conditions, ORDER BY
 abbrev pub unknown_in_select : Scope → Select → Option (List ℕ)
 unknown_in_select scope s =
-    or_else (unknown_in_items scope s.items) (or_else (first_in (unknown_in scope) (conditions_of s)) (first_in (unknown_in_order scope) s.order))
+    first_of (unknown_in_items scope s.items) (first_of (first_among (unknown_in scope) (conditions_of s)) (first_among (unknown_in_order scope) s.order))
 
 -- whether a reference means two of these columns. No table has a column twice, so they are of two sources
 abbrev pub means_two : Scope → Option (List ℕ) → List ℕ → Bool

@@ -5,7 +5,7 @@ use Rattle.sr_ast.specs.Exprs.{term_of}
 use Rattle.sr_ast.specs.declared.expr.Expr.{Expr}
 use Rattle.sr_eval.specs.Meanings.{meaning}
 use Rattle.sr_catalog_schema.specs.declared.fault.DmlFault.{DmlFault}
-use Rattle.sr_exec_dml.specs.Checks.{Scope}
+use Rattle.sr_exec_where.specs.Checks.{Scope}
 use Rattle.sr_exec_dml.specs.Sequences.{front}
 use Rattle.sr_exec_dml.specs.Statements.{tested}
 use Rattle.sr_query.specs.Sources.{Origin}

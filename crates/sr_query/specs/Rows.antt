@@ -1,6 +1,5 @@
 -- The rows that a SELECT answers: the items of each combination, or the aggregates over all of them.
-use Rattle.std.specs.Prelude.{◌+ℤ◌, ℤ, pos, Bool, true, false, cond, List, [], ◌∷◌, length, Option, Some, None, Result, Ok}
-use Rattle.std.specs.Prelude.{Err}
+use Rattle.std.specs.Prelude.{◌+ℤ◌, ℤ, pos, Bool, true, false, cond, List, [], ◌∷◌, length, Option, Some, None, Result, Ok, Err}
 use Rattle.std.specs.List.{list_any}
 use Rattle.std.specs.Ordering.{is_lt}
 use Rattle.sr_base.specs.declared.value.Value.{Value as Cell}
@@ -17,7 +16,7 @@ use Rattle.sr_eval.specs.Meanings.{Meaning, meaning, cell_of}
 use Rattle.sr_eval.specs.Numbers.{big_of}
 use Rattle.sr_catalog_schema.specs.declared.fault.DmlFault.{DmlFault}
 use Rattle.sr_catalog_schema.specs.declared.fault.DmlFault.TheVariants.{Overflow}
-use Rattle.sr_exec_dml.specs.Checks.{Scope}
+use Rattle.sr_exec_where.specs.Checks.{Scope}
 use Rattle.sr_exec_dml.specs.Sequences.{each, followed}
 use Rattle.sr_query.specs.Checks.{is_aggregate}
 use Rattle.sr_query.specs.Orders.{ranks_of}

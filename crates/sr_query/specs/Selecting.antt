@@ -5,7 +5,7 @@ use Rattle.sr_ast.specs.declared.query.Select.{Select}
 use Rattle.sr_rows.specs.Marks.{RowMap}
 use Rattle.sr_catalog_schema.specs.Catalogs.{Lists}
 use Rattle.sr_catalog_schema.specs.declared.fault.DmlFault.{DmlFault}
-use Rattle.sr_exec_dml.specs.Checks.{Scope}
+use Rattle.sr_exec_where.specs.Checks.{Scope}
 use Rattle.sr_exec_dml.specs.Sequences.{followed}
 use Rattle.sr_exec_dml.specs.Statements.{in_order}
 use Rattle.sr_query.specs.Checks.{unknown_in_select, is_good}
@@ -19,11 +19,15 @@ use Rattle.sr_query.specs.Sources.{Origin, sources_of, conditions_of, origins_of
 abbrev pub bad_in_select : Scope → Select → Option (List ℕ)
 bad_in_select scope s = cond (is_good scope s) None (Some s.source.table)
 
+-- the combinations of rows of sources that meet the conditions of a statement
+abbrev pub kept_from : Scope → Select → List Origin → Result (List (List Cell)) DmlFault
+kept_from scope s origins = kept scope (conditions_of s) (combinations [] origins)
+
 -- the rows of the sources that are there: a filter of all combinations, and of each that is kept the items
 abbrev pub selected_from : List Origin → Select → Result (List Listed) DmlFault
 selected_from origins s =
     in_order (unknown_in_select (scope_of origins) s) (bad_in_select (scope_of origins) s)
-    (followed (kept (scope_of origins) (conditions_of s) (combinations [] origins)) (listed (scope_of origins) s.items s.order))
+    (followed (kept_from (scope_of origins) s origins) (listed (scope_of origins) s.items s.order))
 
 -- the rows of a SELECT with their ranks, before they are put in order, or the first refusal
 abbrev pub selected : Lists → RowMap → Select → Result (List Listed) DmlFault

@@ -11,7 +11,7 @@ use Rattle.sr_catalog_schema.specs.Catalogs.{Lists}
 use Rattle.sr_catalog_schema.specs.declared.table.Table.{Table}
 use Rattle.sr_catalog_schema.specs.declared.fault.DmlFault.{DmlFault}
 use Rattle.sr_catalog_schema.specs.declared.fault.DmlFault.TheVariants.{NoTable}
-use Rattle.sr_exec_dml.specs.Checks.{Scope}
+use Rattle.sr_exec_where.specs.Checks.{Scope}
 use Rattle.sr_exec_dml.specs.Sequences.{each}
 use Rattle.sr_exec_dml.specs.Statements.{table_named}
 

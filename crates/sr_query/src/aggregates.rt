@@ -1,11 +1,12 @@
-ghost use Rattle.std.specs.Prelude.{◌≡◌, ◌≢◌, ◌∷◌, [], map, Ok, Err, MatchResult};
-ghost use Rattle.sr_exec_dml.specs.Inner.Conditions.{Answers};
+ghost use Rattle.std.specs.Prelude.{◌∷◌, [], map};
+ghost use Rattle.sr_exec_dml.specs.Inner.Conditions.{Answers, AnswersBy};
 ghost use Rattle.sr_exec_dml.specs.Sequences.{each, followed};
-ghost use Rattle.sr_query.specs.Combinations.{combinations, kept};
+ghost use Rattle.sr_query.specs.Combinations.{combinations};
 ghost use Rattle.sr_query.specs.Inner.Preparing.{IsPrepared};
-ghost use Rattle.sr_query.specs.Inner.Tallies.{Takes, each_over, tallied, told_of};
+ghost use Rattle.sr_query.specs.Inner.Tallies.{Takes, TakesAll, told_of};
 ghost use Rattle.sr_query.specs.Inner.Walks.{IsJoined, seen};
 ghost use Rattle.sr_query.specs.Rows.{aggregate, alone};
+ghost use Rattle.sr_query.specs.Selecting.{kept_from};
 ghost use Rattle.sr_query.specs.Sources.{conditions_of};
 
 use crate::candidates::candidates_of;
@@ -32,12 +33,8 @@ pub(crate) fn aggregated(
 ) -> Result<Vec<Listed>, DmlFault>
     requires source { IsJoined rows.now.rows joined.now }
     requires prepared { IsPrepared prepared.now }
-    ensures answer { MatchResult result
-        (λ found. followed (kept prepared.now.scope.now (conditions_of prepared.now.select.now) (combinations [] (seen rows.now.rows joined.now ∷ [])))
-        (λ rows_kept. alone (each (aggregate prepared.now.scope.now rows_kept) items.now)) ≡ Ok found.items)
-        (λ fault. fault ≢ DmlFault.Memory
-        → followed (kept prepared.now.scope.now (conditions_of prepared.now.select.now) (combinations [] (seen rows.now.rows joined.now ∷ [])))
-        (λ rows_kept. alone (each (aggregate prepared.now.scope.now rows_kept) items.now)) ≡ Err fault) }
+    ensures answer { AnswersBy result (λ found. found.items)
+        (followed (kept_from prepared.now.scope.now prepared.now.select.now (seen rows.now.rows joined.now ∷ [])) (λ rows_kept. alone (each (aggregate prepared.now.scope.now rows_kept) items.now))) }
 {
     let row = aggregates(alloc, rows, prepared, items, joined)?;
     let mut listed = Vec::new(alloc);
@@ -58,8 +55,7 @@ fn aggregates(
     requires source { IsJoined rows.now.rows joined.now }
     requires prepared { IsPrepared prepared.now }
     ensures answer { Answers result
-        (followed (kept prepared.now.scope.now (conditions_of prepared.now.select.now) (combinations [] (seen rows.now.rows joined.now ∷ [])))
-        (λ rows_kept. each (aggregate prepared.now.scope.now rows_kept) items.now)) }
+        (followed (kept_from prepared.now.scope.now prepared.now.select.now (seen rows.now.rows joined.now ∷ [])) (λ rows_kept. each (aggregate prepared.now.scope.now rows_kept) items.now)) }
 {
     let mut tallies = tallies_of(alloc, prepared.scope, items)?;
     take_rows(alloc, rows, prepared, joined, tallies.as_mut_slice())?;
@@ -76,11 +72,8 @@ fn take_rows(
 ) -> Result<(), DmlFault>
     requires source { IsJoined rows.now.rows joined.now }
     requires prepared { IsPrepared prepared.now }
-    ensures answer { MatchResult result
-        (λ _. tallied prepared.now.scope.now (conditions_of prepared.now.select.now) (map told_of tallies.old)
-        (combinations [] (seen rows.now.rows joined.now ∷ [])) ≡ each_over (map told_of tallies.new) [])
-        (λ fault. fault ≢ DmlFault.Memory → tallied prepared.now.scope.now (conditions_of prepared.now.select.now) (map told_of tallies.old)
-        (combinations [] (seen rows.now.rows joined.now ∷ [])) ≡ Err fault) }
+    ensures answer { TakesAll result prepared.now.scope.now (conditions_of prepared.now.select.now) (map told_of tallies.old)
+        (combinations [] (seen rows.now.rows joined.now ∷ [])) (map told_of tallies.new) }
 {
     let mut left = candidates_of(alloc, rows, prepared, joined)?;
     'rows: while let Some(row) = left.next() {

@@ -7,7 +7,7 @@ ghost use Rattle.sr_query.specs.Inner.Preparing.{IsPrepared};
 ghost use Rattle.sr_query.specs.Inner.Walks.{IsJoined, seen};
 ghost use Rattle.sr_query.specs.Sources.{conditions_of};
 
-use crate::fixing::fixed_key;
+use crate::fixing::equated_key;
 use crate::joined::Joined;
 use crate::prepared::Prepared;
 use sr_base::{NoMemory, Row};
@@ -55,7 +55,7 @@ pub(crate) fn candidates_of<'a>(
         (combinations [] (seen rows.now.rows joined.now ∷ [])) ≡ kept prepared.now.scope.now (conditions_of prepared.now.select.now) (rows_left found)) }
 {
     and_holds_where_both_hold();
-    match fixed_key(alloc, prepared, &[], joined)? {
+    match equated_key(alloc, prepared, &[], joined)? {
         Some(key) => Ok(Candidates::One(rows.get(&joined.table.name, &key))),
         None => Ok(Candidates::All(rows.walk(&joined.table.name))),
     }

@@ -13,7 +13,7 @@ ghost use Rattle.sr_query.specs.Sources.{conditions_of, rows_by_key};
 ghost use Rattle.sr_query.specs.Inner.Walks.{IsJoined, AreJoined, columns_left, found, seen};
 ghost use Rattle.sr_rows.specs.Marks.{rows_of_table};
 
-use crate::fixing::fixed_key;
+use crate::fixing::equated_key;
 use crate::joined::{Combination, Joined};
 use crate::lists::push;
 use crate::prepared::Prepared;
@@ -48,7 +48,7 @@ pub(crate) fn walk<'a>(
         return keep(alloc, prepared, combination.as_slice(), kept);
     };
     and_holds_where_both_hold();
-    match fixed_key(alloc, prepared, combination.as_slice(), joined)? {
+    match equated_key(alloc, prepared, combination.as_slice(), joined)? {
         Some(key) => walk_at(
             alloc,
             rows,

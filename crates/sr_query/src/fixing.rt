@@ -2,7 +2,7 @@ ghost use Rattle.std.specs.Prelude.{◌≡◌, ◌+◌, IfOk, length, map, nat_e
 ghost use Rattle.std.specs.Option.{option_copied};
 ghost use Rattle.sr_eval.specs.Inner.Bounds.{values_of};
 ghost use Rattle.sr_query.specs.Inner.Equations.{equation_of, equations, side_of};
-ghost use Rattle.sr_query.specs.Inner.Lookups.{equated, equated_one, fixed_key, fixed_value, held_as, known_value};
+ghost use Rattle.sr_query.specs.Inner.Lookups.{equated, equated_one, equated_key, fixed_value, fitted_or_given, known_value};
 ghost use Rattle.sr_query.specs.Inner.Preparing.{IsPrepared};
 ghost use Rattle.sr_query.specs.Sources.{conditions_of};
 
@@ -19,14 +19,14 @@ use std::alloc::Global;
 /// The key that the conditions fix for a source, once those before it have their rows. It goes over the equations once for each column of
 /// the key. No name is looked for.
 #[tactic(auto, using(crate::proofs::Readied::fixed_by))]
-pub(crate) fn fixed_key(
+pub(crate) fn equated_key(
     alloc: Global,
     prepared: &Prepared,
     before: &[Bound],
     joined: &Joined,
 ) -> Result<Option<Key>, NoMemory>
     requires prepared { IsPrepared prepared.now }
-    ensures key { IfOk result (λ found. found ≡ fixed_key (values_of before.now) joined.now.scope
+    ensures key { IfOk result (λ found. found ≡ equated_key (values_of before.now) joined.now.scope
         (equations prepared.now.scope.now (conditions_of prepared.now.select.now)) joined.now.table.now.key) }
 {
     let equations = prepared.equations.as_slice();
@@ -59,12 +59,12 @@ fn fixed_value<'a>(
     let Some(value) = equated(equations, before, place) else {
         return Ok(None);
     };
-    Ok(Some(held_as(column.2, value.copy(alloc)?)))
+    Ok(Some(fitted_or_given(column.2, value.copy(alloc)?)))
 }
 
 /// What a column of a type holds that is equal to a value. A value that does not fit it is given back: no row has an equal one.
-fn held_as(kind: Kind, value: Value) -> Value
-    ensures { result ≡ held_as kind value }
+fn fitted_or_given(kind: Kind, value: Value) -> Value
+    ensures { result ≡ fitted_or_given kind value }
 {
     match fit(value, kind) {
         Ok(held) => held,

@@ -1,10 +1,11 @@
 //! The rows of the only source of a statement that meet its conditions: each is tested, and kept, where it is come to.
 
-ghost use Rattle.std.specs.Prelude.{◌≡◌, ◌≢◌, ◌∷◌, [], Ok, Err, MatchResult};
-ghost use Rattle.sr_query.specs.Combinations.{combinations, kept};
+ghost use Rattle.std.specs.Prelude.{◌∷◌, []};
+ghost use Rattle.sr_exec_dml.specs.Inner.Conditions.{AnswersBy};
 ghost use Rattle.sr_query.specs.Inner.Combinations.{Keeps};
 ghost use Rattle.sr_query.specs.Inner.Preparing.{IsPrepared};
 ghost use Rattle.sr_query.specs.Inner.Walks.{IsJoined, found, seen};
+ghost use Rattle.sr_query.specs.Selecting.{kept_from};
 ghost use Rattle.sr_query.specs.Sources.{conditions_of};
 
 use crate::candidates::candidates_of;
@@ -28,11 +29,7 @@ pub(crate) fn kept_rows<'a>(
 ) -> Result<Vec<Combination<'a>>, DmlFault>
     requires source { IsJoined rows.now.rows joined.now }
     requires prepared { IsPrepared prepared.now }
-    ensures answer { MatchResult result
-        (λ found_now. kept prepared.now.scope.now (conditions_of prepared.now.select.now) (combinations [] (seen rows.now.rows joined.now ∷ []))
-        ≡ Ok (found found_now.items))
-        (λ fault. fault ≢ DmlFault.Memory
-        → kept prepared.now.scope.now (conditions_of prepared.now.select.now) (combinations [] (seen rows.now.rows joined.now ∷ [])) ≡ Err fault) }
+    ensures answer { AnswersBy result (λ found_now. found found_now.items) (kept_from prepared.now.scope.now prepared.now.select.now (seen rows.now.rows joined.now ∷ [])) }
 {
     let mut kept = Vec::new(alloc);
     let mut left = candidates_of(alloc, rows, prepared, joined)?;

@@ -3,7 +3,7 @@ ghost use Rattle.std.specs.List.{list_any};
 ghost use Rattle.sr_base.specs.declared.value.Kind.{Kind as ColumnKind};
 ghost use Rattle.sr_ast.specs.Exprs.{term_of};
 ghost use Rattle.sr_ast.specs.Classes.{is_meant};
-ghost use Rattle.sr_exec_dml.specs.Checks.{is_among};
+ghost use Rattle.sr_exec_where.specs.Checks.{is_among};
 ghost use Rattle.sr_ast.specs.declared.query.Join.{Join as OfJoin};
 ghost use Rattle.sr_query.specs.Checks.{means_two, is_ambiguous, are_distinct};
 ghost use Rattle.sr_query.specs.Sources.{alias_of, sources_of};

@@ -1,12 +1,11 @@
-ghost use Rattle.std.specs.Prelude.{◌≡◌, ◌≢◌, [], map, None, Ok, Err, MatchResult};
-ghost use Rattle.sr_exec_dml.specs.Inner.Conditions.{RowsFit};
-ghost use Rattle.sr_exec_dml.specs.Sequences.{each, first_in, followed};
+ghost use Rattle.std.specs.Prelude.{◌≡◌, map, None};
+ghost use Rattle.sr_exec_dml.specs.Inner.Conditions.{AnswersBy, RowsFit, Tells};
+ghost use Rattle.sr_catalog_schema.specs.Firsts.{first_among};
+ghost use Rattle.sr_exec_dml.specs.Sequences.{each, followed};
 ghost use Rattle.sr_query.specs.Inner.Preparing.{IsPrepared};
 ghost use Rattle.sr_query.specs.Checks.{is_good, unknown_in_order, unknown_in_select};
-ghost use Rattle.sr_query.specs.Combinations.{combinations, kept};
 ghost use Rattle.sr_query.specs.Rows.{listed, listed_row};
-ghost use Rattle.sr_query.specs.Selecting.{selected, Answered};
-ghost use Rattle.sr_query.specs.Sources.{conditions_of};
+ghost use Rattle.sr_query.specs.Selecting.{kept_from, selected, Answered};
 ghost use Rattle.sr_query.specs.Inner.Walks.{AreJoined, IsAlone, columns_left, found, seen};
 
 use crate::aggregates::aggregated;
@@ -41,8 +40,8 @@ pub fn select(
     stmt: &Select,
 ) -> Result<Vec<Row>, DmlFault>
     requires rows { RowsFit catalog.now rows.now.rows }
-    ensures answer { MatchResult result (λ found. Answered (selected catalog.now rows.now.rows stmt.now) found.items)
-        (λ fault. fault ≢ DmlFault.Memory → selected catalog.now rows.now.rows stmt.now ≡ Err fault) }
+    ensures answer { Tells result (λ found. Answered (selected catalog.now rows.now.rows stmt.now) found.items)
+        (selected catalog.now rows.now.rows stmt.now) }
 {
     let listed = selected(alloc, catalog, rows, stmt)?;
     Ok(ordered(alloc, listed)?)
@@ -56,8 +55,7 @@ fn selected(
     stmt: &Select,
 ) -> Result<Vec<Listed>, DmlFault>
     requires rows { RowsFit catalog.now rows.now.rows }
-    ensures answer { MatchResult result (λ listed. selected catalog.now rows.now.rows stmt.now ≡ Ok listed.items)
-        (λ fault. fault ≢ DmlFault.Memory → selected catalog.now rows.now.rows stmt.now ≡ Err fault) }
+    ensures answer { AnswersBy result (λ listed. listed.items) (selected catalog.now rows.now.rows stmt.now) }
 {
     let joined = joined_sources(alloc, catalog, rows, stmt)?;
     let scope = scope_of(alloc, joined.as_slice())?;
@@ -84,12 +82,8 @@ fn answered<'a>(
     requires scope { columns_left joined.now ≡ scope.now }
     requires joined { AreJoined rows.now.rows joined.now }
     requires alone { IsAlone select.now.items joined.now }
-    ensures answer { MatchResult result
-        (λ found. followed (kept scope.now (conditions_of select.now) (combinations [] (map (seen rows.now.rows) joined.now)))
-        (listed scope.now select.now.items select.now.order) ≡ Ok found.items)
-        (λ fault. fault ≢ DmlFault.Memory
-        → followed (kept scope.now (conditions_of select.now) (combinations [] (map (seen rows.now.rows) joined.now)))
-        (listed scope.now select.now.items select.now.order) ≡ Err fault) }
+    ensures answer { AnswersBy result (λ found. found.items)
+        (followed (kept_from scope.now select.now (map (seen rows.now.rows) joined.now)) (listed scope.now select.now.items select.now.order)) }
 {
     let prepared = Prepared {
         select,
@@ -119,12 +113,8 @@ fn each_listed<'a>(
     requires scope { columns_left joined.now ≡ prepared.now.scope.now }
     requires joined { AreJoined rows.now.rows joined.now }
     requires prepared { IsPrepared prepared.now }
-    ensures answer { MatchResult result
-        (λ found. followed (kept prepared.now.scope.now (conditions_of prepared.now.select.now) (combinations [] (map (seen rows.now.rows) joined.now)))
-        (each (listed_row prepared.now.scope.now prepared.now.select.now.items prepared.now.select.now.order)) ≡ Ok found.items)
-        (λ fault. fault ≢ DmlFault.Memory
-        → followed (kept prepared.now.scope.now (conditions_of prepared.now.select.now) (combinations [] (map (seen rows.now.rows) joined.now)))
-        (each (listed_row prepared.now.scope.now prepared.now.select.now.items prepared.now.select.now.order)) ≡ Err fault) }
+    ensures answer { AnswersBy result (λ found. found.items)
+        (followed (kept_from prepared.now.scope.now prepared.now.select.now (map (seen rows.now.rows) joined.now)) (each (listed_row prepared.now.scope.now prepared.now.select.now.items prepared.now.select.now.order))) }
 {
     let kept = kept(alloc, rows, prepared, joined)?;
     listed_rows(
@@ -146,11 +136,7 @@ fn kept<'a>(
     requires scope { columns_left joined.now ≡ prepared.now.scope.now }
     requires joined { AreJoined rows.now.rows joined.now }
     requires prepared { IsPrepared prepared.now }
-    ensures answer { MatchResult result
-        (λ found_now. kept prepared.now.scope.now (conditions_of prepared.now.select.now) (combinations [] (map (seen rows.now.rows) joined.now))
-        ≡ Ok (found found_now.items))
-        (λ fault. fault ≢ DmlFault.Memory
-        → kept prepared.now.scope.now (conditions_of prepared.now.select.now) (combinations [] (map (seen rows.now.rows) joined.now)) ≡ Err fault) }
+    ensures answer { AnswersBy result (λ found_now. found found_now.items) (kept_from prepared.now.scope.now prepared.now.select.now (map (seen rows.now.rows) joined.now)) }
 {
     match joined {
         [one] => kept_rows(alloc, rows, prepared, one),
@@ -168,11 +154,7 @@ fn kept_of_several<'a>(
     requires scope { columns_left joined.now ≡ prepared.now.scope.now }
     requires joined { AreJoined rows.now.rows joined.now }
     requires prepared { IsPrepared prepared.now }
-    ensures answer { MatchResult result
-        (λ found_now. kept prepared.now.scope.now (conditions_of prepared.now.select.now) (combinations [] (map (seen rows.now.rows) joined.now))
-        ≡ Ok (found found_now.items))
-        (λ fault. fault ≢ DmlFault.Memory
-        → kept prepared.now.scope.now (conditions_of prepared.now.select.now) (combinations [] (map (seen rows.now.rows) joined.now)) ≡ Err fault) }
+    ensures answer { AnswersBy result (λ found_now. found found_now.items) (kept_from prepared.now.scope.now prepared.now.select.now (map (seen rows.now.rows) joined.now)) }
 {
     let mut combination = Vec::new(alloc);
     let mut kept = Vec::new(alloc);

@@ -1,7 +1,7 @@
 ghost use Rattle.std.specs.Prelude.{◌≡◌, ◌++◌, map, IfOk};
 ghost use Rattle.std.specs.Option.{option_copied};
-ghost use Rattle.sr_exec_dml.specs.Checks.{unknown_in};
-ghost use Rattle.sr_exec_dml.specs.Sequences.{first_in};
+ghost use Rattle.sr_exec_where.specs.Checks.{unknown_in};
+ghost use Rattle.sr_catalog_schema.specs.Firsts.{first_among};
 ghost use Rattle.sr_query.specs.Checks.{unknown_in_item, unknown_in_items, unknown_in_order, unknown_in_select};
 ghost use Rattle.sr_query.specs.Sources.{conditions_of};
 
@@ -36,7 +36,7 @@ fn unknown_in_items(alloc: Global, scope: &Scope, items: &Items) -> Result<Optio
 }
 
 fn unknown_in_list(alloc: Global, scope: &Scope, items: &[Item]) -> Result<Option<Name>, NoMemory>
-    ensures unknown { IfOk result (λ found. found ≡ first_in (unknown_in_item scope.now) items.now) }
+    ensures unknown { IfOk result (λ found. found ≡ first_among (unknown_in_item scope.now) items.now) }
 {
     let mut left = items;
     'items: while let Some((item, rest)) = left.split_first() {
@@ -65,7 +65,7 @@ fn unknown_in_conditions(
     scope: &Scope,
     select: &Select,
 ) -> Result<Option<Name>, NoMemory>
-    ensures unknown { IfOk result (λ found. found ≡ first_in (unknown_in scope.now) (conditions_of select.now)) }
+    ensures unknown { IfOk result (λ found. found ≡ first_among (unknown_in scope.now) (conditions_of select.now)) }
 {
     let mut left = select.joins.as_slice();
     'joins: while let Some((join, rest)) = left.split_first() {
@@ -85,7 +85,7 @@ fn unknown_in_orders(
     scope: &Scope,
     order: &[OrderBy],
 ) -> Result<Option<Name>, NoMemory>
-    ensures unknown { IfOk result (λ found. found ≡ first_in (unknown_in_order scope.now) order.now) }
+    ensures unknown { IfOk result (λ found. found ≡ first_among (unknown_in_order scope.now) order.now) }
 {
     let mut left = order;
     'order: while let Some((by, rest)) = left.split_first() {

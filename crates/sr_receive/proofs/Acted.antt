@@ -30,7 +30,7 @@ statement_publisher : (s : State) (statement : Stmt) → (with_statement stateme
 unfolding with_statement
 statement_publisher s statement = publisher_next s.catalog statement
 
-done_publisher : (d : Done) (s : State) → (after_done d s).catalog.publisher ≡ s.catalog.publisher
+pub done_publisher : (d : Done) (s : State) → (after_done d s).catalog.publisher ≡ s.catalog.publisher
 done_publisher (plain op changes) s = refl
 done_publisher (ran statement changes) s = statement_publisher (with_changes changes s) statement
 done_publisher (conflict op inserts before after) s = refl
@@ -65,7 +65,7 @@ few_taken old db before now user acts some reached =
 
 -- ---- fetches
 
-quiet_both : (more behind : List Happening) → AreQuiet more → AreQuiet behind → AreQuiet (more ++ behind)
+pub quiet_both : (more behind : List Happening) → AreQuiet more → AreQuiet behind → AreQuiet (more ++ behind)
 quiet_both [] behind one two = two
 quiet_both (attached name folder done ∷ more) behind one two = absurd one
 quiet_both (wrote file place bytes done after ∷ more) behind one two = absurd one

@@ -7,10 +7,10 @@ use Rattle.sr_database.specs.Databases.{IsOf, IsHeld, IsDatabase}
 use Rattle.sr_database.specs.Rooms.{HaveRoom}
 use Rattle.sr_database.specs.Views.{View, committed}
 use Rattle.sr_database.proofs.Rooms.{rooms_on}
-use Rattle.sr_database_history.specs.Fitting.{Knows}
-use Rattle.sr_database_history.specs.Folds.{State, fresh, next, state_from, state_of, size, end_from, end_of}
+use Rattle.sr_database.proofs.Commits.{committed_is}
+use Rattle.sr_database_history.specs.Folds.{State, fresh, state_from, end_of}
 use Rattle.sr_database_history.specs.Recorded.{Recorded}
-use Rattle.sr_database_history.proofs.Granted.{stays_known}
+use Rattle.sr_database_history.proofs.Granted.{known_from}
 use Rattle.sr_database_history.proofs.Joined.{state_from-append, end_from-append}
 use Rattle.sr_catalog_schema.specs.Members.{user_name}
 use Rattle.sr_catalog_schema.specs.Names.{named}
@@ -112,19 +112,12 @@ ready_quiet view before now ready stays had = ready_then view view before now []
 
 -- ---- the state after entries
 
-pub committed_is : (view : View) (publisher : Name) (es : List Recorded) → IsOf view publisher es → committed view ≡ state_of publisher es
-committed_is view publisher es is = λ i. record { catalog = is.catalog i; rows = is.marked i }
-
 pub state_then : (old new : View) (before now : Seen) (entries : List Recorded) → IsReady old before → Reached old new before now entries [] → committed new ≡ state_from (committed old) entries
 state_then old new before now entries ready reached =
     let some = ready.some in
     committed_is new some.publisher (some.es ++ entries) (reached.value reached.state.0 some.publisher some.es some.is)
     ∙ state_from-append (fresh some.publisher) some.es entries
     ∙ ap (λ (s : State). state_from s entries) (sym (committed_is old some.publisher some.es some.is))
-
-known_from : (s : State) (rs : List Recorded) (user : Name) → Knows s user → Knows (state_from s rs) user
-known_from s [] user knows = knows
-known_from s (r ∷ rs) user knows = known_from (next s r) rs user (stays_known s r user knows)
 
 -- who is granted stays so
 pub known_then : (old new : View) (before now : Seen) (entries : List Recorded) (user : Name) → IsReady old before → Reached old new before now entries [] → IsSome (named user_name user old.catalog.users)

@@ -33,7 +33,8 @@ use Rattle.sr_receive_gather.specs.declared.fault.ReceiveFault.{ReceiveFault}
 use Rattle.sr_receive_gather.specs.declared.fault.ReceiveFault.TheVariants.{Disk, Mail, Full, Long, Memory}
 use Rattle.sr_receive_gather.specs.declared.report.Report.{Report}
 use Rattle.sr_receive.proofs.Committing.{ready_then, settled_as}
-use Rattle.sr_receive.proofs.Joins.{committed_is, reached_on}
+use Rattle.sr_receive.proofs.Joins.{reached_on}
+use Rattle.sr_database.proofs.Commits.{committed_is}
 
 -- ---- a value of the same history
 

@@ -1,9 +1,8 @@
 //! Notes in a user's book, and entries committed.
 
-ghost use Rattle.std.specs.Prelude.{◌≡◌, ◌∷◌, [], IsSome, IfOk, IfErr, OnOk};
+ghost use Rattle.std.specs.Prelude.{◌≡◌, ◌∷◌, [], IsSome, IfErr, OnOk};
 ghost use Rattle.sr_database.specs.Inner.Commits.{CanCommit, CanCommitSome};
 ghost use Rattle.sr_database_history.specs.Recorded.{Recorded, note as noted_of};
-ghost use Rattle.sr_logform.specs.declared.entry.Entry.TheVariants.{Note as note_entry};
 ghost use Rattle.sr_catalog_schema.specs.Members.{user_name};
 ghost use Rattle.sr_catalog_schema.specs.Names.{named};
 ghost use Rattle.sr_site.specs.Causes.{DiskStays};
@@ -12,23 +11,13 @@ ghost use Rattle.sr_receive.specs.Entering.{IsReady, Reached};
 ghost use Rattle.sr_receive.specs.Inner.Entering.{CommitStop, NotesStop, entered_as};
 ghost use Rattle.sr_receive.specs.Passes.{note_entries};
 
-use sr_base::{Copied, Name, NoMemory, Offset};
+use sr_base::{Name, Offset};
 use sr_book::Note;
 use sr_database::{Database, DatabaseFault};
 use sr_logform::Entry;
 use sr_receive_gather::{ReceiveFault, store_fault};
 use sr_site::Site;
 use std::alloc::Global;
-
-/// The entry of a note.
-fn entry_of(alloc: Global, user: &Name, note: Note) -> Result<Entry, NoMemory>
-    ensures entry { IfOk result (λ entry. entry ≡ note_entry user.now note) }
-{
-    Ok(Entry::Note {
-        user: user.copy(alloc)?,
-        note,
-    })
-}
 
 /// The answer of a commit, as that of a pass.
 fn answered(outcome: Result<Offset, DatabaseFault>) -> Result<(), ReceiveFault>
@@ -74,7 +63,7 @@ pub(crate) fn commit_note<S: Site>(
     ensures stays { DiskStays (S.seen site.old) (S.seen site.new) }
     ensures cause { IfErr result (CommitStop db.old db.new (S.seen site.old) (S.seen site.new) (noted_of user.now note)) }
 {
-    match entry_of(alloc, user, note) {
+    match Entry::note(alloc, user, note) {
         Err(_) => Err(ReceiveFault::Memory),
         Ok(entry) => {
             let outcome = enter(alloc, db, site, &entry);

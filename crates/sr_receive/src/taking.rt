@@ -1,6 +1,6 @@
 //! The transactions of a window taken, each as one entry.
 
-ghost use Rattle.std.specs.Prelude.{◌≡◌, ◌+◌, ◌-◌, ◌^◌, ◌<◌, ◌≤◌, ◌∷◌, ◌++◌, [], List, length, vec_capacity, vec_len, IsSome, IfErr, IfOk, OnOk};
+ghost use Rattle.std.specs.Prelude.{◌≡◌, ◌+◌, ◌-◌, ◌^◌, ◌<◌, ◌≤◌, ◌∷◌, [], List, length, vec_capacity, vec_len, IsSome, IfErr, IfOk, OnOk};
 ghost use Rattle.std.specs.List.{AllByRecursion};
 ghost use Rattle.sr_database.specs.Inner.Commits.{CanCommit, CanCommitSome};
 ghost use Rattle.sr_database.specs.Views.{View as AView};

@@ -237,11 +237,7 @@ fn window_of(pieces: &[Piece]) -> Option<Window>
     ensures none { IfNone result (pieces.now ≡ []) }
 {
     match pieces.split_first() {
-        Some((piece, _)) => Some(Window {
-            prev: piece.prev.0,
-            upto: piece.upto.0,
-            total: piece.total,
-        }),
+        Some((piece, _)) => Some(piece.window()),
         None => None,
     }
 }

@@ -11,7 +11,7 @@ use Rattle.sr_book.specs.Entries.{Name}
 use Rattle.sr_exec_dml.specs.Inner.Conditions.{RowsFit}
 use Rattle.sr_exec_dml.specs.Statements.{table_named}
 use Rattle.sr_exec_dml.proofs.Afterwards.{same_place}
-use Rattle.sr_exec_dml.proofs.Fixed.{same_name, bytes_itself}
+use Rattle.sr_exec_where.proofs.Fixed.{same_name, bytes_itself}
 use Rattle.sr_exec_dml.proofs.Folding.{same_key}
 use Rattle.sr_rows.specs.Marks.{Place, RowMap, Marked, place_cmp, rows_of_table}
 use Rattle.sr_rows.specs.Inner.Marks.{place_cmp_total}

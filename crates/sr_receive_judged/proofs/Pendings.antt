@@ -17,7 +17,8 @@ use Rattle.sr_database.specs.Inner.Views.{present}
 use Rattle.sr_exec_dml.specs.Applying.{applied, applied_in}
 use Rattle.sr_exec_dml.specs.Inner.Conditions.{RowsFit}
 use Rattle.sr_exec_dml.specs.FittingChanges.{IsFitChange, ChangesFit}
-use Rattle.sr_exec_dml.specs.Statements.{key_of, table_named}
+use Rattle.sr_exec_where.specs.Keys.{key_of}
+use Rattle.sr_exec_dml.specs.Statements.{table_named}
 use Rattle.sr_exec_dml.proofs.Folding.{itself, same_key}
 use Rattle.sr_exec_dml.proofs.Over.{over}
 use Rattle.sr_database_fold.proofs.Changing.{applied_append, changes_append, own_name}

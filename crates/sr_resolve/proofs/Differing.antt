@@ -4,14 +4,13 @@ use Rattle.std.specs.List.{AllByRecursion}
 use Rattle.sr_base.specs.declared.value.Value.{Value as Cell}
 use Rattle.sr_ast.specs.declared.query.Dml.{Dml}
 use Rattle.sr_ast.specs.declared.query.Dml.TheVariants as dml
-use Rattle.sr_exec_dml.specs.Checks.{unknown_condition, bad_condition}
+use Rattle.sr_exec_where.specs.Checks.{unknown_condition, bad_condition, unknown_in_insert, bad_in_insert, unknown_in_update, bad_in_update}
 use Rattle.sr_catalog_schema.specs.Members.{scope_of}
-use Rattle.sr_exec_dml.specs.Holding.{is_same_row, held}
+use Rattle.sr_exec_dml.specs.Holding.{held}
+use Rattle.sr_logform.specs.Outcomes.{is_same_row}
 use Rattle.sr_exec_dml.specs.Inner.Laws.{IsDifference}
 use Rattle.sr_exec_dml.specs.Sequences.{followed}
-use Rattle.sr_exec_dml.specs.Statements.{entry_of, counted, unknown_in_insert, bad_in_insert, inserted_rows}
-use Rattle.sr_exec_dml.specs.Statements.{inserted, staying, becoming, selections, moved, effects_of}
-use Rattle.sr_exec_dml.specs.Statements.{unknown_in_update, bad_in_update, updated, deleted, on_table, table_named, done}
+use Rattle.sr_exec_dml.specs.Statements.{entry_of, counted, inserted_rows, inserted, staying, becoming, selections, moved, effects_of, updated, deleted, on_table, table_named, done}
 use Rattle.sr_exec_dml.specs.declared.changes.Changes.{Changes}
 use Rattle.sr_exec_dml.proofs.Applied.{in_order-Ok, followed-Ok}
 use Rattle.sr_exec_dml.proofs.Differing.{changes_differ}

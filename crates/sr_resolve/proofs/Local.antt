@@ -10,12 +10,13 @@ use Rattle.sr_book.specs.Entries.{Name}
 use Rattle.sr_eval.specs.Comparisons.{is_null}
 use Rattle.sr_exec_dml.specs.Applying.{place_of, without_row, with_row, applied_in, applied}
 use Rattle.sr_exec_dml.specs.Inner.Conditions.{TableFits, RowsFit}
-use Rattle.sr_exec_dml.specs.Holding.{is_same_row}
-use Rattle.sr_exec_dml.specs.Sequences.{or_else}
-use Rattle.sr_exec_dml.specs.Statements.{key_of, table_named}
+use Rattle.sr_logform.specs.Outcomes.{is_same_row}
+use Rattle.sr_catalog_schema.specs.Firsts.{first_of}
+use Rattle.sr_exec_where.specs.Keys.{key_of}
+use Rattle.sr_exec_dml.specs.Statements.{table_named}
 use Rattle.sr_exec_dml.proofs.Afterwards.{all_stand, changed_at, apart}
 use Rattle.sr_exec_dml.proofs.Applied.{own_name, found_named}
-use Rattle.sr_exec_dml.proofs.Fixed.{same_name}
+use Rattle.sr_exec_where.proofs.Fixed.{same_name}
 use Rattle.sr_exec_dml.proofs.Folding.{same_key}
 use Rattle.sr_resolve_triggers.specs.Actions.{insertion}
 use Rattle.sr_database_history.specs.Folds.{State, after_done}
@@ -34,22 +35,15 @@ use Rattle.sr_rows.proofs.Listing.{get-table_rows}
 use Rattle.sr_catalog_schema.specs.declared.table.Table.{Table}
 use Rattle.sr_resolve.specs.Judging.{clash_if, clash_unless, judged_insert, removal, judged_remove, judged_update, judged_set, judged_clear}
 use Rattle.sr_resolve.specs.Inner.Laws.{AreAlikeAt}
+use Rattle.sr_resolve.specs.Inner.Leaving.{Row, or_here, put_left, insert_left, remove_left, set_left}
 use Rattle.sr_resolve.specs.Named.{Values, Updates, names_key, fitted_key, names_other, filled_row, has_null, is_no_target, new_values, sets_null, with_news}
 use Rattle.sr_resolve.specs.Taking.{done_by, done_judged}
 use Rattle.sr_resolve.proofs.Cases.{of_if, of_unless}
 use Rattle.sr_resolve.proofs.Rows.{key_stays}
 
-abbrev Row : Type 0
-Row = Option (List Cell)
-
 -- what an outcome of an op that carries no statement leaves under a key
-abbrev left : State → Op → List ℕ → List Cell → Outcome → Row
+abbrev pub left : State → Op → List ℕ → List Cell → Outcome → Row
 left s o table key outcome = rows_of_table (after_done (done_by o None outcome) s).rows table key
-
--- what is there, or what comes of what was found
-abbrev or_here : {A : Type 0} → Option A → Row → (A → Row) → Row
-or_here None here f = here
-or_here (Some x) here f = f x
 
 -- the same cases of an outcome and of what it leaves
 module _ (to : Outcome → Row) (here : Row) (clashes : (why : Why) → to (Clash why) ≡ here) where
@@ -86,14 +80,6 @@ none_is row other h = cc
 
 -- ---- Insert
 
-abbrev put_left : List Cell → List Cell → List Cell → Row → Row
-put_left key place row here = cond (is_eq (key_cmp key place)) (or_else here (Some row)) here
-
-insert_left : Table → Values → List Cell → Row → Row
-insert_left t values key here =
-    cond (names_other t values) here
-    (or_here (filled_row values t.columns) here (λ row. cond (has_null t.columns row) here (put_left key (key_of t.key row) row here)))
-
 module _ (s : State) (name : Name) (values : Values) (t : Table) (own : table_named s.catalog t.name ≡ Some t) (key row : List Cell) where
   abbrev I : Op
   I = op.Insert name values
@@ -104,23 +90,23 @@ module _ (s : State) (name : Name) (values : Values) (t : Table) (own : table_na
   abbrev here : Row
   here = rows_of_table s.rows t.name key
 
-  stays : (o : Row) → is_some o ≡ true → o ≡ or_else o (Some row)
+  stays : (o : Row) → is_some o ≡ true → o ≡ first_of o (Some row)
   stays None h = cc
   stays (Some x) h = refl
 
-  comes : (o : Row) → is_some o ≡ false → Some row ≡ or_else o (Some row)
+  comes : (o : Row) → is_some o ≡ false → Some row ≡ first_of o (Some row)
   comes None h = refl
   comes (Some x) h = cc
 
   at_key : (c : Bool) → is_eq (key_cmp key place) ≡ c → (b : Bool) → is_some (rows_of_table s.rows t.name place) ≡ b → c ≡ true → is_some here ≡ b
   at_key c e b h same = ap (λ k. is_some (rows_of_table s.rows t.name k)) (same_key key place (e ∙ same)) ∙ h
 
-  held_left : (c : Bool) → is_eq (key_cmp key place) ≡ c → is_some (rows_of_table s.rows t.name place) ≡ true → here ≡ cond c (or_else here (Some row)) here
+  held_left : (c : Bool) → is_eq (key_cmp key place) ≡ c → is_some (rows_of_table s.rows t.name place) ≡ true → here ≡ cond c (first_of here (Some row)) here
   held_left true e h = stays here (at_key true e true h refl)
   held_left false e h = refl
 
   free_left : (c : Bool) → is_eq (key_cmp key place) ≡ c → is_some (rows_of_table s.rows t.name place) ≡ false
-      → cond c (Some row) here ≡ cond c (or_else here (Some row)) here
+      → cond c (Some row) here ≡ cond c (first_of here (Some row)) here
   free_left true e h = comes here (at_key true e false h refl)
   free_left false e h = refl
 
@@ -131,7 +117,7 @@ module _ (s : State) (name : Name) (values : Values) (t : Table) (own : table_na
       one_change s t own None (Some row) place key refl (λ x h. none_is x row h) (λ x h. let is : row ≡ x = cc in ap (key_of t.key) (sym is))
       ∙ free_left (is_eq (key_cmp key place)) refl e
 
-insert_leaves : (s : State) (name : Name) (values : Values) (t : Table) → table_named s.catalog t.name ≡ Some t → (key : List Cell)
+pub insert_leaves : (s : State) (name : Name) (values : Values) (t : Table) → table_named s.catalog t.name ≡ Some t → (key : List Cell)
     → left s (op.Insert name values) t.name key (judged_insert s.rows values t) ≡ insert_left t values key (rows_of_table s.rows t.name key)
 unfolding judged_insert insert_left
 insert_leaves s name values t own key =
@@ -144,11 +130,6 @@ insert_leaves s name values t own key =
     put_leaves s name values t own key row (is_some (rows_of_table s.rows t.name (key_of t.key row))) refl)))
 
 -- ---- Remove
-
-remove_left : Table → Values → List Cell → Row → Row
-remove_left t named key here =
-    cond (not (names_key t named)) here
-    (or_here (fitted_key t named) here (λ place. cond (list_any is_null place) here (cond (is_eq (key_cmp key place)) None here)))
 
 -- where no row is under a key, none is there
 module _ (s : State) (t : Table) (key place : List Cell) (f : List Cell → List Cell) where
@@ -174,7 +155,7 @@ module _ (s : State) (name : Name) (named : Values) (t : Table) (own : table_nam
       one_change s t own (Some row) None place key refl (λ x h. let is : row ≡ x = cc in ap (key_of t.key) (sym is)
       ∙ (fits place row e).1) (λ x h. none_is x row h)
 
-remove_leaves : (s : State) (name : Name) (named : Values) (t : Table) → table_named s.catalog t.name ≡ Some t → TableFits t s.rows → (key : List Cell)
+pub remove_leaves : (s : State) (name : Name) (named : Values) (t : Table) → table_named s.catalog t.name ≡ Some t → TableFits t s.rows → (key : List Cell)
     → left s (op.Remove name named) t.name key (judged_remove s.rows named t) ≡ remove_left t named key (rows_of_table s.rows t.name key)
 unfolding judged_remove remove_left
 remove_leaves s name named t own fits key =
@@ -187,16 +168,6 @@ remove_leaves s name named t own fits key =
     take_leaves s name named t own fits key place (rows_of_table s.rows t.name place) refl)))
 
 -- ---- Set
-
-set_left : Table → Values → Updates → List Cell → Row → Row
-set_left t named updates key here =
-    cond (not (names_key t named)) here
-    (cond (list_any (is_no_target t) updates) here
-    (or_here (fitted_key t named) here (λ place.
-    or_here (new_values updates t.columns) here (λ news.
-    cond (list_any is_null place) here
-    (cond (sets_null t.columns news) here
-    (cond (is_eq (key_cmp key place)) (option_map (with_news news) here) here))))))
 
 module _ (s : State) (name : Name) (named : Values) (updates : Updates) (t : Table) (own : table_named s.catalog t.name
     ≡ Some t) (fits : TableFits t s.rows) (key place : List Cell)
@@ -238,7 +209,7 @@ module _ (s : State) (name : Name) (named : Values) (updates : Updates) (t : Tab
   update_leaves None e = missing s t key place (with_news news) (is_eq (key_cmp key place)) refl e
   update_leaves (Some stored) e = row_leaves stored e (is_same_row (Some stored) (Some (with_news news stored))) refl
 
-set_leaves : (s : State) (name : Name) (named : Values) (updates : Updates) (t : Table) → table_named s.catalog t.name ≡ Some t → TableFits t s.rows
+pub set_leaves : (s : State) (name : Name) (named : Values) (updates : Updates) (t : Table) → table_named s.catalog t.name ≡ Some t → TableFits t s.rows
     → (key : List Cell)
     → left s (op.Set name named updates) t.name key (judged_set s.catalog s.rows true named updates t)
     ≡ set_left t named updates key (rows_of_table s.rows t.name key)
@@ -288,7 +259,7 @@ module _ (s : State) (t : Table) (own : table_named s.catalog t.name ≡ Some t)
       ∙ ap (cond (is_some (find key_cmp key (table_rows s.rows t.name))) None) (get-table_rows s.rows t.name key)
       ∙ nothing_more (find key_cmp key (table_rows s.rows t.name))
 
-clear_leaves : (s : State) (name : Name) (t : Table) → table_named s.catalog t.name ≡ Some t → TableFits t s.rows → (key : List Cell)
+pub clear_leaves : (s : State) (name : Name) (t : Table) → table_named s.catalog t.name ≡ Some t → TableFits t s.rows → (key : List Cell)
     → left s (op.Clear name) t.name key (judged_clear s.rows true t) ≡ None
 unfolding judged_clear
 clear_leaves s name t own fits key = all_cleared s t own key fits
@@ -323,7 +294,7 @@ module _ (s : State) (t : Table) (own : table_named s.catalog t.name ≡ Some t)
   abbrev Away : Op → Outcome → Type 0
   Away o outcome = left s o table key outcome ≡ rows_of_table s.rows table key
 
-  insert_away : (name : Name) (values : Values) → Away (op.Insert name values) (judged_insert s.rows values t)
+  pub insert_away : (name : Name) (values : Values) → Away (op.Insert name values) (judged_insert s.rows values t)
   unfolding judged_insert
   insert_away name values =
       let P : Outcome → Type 0 = Away (op.Insert name values) in
@@ -334,7 +305,7 @@ module _ (s : State) (t : Table) (own : table_named s.catalog t.name ≡ Some t)
       of_if P clashes (is_some (rows_of_table s.rows t.name (key_of t.key row))) Duplicate _ (λ free.
       all_away (insertion t row ∷ []) s.rows (refl, tt)))))
 
-  remove_away : (name : Name) (named : Values) → Away (op.Remove name named) (judged_remove s.rows named t)
+  pub remove_away : (name : Name) (named : Values) → Away (op.Remove name named) (judged_remove s.rows named t)
   unfolding judged_remove
   remove_away name named =
       let P : Outcome → Type 0 = Away (op.Remove name named) in
@@ -350,7 +321,7 @@ module _ (s : State) (t : Table) (own : table_named s.catalog t.name ≡ Some t)
   row_away name named updates stored other_row true = refl
   row_away name named updates stored other_row false = all_away (record { table = t.name; before = Some stored; after = Some other_row } ∷ []) s.rows (refl, tt)
 
-  set_away : (name : Name) (named : Values) (updates : Updates) → Away (op.Set name named updates) (judged_set s.catalog s.rows true named updates t)
+  pub set_away : (name : Name) (named : Values) (updates : Updates) → Away (op.Set name named updates) (judged_set s.catalog s.rows true named updates t)
   unfolding judged_set judged_update
   set_away name named updates =
       let P : Outcome → Type 0 = Away (op.Set name named updates) in
@@ -364,7 +335,7 @@ module _ (s : State) (t : Table) (own : table_named s.catalog t.name ≡ Some t)
       of_unless P clashes (rows_of_table s.rows t.name place) NoRow _ (λ stored held.
       row_away name named updates stored (with_news news stored) (is_same_row (Some stored) (Some (with_news news stored))))))))))
 
-  clear_away : (name : Name) → Away (op.Clear name) (judged_clear s.rows true t)
+  pub clear_away : (name : Name) → Away (op.Clear name) (judged_clear s.rows true t)
   unfolding judged_clear
   clear_away name = all_away (map (λ (e : Entry). removal t.name e.1) (table_rows s.rows t.name)) s.rows (removals_away (table_rows s.rows t.name))
 
@@ -386,7 +357,7 @@ module _ (x : State) (o : Op) (key : List Cell) (f : Table → Outcome) (row : T
       subst (λ (n : List ℕ). left x o n key (f t) ≡ row t (rows_of_table x.rows n key)) (sym same) (leaves t (own_name x.catalog table t e))
 
   -- in another one
-  in_another : (table name : List ℕ) → bytes_eq table name ≡ false
+  pub in_another : (table name : List ℕ) → bytes_eq table name ≡ false
       → ((t : Table) → table_named x.catalog t.name ≡ Some t → bytes_eq table t.name ≡ false → left x o table key (f t) ≡ rows_of_table x.rows table key)
       → (found : Option Table) → table_named x.catalog name ≡ found → left x o table key (clash_unless found NoTable f) ≡ rows_of_table x.rows table key
   in_another table name other away None e = refl

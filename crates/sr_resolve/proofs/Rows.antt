@@ -1,6 +1,5 @@
 -- The rows that ops make fit, and keep their keys.
-use Rattle.std.proofs.Common.{◌≡◌, ◌||◌, ◌&&◌, ℕ, zero, suc, Bool, true, false, cond, not}
-use Rattle.std.proofs.Common.{map, List, [], ◌∷◌, Option, Some, None, IsTrue, refl, sym, ap, subst, ◌∙◌}
+use Rattle.std.proofs.Common.{◌≡◌, ◌||◌, ◌&&◌, ℕ, zero, suc, Bool, true, false, cond, not, map, List, [], ◌∷◌, Option, Some, None, IsTrue, refl, sym, ap, subst, ◌∙◌}
 use Rattle.std.specs.List.{AllByRecursion, list_any, cons_option}
 use Rattle.std.specs.Option.{option_map}
 use Rattle.std.specs.Prelude.{bytes_eq, filter_map, slice_get, unwrap_or}
@@ -12,8 +11,8 @@ use Rattle.sr_eval.specs.Bounds.{IsRowOf}
 use Rattle.sr_eval.specs.Comparisons.{is_null}
 use Rattle.sr_exec_fits.specs.Rows.{IsRow}
 use Rattle.sr_exec_fits.proofs.Rows.{row_parts, row_made}
-use Rattle.sr_exec_dml.specs.Statements.{key_of}
-use Rattle.sr_exec_dml.proofs.Fixed.{same_name, bytes_itself}
+use Rattle.sr_exec_where.specs.Keys.{key_of}
+use Rattle.sr_exec_where.proofs.Fixed.{same_name, bytes_itself}
 use Rattle.sr_exec_dml.proofs.Keeping.{fitted_again}
 use Rattle.sr_resolve_triggers.proofs.Leaving.{in_front_some, map_some, or_fails}
 use Rattle.sr_database_history.specs.Fitting.{fitted_in, all_there}
@@ -22,8 +21,7 @@ use Rattle.sr_catalog_schema.specs.Members.{column_name, key_names, has_column, 
 use Rattle.sr_catalog_schema.specs.Names.{named}
 use Rattle.sr_catalog_schema.specs.declared.table.Column.{Column}
 use Rattle.sr_catalog_schema.specs.declared.table.Table.{Table}
-use Rattle.sr_resolve.specs.Named.{Values, Updates, fitted_at, filled, filled_row, has_null, is_no_target}
-use Rattle.sr_resolve.specs.Named.{update_of, new_value, new_values, is_new_null, sets_null, with_news, old_value, old_row}
+use Rattle.sr_resolve.specs.Named.{Values, Updates, fitted_at, filled, filled_row, has_null, is_no_target, update_of, new_value, new_values, is_new_null, sets_null, with_news, old_value, old_row}
 use Rattle.sr_resolve.specs.Inner.Named.{CanTake}
 
 -- ---- new values

@@ -1,6 +1,5 @@
 -- Outcomes fit the state in which they are judged.
-use Rattle.std.proofs.Common.{◌≡◌, ◌&&◌, ℕ, Bool, true, false, cond, not, map, length, nat_eq, List}
-use Rattle.std.proofs.Common.{[], ◌∷◌, Option, Some, None, Result, Ok, Err, refl, sym, ap, subst, ◌∙◌}
+use Rattle.std.proofs.Common.{◌≡◌, ◌&&◌, ℕ, Bool, true, false, cond, not, map, length, nat_eq, List, [], ◌∷◌, Option, Some, None, Result, Ok, Err, refl, sym, ap, subst, ◌∙◌}
 use Rattle.std.proofs.lemmas.Bool.{eqb-true}
 use Rattle.std.specs.List.{AllByRecursion, list_all, list_any}
 use Rattle.std.specs.Option.{is_some}
@@ -21,12 +20,13 @@ use Rattle.sr_exec_dml.specs.Applying.{place_of, applied_in, applied}
 use Rattle.sr_exec_dml.specs.Inner.Conditions.{RowsFit}
 use Rattle.sr_exec_fits.specs.Rows.{IsRow}
 use Rattle.sr_exec_dml.specs.FittingChanges.{IsFitChange, ChangesFit}
-use Rattle.sr_exec_dml.specs.Holding.{is_same_row}
-use Rattle.sr_exec_dml.specs.Statements.{key_of, table_named, done}
+use Rattle.sr_logform.specs.Outcomes.{is_same_row}
+use Rattle.sr_exec_where.specs.Keys.{key_of}
+use Rattle.sr_exec_dml.specs.Statements.{table_named, done}
 use Rattle.sr_exec_dml.specs.declared.changes.Changes.{Changes}
 use Rattle.sr_exec_dml.proofs.Applied.{own_name, found_named, statements_changes_fit}
 use Rattle.sr_exec_dml.proofs.Afterwards.{all_stand, same_place}
-use Rattle.sr_exec_dml.proofs.Fixed.{same_name}
+use Rattle.sr_exec_where.proofs.Fixed.{same_name}
 use Rattle.sr_exec_dml.proofs.Folding.{turned}
 use Rattle.sr_resolve_triggers.specs.Actions.{insertion}
 use Rattle.sr_resolve_triggers.specs.Firing.{fired}
@@ -55,12 +55,9 @@ use Rattle.sr_catalog_schema.specs.Catalogs.{Lists}
 use Rattle.sr_catalog_schema.specs.declared.fault.DdlFault.{DdlFault}
 use Rattle.sr_catalog_schema.specs.declared.fault.DmlFault.{DmlFault}
 use Rattle.sr_catalog_schema.specs.declared.table.Table.{Table}
-use Rattle.sr_resolve.specs.Judging.{clash_unless, judged_insert, removal, judged_remove}
-use Rattle.sr_resolve.specs.Judging.{ground_of, resolved, changed, judged_update, judged_set}
-use Rattle.sr_resolve.specs.Judging.{judged_clear, is_too_long, ran_dml, ran_ddl, ran_stmt, judged_exec, judged, IsPrintedBy, IsStatementOf}
+use Rattle.sr_resolve.specs.Judging.{clash_unless, judged_insert, removal, judged_remove, ground_of, resolved, changed, judged_update, judged_set, judged_clear, is_too_long, ran_dml, ran_ddl, ran_stmt, judged_exec, judged, IsPrintedBy, IsStatementOf}
 use Rattle.sr_resolve.specs.Inner.Laws.{IsDifferent, ChangesDiffer}
-use Rattle.sr_resolve.specs.Named.{Values, Updates, names_key, fitted_key, names_other, filled_row}
-use Rattle.sr_resolve.specs.Named.{has_null, is_no_target, new_values, sets_null, with_news, differing, is_named}
+use Rattle.sr_resolve.specs.Named.{Values, Updates, names_key, fitted_key, names_other, filled_row, has_null, is_no_target, new_values, sets_null, with_news, differing, is_named}
 use Rattle.sr_resolve.specs.Taking.{done_by, done_judged}
 use Rattle.sr_resolve.proofs.Cases.{of_if, of_unless, of_met}
 use Rattle.sr_resolve.proofs.Differing.{two_rows, statements_differ}

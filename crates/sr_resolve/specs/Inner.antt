@@ -1,3 +1,4 @@
 pub mod Named
 pub mod Taking
 pub mod Laws
+pub mod Leaving

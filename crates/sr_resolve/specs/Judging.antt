@@ -10,7 +10,8 @@ use Rattle.sr_book.specs.Entries.{Name}
 use Rattle.sr_catalog_change.specs.Changes.{refusal}
 use Rattle.sr_eval.specs.Comparisons.{is_null}
 use Rattle.sr_exec_dml.specs.Holding.{with_change}
-use Rattle.sr_exec_dml.specs.Statements.{key_of, table_named, done}
+use Rattle.sr_exec_where.specs.Keys.{key_of}
+use Rattle.sr_exec_dml.specs.Statements.{table_named, done}
 use Rattle.sr_exec_dml.specs.declared.changes.Changes.{Changes}
 use Rattle.sr_resolve_triggers.specs.Actions.{insertion}
 use Rattle.sr_resolve_triggers.specs.Firing.{fired}
@@ -32,8 +33,7 @@ use Rattle.sr_catalog_schema.specs.Catalogs.{Lists}
 use Rattle.sr_catalog_schema.specs.declared.fault.DdlFault.{DdlFault}
 use Rattle.sr_catalog_schema.specs.declared.fault.DmlFault.{DmlFault}
 use Rattle.sr_catalog_schema.specs.declared.table.Table.{Table}
-use Rattle.sr_resolve.specs.Named.{Values, Updates, names_key, fitted_key, names_other, filled_row, has_null}
-use Rattle.sr_resolve.specs.Named.{is_no_target, new_values, sets_null, with_news, differing, old_row}
+use Rattle.sr_resolve.specs.Named.{Values, Updates, names_key, fitted_key, names_other, filled_row, has_null, is_no_target, new_values, sets_null, with_news, differing, old_row}
 
 -- ---- cases
 

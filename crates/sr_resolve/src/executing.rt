@@ -57,24 +57,7 @@ fn run_stmt(alloc: Global, catalog: &Catalog, rows: &Rows, stmt: &Stmt) -> Resul
 {
     match stmt {
         Stmt::Dml(dml) => run_dml(alloc, catalog, rows, dml),
-        Stmt::CreateTable(_)
-        | Stmt::DropTable(_)
-        | Stmt::CreatePublication(_)
-        | Stmt::DropPublication(_)
-        | Stmt::GrantRemote(_)
-        | Stmt::GrantConsolidate(_)
-        | Stmt::CreateSubscription(_)
-        | Stmt::StartSubscription(_)
-        | Stmt::StopSubscription(_)
-        | Stmt::Synchronize(_)
-        | Stmt::DropSubscription(_)
-        | Stmt::CreateTrigger(_)
-        | Stmt::DropTrigger(_)
-        | Stmt::Select(_)
-        | Stmt::Commit
-        | Stmt::Rollback
-        | Stmt::Passthrough(_)
-        | Stmt::PassthroughStop => run_ddl(alloc, catalog, stmt),
+        _ => run_ddl(alloc, catalog, stmt),
     }
 }
 

@@ -1,7 +1,8 @@
 //! Insert.
 
 ghost use Rattle.std.specs.Prelude.{◌≡◌, is_some, IfOk};
-ghost use Rattle.sr_exec_dml.specs.Statements.{key_of, table_named};
+ghost use Rattle.sr_exec_where.specs.Keys.{key_of};
+ghost use Rattle.sr_exec_dml.specs.Statements.{table_named};
 ghost use Rattle.sr_logform.specs.declared.outcome.Clash.TheVariants as why;
 ghost use Rattle.sr_resolve.specs.Judging.{clash_unless, filled_in, judged_insert, put_in};
 ghost use Rattle.sr_rows.specs.Marks.{rows_of_table};
@@ -10,7 +11,7 @@ use crate::named::{filled_row, has_null, names_other};
 use crate::outcomes::inserted;
 use sr_base::{Name, NoMemory, Row, Value};
 use sr_catalog::{Catalog, Table};
-use sr_exec_dml::key_of;
+use sr_exec_where::key_of;
 use sr_logform::{Clash, Outcome};
 use sr_rows::Rows;
 use std::alloc::Global;

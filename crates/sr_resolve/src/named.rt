@@ -10,9 +10,10 @@ ghost use Rattle.sr_catalog_schema.specs.Members.{has_column};
 ghost use Rattle.sr_catalog_schema.specs.Names.{named};
 
 use sr_base::{Copied, Key, Name, NoMemory, Row, Seq, Value};
+use sr_base_dates::fitted;
 use sr_catalog::{Column, Table};
 use sr_catalog_schema::{is_taken, item_at};
-use sr_resolve_triggers::{held_as, is_null};
+use sr_eval::is_null;
 use std::alloc::Global;
 
 /// Whether the named columns are, as a set, the table's key, where none is named twice: there are as many, and each column of the key is
@@ -106,7 +107,7 @@ fn fitted_in(
     let mut left = values;
     'values: while let Some((value, rest)) = left.split_first() {
         if value.0.bytes() == column.name.bytes() {
-            return Ok(held_as(value.1.copy(alloc)?, column.kind));
+            return Ok(fitted(value.1.copy(alloc)?, column.kind));
         }
         left = rest;
     }
@@ -179,7 +180,7 @@ fn filled(
 {
     match value {
         None => Ok(Some(Value::Null)),
-        Some(value) => Ok(held_as(value.1.copy(alloc)?, column.kind)),
+        Some(value) => Ok(fitted(value.1.copy(alloc)?, column.kind)),
     }
 }
 

@@ -59,7 +59,7 @@ pub(crate) fn changed(
 ) -> Result<Outcome, NoMemory>
     ensures changed { IfOk result (λ o. o ≡ changed table.now stored.now new) }
 {
-    if stored.values().cmp(new.values()).is_eq() {
+    if *stored == new {
         drop(new);
         return Ok(Outcome::Plain(Seq::empty(alloc)));
     }

@@ -8,9 +8,11 @@ ghost use Rattle.sr_resolve.specs.Named.{is_no_target, update_of, new_value, new
 ghost use Rattle.sr_resolve.specs.Named.{with_news, is_value, differs, differing, old_value, old_row};
 
 use sr_base::{Copied, Name, NoMemory, Row, Seq, Value};
+use sr_base_dates::fitted;
 use sr_catalog::{Column, Table};
 use sr_catalog_schema::is_taken;
-use sr_resolve_triggers::{held_as, is_null, is_of_key};
+use sr_eval::is_null;
+use sr_resolve_triggers::is_of_key;
 use std::alloc::Global;
 
 /// Whether one of the updates may not be made: its column is not in the table, or is one of its key.
@@ -74,7 +76,7 @@ fn new_value(
     let Some(update) = update else {
         return Ok(Some(None));
     };
-    match held_as(update.2.copy(alloc)?, column.kind) {
+    match fitted(update.2.copy(alloc)?, column.kind) {
         None => Ok(None),
         Some(held) => Ok(Some(Some(held))),
     }
@@ -198,7 +200,7 @@ fn differs(
     let Some(update) = update else {
         return Ok(false);
     };
-    Ok(!is_value(stored, held_as(update.1.copy(alloc)?, column.kind)))
+    Ok(!is_value(stored, fitted(update.1.copy(alloc)?, column.kind)))
 }
 
 fn is_value(stored: &Value, old: Option<Value>) -> bool
@@ -237,7 +239,7 @@ fn old_value(
     let Some(update) = update else {
         return Ok(Value::Null);
     };
-    match held_as(update.1.copy(alloc)?, column.kind) {
+    match fitted(update.1.copy(alloc)?, column.kind) {
         None => Ok(Value::Null),
         Some(held) => Ok(held),
     }

@@ -1,6 +1,5 @@
 -- What triggers leave fits.
-use Rattle.std.proofs.Common.{◌≡◌, ◌≢◌, ◌||◌, ◌&&◌, ℕ, Bool, true, false, cond, not, map, List}
-use Rattle.std.proofs.Common.{[], ◌∷◌, ◌++◌, Option, Some, None, IsSome, refl, sym, ap, subst, ◌∙◌}
+use Rattle.std.proofs.Common.{◌≡◌, ◌≢◌, ◌||◌, ◌&&◌, ℕ, Bool, true, false, cond, not, map, List, [], ◌∷◌, ◌++◌, Option, Some, None, IsSome, refl, sym, ap, subst, ◌∙◌}
 use Rattle.std.proofs.Math.ListN.{set as set_at}
 use Rattle.std.proofs.lemmas.List.{get_or-set_other}
 use Rattle.std.proofs.lemmas.List.Quantifiers.{position-Some}
@@ -21,23 +20,23 @@ use Rattle.sr_exec_dml.specs.Applying.{place_of, without_row, with_row, applied_
 use Rattle.sr_exec_fits.specs.Rows.{IsRow}
 use Rattle.sr_exec_fits.proofs.Rows.{row_made as fitting_row}
 use Rattle.sr_exec_dml.specs.FittingChanges.{FitsAt, IsFitChange, ChangesFit}
-use Rattle.sr_exec_dml.specs.Sequences.{or_else}
-use Rattle.sr_exec_dml.specs.Statements.{key_of, names_of, table_named}
+use Rattle.sr_exec_where.specs.Keys.{key_of}
+use Rattle.sr_exec_where.specs.Naming.{names_of}
+use Rattle.sr_exec_dml.specs.Statements.{table_named}
 use Rattle.sr_exec_dml.proofs.Applied.{own_name}
 use Rattle.sr_logform.specs.declared.change.Change.{Change}
 use Rattle.sr_rows.specs.Marks.{Place, RowMap, place_cmp}
 use Rattle.sr_rows.specs.Inner.Marks.{place_cmp_total}
 use Rattle.sr_rows.proofs.Gathering.{exact_places}
 use Rattle.sr_catalog_schema.specs.Catalogs.{Lists}
-use Rattle.sr_catalog_schema.specs.Firsts.{has}
+use Rattle.sr_catalog_schema.specs.Firsts.{has, first_of}
 use Rattle.sr_catalog_schema.specs.Members.{column_name, key_names}
 use Rattle.sr_catalog_schema.specs.Names.{place_of as place_named}
 use Rattle.sr_catalog_schema.specs.declared.table.Column.{Column}
 use Rattle.sr_catalog_schema.specs.declared.table.Table.{Table}
 use Rattle.sr_catalog_schema.specs.declared.trigger.Trigger.{Trigger}
 use Rattle.sr_catalog_triggers.specs.Triggers.{is_target, is_new, image_of}
-use Rattle.sr_resolve_triggers.specs.Actions.{value_in, truth_in, set_where, new_set, variables_set, after_set, given, in_front, row_made, term_for, is_held, insertion}
-use Rattle.sr_resolve_triggers.specs.Actions.{with_inserted, after_insert, branch, acted}
+use Rattle.sr_resolve_triggers.specs.Actions.{value_in, truth_in, set_where, new_set, variables_set, after_set, given, in_front, row_made, term_for, is_held, insertion, with_inserted, after_insert, branch, acted}
 use Rattle.sr_resolve_triggers.specs.Firing.{firing, entered, after_trigger, after_triggers, first_bindings, left, fired}
 use Rattle.sr_resolve_triggers.specs.Holding.{held_by}
 use Rattle.sr_resolve_triggers.specs.Inner.Laws.{IsInserted, IsLeft}
@@ -138,7 +137,7 @@ row_fits value names es (c ∷ columns) row h =
 -- ---- a bindings on the way
 
 abbrev both_rows : Option (List Cell) → Option (List Cell) → Option (List Cell)
-both_rows row other = or_else row other
+both_rows row other = first_of row other
 
 record IsKept (base : UpdateConflict) (first : List Cell) (bindings : Bindings) : Type 0 where
   new : IsRow base.table.columns bindings.new

@@ -11,7 +11,8 @@ use Rattle.sr_ast.specs.Terms.{Term}
 use Rattle.sr_ast.specs.declared.create.CreateTrigger.{CreateTrigger}
 use Rattle.sr_eval.specs.Meanings.{Meaning, meaning, cell_of, is_true}
 use Rattle.sr_exec_dml.specs.Applying.{place_of}
-use Rattle.sr_exec_dml.specs.Statements.{names_of, table_named}
+use Rattle.sr_exec_where.specs.Naming.{names_of}
+use Rattle.sr_exec_dml.specs.Statements.{table_named}
 use Rattle.sr_logform.specs.declared.change.Change.{Change}
 use Rattle.sr_rows.specs.Marks.{Place}
 use Rattle.sr_catalog_schema.specs.Members.{column_name}

@@ -4,7 +4,7 @@ ghost use Rattle.std.specs.Prelude.{◌≡◌, ◌∷◌, ◌++◌, [], map, is_
 ghost use Rattle.std.proofs.Math.ListN.{set as set_at};
 ghost use Rattle.std.specs.FinMap as map_of;
 ghost use Rattle.sr_base.specs.declared.value.Value.TheVariants.{Null as NullCell};
-ghost use Rattle.sr_exec_dml.specs.Statements.{key_of};
+ghost use Rattle.sr_exec_where.specs.Keys.{key_of};
 ghost use Rattle.sr_exec_dml.specs.Applying.{place_of};
 ghost use Rattle.sr_resolve_triggers.specs.Actions.{insertion};
 ghost use Rattle.sr_resolve_triggers.specs.Firing.{entered, first_bindings, left};

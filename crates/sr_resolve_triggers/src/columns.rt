@@ -2,46 +2,21 @@
 
 ghost use Rattle.std.specs.Prelude.{◌≡◌};
 ghost use Rattle.std.specs.Option.{option_copied};
-ghost use Rattle.sr_base_dates.specs.Fitting.{fitted};
-ghost use Rattle.sr_eval.specs.Comparisons.{is_null};
 ghost use Rattle.sr_resolve_triggers.specs.Holding.{held_by, held_in};
 ghost use Rattle.sr_resolve_triggers.specs.Inner.Holding.{is_named};
 ghost use Rattle.sr_catalog_schema.specs.Firsts.{has};
 ghost use Rattle.sr_catalog_schema.specs.Members.{key_names};
 
 use sr_base::{Kind, Name, Value};
-use sr_base_dates::fit;
+use sr_base_dates::fitted;
 use sr_catalog::{Column, Table};
-
-/// What a column or variable of a type holds for a value, if it fits.
-#[tactic(auto, using(sr_exec_dml::proofs::Fitted::given_rules))]
-pub fn held_as(value: Value, kind: Kind) -> Option<Value>
-    ensures { result ≡ fitted value kind }
-{
-    match fit(value, kind) {
-        Ok(held) => Some(held),
-        Err(_) => None,
-    }
-}
-
-/// Whether a value is NULL.
-pub fn is_null(value: &Value) -> bool
-    ensures { result ≡ is_null value.now }
-{
-    match value {
-        Value::Null => true,
-        Value::Int(_) => false,
-        Value::Big(_) => false,
-        Value::Str(_) => false,
-        Value::Date(_) => false,
-    }
-}
+use sr_eval::is_null;
 
 /// What a column holds for a value, if there is one, it fits, and NULL stands only where it may.
 pub(crate) fn held_by(column: &Column, value: Option<Value>) -> Option<Value>
     ensures { result ≡ held_by column.now value }
 {
-    let held = held_as(value?, column.kind)?;
+    let held = fitted(value?, column.kind)?;
     if column.not_null && is_null(&held) {
         return None;
     }
@@ -52,7 +27,7 @@ pub(crate) fn held_by(column: &Column, value: Option<Value>) -> Option<Value>
 pub(crate) fn held_in(variable: &(Name, Kind), value: Option<Value>) -> Option<Value>
     ensures { result ≡ held_in variable.now value }
 {
-    held_as(value?, variable.1)
+    fitted(value?, variable.1)
 }
 
 /// Whether a name is that of a column of the table's key. It looks at each.

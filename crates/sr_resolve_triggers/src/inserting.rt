@@ -3,7 +3,7 @@
 ghost use Rattle.std.specs.Prelude.{◌≡◌, map, IfOk, OnOk};
 ghost use Rattle.std.specs.Option.{option_copied, option_map};
 ghost use Rattle.sr_ast.specs.Exprs.{term_of};
-ghost use Rattle.sr_exec_dml.specs.Statements.{names_of};
+ghost use Rattle.sr_exec_where.specs.Naming.{names_of};
 ghost use Rattle.sr_resolve_triggers.specs.Actions.{after_insert, given, row_made, term_for, value_in, with_inserted};
 ghost use Rattle.sr_resolve_triggers.specs.Inner.Running.{update_conflict_of, IsReady, Went};
 ghost use Rattle.sr_resolve_triggers.specs.Bindings.{UpdateConflictFits, BindingsFits};
@@ -15,7 +15,7 @@ use crate::running::{Running, value};
 use sr_ast::Expr;
 use sr_base::{Name, NoMemory, Row, Seq, Value};
 use sr_catalog::{HasName, Table};
-use sr_exec_dml::key_of;
+use sr_exec_where::key_of;
 use std::alloc::Global;
 
 /// INSERT into a table. It fails where a value passes its type's end, does not fit, or is a NULL that may not stand, and where the key is

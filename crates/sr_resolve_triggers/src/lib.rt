@@ -15,7 +15,7 @@ mod laws;
 mod running;
 mod setting;
 
-pub use columns::{held_as, is_null, is_of_key};
+pub use columns::is_of_key;
 pub use conflict::Conflict;
 pub use fired::Fired;
 pub use firing::fire;

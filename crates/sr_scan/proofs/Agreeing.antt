@@ -13,12 +13,12 @@ use Rattle.sr_catalog_change.specs.Changes.{refusal, next as catalog_next}
 use Rattle.sr_exec_dml.specs.Applying.{applied_in, applied}
 use Rattle.sr_exec_dml.specs.Inner.Conditions.{RowsFit}
 use Rattle.sr_exec_dml.specs.FittingChanges.{ChangesFit}
-use Rattle.sr_exec_dml.specs.Statements.{key_of, table_named}
+use Rattle.sr_exec_where.specs.Keys.{key_of}
+use Rattle.sr_exec_dml.specs.Statements.{table_named}
 use Rattle.sr_exec_dml.proofs.Applied.{fitting_changes_keep}
 use Rattle.sr_database_history.specs.Fitting.{IsAcceptedPass, IsNamedKey, AreNamedRows, all_there, fitted_in, DoneFits, DonesFit, FitsState, Fits}
 use Rattle.sr_database_history.specs.Folds.{State, with_changes, with_statement, done_changes, after_done, after_dones, after_pass, row_change, next}
-use Rattle.sr_database_history.specs.Recorded.{Done, plain, ran, conflict, clash, done_of}
-use Rattle.sr_database_history.specs.Recorded.{Recorded, own, taken, ddl, sync, pass, note, entry_of}
+use Rattle.sr_database_history.specs.Recorded.{Done, plain, ran, conflict, clash, done_of, Recorded, own, taken, ddl, sync, pass, note, entry_of}
 use Rattle.sr_database_history.specs.Inner.Laws.{Holds}
 use Rattle.sr_database_history.proofs.Tables.{statement_keeps}
 use Rattle.sr_logform.specs.declared.change.Change.{Change}
@@ -37,13 +37,16 @@ use Rattle.sr_catalog_schema.specs.declared.fault.DdlFault.{DdlFault}
 use Rattle.sr_catalog_schema.specs.declared.table.Table.{Table}
 use Rattle.sr_scan.specs.Ops.{told_back}
 use Rattle.sr_scan.specs.Given.{changes_given, row_given, key_given, done_given_to, dones_given, pass_given, gives}
-use Rattle.sr_scan.specs.Inner.Images.{changes_told, with_value, all_of, key_meant, stands_under, are_rows_of, rows_told, conflict_told, op_told, unless_refused, catalog_behind, catalog_after, ops_told, told}
+use Rattle.sr_scan.specs.Inner.Images.{changes_told, all_of, key_meant, stands_under, are_rows_of, rows_told, conflict_told, op_told, unless_refused, catalog_behind, catalog_after, ops_told, told}
+use Rattle.sr_exec_where.specs.Inner.Fixing.{with_value}
 use Rattle.sr_scan.specs.Inner.Meanings.{meant_done, meant_by, IsGiven}
 use Rattle.sr_scan.specs.Inner.Scanners.{Scan, transaction_of, IsFed}
 use Rattle.sr_scan.proofs.Applying.{first_fit, last_fits, applied-append, after_fits, holds_after}
 use Rattle.sr_scan.proofs.Moves.{changes_same}
 use Rattle.sr_scan.proofs.Meant.{meant_is}
-use Rattle.sr_scan.proofs.Sames.{some_is, and_true, cond_true, same_length}
+use Rattle.sr_scan.proofs.Sames.{cond_true, same_length}
+use Rattle.std.proofs.lemmas.Bool.{and_from}
+use Rattle.sr_base.proofs.Truths.{some_is}
 
 -- ---- the key that columns name
 
@@ -67,9 +70,9 @@ rows_are : (c : Lists) (table : Name) (columns : List (Name × Cell)) (before af
 rows_are c table columns before after h =
     let t = h.table in
     let meant = key_named t columns h.key h.meant in
-    and_true (is_row t.columns before) _ h.fits_before
-    (and_true (is_row t.columns after) _ h.fits_after
-    (and_true (stands_under t (key_meant t columns) before) _ (stands t (key_meant t columns) h.key before meant h.key_before)
+    and_from (is_row t.columns before) _ h.fits_before
+    (and_from (is_row t.columns after) _ h.fits_after
+    (and_from (stands_under t (key_meant t columns) before) _ (stands t (key_meant t columns) h.key before meant h.key_before)
     (stands t (key_meant t columns) h.key after meant h.key_after)))
 
 -- ---- an op that met another value

@@ -1,5 +1,5 @@
 -- What stands at the key of a change that fits, before it and behind it.
-use Rattle.std.proofs.Common.{◌≡◌, Bool, true, false, cond, List, [], ◌∷◌, ◌++◌, Option, Some, None, find, bytes_eq, refl, sym, ap, subst, ◌∙◌}
+use Rattle.std.proofs.Common.{◌≡◌, true, cond, List, [], ◌∷◌, ◌++◌, Option, Some, None, bytes_eq, refl, sym, ap, subst, ◌∙◌}
 use Rattle.std.specs.Cmp.{eq_by_cmp_equiv}
 use Rattle.std.specs.FinMap.{get, insert, remove, get-insert, get-remove}
 use Rattle.std.specs.Ordering.{eq_by_cmp}
@@ -9,13 +9,15 @@ use Rattle.sr_exec_dml.specs.Applying.{without_row, with_row, applied_in, applie
 use Rattle.sr_exec_dml.specs.Inner.Conditions.{RowsFit}
 use Rattle.sr_exec_fits.specs.Rows.{IsRow}
 use Rattle.sr_exec_dml.specs.FittingChanges.{FitsAt, IsFitChange, ChangesFit}
-use Rattle.sr_exec_dml.specs.Statements.{key_of, table_named}
-use Rattle.sr_exec_dml.proofs.Fixed.{same_name}
+use Rattle.sr_exec_where.specs.Keys.{key_of}
+use Rattle.sr_exec_dml.specs.Statements.{table_named}
+use Rattle.sr_exec_where.proofs.Fixed.{same_name}
 use Rattle.sr_logform.specs.declared.change.Change.{Change}
 use Rattle.sr_rows.specs.Marks.{Place, place_cmp, RowMap, rows_of_table}
 use Rattle.sr_rows.specs.Inner.Marks.{place_cmp_total}
 use Rattle.sr_catalog_schema.specs.Catalogs.{Lists}
 use Rattle.sr_catalog_schema.specs.declared.table.Table.{Table}
+use Rattle.sr_publish.proofs.Orderly.{find_passes}
 
 -- the place where a row stands
 abbrev at : Table → List Cell → Place
@@ -42,16 +44,9 @@ stands_after t rows key (Some b) None held f g =
 stands_after t rows key before (Some a) held f g =
     ap (λ k. get (insert (without_row t before rows) (t.name, k) a) (t.name, key)) (g a refl) ∙ put_there (without_row t before rows) (t.name, key) a
 
-pub find_has : {A : Type 0} (p : A → Bool) (xs : List A) (x : A) → find p xs ≡ Some x → p x ≡ true
-find_has p [] x e = cc
-find_has p (y ∷ xs) x e = go (p y) refl e (find_has p xs x) where
-  go : (b : Bool) → p y ≡ b → cond b (Some y) (find p xs) ≡ Some x → (find p xs ≡ Some x → p x ≡ true) → p x ≡ true
-  go true is f rest = let same : y ≡ x = cc in subst (λ z. p z ≡ true) same is
-  go false is f rest = rest f
-
 -- a table stands under its name
 pub name_of_table : (c : Lists) (name : Name) (t : Table) → table_named c name ≡ Some t → name ≡ t.name
-name_of_table c name t e = same_name name t.name (find_has (λ x. bytes_eq name x.name) c.tables t e)
+name_of_table c name t e = same_name name t.name (find_passes (λ x. bytes_eq name x.name) c.tables t e)
 
 module _ (c : Lists) (rows : RowMap) (ch : Change) (f : IsFitChange c rows ch) where
   named_so : ch.table ≡ f.table.name

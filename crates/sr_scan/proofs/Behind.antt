@@ -47,16 +47,10 @@ kept c (stmt.GrantConsolidate g) e = cc
 kept c (stmt.CreateSubscription r) e = cc
 kept c (stmt.StartSubscription r) e = cc
 kept c (stmt.StopSubscription r) e = cc
-kept c (stmt.Synchronize r) e = refl
 kept c (stmt.DropSubscription r) e = cc
 kept c (stmt.CreateTrigger g) e = cc
 kept c (stmt.DropTrigger name) e = cc
-kept c (stmt.Dml d) e = refl
-kept c (stmt.Select q) e = refl
-kept c stmt.Commit e = refl
-kept c stmt.Rollback e = refl
-kept c (stmt.Passthrough p) e = refl
-kept c stmt.PassthroughStop e = refl
+kept c _ e = refl
 
 pub rows_only : (c : Lists) (x : Stmt) → is_ddl x ≡ false → c ≡ catalog_behind c (Some x)
 rows_only c x e = sym (ap (λ (l : Lists). unless_refused (refusal c x) c l) (kept c x e) ∙ left (refusal c x) c)

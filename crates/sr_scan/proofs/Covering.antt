@@ -1,39 +1,25 @@
 -- The views of a user, gathered table by table.
-use Rattle.std.proofs.Common.{◌≡◌, ◌⊎◌, inl, inr, ℕ, Bool, true, false, ◌||◌, cond, List, [], ◌∷◌, Option, Some, None, find, bytes_eq, refl, sym, ap, subst, ◌∙◌}
+use Rattle.std.proofs.Common.{◌≡◌, ◌⊎◌, inl, inr, ℕ, Bool, true, false, ◌||◌, cond, List, [], ◌∷◌, Option, Some, None, bytes_eq, refl, sym, ap, subst, ◌∙◌}
 use Rattle.std.specs.BTreeMap as tree
-use Rattle.std.specs.List.{list_any}
 use Rattle.std.specs.Map.{lookup}
 use Rattle.std.specs.Ordering.{is_eq}
 use Rattle.std.proofs.lemmas.Map.Text.{is_eq-slice_cmp}
 use Rattle.sr_base.specs.Order.{name_cmp}
 use Rattle.sr_exec_dml.specs.Statements.{table_named}
-use Rattle.sr_exec_dml.proofs.Fixed.{same_name}
-use Rattle.std.proofs.lemmas.Bool.{false_from_ne_true}
-use Rattle.std.proofs.lemmas.Slice.Eq.{bytes_eq-Decides}
+use Rattle.sr_exec_where.proofs.Fixed.{same_name}
 use Rattle.sr_publish.specs.SubscribedTables.{SubscribedTable, subscribed_table_in, source_of, subscribed_table_of}
+use Rattle.sr_publish.proofs.Sources.{none_of}
 use Rattle.sr_catalog_schema.specs.Catalogs.{Lists}
 use Rattle.sr_catalog_schema.specs.Members.{table_name}
 use Rattle.sr_catalog_schema.specs.Names.{taken}
 use Rattle.sr_catalog_schema.specs.declared.table.Table.{Table}
 use Rattle.sr_scan.specs.Inner.Views.{AreViews, IsAdded}
+use Rattle.sr_catalog_script_laws.proofs.ReplayStarts.{bytes_eq-turned}
 
 -- the map has the subscribed table of each table but those that are left, and no other
 pub record Covers (c : Lists) (user : List ℕ) (views : tree.BTreeMap (List ℕ) SubscribedTable) (left : List Table) : Type 0 where
   pub done : (n : List ℕ) → taken table_name n left ≡ false → tree.get name_cmp views n ≡ subscribed_table_of c user n
   pub right : (n : List ℕ) → (tree.get name_cmp views n ≡ None) ⊎ (tree.get name_cmp views n ≡ subscribed_table_of c user n)
-
-bytes_eq-turned : (a b : List ℕ) → bytes_eq a b ≡ false → bytes_eq b a ≡ false
-bytes_eq-turned a b h = false_from_ne_true _ (λ e.
-    let is : bytes_eq a b ≡ true = (bytes_eq-Decides a b).1 (sym ((bytes_eq-Decides b a).0 e)) in
-    absurd (cc))
-
--- what is not taken is not found
-not_found : {A : Type 0} (p : A → Bool) (xs : List A) → list_any p xs ≡ false → find p xs ≡ None
-not_found p [] e = refl
-not_found p (x ∷ xs) e = go (p x) e (not_found p xs) where
-  go : (b : Bool) → (b || list_any p xs) ≡ false → (list_any p xs ≡ false → find p xs ≡ None) → cond b (Some x) (find p xs) ≡ None
-  go true f rest = cc
-  go false f rest = rest f
 
 no_subscribed_table : (c : Lists) (user n : List ℕ) → table_named c n ≡ None → subscribed_table_of c user n ≡ None
 unfolding subscribed_table_of
@@ -46,7 +32,7 @@ no_entries views e n = ap (λ (es : List (List ℕ × SubscribedTable)). lookup 
 pub Covers-start : (c : Lists) (user : List ℕ) (views : tree.BTreeMap (List ℕ) SubscribedTable) (left : List Table) → views.entries ≡ [] → left ≡ c.tables
     → Covers c user views left
 Covers-start c user views left none e = record {
-  done = λ n h. no_entries views none n ∙ sym (no_subscribed_table c user n (not_found (λ t. bytes_eq n t.name) c.tables (subst (λ (ts : List Table). taken table_name n ts ≡ false) e h)));
+  done = λ n h. no_entries views none n ∙ sym (no_subscribed_table c user n (none_of (λ t. bytes_eq n t.name) c.tables (subst (λ (ts : List Table). taken table_name n ts ≡ false) e h)));
   right = λ n. inl (no_entries views none n);
 }
 

@@ -10,7 +10,7 @@ before_more : (end : ℕ) (ops : List Op) (xs ys : List (ℕ × List Op)) → wi
 before_more end [] xs ys = refl
 before_more end (op ∷ ops) xs ys = refl
 
-from_joined : (s : State) (place : ℕ) (rs qs : List Recorded) (user : Name)
+pub from_joined : (s : State) (place : ℕ) (rs qs : List Recorded) (user : Name)
     → given_from s place (rs ++ qs) user ≡ given_from s place rs user ++ given_from (state_from s rs) (end_from place rs) qs user
 from_joined s place [] qs user = refl
 from_joined s place (r ∷ rs) qs user =

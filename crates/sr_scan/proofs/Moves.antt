@@ -8,7 +8,8 @@ use Rattle.sr_exec_dml.specs.Applying.{applied_in, without_row, with_row}
 use Rattle.sr_exec_dml.specs.Inner.Conditions.{RowsFit}
 use Rattle.sr_exec_fits.specs.Rows.{IsRow}
 use Rattle.sr_exec_dml.specs.FittingChanges.{IsFitChange, ChangesFit}
-use Rattle.sr_exec_dml.specs.Statements.{key_of, table_named}
+use Rattle.sr_exec_where.specs.Keys.{key_of}
+use Rattle.sr_exec_dml.specs.Statements.{table_named}
 use Rattle.sr_exec_dml.proofs.Applied.{fitting_changes_keep}
 use Rattle.sr_database_history.specs.Folds.{State, with_changes}
 use Rattle.sr_logform.specs.declared.change.Change.{Change}
@@ -24,7 +25,9 @@ use Rattle.sr_scan.specs.Ops.{differing, update_of, told_of, key_of_rows, key_ch
 use Rattle.sr_scan.specs.Given.{view_in, change_given, changes_given}
 use Rattle.sr_scan.specs.Inner.Images.{fits_if, images_told, change_told, changes_told}
 use Rattle.sr_scan.proofs.Applying.{before_fits, after_fits, holds_after}
-use Rattle.sr_scan.proofs.Sames.{some_is, and_true, cond_true}
+use Rattle.sr_scan.proofs.Sames.{cond_true}
+use Rattle.std.proofs.lemmas.Bool.{and_from}
+use Rattle.sr_base.proofs.Truths.{some_is}
 
 -- a subscribed table is of the table of its name
 subscribed_table_in_table : (c : Lists) (user : Name) (t : Option Table) (source : Option (Name × Article)) (s : SubscribedTable) → subscribed_table_in c user t source ≡ Some s → t ≡ Some s.table
@@ -78,7 +81,7 @@ module _ (s : State) (user : Name) (c : Change) (fit : RowsFit s.catalog s.rows)
     key_after row is = ap (λ (x : Table). key_of x.key row) (sym same) ∙ (after_fits s.catalog s.rows c f row is).1
 
     fits : (fits_if subscribed_table.table c.before && fits_if subscribed_table.table c.after) ≡ true
-    fits = and_true (fits_if subscribed_table.table c.before) (fits_if subscribed_table.table c.after)
+    fits = and_from (fits_if subscribed_table.table c.before) (fits_if subscribed_table.table c.after)
         (fits_there subscribed_table.table c.before (λ row is. subst (λ (x : Table). IsRow x.columns row) same (before_fits s.catalog s.rows c f fit row is).0))
         (fits_there subscribed_table.table c.after (λ row is. subst (λ (x : Table). IsRow x.columns row) same (after_fits s.catalog s.rows c f row is).0))
 

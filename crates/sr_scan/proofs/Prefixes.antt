@@ -6,7 +6,8 @@ use Rattle.sr_base.specs.declared.value.Value.{Value as Cell}
 use Rattle.sr_book.specs.Entries.{Name}
 use Rattle.sr_database_history.specs.Fitting.{fitted_in}
 use Rattle.sr_catalog_schema.specs.declared.table.Column.{Column}
-use Rattle.sr_scan.specs.Inner.Images.{with_value, all_of}
+use Rattle.sr_scan.specs.Inner.Images.{all_of}
+use Rattle.sr_exec_where.specs.Inner.Fixing.{with_value}
 
 abbrev pub behind : List Cell → Option (List Cell) → Option (List Cell)
 behind values None = None

@@ -2,7 +2,7 @@
 use Rattle.std.proofs.Common.{◌≡◌, ◌≤◌, ◌<◌, ◌^◌, ◌⊎◌, inl, inr, ℕ, zero, suc, Bool, true, false, not, ◌&&◌, ◌||◌, cond, List, [], ◌∷◌, length, map, zip, Option, Some, None, IfSome, slice_get, unwrap_or, bytes_eq, refl, sym, ap, subst, ◌∙◌, arith}
 use Rattle.std.specs.List.{list_any, AllByRecursion}
 use Rattle.std.specs.Ordering.{eq_by_cmp}
-use Rattle.std.proofs.lemmas.Bool.{and_parts, or_cases}
+use Rattle.std.proofs.lemmas.Bool.{and_parts, or_cases, and_from}
 use Rattle.std.proofs.lemmas.List.{length-map}
 use Rattle.std.proofs.lemmas.Slice.Eq.{bytes_eq-Decides}
 use Rattle.sr_base.specs.Fields.{IsName}
@@ -12,7 +12,7 @@ use Rattle.sr_base.specs.declared.value.Value.{Value as Cell}
 use Rattle.sr_base.specs.declared.value.Value.TheVariants.{Null, Int, Big, Str, Date}
 use Rattle.sr_base_dates.specs.Fitting.{fitted}
 use Rattle.sr_eval.specs.Comparisons.{is_null}
-use Rattle.sr_exec_dml.specs.Statements.{key_of}
+use Rattle.sr_exec_where.specs.Keys.{key_of}
 use Rattle.sr_logform.specs.Ops.{OpHas, IsOp}
 use Rattle.sr_logform.specs.Rules.{is_present, AreDistinct, AreColumns}
 use Rattle.sr_logform.specs.declared.op.Op.TheVariants.{Insert, Remove}
@@ -97,10 +97,6 @@ holds_at (d ∷ columns) (v ∷ row) zero c f e =
     subst (λ (x : Column). may_hold x v ≡ true) same (and_parts (may_hold d v) (is_row columns row) f).0
 holds_at (d ∷ columns) (v ∷ row) (suc i) c f e = holds_at columns row i c (and_parts (may_hold d v) (is_row columns row) f).1 e
 
-both_true : (a b : Bool) → a ≡ true → b ≡ true → (a && b) ≡ true
-both_true true b e f = f
-both_true false b e f = cc
-
 -- what a subscribed table shows of a row that fits the table fits its columns
 pub shown_fits : (t : Table) (columns : List Column) (places : List ℕ) (row : List Cell) → is_row t.columns row ≡ true → AreAt t columns places
     → is_row columns (key_of places row) ≡ true
@@ -108,7 +104,7 @@ shown_fits t [] [] row f a = refl
 shown_fits t [] (i ∷ places) row f a = absurd a
 shown_fits t (c ∷ columns) [] row f a = absurd a
 shown_fits t (c ∷ columns) (i ∷ places) row f a =
-    both_true (may_hold c (unwrap_or (slice_get row i) Null)) (is_row columns (key_of places row)) (holds_at t.columns row i c f a.0) (shown_fits t columns places row f a.1)
+    and_from (may_hold c (unwrap_or (slice_get row i) Null)) (is_row columns (key_of places row)) (holds_at t.columns row i c f a.0) (shown_fits t columns places row f a.1)
 
 -- ---- lists of columns
 

@@ -7,11 +7,11 @@ use Rattle.sr_base.specs.declared.value.Value.{Value as Cell}
 use Rattle.sr_ast.specs.Layout.{printed}
 use Rattle.sr_ast.specs.declared.stmt.Stmt.{Stmt}
 use Rattle.sr_book.specs.Entries.{Name}
-use Rattle.sr_exec_dml.specs.Statements.{key_of, table_named}
+use Rattle.sr_exec_where.specs.Keys.{key_of}
+use Rattle.sr_exec_dml.specs.Statements.{table_named}
 use Rattle.sr_database_history.specs.Fitting.{DonesFit, FitsState, Fits, Stored}
 use Rattle.sr_database_history.specs.Folds.{State, fresh, after_done, state_of, end_of}
-use Rattle.sr_database_history.specs.Recorded.{Done, done_of, IsLawfulDone}
-use Rattle.sr_database_history.specs.Recorded.{Recorded, own, taken, ddl, sync, pass, note, entry_of, IsRecorded}
+use Rattle.sr_database_history.specs.Recorded.{Done, done_of, IsLawfulDone, Recorded, own, taken, ddl, sync, pass, note, entry_of, IsRecorded}
 use Rattle.sr_database_history.proofs.Bounds.{short}
 use Rattle.sr_database_history.proofs.Joined.{stored_from-more}
 use Rattle.sr_logform.proofs.Counting.{entry_long}

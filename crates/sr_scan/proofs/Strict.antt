@@ -1,5 +1,5 @@
 -- Names and keys of tables, behind statements in normal form.
-use Rattle.std.proofs.Common.{◌≡◌, inl, inr, ℕ, zero, suc, Bool, true, false, cond, List, [], ◌∷◌, map, filter_map, find, slice_get, Option, Some, None, option_map, bytes_eq, refl, sym, ap, subst, ◌∙◌}
+use Rattle.std.proofs.Common.{◌≡◌, inl, inr, ℕ, Bool, true, false, List, [], ◌∷◌, map, filter_map, find, slice_get, Option, Some, None, option_map, bytes_eq, refl, sym, ap, ◌∙◌}
 use Rattle.std.specs.List.{cons_option, AllByRecursion}
 use Rattle.std.proofs.lemmas.Bool.{or_cases, or_left, or_right}
 use Rattle.std.proofs.lemmas.Map.Made.{is_member-Decides}
@@ -9,6 +9,7 @@ use Rattle.sr_ast.specs.declared.create.CreateTable.{CreateTable}
 use Rattle.sr_ast.specs.declared.stmt.Stmt.{Stmt}
 use Rattle.sr_ast.specs.declared.stmt.Stmt.TheVariants as stmt
 use Rattle.sr_base.specs.Fields.{IsName}
+use Rattle.sr_base.proofs.Truths.{some_is}
 use Rattle.sr_book.specs.Entries.{Name}
 use Rattle.sr_catalog_change.specs.Changes.{refusal, next as catalog_next}
 use Rattle.sr_catalog_ddl.specs.Tables.{rule_name, column_of, table_of}
@@ -21,10 +22,11 @@ use Rattle.sr_database_history.specs.Recorded.{Done, plain, ran, conflict, clash
 use Rattle.sr_database_history.specs.Recorded.{Recorded, own, taken, ddl, sync, pass, note, IsRecorded}
 use Rattle.sr_logform.specs.declared.change.Change.{Change}
 use Rattle.sr_publish.specs.SubscribedTables.{SubscribedTable, subscribed_table_of}
-use Rattle.sr_publish.proofs.Orderly.{table_has_key, subscribed_table_in_order}
+use Rattle.sr_publish.proofs.Orderly.{table_has_key, subscribed_table_in_order, found_in, find_passes}
 use Rattle.sr_catalog_script_laws.specs.Inner.Scripts.{IsMade}
 use Rattle.sr_catalog_script_laws.proofs.Made.{new_made, still_made}
 use Rattle.sr_catalog_script_laws.proofs.ReplayLists.{AllByRecursion-append, AllByRecursion-filter}
+use Rattle.sr_catalog_script_laws.proofs.ReplayTables.{slice_get-map}
 use Rattle.sr_catalog_schema.proofs.Places.{find-place}
 use Rattle.sr_catalog_schema.specs.Catalogs.{Lists}
 use Rattle.sr_catalog_schema.specs.Firsts.{has}
@@ -32,12 +34,9 @@ use Rattle.sr_catalog_schema.specs.Members.{column_name, key_names}
 use Rattle.sr_catalog_schema.specs.Names.{place_of}
 use Rattle.sr_catalog_schema.specs.declared.table.Column.{Column}
 use Rattle.sr_catalog_schema.specs.declared.table.Table.{Table}
-use Rattle.sr_scan.proofs.Applying.{find_has, name_of_table}
+use Rattle.sr_scan.proofs.Applying.{name_of_table}
 use Rattle.sr_scan.proofs.Moves.{subscribed_table_table}
 use Rattle.sr_scan.proofs.Spelled.{IsStrict, IsProper}
-
-some_is : {A : Type 0} {x y : A} → Some x ≡ Some y → x ≡ y
-some_is e = cc
 
 -- accepted statements have made the catalog, and its tables are as statements in normal form make them
 pub record IsGood (c : Lists) : Type 0 where
@@ -45,11 +44,6 @@ pub record IsGood (c : Lists) : Type 0 where
   pub strict : AllByRecursion IsStrict c.tables
 
 -- ---- CREATE TABLE
-
-slice_map : {A B : Type 0} (f : A → B) (xs : List A) (i : ℕ) → slice_get (map f xs) i ≡ option_map f (slice_get xs i)
-slice_map f [] i = refl
-slice_map f (x ∷ xs) zero = refl
-slice_map f (x ∷ xs) (suc i) = slice_map f xs i
 
 -- a name at a place of the key is one of those that the statement names
 
@@ -65,11 +59,11 @@ named_in m rules [] h = h
 named_in m rules (n ∷ key) h = go (place_of rule_name n rules) refl h (named_in m rules key) where
   same : (i : ℕ) (x : Name) → place_of rule_name n rules ≡ Some i → option_map column_name (slice_get (map column_of rules) i) ≡ Some x
       → (r : Option ColumnRule) → slice_get rules i ≡ r → n ≡ x
-  same i x e f None g = let no : Some x ≡ None = sym f ∙ (ap (option_map column_name) (slice_map column_of rules i ∙ ap (option_map column_of) g)) in cc
+  same i x e f None g = let no : Some x ≡ None = sym f ∙ (ap (option_map column_name) (slice_get-map column_of rules i ∙ ap (option_map column_of) g)) in cc
   same i x e f (Some r) g =
-      let is : Some x ≡ Some r.name = sym f ∙ ap (option_map column_name) (slice_map column_of rules i ∙ ap (option_map column_of) g) in
+      let is : Some x ≡ Some r.name = sym f ∙ ap (option_map column_name) (slice_get-map column_of rules i ∙ ap (option_map column_of) g) in
       let one : find (λ (y : ColumnRule). bytes_eq n (rule_name y)) rules ≡ Some r = find-place (λ (y : ColumnRule). bytes_eq n (rule_name y)) rules i e ∙ g in
-      (bytes_eq-Decides n r.name).0 (find_has (λ (y : ColumnRule). bytes_eq n (rule_name y)) rules r one) ∙ sym (some_is is)
+      (bytes_eq-Decides n r.name).0 (find_passes (λ (y : ColumnRule). bytes_eq n (rule_name y)) rules r one) ∙ sym (some_is is)
 
   at : (i : ℕ) → place_of rule_name n rules ≡ Some i → (o : Option Name) → option_map column_name (slice_get (map column_of rules) i) ≡ o
       → has (cons_option o (names_at rules (places rules key))) m ≡ true → (has (names_at rules (places rules key)) m ≡ true → has key m ≡ true) → has (n ∷ key) m ≡ true
@@ -109,23 +103,7 @@ strict_next : (c : Lists) (s : Stmt) → IsNormal s → AllByRecursion IsStrict 
 unfolding catalog_next
 strict_next c (stmt.CreateTable t) n all = AllByRecursion-append IsStrict c.tables (table_of t) all (made_strict t n)
 strict_next c (stmt.DropTable name) n all = AllByRecursion-filter IsStrict _ c.tables all
-strict_next c (stmt.CreatePublication p) n all = all
-strict_next c (stmt.DropPublication name) n all = all
-strict_next c (stmt.GrantRemote g) n all = all
-strict_next c (stmt.GrantConsolidate g) n all = all
-strict_next c (stmt.CreateSubscription r) n all = all
-strict_next c (stmt.StartSubscription r) n all = all
-strict_next c (stmt.StopSubscription r) n all = all
-strict_next c (stmt.Synchronize r) n all = all
-strict_next c (stmt.DropSubscription r) n all = all
-strict_next c (stmt.CreateTrigger g) n all = all
-strict_next c (stmt.DropTrigger name) n all = all
-strict_next c (stmt.Dml d) n all = all
-strict_next c (stmt.Select q) n all = all
-strict_next c stmt.Commit n all = all
-strict_next c stmt.Rollback n all = all
-strict_next c (stmt.Passthrough p) n all = all
-strict_next c stmt.PassthroughStop n all = all
+strict_next c _ n all = all
 
 statement_good : (s : State) (statement : Stmt) → IsNormal statement → refusal s.catalog statement ≡ None → IsGood s.catalog → IsGood (with_statement statement s).catalog
 unfolding with_statement
@@ -164,15 +142,8 @@ stored_good publisher rs stored = from_good (fresh publisher) 0 rs stored (recor
 
 -- ---- shares
 
-all_found : {A : Type 0} (P : A → Type 0) (p : A → Bool) (xs : List A) (x : A) → AllByRecursion P xs → find p xs ≡ Some x → P x
-all_found P p [] x all e = cc
-all_found P p (y ∷ xs) x all e = go (p y) e (all_found P p xs x all.1) where
-  go : (b : Bool) → cond b (Some y) (find p xs) ≡ Some x → (find p xs ≡ Some x → P x) → P x
-  go true h rest = subst P (some_is h) all.0
-  go false h rest = rest h
-
 pub table_strict : (c : Lists) (name : Name) (t : Table) → IsGood c → table_named c name ≡ Some t → IsStrict t
-table_strict c name t g e = all_found IsStrict (λ (x : Table). bytes_eq name x.name) c.tables t g.strict e
+table_strict c name t g e = found_in IsStrict (λ (x : Table). bytes_eq name x.name) c.tables t g.strict e
 
 pub subscribed_table_proper : (c : Lists) (user table : Name) (s : SubscribedTable) → IsGood c → subscribed_table_of c user table ≡ Some s → IsProper s
 subscribed_table_proper c user table s g e =

@@ -3,7 +3,7 @@ use Rattle.std.specs.Prelude.{ℕ, cond, List, [], ◌∷◌, map, filter, zip, 
 use Rattle.std.specs.Ordering.{eq_by_cmp}
 use Rattle.sr_base.specs.Order.{value_cmp}
 use Rattle.sr_base.specs.declared.value.Value.{Value as Cell}
-use Rattle.sr_exec_dml.specs.Statements.{key_of}
+use Rattle.sr_exec_where.specs.Keys.{key_of}
 use Rattle.sr_logform.specs.Rules.{is_present}
 use Rattle.sr_logform.specs.declared.change.Change.{Change}
 use Rattle.sr_logform.specs.declared.op.Op.{Op}

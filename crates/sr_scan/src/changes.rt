@@ -4,7 +4,7 @@ ghost use Rattle.std.specs.Prelude.{◌≡◌, ◌++◌, ◌∷◌, [], Some, No
 ghost use Rattle.std.specs.BTreeMap as tree;
 ghost use Rattle.std.specs.Option.{option_copied};
 ghost use Rattle.sr_base.specs.Order.{name_cmp};
-ghost use Rattle.sr_exec_dml.specs.Statements.{key_of};
+ghost use Rattle.sr_exec_where.specs.Keys.{key_of};
 ghost use Rattle.sr_logform.specs.declared.op.Op.TheVariants.{Insert, Remove};
 ghost use Rattle.sr_publish.specs.Views.{shown};
 ghost use Rattle.sr_scan.specs.Inner.Images.{images_told, change_told, changes_told};

@@ -4,14 +4,14 @@ ghost use Rattle.std.specs.Prelude.{◌≡◌, ◌++◌, ◌∷◌, [], IfOk, On
 ghost use Rattle.std.specs.Ordering.{eq_by_cmp};
 ghost use Rattle.sr_base.specs.Order.{value_cmp};
 ghost use Rattle.sr_base.specs.declared.value.Value.TheVariants.{Null};
-ghost use Rattle.sr_exec_dml.specs.Statements.{key_of};
+ghost use Rattle.sr_exec_where.specs.Keys.{key_of};
 ghost use Rattle.sr_logform.specs.Rules.{is_present};
 ghost use Rattle.sr_catalog_schema.specs.Firsts.{has};
 ghost use Rattle.sr_scan.specs.Ops.{present_columns, differing, outside_key};
 
 use sr_base::{Copied, Name, NoMemory, Seq, Value};
 use sr_catalog_schema::Column;
-use sr_exec_fits::is_null;
+use sr_eval::is_null;
 use sr_publish::{is_same, value_or_null};
 use std::alloc::{AllocError, Global};
 

@@ -4,7 +4,7 @@ ghost use Rattle.std.specs.Prelude.{◌≡◌, ◌&&◌, List, ℕ, Some, zip, m
 ghost use Rattle.std.specs.Ordering.{eq_by_cmp};
 ghost use Rattle.sr_base.specs.Order.{key_cmp};
 ghost use Rattle.sr_base_dates.specs.Fitting.{fitted};
-ghost use Rattle.sr_exec_dml.specs.Statements.{key_of};
+ghost use Rattle.sr_exec_where.specs.Keys.{key_of};
 ghost use Rattle.sr_database_history.specs.Fitting.{fitted_in};
 ghost use Rattle.sr_scan.specs.Inner.Images.{key_meant, all_of, stands_under, are_rows_of};
 ghost use Rattle.sr_scan.specs.Ops.{key_columns};

@@ -16,9 +16,9 @@ ghost use Rattle.sr_logform.specs.declared.op.Transaction.{Transaction as ATrans
 ghost use Rattle.sr_catalog_schema.specs.Catalogs.{Lists};
 ghost use Rattle.sr_scan.specs.Given.{view_in, gives, with_transaction, given_from, given_of};
 ghost use Rattle.sr_scan.specs.Inner.Images.{told, catalog_after};
-ghost use Rattle.sr_scan.specs.Inner.Laws.{HaveSpellings};
+ghost use Rattle.sr_scan.specs.Inner.Laws.{AnswersAsGiven, HaveSpellings};
 ghost use Rattle.sr_scan.specs.Inner.Meanings.{texts_of, meant_by, AreMeant, IsGiven};
-ghost use Rattle.sr_scan.specs.Inner.Scanners.{Scan, transaction_of, IsFed};
+ghost use Rattle.sr_scan.specs.Inner.Scanners.{Scan, IsFed};
 
 /// The statements that the texts of a recorded entry are, are those that it was recorded with. So the ops of an entry are one list, and a scanner answers
 /// one thing.
@@ -37,7 +37,7 @@ pub fn images_are_views()
         → IsGiven s.catalog (entry_of r) user ops → ops ≡ gives s r user }
     ensures fed { (s : State) (place : ℕ) (r : Recorded) (old new : Scan) (at : Place) (found : Option ATransaction) → Holds s → Fits s place r
         → old.catalog ≡ s.catalog → IsFed old at (entry_of r) found new
-        → (found ≡ transaction_of at (gives s r old.user)) × (new.catalog ≡ (next s r).catalog) × (new.user ≡ old.user) }
+        → AnswersAsGiven s r old at found new }
 {}
 
 /// What a history gives: nothing of no entry; with one entry more its transaction at the end, if it gives one; of two histories joined, that of the

@@ -2,7 +2,7 @@
 
 ghost use Rattle.std.specs.Prelude.{◌≡◌, ◌++◌, Some, OnOk};
 ghost use Rattle.std.specs.Option.{option_copied};
-ghost use Rattle.sr_exec_dml.specs.Statements.{key_of};
+ghost use Rattle.sr_exec_where.specs.Keys.{key_of};
 ghost use Rattle.sr_publish.specs.Views.{shown, shown_row};
 ghost use Rattle.sr_catalog_schema.specs.Members.{key_names};
 ghost use Rattle.sr_scan.specs.Ops.{outside_key, told_back, update_of};

@@ -4,7 +4,8 @@ use Rattle.std.specs.Prelude.{cond, nat_lt, true, false, Bool}
 use Rattle.std.specs.List.{AllByRecursion}
 use Rattle.std.proofs.lemmas.List.{append-nil}
 use Rattle.sr_base.specs.declared.offset.Offset.{Offset}
-use Rattle.sr_mail_cut.specs.Bodies.{RisesPast, last_at, first_long, longest_transaction}
+use Rattle.sr_mail_cut.specs.Bodies.{RisesPast, last_at, first_long}
+use Rattle.sr_logform.specs.Limits.{longest_transaction}
 use Rattle.sr_mail_cut.specs.Cuts.{Cutting, HasGiven, AreCut, IsFull, AreFull, Parcel, IsParcel, transactions_of, all_messages, file_length, bodyless}
 use Rattle.sr_mail_cut.specs.declared.head.Head.{Head}
 use Rattle.sr_mail_cut.proofs.Existing.{cut_there}

@@ -4,7 +4,8 @@ use Rattle.std.specs.Prelude.{cond, nat_lt, true, false, Bool, OnOk, IfErr}
 use Rattle.std.specs.List.{AllByRecursion}
 use Rattle.std.proofs.lemmas.List.{append-nil}
 use Rattle.sr_base.specs.declared.offset.Offset.{Offset}
-use Rattle.sr_mail_cut.specs.Bodies.{RisesPast, last_at, longest_transaction}
+use Rattle.sr_mail_cut.specs.Bodies.{RisesPast, last_at}
+use Rattle.sr_logform.specs.Limits.{longest_transaction}
 use Rattle.sr_mail_cut.specs.Cuts.{Cutting, HasGiven}
 use Rattle.sr_mail_cut.specs.Inner.Cuts.{CutCause}
 use Rattle.sr_mail_cut.specs.declared.too_long.TooLong.{TooLong}

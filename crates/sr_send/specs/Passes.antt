@@ -5,7 +5,8 @@ use Rattle.sr_base.specs.Values.{offset_from}
 use Rattle.sr_base.specs.declared.offset.Offset.{Offset}
 use Rattle.sr_book.specs.Entries.{Name}
 use Rattle.sr_book.specs.declared.book.Book.{Book}
-use Rattle.sr_mail_cut.specs.Bodies.{last_at, first_long, longest_transaction}
+use Rattle.sr_mail_cut.specs.Bodies.{last_at, first_long}
+use Rattle.sr_logform.specs.Limits.{longest_transaction}
 use Rattle.sr_database.specs.Books.{book_in}
 use Rattle.sr_database.specs.Causes.{IsTooFar}
 use Rattle.sr_database.specs.Commits.{HasRoom}

@@ -3,12 +3,10 @@ ghost use Rattle.sr_send.specs.Inner.Faults.{IsReadRefusal, IsFoundOrEnd};
 ghost use Rattle.sr_send.specs.declared.fault.SendFault.TheVariants.{Memory as memory};
 
 use sr_database::DatabaseFault;
+use sr_logform::LONGEST_TRANSACTION;
 use sr_mail_cut::TooLong;
 use sr_site::MailFault;
 use std::alloc::AllocError;
-
-/// The longest encoding of one transaction, in bytes: 64 MiB.
-const LONGEST_TRANSACTION: u64 = 67_108_864;
 
 /// Why a pass ended before its end. What was put before stays.
 #[derive(Clone, Copy, Debug, PartialEq, Eq)]

@@ -1,6 +1,7 @@
 //! What the messages of a pass have in common.
 
 ghost use Rattle.std.specs.Prelude.{◌≡◌, ◌≤◌, [], true, cond, length, IsTrue, IfOk};
+ghost use Rattle.sr_mail_cut.specs.Inner.Cuts.{IsMessageLimit};
 ghost use Rattle.sr_send.specs.Inner.Aims.{IsAim, HasMade, aim_at};
 ghost use Rattle.sr_send.specs.PutFiles.{head_of, address_in};
 
@@ -74,8 +75,7 @@ pub(crate) fn aim_at(
     ask: bool,
 ) -> Result<Aim, NoMemory>
     requires usable { db.now.log.usable ≡ true }
-    requires least { 10000 ≤ length }
-    requires most { length ≤ 1048576 }
+    requires limit { IsMessageLimit length }
     requires ask { IsTrue ask → 1 ≤ book.now.rereceive_count }
     ensures aim { IfOk result (λ aim. aim ≡ aim_at db.now user.now book.now length ask) }
     ensures good { IsAim (aim_at db.now user.now book.now length ask) }

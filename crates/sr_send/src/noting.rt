@@ -14,7 +14,7 @@ ghost use Rattle.sr_send.specs.Inner.Notes.{Noted, NoteCause, IsNoteRefusal, IsN
 
 use crate::fault::SendFault;
 use crate::sending::Sent;
-use sr_base::{Copied, Name, NoMemory, Offset};
+use sr_base::{Name, NoMemory, Offset};
 use sr_book::Note;
 use sr_database::{Database, DatabaseFault};
 use sr_logform::Entry;
@@ -27,14 +27,13 @@ fn note_entry(alloc: Global, user: &Name, sent: Sent, confirm: u64) -> Result<En
     ensures short { IfOk result (λ entry. ¬ (IsLong entry)) }
 {
     let _user = user.bytes();
-    Ok(Entry::Note {
-        user: user.copy(alloc)?,
-        note: Note::Sent {
-            end: sent.end,
-            messages: sent.put,
-            confirm: Offset(confirm),
-        },
-    })
+    let note = Note::Sent {
+        end: sent.end,
+        messages: sent.put,
+        confirm: Offset(confirm),
+    };
+    let entry = Entry::note(alloc, user, note)?;
+    Ok(entry)
 }
 
 /// The answer of the commit of a note, as that of a pass.

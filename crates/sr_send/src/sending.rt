@@ -2,6 +2,7 @@
 
 ghost use Rattle.std.specs.Prelude.{◌≡◌, ◌≢◌, ◌≤◌, [], true, false, IsTrue, IsSome, IfOk, IfErr};
 ghost use Rattle.sr_base.specs.Values.{offset_from};
+ghost use Rattle.sr_mail_cut.specs.Inner.Cuts.{IsMessageLimit};
 ghost use Rattle.sr_database.specs.Books.{book_in};
 ghost use Rattle.sr_database.specs.Databases.{HasDatabase};
 ghost use Rattle.sr_catalog_schema.specs.Members.{user_name};
@@ -55,8 +56,7 @@ pub fn send<S: Site>(
     requires usable { db.old.log.usable ≡ true }
     requires pending { db.old.pending ≡ [] }
     requires user { IsSome (named user_name user.now db.old.catalog.users) }
-    requires least { 10000 ≤ length }
-    requires most { length ≤ 1048576 }
+    requires limit { IsMessageLimit length }
     requires ask { IsTrue ask → 1 ≤ (book_in db.old.books user.now).rereceive_count }
     requires stands { IsTrue (S.seen site.old).observable → HasDatabase db.old (S.seen site.old) }
     ensures sent { IfOk result (HasSent db.old db.new (S.seen site.old) (S.seen site.new) user.now length ask) }
@@ -93,8 +93,7 @@ fn put_due<S: Site>(
     ask: bool,
 ) -> Result<Sent, SendFault>
     requires usable { db.now.log.usable ≡ true }
-    requires least { 10000 ≤ length }
-    requires most { length ≤ 1048576 }
+    requires limit { IsMessageLimit length }
     requires ask { IsTrue ask → 1 ≤ book.now.rereceive_count }
     ensures put { IfOk result (PutAll db.now (aim_at db.now user.now book.now length ask) book.now ask user.now (S.seen site.old) (S.seen site.new)) }
     ensures cause { IfErr result (PutStop db.now (aim_at db.now user.now book.now length ask) book.now ask user.now (S.seen site.old) (S.seen site.new)) }

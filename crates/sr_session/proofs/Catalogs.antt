@@ -37,25 +37,8 @@ none_refuses c s is = unless_ok (refusal c s) is
 
 -- the rows refuse no statement on the catalog
 rows_accept : (s : State) (statement : Stmt) → IsTrue (is_ddl statement) → IsDoneBy s statement
-rows_accept s (stmt.CreateTable t) is = tt
-rows_accept s (stmt.DropTable n) is = tt
-rows_accept s (stmt.CreatePublication p) is = tt
-rows_accept s (stmt.DropPublication n) is = tt
-rows_accept s (stmt.GrantRemote g) is = tt
-rows_accept s (stmt.GrantConsolidate g) is = tt
-rows_accept s (stmt.CreateSubscription r) is = tt
-rows_accept s (stmt.StartSubscription r) is = tt
-rows_accept s (stmt.StopSubscription r) is = tt
-rows_accept s (stmt.Synchronize r) is = tt
-rows_accept s (stmt.DropSubscription r) is = tt
-rows_accept s (stmt.CreateTrigger t) is = tt
-rows_accept s (stmt.DropTrigger n) is = tt
 rows_accept s (stmt.Dml d) is = absurd (let no : false ≡ true = is in cc)
-rows_accept s (stmt.Select q) is = tt
-rows_accept s stmt.Commit is = tt
-rows_accept s stmt.Rollback is = tt
-rows_accept s (stmt.Passthrough p) is = tt
-rows_accept s stmt.PassthroughStop is = tt
+rows_accept s _ is = tt
 
 pub accepts : (s : State) (statement : Stmt) → IsDdl statement → accepted s.catalog statement ≡ Ok tt → IsAccepted s statement
 accepts s statement meant fine = record { catalog = none_refuses s.catalog statement fine; rows = rows_accept s statement meant.1 }

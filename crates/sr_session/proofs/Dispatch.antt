@@ -15,7 +15,7 @@ use Rattle.sr_session.specs.Inner.Ready.{AreUsers, IsReady, work_of}
 use Rattle.sr_session.specs.Inner.Steps.{IsDoneStep, Took}
 use Rattle.sr_session.specs.declared.fault.StepFault.{StepFault}
 use Rattle.sr_session.proofs.Regions.{users_on}
-use Rattle.sr_session.proofs.States.{committed_is}
+use Rattle.sr_database.proofs.Commits.{committed_is}
 use Rattle.sr_session.proofs.Taking.{took_after, took_prefix}
 
 -- ---- what a stretch without a refusal leaves

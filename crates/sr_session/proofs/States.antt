@@ -2,7 +2,7 @@
 use Rattle.std.proofs.Common.{◌≡◌, ◌+◌, ℕ, List, [], ◌∷◌, ◌++◌, sym, ap, ◌∙◌}
 use Rattle.sr_book.specs.Entries.{Name}
 use Rattle.sr_exec_dml.specs.Applying.{applied}
-use Rattle.sr_database_history.specs.Folds.{State, with_changes, next, state_of, size}
+use Rattle.sr_database_history.specs.Folds.{State, with_changes, next, size}
 use Rattle.sr_database_history.specs.Recorded.{Recorded}
 use Rattle.sr_database_history.proofs.Joined.{state_from-more, end_from-more}
 use Rattle.sr_database_history.specs.Folds.{fresh}
@@ -11,13 +11,10 @@ use Rattle.sr_catalog_schema.specs.Catalogs.{Lists}
 use Rattle.sr_database.specs.Databases.{IsOf, IsOfSome}
 use Rattle.sr_database.specs.Views.{View, committed}
 use Rattle.sr_database.specs.Inner.Views.{present}
+use Rattle.sr_database.proofs.Commits.{committed_is}
 
 abbrev state_with : Lists → RowMap → State
 state_with catalog rows = record { catalog = catalog; rows = rows }
-
-pub committed_is : (view : View) (publisher : Name) (es : List Recorded) → IsOf view publisher es → committed view ≡ state_of publisher es
-committed_is view publisher es is =
-    ap (λ (c : Lists). state_with c view.rows.marked) is.catalog ∙ ap (λ (m : RowMap). state_with (state_of publisher es).catalog m) is.marked
 
 -- behind an entry
 pub committed_more : (old new : View) (publisher : Name) (es : List Recorded) (r : Recorded) → IsOf old publisher es → IsOf new publisher (es ++ r ∷ [])

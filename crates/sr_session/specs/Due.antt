@@ -26,9 +26,13 @@ abbrev pub is_commit : Stmt → Bool
 is_commit stmt.Commit = true
 is_commit s = false
 
--- lines that are kept behind a statement are to be written: behind each COMMIT, and where they are 64 KiB
+-- how many bytes of lines are kept at most behind a statement: 64 KiB
+abbrev pub kept_lines : ℕ
+kept_lines = 65536
+
+-- lines that are kept behind a statement are to be written: behind each COMMIT, and where they are so many
 abbrev pub is_due : Stmt → List ℕ → Bool
-is_due s lines = is_commit s || nat_le 65536 (length lines)
+is_due s lines = is_commit s || nat_le kept_lines (length lines)
 
 -- the lines that are to be written behind statements: those that are kept and their own, up to the last statement behind which they are due
 abbrev pub due : List ℕ → List (Stmt × List ℕ) → List ℕ

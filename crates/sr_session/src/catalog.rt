@@ -10,7 +10,8 @@ ghost use Rattle.sr_session.specs.Inner.Steps.{Took};
 
 use crate::entering::enter;
 use crate::fault::StepFault;
-use sr_ast::{Stmt, print};
+use sr_ast::Stmt;
+use sr_ast_print::print;
 use sr_base::{NoMemory, Text};
 use sr_database::Database;
 use sr_logform::Entry;

@@ -1,4 +1,3 @@
-pub mod Alike
 pub mod Joins
 pub mod Listings
 pub mod Ranks

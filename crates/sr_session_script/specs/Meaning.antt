@@ -115,25 +115,8 @@ answered w q = then_step (rows_by (visible w) q) (λ found. goes (listing found)
 
 -- START of a subscription that is started changes nothing
 abbrev pub is_done_already : Lists → Stmt → Bool
-is_done_already c (stmt.CreateTable t) = false
-is_done_already c (stmt.DropTable n) = false
-is_done_already c (stmt.CreatePublication p) = false
-is_done_already c (stmt.DropPublication n) = false
-is_done_already c (stmt.GrantRemote g) = false
-is_done_already c (stmt.GrantConsolidate g) = false
-is_done_already c (stmt.CreateSubscription r) = false
 is_done_already c (stmt.StartSubscription r) = is_started c r
-is_done_already c (stmt.StopSubscription r) = false
-is_done_already c (stmt.Synchronize r) = false
-is_done_already c (stmt.DropSubscription r) = false
-is_done_already c (stmt.CreateTrigger t) = false
-is_done_already c (stmt.DropTrigger n) = false
-is_done_already c (stmt.Dml d) = false
-is_done_already c (stmt.Select q) = false
-is_done_already c stmt.Commit = false
-is_done_already c stmt.Rollback = false
-is_done_already c (stmt.Passthrough p) = false
-is_done_already c stmt.PassthroughStop = false
+is_done_already c _ = false
 
 -- a statement that changes the catalog is an entry of its own
 abbrev pub recorded : Bool → Stmt → Work → Stepped
@@ -227,22 +210,13 @@ on_rows None d w = executed w d
 on_rows (Some p) d w = once_closed w (λ v. passed p (stmt.Dml d) (row_changes p.only v.state d) v)
 
 unfoldable pub done_by : Work → Stmt → Stepped
-done_by w (stmt.CreateTable t) = once_closed w (on_catalog w.region (stmt.CreateTable t))
-done_by w (stmt.DropTable n) = once_closed w (on_catalog w.region (stmt.DropTable n))
-done_by w (stmt.CreatePublication p) = once_closed w (on_catalog w.region (stmt.CreatePublication p))
-done_by w (stmt.DropPublication n) = once_closed w (on_catalog w.region (stmt.DropPublication n))
 done_by w (stmt.GrantRemote g) = once_closed w (on_users w.region g.user (stmt.GrantRemote g))
 done_by w (stmt.GrantConsolidate g) = once_closed w (on_users w.region g.user (stmt.GrantConsolidate g))
-done_by w (stmt.CreateSubscription r) = once_closed w (on_catalog w.region (stmt.CreateSubscription r))
-done_by w (stmt.StartSubscription r) = once_closed w (on_catalog w.region (stmt.StartSubscription r))
-done_by w (stmt.StopSubscription r) = once_closed w (on_catalog w.region (stmt.StopSubscription r))
 done_by w (stmt.Synchronize r) = once_closed w (on_views w.region r)
-done_by w (stmt.DropSubscription r) = once_closed w (on_catalog w.region (stmt.DropSubscription r))
-done_by w (stmt.CreateTrigger t) = once_closed w (on_catalog w.region (stmt.CreateTrigger t))
-done_by w (stmt.DropTrigger n) = once_closed w (on_catalog w.region (stmt.DropTrigger n))
 done_by w (stmt.Dml d) = on_rows w.region d w
 done_by w (stmt.Select q) = answered w q
 done_by w stmt.Commit = committed w
 done_by w stmt.Rollback = rolled w
 done_by w (stmt.Passthrough p) = once_closed w (began p)
 done_by w stmt.PassthroughStop = once_closed w ended
+done_by w s = once_closed w (on_catalog w.region s)

@@ -105,13 +105,7 @@ fn is_same(before: &Option<Row>, after: &Option<Row>) -> bool
 {
     match (before, after) {
         (None, None) => true,
-        (Some(before), Some(after)) => is_same_row(before.values(), after.values()),
+        (Some(before), Some(after)) => *before == *after,
         _ => false,
     }
-}
-
-fn is_same_row(before: &[Value], after: &[Value]) -> bool
-    ensures same { IsTrue result ↔ (before.now ≡ after.now) }
-{
-    before.cmp(after).is_eq()
 }

@@ -34,7 +34,7 @@ use Rattle.sr_catalog_schema.specs.declared.user.User.{User}
 use Rattle.sr_catalog_script_laws.proofs.Spelled.{script_again, script_normal}
 use Rattle.sr_catalog_script_laws.specs.Inner.Scripts.{IsMade, create_publication_of, create_subscription_of, create_table_of, grant_of, grant_rule, replayed, start_of, statements, trigger_stmt, unless_refused}
 use Rattle.sr_exec_dml.specs.Inner.Conditions.{TableFits}
-use Rattle.sr_exec_dml.specs.Statements.{key_of}
+use Rattle.sr_exec_where.specs.Keys.{key_of}
 use Rattle.sr_logform.specs.Entries.{table_spelling}
 use Rattle.sr_parse.proofs.Prints.{prints_once}
 use Rattle.sr_parse.specs.Prints.{Prints}

@@ -7,7 +7,8 @@ use Rattle.std.specs.FinMap.{get, find, same_map}
 use Rattle.sr_base.specs.declared.value.Value.{Value as Cell}
 use Rattle.sr_base.specs.Order.{key_cmp}
 use Rattle.sr_exec_dml.specs.Inner.Conditions.{RowsFit}
-use Rattle.sr_exec_dml.specs.Statements.{key_of, table_named}
+use Rattle.sr_exec_where.specs.Keys.{key_of}
+use Rattle.sr_exec_dml.specs.Statements.{table_named}
 use Rattle.sr_exec_dml.proofs.Applied.{found_named}
 use Rattle.sr_rows.specs.Marks.{Place, RowMap}
 use Rattle.sr_rows.specs.Inner.Marks.{place_cmp_total}

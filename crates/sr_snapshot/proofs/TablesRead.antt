@@ -28,7 +28,8 @@ use Rattle.sr_exec_dml.proofs.Afterwards.{same_place}
 use Rattle.sr_exec_dml.proofs.Applied.{found_named}
 use Rattle.sr_exec_dml.proofs.Folding.{same_key}
 use Rattle.sr_exec_dml.specs.Inner.Conditions.{RowsFit}
-use Rattle.sr_exec_dml.specs.Statements.{entry_of, key_of}
+use Rattle.sr_exec_dml.specs.Statements.{entry_of}
+use Rattle.sr_exec_where.specs.Keys.{key_of}
 use Rattle.sr_exec_fits.specs.Rows.{IsRow, is_row, may_hold}
 use Rattle.sr_logform.specs.Entries.{table_spelling}
 use Rattle.sr_logform.specs.Rules.{AreDistinct}

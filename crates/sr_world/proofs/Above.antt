@@ -20,7 +20,7 @@ use Rattle.sr_database_history.specs.Fitting.{AreNamedRows, FitsState}
 use Rattle.sr_database_history.specs.Folds.{State, fresh, with_statement, next, size, state_of}
 use Rattle.sr_database_history.specs.Recorded.{conflict}
 use Rattle.sr_database_history.specs.Recorded.{own, taken, ddl, sync, pass, note}
-use Rattle.sr_database_history.specs.Inner.Sample.{cons, r1, table_t, column_id, create_t, create_u, inserted}
+use Rattle.sr_database_history.specs.Inner.Sample.{cons, r1, table_t, column_id, create_t, create_u, inserted, grant}
 use Rattle.sr_database_history.proofs.Kept.{fresh_holds}
 use Rattle.sr_logform.specs.Entries.{entry_spelling, flag_spelling, IsEntry}
 use Rattle.sr_logform.specs.Ops.{op_spelling}
@@ -38,7 +38,7 @@ use Rattle.sr_scan.specs.Inner.Images.{told}
 use Rattle.sr_catalog_schema.specs.Causes.{first_fault}
 use Rattle.sr_catalog_schema.specs.declared.subscription.Subscription.{Subscription}
 use Rattle.sr_world.specs.Real.{layers, LawfulHistory}
-use Rattle.sr_world.specs.Inner.Sample.{r2, name_p, name_q, create_p, create_q, grant, subscription}
+use Rattle.sr_world.specs.Inner.Sample.{r2, name_p, name_q, create_p, create_q, subscription}
 use Rattle.sr_world.specs.Inner.Sample.{first_row, updated, insert, insert_slim, slim_row, run_u, set, sent_to}
 use Rattle.sr_world.proofs.Lines.{Line, IsLine, AreLines, entries, lawful_prefix, end_told, end_prefix, state_end}
 use Rattle.sr_world.proofs.Lines.{each_told, all_told, given_prefix, ddl_line, note_line}
@@ -48,7 +48,8 @@ use Rattle.sr_world.proofs.Grounds.{set_ok, conflict_outcome}
 use Rattle.sr_world.proofs.Grounds.{the_t, the_u, the_p, the_q, user_at, to, state_at, here, new_row, next_row, held_next, held_new, entries_of}
 use Rattle.sr_world.proofs.Grounds.{entries_new, new_fits, next_fits, where_set, still, own_line}
 use Rattle.sr_world.proofs.Grounds.{sent_line, sent_r1, sent_r2, sent_more, sent_back}
-use Rattle.sr_world.proofs.Named.{normal_u, text_u, row_ok, slim_ok, new_ok, update_ok}
+use Rattle.sr_world.proofs.Named.{text_u, row_ok, slim_ok, new_ok, update_ok}
+use Rattle.sr_database_history.proofs.Sampled.{normal_u}
 
 abbrev c0 : State
 c0 = fresh cons

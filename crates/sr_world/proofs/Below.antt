@@ -18,7 +18,7 @@ use Rattle.sr_database_history.specs.Fitting.{FitsState}
 use Rattle.sr_database_history.specs.Folds.{State, fresh, with_statement, next, size, state_of}
 use Rattle.sr_database_history.specs.Recorded.{plain, ran}
 use Rattle.sr_database_history.specs.Recorded.{own, taken, ddl, note}
-use Rattle.sr_database_history.specs.Inner.Sample.{cons, r1, table_t, table_u, create_t, create_u, inserted}
+use Rattle.sr_database_history.specs.Inner.Sample.{cons, r1, table_t, table_u, create_t, create_u, inserted, grant}
 use Rattle.sr_database_history.proofs.Kept.{fresh_holds}
 use Rattle.sr_logform.specs.Entries.{entry_spelling, IsEntry}
 use Rattle.sr_logform.specs.Ops.{op_spelling}
@@ -35,7 +35,7 @@ use Rattle.sr_catalog_schema.specs.Causes.{first_fault}
 use Rattle.sr_catalog_schema.specs.Members.{table_name}
 use Rattle.sr_catalog_schema.specs.declared.subscription.Subscription.{Subscription}
 use Rattle.sr_world.specs.Real.{layers, LawfulHistory}
-use Rattle.sr_world.specs.Inner.Sample.{r2, name_p, create_slim, create_p, grant, subscription}
+use Rattle.sr_world.specs.Inner.Sample.{r2, name_p, create_slim, create_p, subscription}
 use Rattle.sr_world.specs.Inner.Sample.{first_row, updated, insert, insert_slim, slim_row, run_u, set, sent_to}
 use Rattle.sr_world.proofs.Lines.{Line, IsLine, AreLines, entries, lawful_prefix, end_told, end_prefix, state_end}
 use Rattle.sr_world.proofs.Lines.{each_told, all_told, given_prefix, ddl_line, note_line}
@@ -45,7 +45,8 @@ use Rattle.sr_world.proofs.Grounds.{set_ok, insert_ok, clear_ok, run_ok, slim_op
 use Rattle.sr_world.proofs.Grounds.{the_t, the_u, the_slim, the_p, user_at, to, state_at, here, new_row, next_row, held_next, held_new}
 use Rattle.sr_world.proofs.Grounds.{entries_empty, new_fits, next_fits, where_cleared, where_new, where_set, still, own_line, taken_line}
 use Rattle.sr_world.proofs.Grounds.{sent_line, sent_nothing, sent_up}
-use Rattle.sr_world.proofs.Named.{normal_u, update_ok}
+use Rattle.sr_world.proofs.Named.{update_ok}
+use Rattle.sr_database_history.proofs.Sampled.{normal_u}
 
 -- ---- r1
 

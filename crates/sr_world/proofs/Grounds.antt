@@ -7,7 +7,6 @@ use Rattle.std.specs.FinMap as map_of
 use Rattle.std.specs.FinMap.{get, get-insert, entries-insert, len-entries, len-empty, put}
 use Rattle.sr_base.specs.Fields.{IsName}
 use Rattle.sr_base.specs.Values.{offset_from}
-use Rattle.sr_base.specs.declared.value.Kind.TheVariants as kind
 use Rattle.sr_base.specs.declared.value.Value.{Value as Cell}
 use Rattle.sr_base.specs.declared.value.Value.TheVariants.{Int}
 use Rattle.sr_book.specs.Entries.{Name}
@@ -16,7 +15,7 @@ use Rattle.sr_database_history.specs.Fitting.{Knows, FitsState}
 use Rattle.sr_database_history.specs.Folds.{State, next, size}
 use Rattle.sr_database_history.specs.Recorded.{Done, plain}
 use Rattle.sr_database_history.specs.Recorded.{Recorded, own, taken}
-use Rattle.sr_database_history.specs.Inner.Sample.{cons, r1, table_t, table_u, column_id, column_n, inserted}
+use Rattle.sr_database_history.specs.Inner.Sample.{cons, r1, table_t, table_u, column_id, column_n, inserted, integer}
 use Rattle.sr_logform.specs.Entries.{entry_spelling, IsEntry}
 use Rattle.sr_logform.specs.Ops.{OpHas, IsOp}
 use Rattle.sr_logform.specs.Outcomes.{note_spelling, OutcomeHas, IsOutcome, IsNote}
@@ -35,6 +34,7 @@ use Rattle.sr_catalog_schema.specs.declared.publication.Publication.{Publication
 use Rattle.sr_catalog_schema.specs.declared.subscription.Subscription.{Subscription}
 use Rattle.sr_catalog_schema.specs.declared.table.Table.{Table}
 use Rattle.sr_catalog_schema.specs.declared.user.User.{User}
+use Rattle.sr_catalog_script_laws.specs.Inner.Scripts.{user_at as user_of}
 use Rattle.sr_world.specs.Inner.Sample.{r2, name_p, name_q}
 use Rattle.sr_world.specs.Inner.Sample.{first_row, updated, insert, insert_slim, slim_row, run_u, set, sent_to}
 use Rattle.sr_world.proofs.Lines.{Line, IsLine}
@@ -47,6 +47,7 @@ use Rattle.sr_resolve.specs.Judging.{IsStatementOf}
 use Rattle.sr_resolve.specs.Taking.{is_above}
 use Rattle.sr_catalog_schema.specs.Catalogs.{Lists}
 use Rattle.sr_world.proofs.Named.{text_u, int_ok, row_ok, slim_ok, new_ok, update_ok}
+use Rattle.sr_catalog_ddl.specs.Tables.{column_of}
 
 -- ---- ops and outcomes
 
@@ -106,15 +107,15 @@ conflict_outcome = ((omega arith, tt), row_ok 7 (omega arith), row_ok 6 (omega a
 abbrev pub the_t : Table
 the_t = record {
   name = table_t;
-  columns = record { name = column_id; kind = kind.Int; not_null = true } ∷ record { name = column_n; kind = kind.Int; not_null = false } ∷ [];
+  columns = column_of (integer column_id true) ∷ column_of (integer column_n false) ∷ [];
   key = 0 ∷ [];
 }
 
 abbrev pub the_u : Table
-the_u = record { name = table_u; columns = record { name = column_id; kind = kind.Int; not_null = true } ∷ []; key = 0 ∷ [] }
+the_u = record { name = table_u; columns = column_of (integer column_id true) ∷ []; key = 0 ∷ [] }
 
 abbrev pub the_slim : Table
-the_slim = record { name = table_t; columns = record { name = column_id; kind = kind.Int; not_null = true } ∷ []; key = 0 ∷ [] }
+the_slim = record { name = table_t; columns = column_of (integer column_id true) ∷ []; key = 0 ∷ [] }
 
 abbrev pub the_p : Publication
 the_p = record { name = name_p; articles = record { table = table_t; columns = column_id ∷ column_n ∷ []; condition = None; by = None } ∷ [] }
@@ -123,7 +124,7 @@ abbrev pub the_q : Publication
 the_q = record { name = name_q; articles = record { table = table_t; columns = column_id ∷ []; condition = None; by = None } ∷ [] }
 
 abbrev pub user_at : Bool → Name → User
-user_at above name = record { name = name; above = above; address = name }
+user_at above name = user_of name above name
 
 abbrev pub to : Name → Name → Bool → Subscription
 to publication user started = record { publication = publication; value = None; user = user; started = started }

@@ -1,14 +1,10 @@
 -- The names, texts and values of the sample.
-use Rattle.std.proofs.Common.{◌≡◌, ◌≢◌, ◌<◌, ◌≤◌, ◌^◌, ℕ, zero, suc, true, false, List, [], ◌∷◌, length, Some, refl, ap, arith, bytes_eq, nat_lt, IsTrue}
-use Rattle.std.specs.Prelude.{pos, slice_index_or}
+use Rattle.std.proofs.Common.{◌≡◌, ◌≢◌, ◌<◌, ◌≤◌, ◌^◌, ℕ, true, false, List, length, Some, refl, ap, arith, bytes_eq, nat_lt, IsTrue}
+use Rattle.std.specs.Prelude.{pos}
 use Rattle.std.specs.Int.{w32}
 use Rattle.std.specs.List.{list_all}
-use Rattle.std.specs.Str.{IsAscii}
-use Rattle.std.proofs.lemmas.Bool.{and_parts}
-use Rattle.std.proofs.lemmas.Bool.Decides.{nat_tests}
 use Rattle.std.proofs.lemmas.Int.{fits_signed_from_abs}
 use Rattle.std.proofs.lemmas.Str.{IsUtf8-from_ascii}
-use Rattle.std.proofs.lemmas.Str.Ascii.{IsAscii-nil, IsAscii-cons}
 use Rattle.sr_ast.specs.Layout.{printed, column_rule_pieces, create_table_pieces, article_pieces, create_publication_pieces}
 use Rattle.sr_ast.specs.Layout.{grant_pieces, subscription_pieces, stmt_pieces}
 use Rattle.sr_ast.specs.Statements.{is_ddl}
@@ -26,32 +22,17 @@ use Rattle.sr_ast.specs.Keywords.{IsKeyword, named}
 use Rattle.sr_book.specs.Entries.{Name}
 use Rattle.sr_database_history.specs.Folds.{size}
 use Rattle.sr_database_history.specs.Recorded.{ddl}
-use Rattle.sr_database_history.specs.Inner.Sample.{cons, r1, table_t, table_u, column_id, column_n, create_t, create_u, inserted}
+use Rattle.sr_database_history.specs.Inner.Sample.{cons, r1, create_t, create_u, inserted, grant}
+use Rattle.sr_database_history.proofs.Sampled.{all_ascii, plain_t, plain_id, plain_r1, normal_t}
 use Rattle.sr_logform.specs.Entries.{entry_spelling}
 use Rattle.sr_logform.specs.Outcomes.{IsChange}
-use Rattle.sr_world.specs.Inner.Sample.{r2, name_p, name_q, create_slim, create_p, create_q, grant, subscription, first_row, slim_row, updated}
+use Rattle.sr_world.specs.Inner.Sample.{r2, name_p, name_q, create_slim, create_p, create_q, subscription, first_row, slim_row, updated}
 use Rattle.sr_world.proofs.Lines.{IsWritten}
 
 -- ---- names that are no key words
 
 apart : {A : Type 0} → true ≡ false → A
 apart h = cc
-
-free_t : (k : Keyword) → IsKeyword table_t k → named k ≡ Some table_t
-free_t key.Old h = apart (ap (bytes_eq table_t) h)
-free_t k h = apart (ap (bytes_eq table_t) h)
-
-free_u : (k : Keyword) → IsKeyword table_u k → named k ≡ Some table_u
-free_u key.Old h = apart (ap (bytes_eq table_u) h)
-free_u k h = apart (ap (bytes_eq table_u) h)
-
-free_id : (k : Keyword) → IsKeyword column_id k → named k ≡ Some column_id
-free_id key.Old h = apart (ap (bytes_eq column_id) h)
-free_id k h = apart (ap (bytes_eq column_id) h)
-
-free_n : (k : Keyword) → IsKeyword column_n k → named k ≡ Some column_n
-free_n key.Old h = apart (ap (bytes_eq column_n) h)
-free_n k h = apart (ap (bytes_eq column_n) h)
 
 free_p : (k : Keyword) → IsKeyword name_p k → named k ≡ Some name_p
 free_p key.Old h = apart (ap (bytes_eq name_p) h)
@@ -65,25 +46,9 @@ free_cons : (k : Keyword) → IsKeyword cons k → named k ≡ Some cons
 free_cons key.Old h = apart (ap (bytes_eq cons) h)
 free_cons k h = apart (ap (bytes_eq cons) h)
 
-free_r1 : (k : Keyword) → IsKeyword r1 k → named k ≡ Some r1
-free_r1 key.Old h = apart (ap (bytes_eq r1) h)
-free_r1 k h = apart (ap (bytes_eq r1) h)
-
 free_r2 : (k : Keyword) → IsKeyword r2 k → named k ≡ Some r2
 free_r2 key.Old h = apart (ap (bytes_eq r2) h)
 free_r2 k h = apart (ap (bytes_eq r2) h)
-
-plain_t : IsPlain table_t
-plain_t = record { written = refl; free = free_t }
-
-plain_u : IsPlain table_u
-plain_u = record { written = refl; free = free_u }
-
-plain_id : IsPlain column_id
-plain_id = record { written = refl; free = free_id }
-
-plain_n : IsPlain column_n
-plain_n = record { written = refl; free = free_n }
 
 plain_p : IsPlain name_p
 plain_p = record { written = refl; free = free_p }
@@ -94,39 +59,10 @@ plain_q = record { written = refl; free = free_q }
 plain_cons : IsPlain cons
 plain_cons = record { written = refl; free = free_cons }
 
-plain_r1 : IsPlain r1
-plain_r1 = record { written = refl; free = free_r1 }
-
 plain_r2 : IsPlain r2
 plain_r2 = record { written = refl; free = free_r2 }
 
 -- ---- statements in normal form
-
--- the column n is not in the key
-not_in_key : (k : ℕ) → k < 1 → slice_index_or (column_id ∷ []) k column_n ≡ column_n → ⊥
-not_in_key zero le is = cc
-not_in_key (suc k) le is = omega (arith, le)
-
-normal_t : IsNormal (stmt.CreateTable create_t)
-normal_t = record {
-  name = plain_t;
-  columns = (
-    record { name = plain_id; kind = tt; not_null = λ h. refl },
-    (
-      record {
-        name = plain_n;
-        kind = tt;
-        not_null = λ h. absurd
-            (not_in_key h.0 h.1 h.2);
-      },
-      tt,
-    ),
-  );
-  key = (plain_id, tt);
-}
-
-pub normal_u : IsNormal (stmt.CreateTable create_u)
-normal_u = record { name = plain_u; columns = (record { name = plain_id; kind = tt; not_null = λ h. refl }, tt); key = (plain_id, tt) }
 
 normal_slim : IsNormal (stmt.CreateTable create_slim)
 normal_slim = record { name = plain_t; columns = (record { name = plain_id; kind = tt; not_null = λ h. refl }, tt); key = (plain_id, tt) }
@@ -138,16 +74,6 @@ normal_q : IsNormal (stmt.CreatePublication create_q)
 normal_q = (plain_q, (record { table = plain_t; columns = (plain_id, tt); condition = tt; by = tt }, tt))
 
 -- ---- texts
-
--- bytes below 128 are UTF-8
-below : (byte : ℕ) → nat_lt byte 128 ≡ true → byte < 128
-below byte h = grind (arith, nat_tests)
-
-all_ascii : (bytes : List ℕ) → list_all (λ byte. nat_lt byte 128) bytes ≡ true → IsAscii bytes
-all_ascii [] h = IsAscii-nil
-all_ascii (byte ∷ bytes) h =
-    let both = and_parts (nat_lt byte 128) (list_all (λ b. nat_lt b 128) bytes) h in
-    IsAscii-cons byte bytes (below byte both.0) (all_ascii bytes both.1)
 
 text_ok : (bytes : List ℕ) → length bytes < 2 ^ 32 → list_all (λ byte. nat_lt byte 128) bytes ≡ true → IsText bytes
 text_ok bytes short h = record { short = short; utf8 = IsUtf8-from_ascii bytes (all_ascii bytes h) }

@@ -1,18 +1,16 @@
 //! Windows of messages between real databases.
 
-ghost use Rattle.std.specs.Prelude.{◌≡◌, ◌<◌, ◌≤◌, ℕ, List, ◌++◌, All, map};
-ghost use Rattle.sr_book.specs.Entries.{Name, from_user};
-ghost use Rattle.sr_book.specs.Histories.{taken as taken_from, taken_end};
-ghost use Rattle.sr_book.specs.Rising.{Rises, top, offsets};
+ghost use Rattle.std.specs.Prelude.{◌≡◌, ◌<◌, ℕ, List, ◌++◌};
+ghost use Rattle.sr_book.specs.Entries.{Name};
+ghost use Rattle.sr_book.specs.Histories.{taken as taken_from};
 ghost use Rattle.sr_database_history.specs.Recorded.{Recorded};
 ghost use Rattle.sr_logform.specs.declared.op.Op.{Op as AnOp};
-ghost use Rattle.sr_world_model.specs.Steps.{append, HasAllFragments, Chain, Covers};
-ghost use Rattle.sr_world_model.specs.Inner.Steps.{Take, AreLawfulAfter};
-ghost use Rattle.sr_world_model.specs.Windows.{past, window};
+ghost use Rattle.sr_world_model.specs.Steps.{Chain, Covers};
+ghost use Rattle.sr_world_model.specs.Inner.Steps.{Take};
+ghost use Rattle.sr_world_model.specs.Inner.Laws.{TakesAreOne, WholeWindowsAreTaken};
+ghost use Rattle.sr_world_model.specs.Windows.{window};
 ghost use Rattle.sr_world_model.specs.Worlds.{World, history};
-ghost use Rattle.sr_msgform.specs.declared.message.Message.{Message};
-ghost use Rattle.sr_world.specs.Real.{layers, HasSpelling, LawfulHistory, IsGoodWorld, MayDo};
-ghost use Rattle.sr_world.specs.Inner.Real.{IsStep};
+ghost use Rattle.sr_world.specs.Real.{layers, HasSpelling, LawfulHistory, IsGoodWorld};
 
 use crate::layers::Real;
 use sr_world_model::{chain_covers, one_take, window_taken};
@@ -20,10 +18,7 @@ use sr_world_model::{chain_covers, one_take, window_taken};
 /// A whole window that begins at what was taken, or before it, is taken to its end, transaction by transaction, where each history on
 /// the way keeps every rule. And in a good world the windows of a chain have, without gap or overlap, what the sender gives the receiver there.
 pub fn windows_are_taken()
-    ensures allowed { (messages : List Message) (d user : Name) (prev upto : ℕ) (txs : List (ℕ × List AnOp)) (rs new : List Recorded)
-        → HasAllFragments messages user d prev upto (layers.encode txs) → All HasSpelling txs → Rises prev (offsets txs) → top prev (offsets txs) ≤ upto
-        → prev ≤ taken_end layers.sees user rs → Take layers user (past (taken_end layers.sees user rs) txs) new
-        → AreLawfulAfter LawfulHistory d rs new → MayDo messages d rs (map append new) }
+    ensures allowed { WholeWindowsAreTaken layers HasSpelling LawfulHistory }
     ensures taken { (user : Name) (txs : List (ℕ × List AnOp)) (rs new : List Recorded) → Take layers user txs new
         → taken_from layers.sees user (rs ++ new) ≡ taken_from layers.sees user rs ++ txs }
     ensures covers { (w : World Recorded) (d user : Name) (prev upto : ℕ) (windows : List (ℕ × List ℕ)) → IsGoodWorld w
@@ -35,9 +30,7 @@ pub fn windows_are_taken()
 
 /// In a good world two takes of one partner that are both allowed are one entry, whichever windows they come from.
 pub fn one_take_of_a_window()
-    ensures { (w : World Recorded) (d user : Name) (e f : Recorded) (place place' : ℕ) (ops ops' : List AnOp) → IsGoodWorld w
-        → layers.sees e ≡ from_user user place ops → layers.sees f ≡ from_user user place' ops'
-        → IsStep w (record { owner = d; database_step = append e }) → IsStep w (record { owner = d; database_step = append f }) → e ≡ f }
+    ensures { TakesAreOne layers HasSpelling LawfulHistory }
 {
     one_take::<Real>();
 }

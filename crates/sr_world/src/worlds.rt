@@ -1,15 +1,16 @@
 //! Steps and runs of real databases.
 
-ghost use Rattle.std.specs.Prelude.{◌≡◌, ◌≢◌, List, [], ◌∷◌, ◌++◌};
+ghost use Rattle.std.specs.Prelude.{◌≡◌, ◌≢◌, List};
 ghost use Rattle.sr_book.specs.Entries.{Name};
 ghost use Rattle.sr_database_history.specs.Recorded.{Recorded};
 ghost use Rattle.sr_world_model.specs.Runs.{WorldRun, after_world_runs};
+ghost use Rattle.sr_world_model.specs.Inner.Laws.{RunsMayBreakOff};
 ghost use Rattle.sr_world_model.specs.Inner.Runs.{acts_of_runs};
 ghost use Rattle.sr_world_model.specs.Steps.{DatabaseStep};
 ghost use Rattle.sr_world_model.specs.Worlds.{World, WorldStep, history, happens, after_all, acts_by, IsNamed};
 ghost use Rattle.sr_world_model.specs.Worlds.{fresh_world, AreAmong};
 ghost use Rattle.sr_msgform.specs.declared.message.Message.{Message};
-ghost use Rattle.sr_world.specs.Real.{layers, IsGoodWorld, MayDo};
+ghost use Rattle.sr_world.specs.Real.{layers, HasSpelling, IsGoodWorld, LawfulHistory, MayDo};
 ghost use Rattle.sr_world.specs.Real.{AreRunsIn};
 ghost use Rattle.sr_world.specs.Inner.Real.{IsStep, AreSteps};
 
@@ -51,9 +52,7 @@ pub fn runs_keep_a_world_good()
     ensures good { (messages : List Message) (d : Name) (rs : List Recorded) (database_steps : List (DatabaseStep Recorded)) (w : World Recorded) → IsNamed w d
         → history w d ≡ rs → AreAmong messages w.messages → MayDo messages d rs database_steps → IsGoodWorld w → IsGoodWorld (after_all w (acts_by d database_steps)) }
     ensures runs { (w : World Recorded) (runs : List (WorldRun Recorded)) → IsGoodWorld w → AreRunsIn w runs → IsGoodWorld (after_world_runs w runs) }
-    ensures broken_off { (w : World Recorded) (runs : List (WorldRun Recorded)) (owner : Name) (known : List Message) (database_steps more : List (DatabaseStep Recorded))
-        → IsGoodWorld w → AreRunsIn w (runs ++ record { owner = owner; known = known; database_steps = database_steps ++ more } ∷ [])
-        → IsGoodWorld (after_world_runs w (runs ++ record { owner = owner; known = known; database_steps = database_steps } ∷ [])) }
+    ensures broken_off { RunsMayBreakOff layers HasSpelling LawfulHistory }
     ensures steps { (w : World Recorded) (runs : List (WorldRun Recorded)) → AreRunsIn w runs → AreSteps w (acts_of_runs runs) }
 {
     run_good::<Real>();

@@ -15,6 +15,7 @@ use Rattle.sr_world_model.specs.Truth.{members, IsTrueOf}
 use Rattle.sr_world_model.specs.Windows.{past}
 use Rattle.sr_world_model.specs.Worlds.{AreAmong}
 use Rattle.sr_world_model.proofs.Offsets.{le_or_lt}
+use Rattle.sr_base.proofs.Truths.{both_true}
 
 -- a test that computes to true shows its fact
 pub le_if : (a b : ℕ) → nat_le a b ≡ true → a ≤ b
@@ -49,10 +50,6 @@ all_judged d (wrote user ops ∷ es) = all_judged d es
 all_judged d (took user at ops verdicts ∷ es) = not (bytes_eq user d) && (same_verdicts verdicts (map (verdict_on d) ops) && all_judged d es)
 all_judged d (said user note ∷ es) = not (bytes_eq user d) && all_judged d es
 
-both : (a b : Bool) → (a && b) ≡ true → (a ≡ true) × (b ≡ true)
-both true b is = (refl, is)
-both false b is = absurd (cc)
-
 apart_if : (a b : Name) → not (bytes_eq a b) ≡ true → a ≢ b
 apart_if a b is same = let one : bytes_eq a b ≡ true = rw same (same_name b) in cc
 
@@ -60,11 +57,11 @@ lawful_from_if : (d : Name) (place : ℕ) (es : List SmallEntry) → all_judged 
 lawful_from_if d place [] is = tt
 lawful_from_if d place (wrote user ops ∷ es) is = (tt, lawful_from_if d (place + 15) es is)
 lawful_from_if d place (took user at ops verdicts ∷ es) is =
-    let parts = both (not (bytes_eq user d)) (same_verdicts verdicts (map (verdict_on d) ops) && all_judged d es) is in
-    let rest = both (same_verdicts verdicts (map (verdict_on d) ops)) (all_judged d es) parts.1 in
+    let parts = both_true (not (bytes_eq user d)) (same_verdicts verdicts (map (verdict_on d) ops) && all_judged d es) is in
+    let rest = both_true (same_verdicts verdicts (map (verdict_on d) ops)) (all_judged d es) parts.1 in
     ((apart_if user d parts.0, same_if verdicts (map (verdict_on d) ops) rest.0), lawful_from_if d (place + 15) es rest.1)
 lawful_from_if d place (said user note ∷ es) is =
-    let parts = both (not (bytes_eq user d)) (all_judged d es) is in
+    let parts = both_true (not (bytes_eq user d)) (all_judged d es) is in
     (apart_if user d parts.0, lawful_from_if d (place + 15) es parts.1)
 
 pub lawful_if : (d : Name) (es : List SmallEntry) → all_judged d es ≡ true → lawful_from small SmallFits d 0 es

@@ -1,20 +1,17 @@
 //! What a database may do, it may do whatever the others do.
 
-ghost use Rattle.std.specs.Prelude.{◌≡◌, ◌≢◌, ℕ, ◌≤◌, List, ◌++◌, All, map};
+ghost use Rattle.std.specs.Prelude.{◌≡◌, ◌≢◌, ℕ, List, ◌++◌};
 ghost use Rattle.sr_msgform.specs.declared.message.Message.{Message};
 ghost use Rattle.sr_book.specs.Entries.{Name};
-ghost use Rattle.sr_book.specs.Histories.{taken, taken_end};
+ghost use Rattle.sr_book.specs.Histories.{taken};
 ghost use Rattle.sr_world_model.specs.Layers.{Layers};
 ghost use Rattle.sr_world_model.specs.Inner.Layers.{Laws};
-ghost use Rattle.sr_book.specs.Rising.{Rises, top, offsets};
-ghost use Rattle.sr_world_model.specs.Windows.{past};
-ghost use Rattle.sr_world_model.specs.Steps.{DatabaseStep, append, CanDoAll, HasAllFragments};
-ghost use Rattle.sr_world_model.specs.Inner.Steps.{Take, AreLawfulAfter};
-ghost use Rattle.sr_world_model.specs.Steps.{history_after_all, messages_after_all};
-ghost use Rattle.sr_world_model.specs.Worlds.{World, WorldStep, history, happens, after_all, acts_by};
-ghost use Rattle.sr_world_model.specs.Worlds.{IsNamed, IsGood};
+ghost use Rattle.sr_world_model.specs.Steps.{DatabaseStep, CanDoAll};
+ghost use Rattle.sr_world_model.specs.Inner.Steps.{Take};
+ghost use Rattle.sr_world_model.specs.Worlds.{World, WorldStep, happens};
 ghost use Rattle.sr_world_model.specs.Worlds.{AreAmong};
-ghost use Rattle.sr_world_model.specs.Inner.Worlds.{IsAllowed, AreAllowed};
+ghost use Rattle.sr_world_model.specs.Inner.Worlds.{IsAllowed};
+ghost use Rattle.sr_world_model.specs.Inner.Laws.{AllowedStepsJoin, StepsAreAllowedInWorlds, StepsKeepWorldsGood, WholeWindowsAreTaken};
 
 use crate::below::Rules;
 
@@ -34,10 +31,7 @@ pub fn run_still_allowed<R: Rules>()
 /// Deeds that one history and some messages allow, and then others that what these leave allows, are together allowed;
 /// and of steps that are allowed each beginning is.
 pub fn runs_join<R: Rules>()
-    ensures joined { (p : Layers R.Entry R.Ops) (messages : List Message) (d : Name) (es : List R.Entry)
-        (database_steps more : List (DatabaseStep R.Entry)) → CanDoAll p R.HasSpelling R.lawful messages d es database_steps →
-        CanDoAll p R.HasSpelling R.lawful (messages_after_all messages database_steps) d (history_after_all es database_steps) more →
-        CanDoAll p R.HasSpelling R.lawful messages d es (database_steps ++ more) }
+    ensures joined { (p : Layers R.Entry R.Ops) → AllowedStepsJoin p R.HasSpelling R.lawful }
     ensures beginning { (p : Layers R.Entry R.Ops) (messages : List Message) (d : Name) (es : List R.Entry)
         (database_steps more : List (DatabaseStep R.Entry)) → CanDoAll p R.HasSpelling R.lawful messages d es (database_steps ++ more) →
         CanDoAll p R.HasSpelling R.lawful messages d es database_steps }
@@ -46,23 +40,15 @@ pub fn runs_join<R: Rules>()
 /// Deeds of a database that its history and some messages allow are allowed steps of every world that has this history, and
 /// these messages among others; and they leave each such world good that was good.
 pub fn run_good<R: Rules>()
-    ensures allowed { (p : Layers R.Entry R.Ops) (messages : List Message) (d : Name) (es : List R.Entry)
-        (database_steps : List (DatabaseStep R.Entry)) (w : World R.Entry) → IsNamed w d → history w d ≡ es → AreAmong messages w.messages →
-        CanDoAll p R.HasSpelling R.lawful messages d es database_steps → AreAllowed p R.HasSpelling R.lawful w (acts_by d database_steps) }
-    ensures good { (p : Layers R.Entry R.Ops) (laws : Laws p R.HasSpelling R.lawful) (messages : List Message) (d : Name) (es : List R.Entry)
-        (database_steps : List (DatabaseStep R.Entry)) (w : World R.Entry) → IsNamed w d → history w d ≡ es → AreAmong messages w.messages →
-        CanDoAll p R.HasSpelling R.lawful messages d es database_steps → IsGood p R.lawful w → IsGood p R.lawful (after_all w (acts_by d database_steps)) }
+    ensures allowed { (p : Layers R.Entry R.Ops) → StepsAreAllowedInWorlds p R.HasSpelling R.lawful }
+    ensures good { (p : Layers R.Entry R.Ops) (laws : Laws p R.HasSpelling R.lawful) → StepsKeepWorldsGood p R.HasSpelling R.lawful }
 {}
 
 /// A whole window that begins at what was taken, or before it, is taken to its end by allowed takes: one for each of its
 /// transactions past what was taken, in order, where each history on the way is lawful. What was taken then goes on with
 /// just these.
 pub fn window_taken<R: Rules>()
-    ensures allowed { (p : Layers R.Entry R.Ops) (messages : List Message) (d user : Name) (prev upto : ℕ)
-        (txs : List (ℕ × R.Ops)) (es new : List R.Entry) → HasAllFragments messages user d prev upto (p.encode txs) → All R.HasSpelling txs →
-        Rises prev (offsets txs) → top prev (offsets txs) ≤ upto → prev ≤ taken_end p.sees user es →
-        Take p user (past (taken_end p.sees user es) txs) new → AreLawfulAfter R.lawful d es new →
-        CanDoAll p R.HasSpelling R.lawful messages d es (map append new) }
+    ensures allowed { (p : Layers R.Entry R.Ops) → WholeWindowsAreTaken p R.HasSpelling R.lawful }
     ensures taken { (p : Layers R.Entry R.Ops) (user : Name) (txs : List (ℕ × R.Ops)) (es new : List R.Entry) →
         Take p user txs new → taken p.sees user (es ++ new) ≡ taken p.sees user es ++ txs }
 {}

@@ -2,18 +2,17 @@
 
 ghost use Rattle.std.specs.Prelude.{◌≡◌, ℕ, ◌<◌, ◌≤◌, List, Contains};
 ghost use Rattle.sr_msgform.specs.declared.message.Message.{Message};
-ghost use Rattle.sr_base.specs.declared.offset.Offset.{Offset};
-ghost use Rattle.sr_book.specs.declared.note.Note.TheVariants.{Sent};
-ghost use Rattle.sr_book.specs.Entries.{Name, from_user, noted};
-ghost use Rattle.sr_book.specs.Histories.{taken_end, book_of};
+ghost use Rattle.sr_book.specs.Entries.{Name};
+ghost use Rattle.sr_book.specs.Histories.{taken_end};
 ghost use Rattle.sr_book.specs.Rising.{top, offsets};
 ghost use Rattle.sr_world_model.specs.Layers.{Layers, end_of};
 ghost use Rattle.sr_world_model.specs.Inner.Layers.{Laws};
-ghost use Rattle.sr_world_model.specs.Steps.{append, HasAllFragments, Chain, Covers, CanTake};
+ghost use Rattle.sr_world_model.specs.Steps.{HasAllFragments, Chain, Covers};
 ghost use Rattle.sr_world_model.specs.Windows.{window};
 ghost use Rattle.sr_world_model.specs.Worlds.{World, WorldStep, history, happens, after_all, IsGood};
 ghost use Rattle.sr_world_model.specs.Worlds.{fresh_world};
 ghost use Rattle.sr_world_model.specs.Inner.Worlds.{IsAllowed, AreAllowed};
+ghost use Rattle.sr_world_model.specs.Inner.Laws.{TakesAreOne, WhatIsNotedWasPut, WholeWindowsGiveMore};
 
 use crate::below::Rules;
 
@@ -38,11 +37,7 @@ pub fn always_good<R: Rules>()
 
 /// Two takes of one partner that are allowed in a good world are one entry, whichever windows they come from.
 pub fn one_take<R: Rules>()
-    ensures { (p : Layers R.Entry R.Ops) (laws : Laws p R.HasSpelling R.lawful) (w : World R.Entry) (d user : Name)
-        (e f : R.Entry) (place place' : ℕ) (ops ops' : R.Ops) → IsGood p R.lawful w →
-        p.sees e ≡ from_user user place ops → p.sees f ≡ from_user user place' ops' →
-        IsAllowed p R.HasSpelling R.lawful w (record { owner = d; database_step = append e }) →
-        IsAllowed p R.HasSpelling R.lawful w (record { owner = d; database_step = append f }) → e ≡ f }
+    ensures { (p : Layers R.Entry R.Ops) (laws : Laws p R.HasSpelling R.lawful) → TakesAreOne p R.HasSpelling R.lawful }
 {}
 
 /// In a good world the bytes of every whole window from one database to another are the body of exactly the transactions that the
@@ -55,10 +50,7 @@ pub fn whole_body<R: Rules>()
     ensures last { (p : Layers R.Entry R.Ops) (w : World R.Entry) (d user : Name) (prev upto : ℕ) (bytes : List ℕ) →
         IsGood p R.lawful w → HasAllFragments w.messages user d prev upto bytes →
         top prev (offsets (window prev upto (p.given user d (history w user)))) ≡ upto }
-    ensures taken { (p : Layers R.Entry R.Ops) (laws : Laws p R.HasSpelling R.lawful) (w : World R.Entry) (d user : Name) (prev upto : ℕ)
-        (bytes : List ℕ) → IsGood p R.lawful w → HasAllFragments w.messages user d prev upto bytes →
-        prev ≤ taken_end p.sees user (history w d) → taken_end p.sees user (history w d) < upto →
-        (place : ℕ) × (ops : R.Ops) × CanTake p R.HasSpelling w.messages d (history w d) user place ops }
+    ensures taken { (p : Layers R.Entry R.Ops) (laws : Laws p R.HasSpelling R.lawful) → WholeWindowsGiveMore p R.HasSpelling R.lawful }
 {}
 
 /// In a good world the windows of a chain from one database to another have, without gap or overlap, all that the sender gives the
@@ -67,11 +59,7 @@ pub fn chain_covers<R: Rules>()
     ensures covers { (p : Layers R.Entry R.Ops) (laws : Laws p R.HasSpelling R.lawful) (w : World R.Entry) (d user : Name) (prev upto : ℕ)
         (windows : List (ℕ × List ℕ)) → IsGood p R.lawful w → Chain w.messages d user prev upto windows →
         Covers p windows (window prev upto (p.given d user (history w d))) }
-    ensures sent { (p : Layers R.Entry R.Ops) (laws : Laws p R.HasSpelling R.lawful) (w : World R.Entry) (d user : Name) (e : R.Entry)
-        (end confirm : Offset) (count : ℕ) → IsGood p R.lawful w → p.sees e ≡ noted user (Sent end count confirm) →
-        IsAllowed p R.HasSpelling R.lawful w (record { owner = d; database_step = append e }) →
-        (windows : List (ℕ × List ℕ)) × Chain w.messages d user (book_of p.sees user (history w d)).log_sent end.0 windows
-        × Covers p windows (window (book_of p.sees user (history w d)).log_sent end.0 (p.given d user (history w d))) }
+    ensures sent { (p : Layers R.Entry R.Ops) (laws : Laws p R.HasSpelling R.lawful) → WhatIsNotedWasPut p R.HasSpelling R.lawful }
 {}
 
 /// In a good world nobody has taken, and no message says, what lies past the end of the history that it is of.

@@ -1,14 +1,12 @@
 //! Runs of databases, each where its last fetch was.
 
-ghost use Rattle.std.specs.Prelude.{◌≡◌, List, [], ◌∷◌, ◌++◌};
-ghost use Rattle.sr_msgform.specs.declared.message.Message.{Message};
-ghost use Rattle.sr_book.specs.Entries.{Name};
+ghost use Rattle.std.specs.Prelude.{◌≡◌, List};
 ghost use Rattle.sr_world_model.specs.Layers.{Layers};
 ghost use Rattle.sr_world_model.specs.Inner.Layers.{Laws};
-ghost use Rattle.sr_world_model.specs.Steps.{DatabaseStep};
 ghost use Rattle.sr_world_model.specs.Worlds.{World, after_all, IsGood};
 ghost use Rattle.sr_world_model.specs.Inner.Worlds.{AreAllowed};
 ghost use Rattle.sr_world_model.specs.Runs.{WorldRun, after_world_runs, AreWorldRuns};
+ghost use Rattle.sr_world_model.specs.Inner.Laws.{RunsMayBreakOff};
 ghost use Rattle.sr_world_model.specs.Inner.Runs.{acts_of_runs};
 
 use crate::below::Rules;
@@ -18,10 +16,7 @@ use crate::below::Rules;
 pub fn runs_good<R: Rules>()
     ensures good { (p : Layers R.Entry R.Ops) (laws : Laws p R.HasSpelling R.lawful) (w : World R.Entry) (runs : List (WorldRun R.Entry)) →
         IsGood p R.lawful w → AreWorldRuns p R.HasSpelling R.lawful w runs → IsGood p R.lawful (after_world_runs w runs) }
-    ensures beginning { (p : Layers R.Entry R.Ops) (laws : Laws p R.HasSpelling R.lawful) (w : World R.Entry) (runs : List (WorldRun R.Entry))
-        (owner : Name) (known : List Message) (database_steps more : List (DatabaseStep R.Entry)) → IsGood p R.lawful w →
-        AreWorldRuns p R.HasSpelling R.lawful w (runs ++ record { owner = owner; known = known; database_steps = database_steps ++ more } ∷ []) →
-        IsGood p R.lawful (after_world_runs w (runs ++ record { owner = owner; known = known; database_steps = database_steps } ∷ [])) }
+    ensures beginning { (p : Layers R.Entry R.Ops) (laws : Laws p R.HasSpelling R.lawful) → RunsMayBreakOff p R.HasSpelling R.lawful }
     ensures steps { (p : Layers R.Entry R.Ops) (w : World R.Entry) (runs : List (WorldRun R.Entry)) → AreWorldRuns p R.HasSpelling R.lawful w runs →
         AreAllowed p R.HasSpelling R.lawful w (acts_of_runs runs) }
     ensures world { (w : World R.Entry) (runs : List (WorldRun R.Entry)) → after_world_runs w runs ≡ after_all w (acts_of_runs runs) }

@@ -28,7 +28,8 @@ use Rattle.sr_agent.specs.declared.fault.AgentFault.{AgentFault}
 use Rattle.sr_agent.specs.declared.options.Options.{Options}
 use Rattle.sr_agent.proofs.Joints.{commits_of}
 use Rattle.sr_world_prefix.specs.Puts.{BacksPuts, StandBehind}
-use Rattle.sr_world_prefix.proofs.Behind.{puts-append, went_behind}
+use Rattle.sr_world_prefix.proofs.Behind.{went_behind}
+use Rattle.sr_database_meaning.proofs.Joining.{trace_puts}
 use Rattle.sr_world_prefix.proofs.Ran.{HasReceived, commits_letters, received_either, stop_received}
 use Rattle.sr_world_prefix.proofs.Putting.{AreSo, Backs, Truth, backs_commits, backs_prefix, backs_last, backs_put_files, backs_more, backs_note, deliveries_back}
 use Rattle.sr_world_prefix.proofs.RunSteps.{received_steps, run_steps}
@@ -55,7 +56,7 @@ module _ (publisher : Name) (es : List Recorded) where
   none_put run none =
       let there : List Recorded = after_receiving publisher es run in
       let events : sent_events publisher es run ≡ [] = ap (λ (ds : List Delivery). deliveries_events publisher there ds) none in
-      puts-append (map commit (taken_entries publisher es run)) (sent_events publisher es run)
+      trace_puts (map commit (taken_entries publisher es run)) (sent_events publisher es run)
       ∙ ap (λ (l : List PutFile). l ++ puts (sent_events publisher es run)) (puts_commits (taken_entries publisher es run)) ∙ ap puts events
 
 -- ---- what holds by a history of all that a pass on it says

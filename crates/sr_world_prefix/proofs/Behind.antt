@@ -1,5 +1,5 @@
 -- What stands behind the message files that were put, at each moment: along a trace, where nothing happened, and behind an opening.
-use Rattle.std.proofs.Common.{◌≡◌, List, [], ◌∷◌, ◌++◌, refl, sym, ap, subst, ◌∙◌, inl, inr, arith, append_assoc, append-nil}
+use Rattle.std.proofs.Common.{◌≡◌, List, [], ◌∷◌, ◌++◌, sym, ap, subst, ◌∙◌, inl, inr, arith, append_assoc, append-nil}
 use Rattle.std.specs.Prelude.{◌⊎◌, length}
 use Rattle.std.proofs.lemmas.List.{length-append}
 use Rattle.sr_book.specs.Entries.{Name}
@@ -13,14 +13,10 @@ use Rattle.sr_database_meaning.specs.Events.{Event, PutFile, commit, put, commit
 use Rattle.sr_database_meaning.specs.Standing.{StandsAs}
 use Rattle.sr_database_meaning.specs.Traces.{AtEach, IsOnTrace, LacksLast, Went}
 use Rattle.sr_database_meaning.proofs.Going.{puts_more, puts_of_mail}
+use Rattle.sr_database_meaning.proofs.Joining.{trace_puts}
 use Rattle.sr_world_prefix.specs.Puts.{StandsBehind}
 
 -- ---- puts
-
-pub puts-append : (trace more : List Event) → puts (trace ++ more) ≡ puts trace ++ puts more
-puts-append [] more = refl
-puts-append (commit r ∷ trace) more = puts-append trace more
-puts-append (put address name bytes ∷ trace) more = ap (λ (l : List PutFile). (address, name, bytes) ∷ l) (puts-append trace more)
 
 pub none_before : (step : Happening) (more : List Happening) → puts_in (step ∷ more) ≡ [] → puts_in more ≡ []
 none_before (attached name folder done) more none = none
@@ -54,7 +50,7 @@ module _ (Stand : List PutFile → Files → Type 0) where
     standing image begun left prefix (inr lacks) =
         let others : trace ≡ lacks.others ++ (commit lacks.last ∷ left)
         = prefix ∙ ap (λ (l : List Event). l ++ left) lacks.is ∙ append_assoc lacks.others (commit lacks.last ∷ []) left in
-        let same : puts begun ≡ puts lacks.others = ap puts lacks.is ∙ puts-append lacks.others (commit lacks.last ∷ []) ∙ append-nil (puts lacks.others) in
+        let same : puts begun ≡ puts lacks.others = ap puts lacks.is ∙ trace_puts lacks.others (commit lacks.last ∷ []) ∙ append-nil (puts lacks.others) in
         subst (λ (ls : List PutFile). Stand ls image) (sym same) (stands lacks.others (commit lacks.last ∷ left) others image lacks.stands)
 
     module _ (first : Files) (before : List Happening) where

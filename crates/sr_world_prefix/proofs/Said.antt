@@ -35,7 +35,7 @@ use Rattle.sr_session.proofs.Taking.{prefix_of_store, no_broken}
 use Rattle.sr_site.specs.Seen.{Seen}
 use Rattle.sr_site.specs.Streams.{Output}
 use Rattle.sr_world.specs.Lawful.{AreChangesOf, ArePassedChanges, IsViewed, SaysSo}
-use Rattle.sr_agent.proofs.Values.{state_is}
+use Rattle.sr_database.proofs.Commits.{committed_is}
 use Rattle.sr_world_prefix.proofs.Along.{Steps}
 use Rattle.sr_world_prefix.proofs.Steps.{IsOwnStep}
 
@@ -169,19 +169,9 @@ said_rows (Some p) d w =
 
 said_done : (w : Work) (s : Stmt) → IsSaidStep w.state (done_by w s)
 unfolding done_by
-said_done w (stmt.CreateTable t) = once_catalog w (stmt.CreateTable t) (λ x. refl)
-said_done w (stmt.DropTable n) = once_catalog w (stmt.DropTable n) (λ x. refl)
-said_done w (stmt.CreatePublication p) = once_catalog w (stmt.CreatePublication p) (λ x. refl)
-said_done w (stmt.DropPublication n) = once_catalog w (stmt.DropPublication n) (λ x. refl)
 said_done w (stmt.GrantRemote g) = said_once w (on_users w.region g.user (stmt.GrantRemote g)) (said_users w.region g.user (stmt.GrantRemote g))
 said_done w (stmt.GrantConsolidate g) = said_once w (on_users w.region g.user (stmt.GrantConsolidate g)) (said_users w.region g.user (stmt.GrantConsolidate g))
-said_done w (stmt.CreateSubscription r) = once_catalog w (stmt.CreateSubscription r) (λ x. refl)
-said_done w (stmt.StartSubscription r) = once_catalog w (stmt.StartSubscription r) (λ x. refl)
-said_done w (stmt.StopSubscription r) = once_catalog w (stmt.StopSubscription r) (λ x. refl)
 said_done w (stmt.Synchronize r) = said_once w (on_views w.region r) (said_views w.region r)
-said_done w (stmt.DropSubscription r) = once_catalog w (stmt.DropSubscription r) (λ x. refl)
-said_done w (stmt.CreateTrigger t) = once_catalog w (stmt.CreateTrigger t) (λ x. refl)
-said_done w (stmt.DropTrigger n) = once_catalog w (stmt.DropTrigger n) (λ x. refl)
 said_done w (stmt.Dml d) = said_rows w.region d w
 said_done w (stmt.Select q) = said_then w.state (rows_by (visible w) q) (λ (found : List (List Cell)). goes (listing found) w) (λ found. said_listing w.state found (length found))
 said_done w stmt.Commit = said_committing w.state w.pending
@@ -189,6 +179,7 @@ said_done w stmt.Rollback = (tt, refl)
 said_done w (stmt.Passthrough p) =
     said_once w (began p) (λ v. said_then v.state (accepted v.state.catalog (stmt.Passthrough p)) (λ (x : Unit {0}). goes (region_begins ∷ []) (record v { region = Some (region_of p) })) (λ x. (tt, refl)))
 said_done w stmt.PassthroughStop = said_once w ended (λ v. (tt, refl))
+said_done w s = once_catalog w s (λ x. refl)
 
 -- ---- scripts
 
@@ -250,4 +241,4 @@ pub script_says_so : (publisher : Name) (es : List Recorded) (old new : View) (b
     → Steps (IsOwnStep publisher) es (entries_of ran.acts ++ ran.broken)
 script_says_so publisher es old new before now written written' statements result database ran =
     let said = script_said old new before now written written' statements result ran in
-    said_steps publisher es (entries_of ran.acts ++ ran.broken) (subst (λ (s : State). AreOwnSaid s (entries_of ran.acts ++ ran.broken)) (state_is old publisher es database.is) said)
+    said_steps publisher es (entries_of ran.acts ++ ran.broken) (subst (λ (s : State). AreOwnSaid s (entries_of ran.acts ++ ran.broken)) (committed_is old publisher es database.is) said)

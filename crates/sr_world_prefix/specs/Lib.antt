@@ -5,3 +5,4 @@ pub mod Keeping
 pub mod Good
 pub mod Puts
 pub mod Decided
+pub mod Inner

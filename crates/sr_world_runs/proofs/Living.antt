@@ -1,21 +1,20 @@
 -- Many runs of many databases are runs of one world.
-use Rattle.std.proofs.Common.{◌≡◌, ◌≢◌, ℕ, List, [], ◌∷◌, ◌++◌, map, Option, Some, None, Result, Ok, Err, refl, sym, ap, subst, ◌∙◌, inl, inr, append_assoc, append-nil}
+use Rattle.std.proofs.Common.{◌≡◌, ◌≢◌, ℕ, List, [], ◌∷◌, ◌++◌, map, Some, None, Ok, Err, refl, sym, ap, subst, ◌∙◌, inl, inr}
 use Rattle.std.proofs.lemmas.List.Elements.{All-contains, All-from_recursion, Contains-append_left, Contains-append_right, Contains-push}
 use Rattle.std.proofs.lemmas.List.{append_cancel_right, map-append}
-use Rattle.std.specs.Prelude.{◌⊎◌, Bool, true, bytes_eq, Contains}
+use Rattle.std.specs.Prelude.{true, bytes_eq, Contains}
 use Rattle.std.specs.List.{AllByRecursion}
 use Rattle.sr_book.specs.Entries.{Name}
 use Rattle.sr_book.proofs.Folds.{name_test, same_name}
 use Rattle.sr_database_history.specs.Recorded.{Recorded}
 use Rattle.sr_world_model.specs.Runs.{WorldRun, after_world_run, after_world_runs}
 use Rattle.sr_world_model.specs.Steps.{DatabaseStep}
-use Rattle.sr_world_model.specs.Worlds.{World, WorldStep, IsNamed, after_all, acts_by, happens, histories_after, history, history_in}
+use Rattle.sr_world_model.specs.Worlds.{World, WorldStep, IsNamed, after_all, acts_by, happens, history, history_in}
 use Rattle.sr_world_model.specs.Worlds.{AreAmong, fresh_world}
 use Rattle.sr_world_model.proofs.Good.{fresh, history_in-histories_after}
 use Rattle.sr_world_model.proofs.Leave.{named_kept}
 use Rattle.sr_msgform.specs.Messages.{IsMessage, message_spelling}
 use Rattle.sr_msgform.specs.declared.message.Message.{Message}
-use Rattle.sr_msgform.proofs.Whole.{one_message}
 use Rattle.sr_site.specs.Files.{Files}
 use Rattle.sr_site.specs.Happenings.{Happening, attached, wrote, cut_to, synced, listed, fetched, sent, removed}
 use Rattle.sr_site.specs.Images.{IsImage, IsSettled, MayLeave}
@@ -28,9 +27,8 @@ use Rattle.sr_world.specs.Real.{HasSpelling, IsGoodWorld, LawfulHistory, layers}
 use Rattle.sr_world.specs.Real.{AreRunsIn}
 use Rattle.sr_world.proofs.Keeping.{real_laws}
 use Rattle.sr_world_runs.specs.Lives.{AreLives, CameOf, ComesBehind, MayFind, SeenRun, put_by}
-use Rattle.sr_world_runs.specs.Lives.{HaveLived, owners_of}
-use Rattle.sr_world_runs.specs.Worlds.{AllKnown, AreFiles, CameKnown, IsFaithful, IsFaithfulThroughout, IsKnown, Rests, on_one, on_two, RestsAt, RestsBehind, put_in}
-use Rattle.sr_world_runs.specs.Inner.Worlds.{RestsAtEach}
+use Rattle.sr_world_runs.specs.Lives.{HaveLived}
+use Rattle.sr_world_runs.specs.Worlds.{AreFiles, CameKnown, IsFaithful, IsFaithfulThroughout, IsKnown, Rests, on_one, RestsBehind, put_in}
 use Rattle.sr_world_runs.proofs.NextRuns.{good_there, messages_there, more_messages, rests_on, spelled_known}
 use Rattle.sr_world_runs.proofs.Resting.{fewer_rest}
 

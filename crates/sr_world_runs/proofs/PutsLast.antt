@@ -29,7 +29,8 @@ use Rattle.sr_agent.specs.declared.fault.AgentFault.{AgentFault}
 use Rattle.sr_agent.specs.declared.options.Options.{Options}
 use Rattle.sr_world_prefix.proofs.Backed.{puts_commits}
 use Rattle.sr_world_prefix.proofs.Backed as backed
-use Rattle.sr_world_prefix.proofs.Behind.{none_before, puts-append}
+use Rattle.sr_world_prefix.proofs.Behind.{none_before}
+use Rattle.sr_database_meaning.proofs.Joining.{trace_puts}
 use Rattle.sr_world_prefix.proofs.Mail.{mail_of_on, partner_passes_mail_on, puts_on}
 use Rattle.sr_world_runs.specs.Worlds.{PutsComeLast}
 
@@ -136,7 +137,7 @@ module _ (publisher : Name) (es : List Recorded) (options : Options) where
   -- what it put, it sent
   puts_sent : (run : Run) → puts (trace_of publisher es run) ≡ puts (sent_events publisher es run)
   puts_sent run =
-      puts-append (map commit (taken_entries publisher es run)) (sent_events publisher es run)
+      trace_puts (map commit (taken_entries publisher es run)) (sent_events publisher es run)
       ∙ ap (λ (l : List PutFile). l ++ puts (sent_events publisher es run)) (puts_commits (taken_entries publisher es run))
 
   module _ (run : Run) (db : View) (before seen : Seen) (came : CameSoFar db before seen publisher es options run) where
@@ -227,7 +228,7 @@ module _ (publisher : Name) (es : List Recorded) (options : Options) (new : View
         → now.happened ≡ more ++ before.happened → PutsComeLast more
     unput_behind events rs none is_events went more is =
         let unput : puts (trace_of publisher es run ++ events) ≡ []
-        = puts-append (trace_of publisher es run) events ∙ ap (λ (l : List PutFile). l ++ puts events) (backed.none_put publisher es run none) ∙ ap puts is_events ∙ puts_commits rs in
+        = trace_puts (trace_of publisher es run) events ∙ ap (λ (l : List PutFile). l ++ puts events) (backed.none_put publisher es run none) ∙ ap puts is_events ∙ puts_commits rs in
         unput_since before now publisher es (trace_of publisher es run ++ events) went unput more is
 
     delivery_last : (partner : _) (events : List Event) (fault : AgentFault) → DeliveryStop publisher (after_run publisher es run) options.length partner db new seen now events fault → (more : List Happening)

@@ -28,7 +28,7 @@ use Rattle.sr_world_prefix.specs.Good.{AreSaid}
 use Rattle.sr_world_runs.specs.Worlds.{IsSettledBetween, HasOneMore, IsAhead, IsAtMail, IsNext, IsOne, Rests, on_one, on_two, RestsAt, RestsBehind, WasSettled, put_in}
 use Rattle.sr_world_runs.specs.Inner.Worlds.{RestsAtEach}
 use Rattle.sr_world_prefix.proofs.Along.{Along}
-use Rattle.sr_world_prefix.proofs.Behind.{puts-append}
+use Rattle.sr_database_meaning.proofs.Joining.{trace_puts}
 use Rattle.sr_world_prefix.proofs.Opened.{some_image, was_image}
 use Rattle.sr_world_runs.proofs.DatabaseSteps.{AreDatabaseSteps, CanStep, database_steps_files, database_steps_history, database_steps_messages, database_steps_spelled, may_do}
 use Rattle.sr_world_runs.proofs.Reached.{prefix_of, history_more, is_lawful, lawful_along, put_more, said_prefix}
@@ -307,7 +307,7 @@ module _ (messages : List Message) (owner : Name) (first es : List Recorded) (be
         let prefix_is : trace ≡ part ++ (commit r ∷ left) = prefix ∙ ap (λ (l : List Event). l ++ left) is ∙ append_assoc part (commit r ∷ []) left in
         let longer_is : es ++ commits begun ≡ (es ++ commits part) ++ r ∷ []
         = ap (λ (l : List Event). es ++ commits l) is ∙ ap (λ (l : List Recorded). es ++ l) (commits-append part (commit r ∷ [])) ∙ sym (append_assoc es (commits part) (r ∷ [])) in
-        let puts_are : puts begun ≡ puts part = ap puts is ∙ puts-append part (commit r ∷ []) ∙ append-nil (puts part) in
+        let puts_are : puts begun ≡ puts part = ap puts is ∙ trace_puts part (commit r ∷ []) ∙ append-nil (puts part) in
         let lawful_longer : (image : Files) → StandsAs owner (es ++ commits begun) image → LawfulHistory owner ((es ++ commits part) ++ r ∷ [])
         = λ image it. subst (LawfulHistory owner) longer_is (lawful_prefix begun left prefix it.stands.stored) in
         let lawful : LawfulHistory owner (es ++ commits part) = elim (stands some left_some) [

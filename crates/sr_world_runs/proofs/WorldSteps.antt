@@ -19,7 +19,7 @@ use Rattle.sr_site.specs.Happenings.{Happening}
 use Rattle.sr_site.specs.Images.{IsImage, IsSettled, RestsThroughout}
 use Rattle.sr_site.specs.Seen.{Seen}
 use Rattle.sr_site.specs.Streams.{Output}
-use Rattle.sr_database_meaning.specs.Events.{Event, PutFile, commit, commits}
+use Rattle.sr_database_meaning.specs.Events.{Event, commit, commits}
 use Rattle.sr_database_meaning.specs.Standing.{StandsAs, StandsFor}
 use Rattle.sr_database_meaning.specs.Traces.{Went}
 use Rattle.sr_database_meaning.proofs.Standing.{one_history}
@@ -28,7 +28,6 @@ use Rattle.sr_agent.proofs.Joints.{commits_of, settled_as}
 use Rattle.sr_world.specs.Real.{IsGoodWorld, MayDo}
 use Rattle.sr_world_prefix.specs.Good.{AreSaid}
 use Rattle.sr_world_runs.specs.Worlds.{IsAhead, IsFaithfulThroughout, MakesSteps, PutsComeLast, Rests, on_one, on_two, put_in}
-use Rattle.sr_world_runs.specs.Inner.Worlds.{RestsAtEach}
 use Rattle.sr_world_runs.proofs.NextRuns.{faithful}
 use Rattle.sr_world_prefix.proofs.Along.{Along, Steps, steps_along}
 use Rattle.sr_world_runs.proofs.DatabaseSteps.{CanStep, HasDatabaseSteps, commits_database_steps, database_steps_history, local_step}

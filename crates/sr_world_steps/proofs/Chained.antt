@@ -1,5 +1,5 @@
 -- Whole windows that follow one another.
-use Rattle.std.proofs.Common.{◌≡◌, ◌↔◌, ℕ, zero, suc, ◌+◌, ◌-◌, ◌<◌, ◌≤◌, ◌⊎◌, Bool, true, false, List, [], ◌∷◌, ◌++◌, length, get_or, Contains, IsTrue, inl, inr, refl, sym, ap, subst, ◌∙◌, arith}
+use Rattle.std.proofs.Common.{◌≡◌, ◌↔◌, ℕ, zero, suc, ◌+◌, ◌-◌, ◌<◌, ◌≤◌, Bool, true, false, List, [], ◌∷◌, ◌++◌, length, get_or, Contains, IsTrue, inl, inr, refl, sym, ap, subst, ◌∙◌, arith}
 use Rattle.std.specs.Prelude.{slice_index}
 use Rattle.std.specs.List.{AllByRecursion}
 use Rattle.std.proofs.lemmas.List.{length-append, get_or_append_left, get_or_at}
@@ -33,7 +33,7 @@ body_of (suc n) P f =
     )
 
 -- a message of a whole window comes of a body, all of whose fragments came
-next_all : (messages : List Message) (sender receiver : Name) (place : ℕ) (m : Message) → Contains messages m → IsNext messages sender receiver place m
+pub next_all : (messages : List Message) (sender receiver : Name) (place : ℕ) (m : Message) → Contains messages m → IsNext messages sender receiver place m
     → (body : List ℕ) × HasAllFragments messages sender receiver place m.upto.0 body
 next_all messages sender receiver place m among next =
     let made = body_of m.total (HasByte messages sender receiver place m.upto.0 m.total) (λ k lt.
@@ -62,7 +62,7 @@ next_all messages sender receiver place m among next =
     )
 
 -- and where all fragments of a body came, a message of its window did
-all_next : (messages : List Message) (sender receiver : Name) (place upto : ℕ) (body : List ℕ) → HasAllFragments messages sender receiver place upto body
+pub all_next : (messages : List Message) (sender receiver : Name) (place upto : ℕ) (body : List ℕ) → HasAllFragments messages sender receiver place upto body
     → (m : Message) × Contains messages m × IsNext messages sender receiver place m × (m.upto.0 ≡ upto)
 all_next messages sender receiver place upto body h =
     let p = h.some_piece in

@@ -1,6 +1,6 @@
 -- What a database may commit by itself.
-use Rattle.std.proofs.Common.{◌≡◌, ◌↔◌, ℕ, ◌+◌, Bool, true, false, List, [], ◌∷◌, length, map, Option, Some, None, IsTrue, refl, sym, ap, subst, ◌∙◌}
-use Rattle.sr_book.specs.Entries.{Name, Sight, local, from_user, noted}
+use Rattle.std.proofs.Common.{◌≡◌, ℕ, ◌+◌, Bool, true, false, length, map, Option, Some, None, refl, sym, ap, subst, ◌∙◌}
+use Rattle.sr_book.specs.Entries.{Name, local, from_user, noted}
 use Rattle.sr_catalog_schema.specs.Catalogs.{Lists}
 use Rattle.sr_database_fold.specs.Inner.Answers.{TellsOne}
 use Rattle.sr_database_fold.specs.Inner.Readings.{state_in, FitsAs}
@@ -8,16 +8,15 @@ use Rattle.sr_database_history.specs.Folds.{State, next, size, sees, state_of, e
 use Rattle.sr_database_history.specs.Recorded.{Recorded, own, taken, ddl, sync, pass, note, done_of, entry_of}
 use Rattle.sr_logform.specs.Entries.{entry_spelling}
 use Rattle.sr_logform.specs.declared.entry.Entry.{Entry}
-use Rattle.sr_logform.specs.declared.op.Op.{Op}
 use Rattle.sr_rows.specs.Marks.{Marked}
 use Rattle.sr_world_steps.specs.Inner.Booked.{end_in}
-use Rattle.sr_world_steps.specs.Inner.Commits.{CommitEnds, CommitEndsIn, MayCommit}
-use Rattle.sr_world_steps.specs.Inner.Ends.{HasRoom, IsEndOf, IsLocal}
-use Rattle.sr_world_steps.specs.Inner.Logs.{IsLog}
+use Rattle.sr_world_steps.specs.Inner.Commits.{CommitEnds, CommitEndsIn}
+use Rattle.sr_world_entries.specs.Inner.Ends.{HasRoom, IsEndOf, IsLocal}
 use Rattle.sr_world_steps.specs.Inner.Places.{Log}
-use Rattle.sr_world_steps.specs.Inner.Saying.{TellsSo}
+use Rattle.sr_world_entries.specs.Inner.Saying.{TellsSo}
 use Rattle.sr_world_steps.specs.Inner.Standings.{StandsBehind}
-use Rattle.sr_world_steps.proofs.Logged.{has_room, log_ends}
+use Rattle.sr_world_entries.proofs.Roomy.{has_room}
+use Rattle.sr_world_steps.proofs.Logged.{log_ends}
 
 -- ---- kinds
 

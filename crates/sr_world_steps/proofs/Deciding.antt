@@ -1,38 +1,34 @@
 -- Which steps a world allows, by what is shown of it.
-use Rattle.std.proofs.Common.{◌≡◌, ◌↔◌, ℕ, zero, suc, ◌+◌, ◌<◌, ◌≤◌, Bool, true, false, List, [], ◌∷◌, ◌++◌, length, Contains, Option, Some, None, IsTrue, refl, sym, ap, subst, ◌∙◌, arith}
+use Rattle.std.proofs.Common.{◌≡◌, ℕ, ◌+◌, ◌<◌, Bool, true, false, List, [], ◌∷◌, ◌++◌, length, Contains, Some, None, refl, sym, ap, subst, ◌∙◌, arith}
 use Rattle.std.specs.Prelude.{slice_get}
 use Rattle.std.proofs.lemmas.List.{length-append}
 use Rattle.std.proofs.lemmas.Option.{slice_get_within, get_or_from_slice_get}
-use Rattle.sr_base.specs.declared.offset.Offset.{Offset}
 use Rattle.sr_base.specs.Values.{offset_from}
-use Rattle.sr_book.specs.Entries.{Name, Sight, local}
+use Rattle.sr_book.specs.Entries.{Name}
 use Rattle.sr_book.specs.Histories.{book_of, taken_end}
 use Rattle.sr_book.specs.declared.note.Note.{Note as BookNote}
 use Rattle.sr_book.specs.declared.note.Note.TheVariants.{Confirmed, Asked, Raised, Sent}
 use Rattle.sr_book.proofs.Folds.{book_received}
 use Rattle.sr_database_history.specs.Fitting.{Fits}
 use Rattle.sr_database_history.specs.Folds.{size, sees, state_of, end_of}
-use Rattle.sr_database_history.specs.Recorded.{Recorded, note, entry_of}
+use Rattle.sr_database_history.specs.Recorded.{Recorded, note}
 use Rattle.sr_logform.specs.declared.entry.Entry.{Entry}
 use Rattle.sr_logform.specs.declared.entry.Entry.TheVariants as entries
-use Rattle.sr_logform.specs.declared.op.Op.{Op}
-use Rattle.sr_msgform.specs.Messages.{IsMessage}
 use Rattle.sr_msgform.specs.declared.message.Message.{Message}
 use Rattle.sr_world.specs.Inner.Real.{IsStep}
 use Rattle.sr_world.specs.Lawful.{IsLawful}
-use Rattle.sr_world.specs.Real.{layers, HasSpelling, LawfulHistory}
+use Rattle.sr_world.specs.Real.{layers, HasSpelling}
 use Rattle.sr_world.proofs.Keeping.{lawful_more}
-use Rattle.sr_world_model.specs.Steps.{append, put, crash, CanAppend, CanNote, Comes}
-use Rattle.sr_world_model.specs.Truth.{IsTrueOf}
+use Rattle.sr_world_model.specs.Steps.{append, put, crash, CanAppend, CanNote}
 use Rattle.sr_world_model.specs.Worlds.{World, WorldStep as Act, history, happens, IsNamed}
 use Rattle.sr_world_steps.specs.declared.step.WorldStep.{WorldStep}
 use Rattle.sr_world_steps.specs.declared.step.WorldStep.TheVariants as asked
 use Rattle.sr_world_steps.specs.Inner.Acts.{by, Says, IsSaid, IsSent, IsAsked, IsNoStep, HasStepped}
 use Rattle.sr_world_steps.specs.Inner.Commits.{CommitEnds, CommitEndsIn, MayCommit}
 use Rattle.sr_world_steps.specs.Inner.Due.{Appends, IsDue, IsFoundIn, IsMadeIn, IsPutDue, TellsPutIn}
-use Rattle.sr_world_steps.specs.Inner.Logs.{HasLog, IsLog}
+use Rattle.sr_world_steps.specs.Inner.Logs.{HasLog}
 use Rattle.sr_world_steps.specs.Inner.Noted.{MayBeNoted, NewsEnds}
-use Rattle.sr_world_steps.specs.Inner.Notes.{IsNews, MayNote}
+use Rattle.sr_world_steps.specs.Inner.Notes.{IsNews}
 use Rattle.sr_world_steps.specs.Inner.Places.{Log, History, NoneIs, StandsAt, with_entry}
 use Rattle.sr_world_steps.specs.Inner.Putting.{HasLawfulLog, IsLawfulLog, MayPut, TellsPut}
 use Rattle.sr_world_steps.specs.Inner.Sending.{MayBeSent, SentEnds, WasSent}
@@ -42,8 +38,9 @@ use Rattle.sr_world_steps.proofs.Stepping.{has_stepped, log_of, named_at, not_na
 -- ---- a database that is not there
 
 -- the database of a step that is asked for
-abbrev owner_of : WorldStep → Name
+abbrev pub owner_of : WorldStep → Name
 owner_of (asked.Commit at entry) = at
+owner_of (asked.Take at user) = at
 owner_of (asked.Note at user what place) = at
 owner_of (asked.SentNote at user what) = at
 owner_of (asked.Put at m) = at
@@ -51,12 +48,13 @@ owner_of (asked.Crash at) = at
 
 owner_is : (w : World Recorded) (step : WorldStep) (act : Act Recorded) → IsAsked w step act → act.owner ≡ owner_of step
 owner_is w (asked.Commit at entry) act a = ap (λ (x : Act Recorded). x.owner) a.1
+owner_is w (asked.Take at user) act a = ap (λ (x : Act Recorded). x.owner) a.3
 owner_is w (asked.Note at user what place) act a = ap (λ (x : Act Recorded). x.owner) a.0
 owner_is w (asked.SentNote at user what) act a = ap (λ (x : Act Recorded). x.owner) a.0
 owner_is w (asked.Put at m) act a = ap (λ (x : Act Recorded). x.owner) a.0
 owner_is w (asked.Crash at) act a = ap (λ (x : Act Recorded). x.owner) a
 
-not_there : (shown : Shown) (step : WorldStep) → NoneIs (owner_of step) shown.histories → (w : World Recorded) → Shows w shown → IsNoStep w step
+pub not_there : (shown : Shown) (step : WorldStep) → NoneIs (owner_of step) shown.histories → (w : World Recorded) → Shows w shown → IsNoStep w step
 not_there shown step none w shows = record {
   none = λ act a allowed. not_named w shown (owner_of step) shows none (subst (IsNamed w) (owner_is w step act a) allowed.0);
 }
@@ -97,11 +95,11 @@ unfolding HasLawfulLog
 some_lawful_log shown d place log s at = (history s.world d, lawful_log s.world shown d place log s.shows at)
 
 -- an entry that is allowed keeps every rule
-its_lawful : (w : World Recorded) (d : Name) (r : Recorded) → IsStep w (by d (append r)) → IsLawful (state_of d (history w d)) (end_of (history w d)) r
+pub its_lawful : (w : World Recorded) (d : Name) (r : Recorded) → IsStep w (by d (append r)) → IsLawful (state_of d (history w d)) (end_of (history w d)) r
 its_lawful w d r allowed = ((lawful_more d (history w d) r).0 allowed.1.1).1
 
 -- and one that keeps every rule is allowed, where it may be appended
-is_allowed : (w : World Recorded) (shown : Shown) (d : Name) (place : ℕ) (log : Log) (r : Recorded) → Shows w shown → StandsAt d shown.histories place log
+pub is_allowed : (w : World Recorded) (shown : Shown) (d : Name) (place : ℕ) (log : Log) (r : Recorded) → Shows w shown → StandsAt d shown.histories place log
     → CanAppend layers HasSpelling w.messages d (history w d) (sees r) → IsLawful (state_of d (history w d)) (end_of (history w d)) r → IsStep w (by d (append r))
 is_allowed w shown d place log r shows at can lawful =
     (named_at w shown d place log shows at, (can, (lawful_more d (history w d) r).1 (shows.good.are_lawful d, lawful)))

@@ -1,3 +1,5 @@
+pub mod Ahead
+pub mod Allowed
 pub mod Chained
 pub mod Committing
 pub mod Deciding
@@ -5,11 +7,9 @@ pub mod Following
 pub mod Found
 pub mod Logged
 pub mod Reaching
-pub mod Roomy
-pub mod Sayings
 pub mod Scanning
 pub mod Sendings
 pub mod Single
 pub mod Stepping
-pub mod Ties
+pub mod Takes
 pub mod Truths

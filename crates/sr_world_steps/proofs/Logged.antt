@@ -1,7 +1,6 @@
 -- Notes in a log.
 use Rattle.std.proofs.Common.{◌≡◌, ◌↔◌, ℕ, ◌+◌, Bool, true, false, List, [], ◌∷◌, Option, Some, None, IsTrue, refl, sym, ap, subst, ◌∙◌}
 use Rattle.std.specs.Prelude.{IsSome}
-use Rattle.sr_base.specs.Values.{offset_from}
 use Rattle.sr_book.specs.Books.{new_book}
 use Rattle.sr_book.specs.Entries.{Name, booked}
 use Rattle.sr_book.specs.Histories.{book_from, book_of}
@@ -10,7 +9,7 @@ use Rattle.sr_book.specs.declared.note.Note.{Note}
 use Rattle.sr_catalog_schema.specs.Catalogs.{Lists}
 use Rattle.sr_catalog_schema.specs.Members.{user_name}
 use Rattle.sr_catalog_schema.specs.Names.{named}
-use Rattle.sr_database_history.specs.Fitting.{Fits, FitsState, Knows}
+use Rattle.sr_database_history.specs.Fitting.{FitsState, Knows}
 use Rattle.sr_database_history.specs.Folds.{State, size, sees, state_of, end_from, end_of}
 use Rattle.sr_database_history.specs.Recorded.{Recorded, own, taken, ddl, sync, pass, note, entry_of}
 use Rattle.sr_logform.specs.declared.entry.Entry.{Entry}
@@ -18,12 +17,13 @@ use Rattle.sr_logform.specs.declared.entry.Entry.TheVariants as entries
 use Rattle.sr_msgform.specs.declared.message.Message.{Message}
 use Rattle.sr_rows.specs.Marks.{Marked}
 use Rattle.sr_world_steps.specs.Inner.Booked.{booked_by, booked_in, end_in}
-use Rattle.sr_world_steps.specs.Inner.Ends.{HasRoom, IsEndOf}
-use Rattle.sr_world_steps.specs.Inner.Logs.{EndsOne, GoesOn, IsLog, logged_from}
+use Rattle.sr_world_entries.specs.Inner.Ends.{IsEndOf}
+use Rattle.sr_world_steps.specs.Inner.Logs.{EndsOne, IsLog, logged_from}
 use Rattle.sr_world_steps.specs.Inner.Noted.{MayBeNoted, NewsEnds, NoteEnds, StandsNoted, TellsKnown}
 use Rattle.sr_world_steps.specs.Inner.Notes.{MayNote}
 use Rattle.sr_world_steps.specs.Inner.Places.{Log}
 use Rattle.sr_world_steps.specs.Inner.Standings.{StandsBehind}
+use Rattle.sr_world_entries.proofs.Roomy.{has_room}
 
 -- ---- ends
 
@@ -54,13 +54,6 @@ booked_from user book place (r ∷ rs) =
 -- the book by a log is that of the history
 pub log_books : (d user : Name) (rs : List Recorded) (log : Log) → IsLog d rs log → booked_in user new_book log ≡ book_of sees user rs
 log_books d user rs log g = ap (booked_in user new_book) (sym g.logged) ∙ booked_from user new_book 0 rs
-
--- ---- room
-
--- an entry that fits has room
-pub has_room : (s : State) (place : ℕ) (r : Recorded) (entry : Entry) → Fits s place r → entry_of r ≡ entry → HasRoom place entry
-unfolding size
-has_room s place r entry fits is = subst (HasRoom place) is (record { spelled = fits.spelled; short = fits.short; ends = fits.ends })
 
 -- ---- notes
 

@@ -1,12 +1,12 @@
 -- Scanning a log for a user, entry by entry.
-use Rattle.std.proofs.Common.{◌≡◌, ℕ, ◌+◌, Bool, true, false, cond, List, [], ◌∷◌, ◌++◌, map, filter, Option, Some, None, refl, sym, ap, subst, ◌∙◌, append_assoc, append-nil}
+use Rattle.std.proofs.Common.{◌≡◌, ℕ, ◌+◌, Bool, true, false, cond, List, [], ◌∷◌, ◌++◌, map, filter, Option, refl, sym, ap, subst, ◌∙◌, append_assoc, append-nil}
 use Rattle.sr_base.specs.declared.offset.Offset.{Offset}
 use Rattle.sr_base.specs.Values.{offset_from}
 use Rattle.sr_book.specs.Entries.{Name}
 use Rattle.sr_catalog_schema.specs.Catalogs.{Lists, nothing_but}
 use Rattle.sr_database_history.specs.Folds.{State, fresh, next, size}
 use Rattle.sr_database_history.specs.Inner.Laws.{Holds}
-use Rattle.sr_database_history.specs.Recorded.{Recorded, entry_of}
+use Rattle.sr_database_history.specs.Recorded.{Recorded}
 use Rattle.sr_database_history.proofs.Kept.{fresh_holds, stays_held}
 use Rattle.sr_logform.specs.declared.entry.Entry.{Entry}
 use Rattle.sr_logform.specs.declared.op.Op.{Op}

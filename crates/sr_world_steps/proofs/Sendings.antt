@@ -15,12 +15,10 @@ use Rattle.sr_logform.specs.declared.op.Op.{Op}
 use Rattle.sr_logform.specs.declared.op.Transaction.{Transaction}
 use Rattle.sr_msgform.specs.declared.message.Message.{Message}
 use Rattle.sr_scan.specs.Given.{given_of}
-use Rattle.sr_world.specs.Real.{layers}
 use Rattle.sr_world.proofs.Keeping.{given_same}
-use Rattle.sr_world_model.specs.Steps.{HasSent}
 use Rattle.sr_world_steps.specs.Inner.Booked.{booked_in}
 use Rattle.sr_world_steps.specs.Inner.Leading.{Leads}
-use Rattle.sr_world_steps.specs.Inner.Logs.{EndsOne, IsLog}
+use Rattle.sr_world_steps.specs.Inner.Logs.{EndsOne}
 use Rattle.sr_world_steps.specs.Inner.Noted.{NoteEnds, StandsNoted}
 use Rattle.sr_world_steps.specs.Inner.Places.{Log}
 use Rattle.sr_world_steps.specs.Inner.Scanned.{AreGiven, in_window, is_within, transaction_in}

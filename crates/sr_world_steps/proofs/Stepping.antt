@@ -1,8 +1,7 @@
 -- Steps of a world, on what is shown of it.
-use Rattle.std.proofs.Common.{◌≡◌, ◌↔◌, ℕ, zero, suc, ◌+◌, ◌<◌, Bool, true, false, List, [], ◌∷◌, ◌++◌, map, length, get_or, Contains, refl, sym, ap, subst, ◌∙◌, inl, inr, arith}
+use Rattle.std.proofs.Common.{◌≡◌, ℕ, zero, suc, ◌+◌, ◌<◌, Bool, true, List, [], ◌∷◌, ◌++◌, map, length, get_or, Contains, refl, sym, ap, subst, ◌∙◌, inl, inr, arith}
 use Rattle.std.specs.Prelude.{if◌then◌else◌}
 use Rattle.std.specs.Str.{bytes_eq}
-use Rattle.std.specs.List.{AllByRecursion}
 use Rattle.std.proofs.lemmas.List.Elements.{Contains-append_right}
 use Rattle.std.proofs.lemmas.Slice.Eq.{bytes_eq-Decides}
 use Rattle.sr_base.specs.declared.offset.Offset.{Offset}
@@ -14,15 +13,14 @@ use Rattle.sr_database_history.specs.Recorded.{Recorded, entry_of}
 use Rattle.sr_logform.specs.declared.entry.Entry.{Entry}
 use Rattle.sr_msgform.specs.declared.message.Message.{Message}
 use Rattle.sr_world.specs.Inner.Real.{IsStep}
-use Rattle.sr_world.specs.Lawful.{IsLawful}
-use Rattle.sr_world.specs.Real.{layers, HasSpelling, IsGoodWorld, LawfulHistory}
+use Rattle.sr_world.specs.Real.{layers, HasSpelling, LawfulHistory}
 use Rattle.sr_world.proofs.Keeping.{real_laws, stored_of}
 use Rattle.sr_world_model.specs.Steps.{DatabaseStep, append, put, crash, history_after}
 use Rattle.sr_world_model.specs.Worlds.{World, WorldStep as Act, history_in, history, histories_after, happens, fresh_world, IsNamed}
 use Rattle.sr_world_model.proofs.Good.{stays, fresh}
 use Rattle.sr_world_untouched.proofs.All.{keys_agree}
 use Rattle.sr_world_steps.specs.declared.step.WorldStep.{WorldStep}
-use Rattle.sr_world_steps.specs.Inner.Acts.{by, IsAsked, IsNoStep, HasStepped}
+use Rattle.sr_world_steps.specs.Inner.Acts.{by, IsAsked, HasStepped}
 use Rattle.sr_world_steps.specs.Inner.Logs.{IsLog, logged_from}
 use Rattle.sr_world_steps.specs.Inner.Places.{Log, History, NoneIs, StandsAt, with_entry}
 use Rattle.sr_world_steps.specs.Inner.Shown.{Shown, Shows, IsShown, logged}

@@ -1,5 +1,5 @@
 -- Messages that are true of a history, by its log.
-use Rattle.std.proofs.Common.{◌≡◌, ◌↔◌, ℕ, ◌+◌, ◌<◌, ◌≤◌, Bool, true, false, cond, List, [], ◌∷◌, map, filter, length, All, IsTrue, refl, sym, ap, subst, ◌∙◌, arith}
+use Rattle.std.proofs.Common.{◌≡◌, ◌↔◌, ℕ, ◌<◌, ◌≤◌, Bool, true, false, cond, List, [], ◌∷◌, map, filter, All, IsTrue, refl, sym, subst, ◌∙◌, arith}
 use Rattle.std.specs.List.{AllByRecursion}
 use Rattle.std.proofs.lemmas.List.{length-map}
 use Rattle.std.proofs.lemmas.List.Elements.{All-head, All-tail}
@@ -28,7 +28,7 @@ use Rattle.sr_world_model.specs.Windows.{window}
 use Rattle.sr_world_model.proofs.Longer.{given_in}
 use Rattle.sr_world_steps.specs.Inner.Booked.{booked_in, end_in}
 use Rattle.sr_world_steps.specs.Inner.Places.{Log}
-use Rattle.sr_world_steps.specs.Inner.Putting.{HasLawfulLog, IsBacked, IsLawfulLog, MayPut, TellsCarried, TellsPut}
+use Rattle.sr_world_steps.specs.Inner.Putting.{HasLawfulLog, IsBacked, IsLawfulLog, TellsCarried, TellsPut}
 use Rattle.sr_world_steps.specs.Inner.Scanned.{AreGiven, in_window, is_within}
 use Rattle.sr_world_steps.specs.Inner.Windows.{Carries}
 use Rattle.sr_world_steps.proofs.Logged.{log_books, log_ends}

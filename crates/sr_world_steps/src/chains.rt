@@ -3,9 +3,9 @@
 ghost use Rattle.std.specs.Prelude.{◌≡◌, ◌↔◌, ◌<◌, ◌≤◌, ℕ, [], length, get_or, None, IfOk, IfSome, IsTrue, OnOk};
 ghost use Rattle.sr_world_steps.specs.Inner.Leading.{Covers, has, HasCover, IsNext, IsSameWindow, IsWhole, Leads, ReachesOn, StepsOn};
 
-use crate::places::is_same;
 use sr_base::{Name, NoMemory};
 use sr_msgform::Message;
+use sr_world_entries::is_same;
 use std::alloc::Global;
 
 /// Whether whole windows from one database to another lead from one offset to another, each beginning where the one before it ends.
@@ -111,7 +111,7 @@ fn is_next(
 
 /// Whether each byte of a message's window came.
 #[tactic(auto, using(crate::proofs::Chained::came_on, crate::proofs::Chained::came_all, crate::proofs::Chained::came_none))]
-fn is_whole(messages: &[Message], message: &Message) -> bool
+pub(crate) fn is_whole(messages: &[Message], message: &Message) -> bool
     ensures whole { IsTrue result ↔ IsWhole messages.now message.now }
 {
     let total = message.total as usize;

@@ -5,18 +5,17 @@ ghost use Rattle.sr_database_fold.specs.Inner.Readings.{state_in};
 ghost use Rattle.sr_exec_dml.specs.Inner.Conditions.{RowsFit};
 ghost use Rattle.sr_rows.specs.Inner.Steps.{at_mark};
 ghost use Rattle.sr_world_steps.specs.Inner.Commits.{CommitEnds, CommitEndsIn};
-ghost use Rattle.sr_world_steps.specs.Inner.Ends.{IsLocal};
+ghost use Rattle.sr_world_entries.specs.Inner.Ends.{IsLocal};
 ghost use Rattle.sr_world_steps.specs.Inner.Logs.{HasLog};
 
 use crate::books::end_of;
-use crate::ends::{is_local, local_end};
-use crate::saying::says_so;
 use crate::standing::{Standing, standing_of};
 use sr_base::{Name, NoMemory, Offset};
 use sr_catalog::Catalog;
 use sr_database_fold::go_on;
 use sr_logform::Entry;
 use sr_rows::Rows;
+use sr_world_entries::{is_local, local_end, says_so};
 use std::alloc::Global;
 
 /// The offset at which an entry would end that a database commits by itself; `None` exactly where its history may not go on with it. It goes

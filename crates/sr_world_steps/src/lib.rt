@@ -5,24 +5,21 @@
 //! world allows it, and the world behind it is the one that is shown then, is good, and its untouched keys agree.
 #![tactic(auto)]
 
-mod alike;
 mod books;
 mod chains;
 mod commits;
-mod ends;
 mod given;
 mod laws;
 mod messages;
-mod names;
 mod notes;
 mod noting;
+mod past;
 mod places;
 mod putting;
-mod saying;
 mod sending;
-mod shortness;
 mod standing;
 mod step;
+mod taking;
 mod world;
 
 pub use laws::a_world_is_shown_once;

@@ -3,10 +3,10 @@
 ghost use Rattle.std.specs.Prelude.{◌≡◌, ◌↔◌, ◌<◌, ◌⊎◌, IsTrue};
 ghost use Rattle.sr_world_steps.specs.Inner.Notes.{IsNews, MayNote};
 
-use crate::places::is_same;
 use sr_base::{Name, Offset};
 use sr_book::{Book, Note};
 use sr_msgform::Message;
+use sr_world_entries::is_same;
 
 /// Whether a message from a user lets a database note this of him.
 pub(crate) fn may_note(book: &Book, at: &Name, user: &Name, note: &Note, message: &Message) -> bool

@@ -6,13 +6,13 @@ ghost use Rattle.sr_world_steps.specs.Inner.Logs.{HasLog};
 ghost use Rattle.sr_world_steps.specs.Inner.Noted.{NewsEnds, NoteEnds, TellsKnown};
 
 use crate::books::{book_of, end_of};
-use crate::ends::end_behind;
 use crate::notes::may_note;
 use crate::standing::standing_of;
 use sr_base::{Copied, Name, NoMemory, Offset};
 use sr_book::Note;
 use sr_logform::Entry;
 use sr_msgform::Message;
+use sr_world_entries::end_behind;
 use std::alloc::Global;
 
 /// The offset at which a note would end that a message lets a database make of its sender; `None` exactly where it may not be made. It goes through the

@@ -1,10 +1,11 @@
 //! Where a database stands among others, by its name, and its log with an entry more.
 
-ghost use Rattle.std.specs.Prelude.{◌≡◌, ◌↔◌, ◌<◌, length, IfSome, IsTrue, OnOk, OnErr, None};
+ghost use Rattle.std.specs.Prelude.{◌≡◌, ◌<◌, length, IfSome, OnOk, OnErr, None};
 ghost use Rattle.sr_world_steps.specs.Inner.Places.{NoneIs, StandsAt, with_entry};
 
 use sr_base::{Name, NoMemory, Offset, Seq};
 use sr_logform::Entry;
+use sr_world_entries::is_same;
 use std::alloc::AllocError;
 
 /// A database by its name, with the entries of its log and the offsets at which they end.
@@ -29,13 +30,6 @@ pub(crate) fn found<'a>(
         left = rest;
     }
     None
-}
-
-/// Whether two names are one.
-pub(crate) fn is_same(name: &Name, other: &Name) -> bool
-    ensures same { IsTrue result ↔ (name.now ≡ other.now) }
-{
-    name.bytes() == other.bytes()
 }
 
 /// Adds an entry to the log at a place. For want of memory all stays as it was.

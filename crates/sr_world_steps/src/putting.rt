@@ -6,11 +6,11 @@ ghost use Rattle.sr_world_steps.specs.Inner.Putting.{HasLawfulLog, IsBacked, Tel
 use crate::books::{book_of, end_of};
 use crate::given::given_in;
 use crate::messages::{carries, is_spelled};
-use crate::places::is_same;
 use sr_base::{Name, NoMemory, Offset};
 use sr_book::Book;
 use sr_logform::Entry;
 use sr_msgform::Message;
+use sr_world_entries::is_same;
 use std::alloc::Global;
 
 /// Whether a database may put a message: it has a spelling, and is true of the history. It goes through the log three times, as a scanner does once.

@@ -13,6 +13,11 @@ pub enum WorldStep {
         at: Name,
         entry: Entry,
     },
+    /// It takes the first transaction of a user past what it took of him, from a whole window of messages.
+    Take {
+        at: Name,
+        user: Name,
+    },
     /// It notes something of a user, by the message at a place of all that were ever put: what this confirms, its ask, or that an ask is raised.
     Note {
         at: Name,

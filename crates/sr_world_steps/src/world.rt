@@ -10,7 +10,7 @@ ghost use Rattle.sr_logform.specs.declared.entry.Entry.TheVariants.{Note as Note
 ghost use Rattle.sr_world_model.specs.Worlds.{World as AWorld, fresh_world, IsNamed};
 ghost use Rattle.sr_world_steps.specs.declared.step.WorldStep.TheVariants as asked;
 ghost use Rattle.sr_world_steps.specs.Inner.Acts.{HasStepped, IsRefusal, rule_of};
-ghost use Rattle.sr_world_steps.specs.Inner.Due.{IsDue, IsFoundIn, IsMadeIn, IsPutDue, TellsPutIn};
+ghost use Rattle.sr_world_steps.specs.Inner.Due.{IsDue, IsFoundIn, IsMadeIn, IsPutDue, IsTookIn, TellsPutIn};
 ghost use Rattle.sr_world_steps.specs.Inner.Places.{NoneIs, StandsAt, with_entry};
 ghost use Rattle.sr_world_steps.specs.Inner.Shown.{IsShown, Shows};
 
@@ -20,6 +20,7 @@ use crate::places::{History, found, push_entry};
 use crate::putting::may_put;
 use crate::sending::sent_end;
 use crate::step::{NotAStep, WorldStep};
+use crate::taking::take_end;
 use sr_base::{Copied, Name, NoMemory, Offset, Seq};
 use sr_book::Note;
 use sr_logform::Entry;
@@ -29,6 +30,8 @@ use std::marker::Model;
 
 /// The numbers of the rules of steps.
 const COMMIT: u8 = 1;
+
+const TAKE: u8 = 2;
 
 const NOTE: u8 = 3;
 
@@ -88,7 +91,8 @@ impl World {
     /// Makes a step, where the world allows it. Then the world behind it is good too, and untouched keys agree there. `Rule` comes exactly where the
     /// world does not allow the step, with the number of its rule. After a refusal all is as it was.
     ///
-    /// A commit, a note and a put go through the log of their database, each entry of it in the time of taking effect.
+    /// A commit, a take, a note and a put go through the log of their database, each entry of it in the time of taking effect; a take also through that of
+    /// the user, as a scanner does.
     #[tactic(auto, using(crate::proofs::Deciding::was_made, crate::proofs::Deciding::was_refused))]
     pub fn step(&mut self, alloc: Global, step: &WorldStep) -> Result<(), NotAStep>
         ensures stepped { (w : AWorld Recorded) → Shows w self.old → OnOk result (HasStepped w step.now self.new) }
@@ -130,6 +134,7 @@ impl World {
     {
         match step {
             WorldStep::Commit { at, entry } => self.commit(alloc, at, entry),
+            WorldStep::Take { at, user } => self.take(alloc, at, user),
             WorldStep::Note {
                 at,
                 user,
@@ -175,6 +180,44 @@ impl World {
             return Ok(None);
         };
         Ok(Some((place, end)))
+    }
+
+    /// A take.
+    #[tactic(auto, using(crate::proofs::Allowed::took_due, crate::proofs::Allowed::none_took, crate::proofs::Allowed::take_made))]
+    fn take(&mut self, alloc: Global, at: &Name, user: &Name) -> Result<bool, NoMemory>
+        ensures made { IfOk result (IsMadeIn self.old (asked.Take at.now user.now) self.new) }
+        ensures same { result ≡ Ok false → self.new ≡ self.old }
+        ensures err { OnErr result (self.new ≡ self.old) }
+    {
+        let Some((place, end, entry)) = self.taken(alloc, at, user)? else {
+            return Ok(false);
+        };
+        self.append(place, end, entry)?;
+        Ok(true)
+    }
+
+    /// The place of the log to which a take appends its entry, where that ends, and the entry. What the window has it reads from the log of the user, since
+    /// the messages of a good world have nothing else.
+    #[tactic(auto, using(crate::proofs::Allowed::took_not_there, crate::proofs::Allowed::took_of_nobody, crate::proofs::Deciding::some_log, crate::proofs::Deciding::some_lawful_log, crate::proofs::Allowed::took_none, crate::proofs::Allowed::took_some))]
+    fn taken(
+        &self,
+        alloc: Global,
+        at: &Name,
+        user: &Name,
+    ) -> Result<Option<(usize, u64, Entry)>, NoMemory>
+        ensures found { IfOk result (IsTookIn self.now at.now user.now) }
+        ensures shown { IsShown self.now }
+    {
+        let Some((place, log)) = self.find(at) else {
+            return Ok(None);
+        };
+        let Some((_, theirs)) = self.find(user) else {
+            return Ok(None);
+        };
+        let Some((end, entry)) = take_end(alloc, self.messages(), at, log, user, theirs)? else {
+            return Ok(None);
+        };
+        Ok(Some((place, end, entry)))
     }
 
     /// A note.
@@ -335,6 +378,7 @@ fn rule_of(step: &WorldStep) -> u8
 {
     match step {
         WorldStep::Commit { .. } => COMMIT,
+        WorldStep::Take { .. } => TAKE,
         WorldStep::Note { .. } => NOTE,
         WorldStep::SentNote { .. } => SENT_NOTE,
         WorldStep::Put { .. } => PUT,

@@ -5,14 +5,16 @@ use Rattle.std.specs.Ordering.{is_eq}
 use Rattle.sr_ast.specs.declared.stmt.Stmt.{Stmt}
 use Rattle.sr_base.specs.Order.{key_cmp}
 use Rattle.sr_base.specs.declared.value.Value.{Value as Cell}
+use Rattle.sr_base.proofs.Truths.{some_is}
 use Rattle.sr_book.specs.Entries.{Name}
 use Rattle.sr_catalog_change.specs.Changes.{refusal}
 use Rattle.sr_exec_dml.proofs.Applied.{fitting_changes_keep}
-use Rattle.sr_exec_dml.proofs.Fixed.{same_name, bytes_itself}
+use Rattle.sr_exec_where.proofs.Fixed.{same_name, bytes_itself}
 use Rattle.sr_exec_dml.proofs.Folding.{same_key}
 use Rattle.sr_exec_dml.specs.Inner.Conditions.{RowsFit}
 use Rattle.sr_exec_dml.specs.FittingChanges.{IsFitChange, ChangesFit}
-use Rattle.sr_exec_dml.specs.Statements.{key_of, table_named}
+use Rattle.sr_exec_where.specs.Keys.{key_of}
+use Rattle.sr_exec_dml.specs.Statements.{table_named}
 use Rattle.sr_exec_fits.specs.Rows.{IsRow}
 use Rattle.sr_database_history.specs.Fitting.{DoneFits, DonesFit}
 use Rattle.sr_database_history.specs.Folds.{State, row_change, with_changes, with_statement, after_done, after_dones}
@@ -33,9 +35,6 @@ use Rattle.sr_world_untouched.specs.Untouched.{Agrees, KeepsSubscribedTable, Has
 use Rattle.sr_world_untouched.proofs.Left.{left_all, left_all-append}
 use Rattle.sr_world_untouched.proofs.Moved.{row_stays, rows_stay}
 use Rattle.sr_world_untouched.proofs.Told.{Row, IsOther, IsViewAt, Mirrors, told_away, told_elsewhere, told_here, told_plain}
-
-some_is : {A : Type 0} {x y : A} → Some x ≡ Some y → x ≡ y
-some_is e = cc
 
 all_joined : {A : Type 0} (P : A → Type 0) (xs ys : List A) → AllByRecursion P xs → AllByRecursion P ys → AllByRecursion P (xs ++ ys)
 all_joined P [] ys all more = more

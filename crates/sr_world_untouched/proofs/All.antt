@@ -5,7 +5,7 @@ use Rattle.std.specs.List.{AllByRecursion}
 use Rattle.sr_base.specs.declared.value.Value.{Value as Cell}
 use Rattle.sr_book.specs.Entries.{Name}
 use Rattle.sr_book.specs.Histories.{taken as taken_from}
-use Rattle.sr_exec_dml.proofs.Fixed.{bytes_itself}
+use Rattle.sr_exec_where.proofs.Fixed.{bytes_itself}
 use Rattle.sr_exec_dml.specs.Statements.{table_named}
 use Rattle.sr_database_history.proofs.Joined.{state_from-append}
 use Rattle.sr_database_history.proofs.Kept.{fresh_holds, stays_held}

@@ -7,15 +7,17 @@ use Rattle.std.specs.Ordering.{is_eq}
 use Rattle.sr_ast.specs.declared.stmt.Stmt.{Stmt}
 use Rattle.sr_base.specs.Order.{key_cmp}
 use Rattle.sr_base.specs.declared.value.Value.{Value as Cell}
+use Rattle.sr_base.proofs.Truths.{some_is}
 use Rattle.sr_book.specs.Entries.{Name}
 use Rattle.sr_exec_dml.proofs.Applied.{fitting_changes_keep, own_name}
-use Rattle.sr_exec_dml.proofs.Fixed.{same_name}
+use Rattle.sr_exec_where.proofs.Fixed.{same_name}
 use Rattle.sr_exec_dml.proofs.Folding.{same_key}
 use Rattle.sr_exec_dml.specs.Applying.{applied}
 use Rattle.sr_exec_dml.specs.Inner.Conditions.{RowsFit}
 use Rattle.sr_exec_dml.specs.FittingChanges.{IsFitChange, ChangesFit}
-use Rattle.sr_exec_dml.specs.Holding.{is_same_row}
-use Rattle.sr_exec_dml.specs.Statements.{key_of, table_named}
+use Rattle.sr_logform.specs.Outcomes.{is_same_row}
+use Rattle.sr_exec_where.specs.Keys.{key_of}
+use Rattle.sr_exec_dml.specs.Statements.{table_named}
 use Rattle.sr_eval.specs.Comparisons.{is_null}
 use Rattle.sr_resolve_triggers.specs.Actions.{in_front, insertion}
 use Rattle.sr_resolve_triggers.specs.Firing.{fired}
@@ -50,9 +52,6 @@ use Rattle.sr_world_untouched.proofs.Above.{view, Goes, rests, stays, followed_b
 use Rattle.sr_world_untouched.proofs.Left.{left_by, left_all}
 use Rattle.sr_world_untouched.proofs.Moved.{row_stays}
 use Rattle.sr_world_untouched.proofs.Told.{Row, IsOther, Mirrors, at_table, away, update_plain, removes_elsewhere, sets_elsewhere}
-
-some_is : {A : Type 0} {x y : A} → Some x ≡ Some y → x ≡ y
-some_is e = cc
 
 fitted_there : (t : Table) (values : Values) (places : List ℕ) (key : List Cell) → all_there (map (λ place. fitted_in values (slice_get t.columns place)) places) key
     → fitted_at t values places ≡ Some key

@@ -1,6 +1,5 @@
 -- Below, each transaction that is taken from above leaves of a row what its ops leave.
-use Rattle.std.proofs.Common.{◌≡◌, inl, inr, ℕ, ◌+◌, Bool, true, false, cond, map, List, [], ◌∷◌, ◌++◌, Option, Some, None, IsSome, bytes_eq, refl, sym, ap, subst, ◌∙◌, if◌then◌else◌}
-use Rattle.std.proofs.Common.{append-nil, append_assoc}
+use Rattle.std.proofs.Common.{◌≡◌, inl, inr, ℕ, ◌+◌, Bool, true, false, cond, map, List, [], ◌∷◌, ◌++◌, Option, Some, None, IsSome, bytes_eq, refl, sym, ap, subst, ◌∙◌, if◌then◌else◌, append-nil, append_assoc}
 use Rattle.std.specs.List.{AllByRecursion}
 use Rattle.sr_ast.specs.declared.stmt.Stmt.{Stmt}
 use Rattle.sr_ast.specs.declared.stmt.Stmt.TheVariants as stmt
@@ -9,7 +8,7 @@ use Rattle.sr_book.specs.Entries.{Name, takes}
 use Rattle.sr_book.specs.Histories.{taken as taken_from}
 use Rattle.sr_catalog_change.specs.Changes.{next as catalog_after}
 use Rattle.sr_catalog_ddl.specs.Users.{user_of}
-use Rattle.sr_exec_dml.proofs.Fixed.{same_name, bytes_itself}
+use Rattle.sr_exec_where.proofs.Fixed.{same_name, bytes_itself}
 use Rattle.sr_exec_dml.specs.Inner.Conditions.{RowsFit}
 use Rattle.sr_exec_dml.specs.Statements.{table_named}
 use Rattle.sr_database_history.proofs.Granted.{stays_known}
@@ -37,8 +36,8 @@ use Rattle.sr_catalog_schema.specs.declared.user.User.{User}
 use Rattle.sr_world_untouched.specs.Untouched.{EachFrom, IsTakenFrom, KeepsBelow}
 use Rattle.sr_world_untouched.proofs.Along.{ops_of}
 use Rattle.sr_world_untouched.proofs.Left.{left_by, left_all, left_all-append}
-use Rattle.sr_world_untouched.proofs.Local.{left, insert_leaves, remove_leaves, set_leaves, clear_leaves, insert_away, remove_away, set_away, clear_away, in_another}
-use Rattle.sr_world_untouched.specs.Inner.Leaving.{insert_left, remove_left, set_left}
+use Rattle.sr_resolve.proofs.Local.{left, insert_leaves, remove_leaves, set_leaves, clear_leaves, insert_away, remove_away, set_away, clear_away, in_another}
+use Rattle.sr_resolve.specs.Inner.Leaving.{insert_left, remove_left, set_left}
 use Rattle.sr_world_untouched.proofs.Told.{Row}
 use Rattle.sr_world.specs.Lawful.{IsLawful}
 use Rattle.sr_world.specs.Real.{machine}

@@ -5,13 +5,13 @@ use Rattle.std.specs.List.{AllByRecursion}
 use Rattle.sr_base.specs.declared.value.Value.{Value as Cell}
 use Rattle.sr_base.specs.declared.value.Value.TheVariants.{Null, Int, Big, Str, Date}
 use Rattle.sr_base_dates.specs.Fitting.{fitted}
-use Rattle.sr_exec_dml.proofs.Fixed.{same_name, bytes_itself}
+use Rattle.sr_exec_where.proofs.Fixed.{same_name, bytes_itself}
 use Rattle.sr_eval.specs.Comparisons.{is_null}
 use Rattle.sr_resolve_triggers.specs.Actions.{in_front}
 use Rattle.sr_exec_fits.specs.Rows.{IsRow}
 use Rattle.sr_exec_fits.proofs.Rows.{row_parts}
 use Rattle.sr_logform.specs.Rules.{AreDistinct, is_present}
-use Rattle.sr_exec_dml.specs.Statements.{key_of}
+use Rattle.sr_exec_where.specs.Keys.{key_of}
 use Rattle.sr_publish.specs.Inner.Laws.{HasKey}
 use Rattle.sr_resolve.specs.Named.{filled, filled_row, fitted_key, has_null}
 use Rattle.sr_catalog_schema.specs.Firsts.{has}

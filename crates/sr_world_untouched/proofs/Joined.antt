@@ -1,6 +1,5 @@
 -- What was taken below from the beginning on is what the entries above from there on give.
-use Rattle.std.proofs.Common.{◌≡◌, ◌≤◌, ◌<◌, inl, inr, ℕ, suc, ◌+◌, Bool, map, List, [], ◌∷◌, ◌++◌, refl, sym, ap, ap₂, subst, ◌∙◌, arith, if◌then◌else◌}
-use Rattle.std.proofs.Common.{append_assoc, le_refl}
+use Rattle.std.proofs.Common.{◌≡◌, ◌≤◌, ◌<◌, inl, inr, ℕ, suc, ◌+◌, Bool, map, List, [], ◌∷◌, ◌++◌, refl, sym, ap, ap₂, subst, ◌∙◌, arith, if◌then◌else◌, append_assoc, le_refl}
 use Rattle.std.specs.List.{AllByRecursion}
 use Rattle.sr_base.specs.declared.value.Value.{Value as Cell}
 use Rattle.sr_book.proofs.Folds.{taken-append}
@@ -8,7 +7,7 @@ use Rattle.sr_book.proofs.Offsets.{top-append, le-top, offsets-append, Rises-bac
 use Rattle.sr_book.specs.Entries.{Name}
 use Rattle.sr_book.specs.Histories.{taken as taken_from}
 use Rattle.sr_book.specs.Rising.{Rises, top, offsets}
-use Rattle.sr_exec_dml.proofs.Fixed.{bytes_itself}
+use Rattle.sr_exec_where.proofs.Fixed.{bytes_itself}
 use Rattle.sr_database_history.proofs.Joined.{end_from-append, le-end_from}
 use Rattle.sr_database_history.specs.Folds.{State, fresh, next, sees, size, state_from, state_of, end_from, end_of}
 use Rattle.sr_database_history.specs.Recorded.{Recorded, taken, sync, done_of, Done}
@@ -16,6 +15,7 @@ use Rattle.sr_logform.specs.declared.op.Op.{Op}
 use Rattle.sr_world_model.specs.Worlds.{World, history}
 use Rattle.sr_publish.specs.SubscribedTables.{SubscribedTable}
 use Rattle.sr_scan.specs.Given.{gives, with_transaction, given_from}
+use Rattle.sr_scan.proofs.Growing.{from_joined}
 use Rattle.sr_catalog_schema.specs.declared.table.Table.{Table}
 use Rattle.sr_world_untouched.specs.Untouched.{BeginsTaking, BySync, ByStart, IsUntouched}
 use Rattle.sr_world.proofs.Keeping.{given_same}
@@ -105,14 +105,6 @@ before_more : (end : ℕ) (ops : List Op) (xs ys : Txs) → with_transaction end
 before_more end [] xs ys = refl
 before_more end (op ∷ ops) xs ys = refl
 
-given_joined : (s : State) (place : ℕ) (rs qs : List Recorded) (user : Name)
-    → given_from s place (rs ++ qs) user ≡ given_from s place rs user ++ given_from (state_from s rs) (end_from place rs) qs user
-given_joined s place [] qs user = refl
-given_joined s place (r ∷ rs) qs user =
-    let end = place + (size r + 5) in
-    ap (λ l. with_transaction end (gives s r user) l) (given_joined (next s r) end rs qs user)
-    ∙ before_more end (gives s r user) (given_from (next s r) end rs user) (given_from (state_from (next s r) rs) (end_from end rs) qs user)
-
 -- ---- the cuts
 
 module _ (w : World Recorded) (user above : Name) (key : List Cell) (subscribed_table : SubscribedTable) (below : Table) (u : IsUntouched w user above key subscribed_table below) (good : IsGoodWorld w) where
@@ -147,8 +139,8 @@ module _ (w : World Recorded) (user above : Name) (key : List Cell) (subscribed_
   given_all : given_from (fresh above) 0 (history w above) user ≡ prefix ++ (given_since ++ given_later)
   given_all =
       ap (λ (rs : List Recorded). given_from (fresh above) 0 rs user) u.parts
-      ∙ given_joined (fresh above) 0 u.before (u.since ++ u.later) user
-      ∙ ap (λ (txs : Txs). prefix ++ txs) (given_joined s place u.since u.later user)
+      ∙ from_joined (fresh above) 0 u.before (u.since ++ u.later) user
+      ∙ ap (λ (txs : Txs). prefix ++ txs) (from_joined s place u.since u.later user)
 
   in_step : given_from (fresh above) 0 (history w above) user ≡ taken_from sees above (history w user) ++ rest
   in_step = sym (given_same above user (history w above)) ∙ (good.in_step user above).taken_first
@@ -220,7 +212,7 @@ module _ (w : World Recorded) (user above : Name) (key : List Cell) (subscribed_
   by_start : ByStart user above subscribed_table.table.name key u.before u.since u.old u.new → taken_new ≡ given_since
   by_start b =
       let high : High (suc place) (given_since ++ given_later)
-      = subst (High (suc place)) (given_joined s place u.since u.later user) (above_low place (given_from s place (u.since ++ u.later) user) (given_after s place (u.since ++ u.later) user)) in
+      = subst (High (suc place)) (from_joined s place u.since u.later user) (above_low place (given_from s place (u.since ++ u.later) user) (given_after s place (u.since ++ u.later) user)) in
       taken_is_given b.at b.takes (suc place) (le_refl (suc place)) b.past (omega (arith, b.until)) high
 
   by_sync : BySync user above subscribed_table.table.name u.before u.since u.old u.new → taken_new ≡ given_since
@@ -228,7 +220,7 @@ module _ (w : World Recorded) (user above : Name) (key : List Cell) (subscribed_
       let at = end_of (u.before ++ sync user b.tables ∷ []) in
       let at_is : at ≡ place + (size (sync user b.tables) + 5) = end_from-append 0 u.before (sync user b.tables ∷ []) in
       let high : High at (given_since ++ given_later)
-      = subst (High at) (given_joined s place u.since u.later user)
+      = subst (High at) (from_joined s place u.since u.later user)
       (subst (λ (rs : List Recorded). High at (given_from s place (rs ++ u.later) user)) (sym b.is)
       (subst (λ (n : ℕ). High n (given_from s place (sync user b.tables ∷ (b.rest ++ u.later)) user)) (sym at_is) (given_first s place (sync user b.tables) (b.rest ++ u.later) user))) in
       taken_is_given at b.takes at (omega (arith, at_is)) (le_refl at) (from_at at b.takes).0 high

@@ -7,8 +7,8 @@ use Rattle.std.proofs.lemmas.Option.{slice_get-map}
 use Rattle.sr_base.specs.declared.value.Value.{Value as Cell}
 use Rattle.sr_base.specs.declared.value.Value.TheVariants.{Null}
 use Rattle.sr_base_dates.specs.Fitting.{fitted}
-use Rattle.sr_exec_dml.proofs.Fixed.{same_name, bytes_itself}
-use Rattle.sr_exec_dml.specs.Statements.{key_of}
+use Rattle.sr_exec_where.proofs.Fixed.{same_name, bytes_itself}
+use Rattle.sr_exec_where.specs.Keys.{key_of}
 use Rattle.sr_resolve_triggers.specs.Actions.{in_front}
 use Rattle.sr_database_history.specs.Fitting.{fitted_in}
 use Rattle.sr_resolve.specs.Named.{fitted_at}

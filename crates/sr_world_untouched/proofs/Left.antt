@@ -3,7 +3,7 @@ use Rattle.std.proofs.Common.{◌≡◌, cond, List, [], ◌∷◌, ◌++◌, Op
 use Rattle.sr_base.specs.declared.value.Value.{Value as Cell}
 use Rattle.sr_logform.specs.declared.op.Op.{Op}
 use Rattle.sr_logform.specs.declared.op.Op.TheVariants.{Insert, Remove, Set, Clear, Exec}
-use Rattle.sr_world_untouched.specs.Inner.Leaving.{insert_left, remove_left, set_left}
+use Rattle.sr_resolve.specs.Inner.Leaving.{insert_left, remove_left, set_left}
 use Rattle.sr_catalog_schema.specs.declared.table.Table.{Table}
 
 -- what an op leaves under a key of a table; nothing changes by an op on another table

@@ -13,4 +13,3 @@ pub mod Below
 pub mod Joined
 pub mod All
 pub mod Sampled
-pub mod Local

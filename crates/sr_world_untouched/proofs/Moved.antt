@@ -10,12 +10,13 @@ use Rattle.sr_base.specs.Order.{key_cmp, name_cmp}
 use Rattle.sr_base.specs.declared.value.Value.{Value as Cell}
 use Rattle.sr_book.specs.Entries.{Name}
 use Rattle.sr_catalog_change.specs.Changes.{refusal}
-use Rattle.sr_exec_dml.proofs.Fixed.{same_name}
+use Rattle.sr_exec_where.proofs.Fixed.{same_name}
 use Rattle.sr_exec_dml.proofs.Folding.{itself}
 use Rattle.sr_exec_dml.specs.Applying.{place_of, without_row, with_row, applied_in}
 use Rattle.sr_exec_dml.specs.Inner.Conditions.{RowsFit}
 use Rattle.sr_exec_dml.specs.FittingChanges.{IsFitChange}
-use Rattle.sr_exec_dml.specs.Statements.{key_of, table_named}
+use Rattle.sr_exec_where.specs.Keys.{key_of}
+use Rattle.sr_exec_dml.specs.Statements.{table_named}
 use Rattle.sr_database_history.proofs.Tables.{left_at}
 use Rattle.sr_database_history.specs.Folds.{rows_left}
 use Rattle.sr_logform.specs.declared.change.Change.{Change}

@@ -8,8 +8,8 @@ use Rattle.std.proofs.lemmas.Option.{slice_get-map}
 use Rattle.sr_base.specs.Order.{value_cmp}
 use Rattle.sr_base.specs.declared.value.Value.{Value as Cell}
 use Rattle.sr_base.specs.declared.value.Value.TheVariants.{Null}
-use Rattle.sr_exec_dml.proofs.Fixed.{same_name, bytes_itself}
-use Rattle.sr_exec_dml.specs.Statements.{key_of}
+use Rattle.sr_exec_where.proofs.Fixed.{same_name, bytes_itself}
+use Rattle.sr_exec_where.specs.Keys.{key_of}
 use Rattle.sr_eval.specs.Comparisons.{is_null}
 use Rattle.sr_exec_fits.proofs.Rows.{row_parts, same_value, value_itself}
 use Rattle.sr_exec_fits.specs.Rows.{IsRow}

@@ -7,10 +7,11 @@ use Rattle.std.specs.Ordering.{is_eq}
 use Rattle.std.proofs.lemmas.List.{length-map}
 use Rattle.sr_base.specs.Order.{key_cmp}
 use Rattle.sr_base.specs.declared.value.Value.{Value as Cell}
-use Rattle.sr_exec_dml.proofs.Fixed.{bytes_itself}
+use Rattle.sr_base.proofs.Truths.{some_is}
+use Rattle.sr_exec_where.proofs.Fixed.{bytes_itself}
 use Rattle.sr_exec_dml.proofs.Folding.{itself}
-use Rattle.sr_exec_dml.specs.Sequences.{or_else}
-use Rattle.sr_exec_dml.specs.Statements.{key_of}
+use Rattle.sr_catalog_schema.specs.Firsts.{first_of}
+use Rattle.sr_exec_where.specs.Keys.{key_of}
 use Rattle.sr_eval.specs.Comparisons.{is_null}
 use Rattle.sr_exec_fits.specs.Rows.{IsRow}
 use Rattle.sr_database_history.specs.Recorded.{IsNoExec}
@@ -18,9 +19,9 @@ use Rattle.sr_logform.specs.declared.op.Op.TheVariants.{Insert, Remove, Set}
 use Rattle.sr_publish.specs.Inner.Laws.{HasKey}
 use Rattle.sr_publish.specs.SubscribedTables.{SubscribedTable}
 use Rattle.sr_publish.specs.Views.{shown}
-use Rattle.sr_world_untouched.specs.Inner.Leaving.{or_here, put_left, insert_left, remove_left, set_left}
+use Rattle.sr_resolve.specs.Inner.Leaving.{or_here, put_left, insert_left, remove_left, set_left}
 use Rattle.sr_resolve.specs.Named.{Values, Updates, filled_row, fitted_key, has_null, is_no_target, names_key, names_other, new_values, sets_null, with_news}
-use Rattle.sr_scan.proofs.Spelled.{IsProper}
+use Rattle.sr_scan.proofs.Spelled.{IsProper, shown_fits}
 use Rattle.sr_scan.specs.Ops.{differing, key_columns, present_columns, told_of, update_of}
 use Rattle.sr_catalog_schema.specs.Members.{key_names}
 use Rattle.sr_catalog_schema.specs.declared.table.Table.{Table}
@@ -31,13 +32,9 @@ use Rattle.sr_world_untouched.proofs.Inserted.{inserted, key_goes}
 use Rattle.sr_world_untouched.proofs.Left.{left_by, left_all}
 use Rattle.sr_world_untouched.proofs.Shown.{differs_outside, key_not_null, key_shown, names_its_key, none_other, same_shown}
 use Rattle.sr_world_untouched.proofs.Updated.{updated}
-use Rattle.sr_scan.proofs.Spelled.{shown_fits}
 
 abbrev pub Row : Type 0
 Row = Option (List Cell)
-
-some_is : {A : Type 0} {x y : A} → Some x ≡ Some y → x ≡ y
-some_is e = cc
 
 -- ---- cases
 
@@ -66,7 +63,7 @@ unfolding insert_left
 insert_other t values key here other =
     stay_if here _ (names_other t values) (λ a.
     stay_or here (filled_row values t.columns) _ (λ row filled.
-    stay_if here _ (has_null t.columns row) (λ b. ap (λ (x : Bool). cond x (or_else here (Some row)) here) (other row filled))))
+    stay_if here _ (has_null t.columns row) (λ b. ap (λ (x : Bool). cond x (first_of here (Some row)) here) (other row filled))))
 
 pub remove_other : (t : Table) (named : Values) (key : List Cell) (here : Row) → ((k : List Cell) → fitted_key t named ≡ Some k → IsOther key k)
     → remove_left t named key here ≡ here
@@ -161,7 +158,7 @@ module _ (s : SubscribedTable) (t : Table) (m : Mirrors s t) where
               ∙ found_or None (filled_row (present_columns s.columns (shown s row)) t.columns) _ made.0 made.1
               ∙ not_if None _ (has_null t.columns made.0) made.3
               ∙ ap (λ (k : List Cell). put_left (key_of s.table.key row) k made.0 None) key_is
-              ∙ ap (λ (b : Bool). cond b (or_else None (Some made.0)) None) own_key,
+              ∙ ap (λ (b : Bool). cond b (first_of None (Some made.0)) None) own_key,
           made.2,
         )
 

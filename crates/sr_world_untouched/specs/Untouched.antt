@@ -6,7 +6,8 @@ use Rattle.sr_base.specs.declared.offset.Offset.{Offset}
 use Rattle.sr_base.specs.declared.value.Value.{Value as Cell}
 use Rattle.sr_book.specs.Entries.{Name}
 use Rattle.sr_book.specs.Histories.{taken_end}
-use Rattle.sr_exec_dml.specs.Statements.{key_of, table_named}
+use Rattle.sr_exec_where.specs.Keys.{key_of}
+use Rattle.sr_exec_dml.specs.Statements.{table_named}
 use Rattle.sr_database_history.specs.Folds.{State, after_done, end_of, next, sees, state_of}
 use Rattle.sr_database_history.specs.Recorded.{Done, plain, ran, conflict, clash, Recorded, taken, ddl, sync, pass}
 use Rattle.sr_logform.specs.declared.op.Op.{Op}

@@ -1,6 +1,7 @@
 //! Scripts: their tokens, and the kinds of statements.
 
-use sr_ast::{Stmt, is_carried, is_ddl, print};
+use sr_ast::{Stmt, is_carried, is_ddl};
+use sr_ast_print::print;
 use sr_base::{NoMemory, NotUtf8, Text, text_of};
 use sr_lex::{LexFault, Token, TokenKind, lex};
 use sr_parse::{ParseFault, parse};

@@ -49,7 +49,7 @@ fn is_row(alloc: Global, found: &Option<Row>, want: &str) -> Result<bool, NoMemo
     let wanted = row_of(alloc, want)?;
     Ok(match (found, &wanted) {
         (None, None) => true,
-        (Some(found), Some(wanted)) => found.values().cmp(wanted.values()).is_eq(),
+        (Some(found), Some(wanted)) => *found == *wanted,
         _ => false,
     })
 }

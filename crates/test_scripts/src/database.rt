@@ -101,23 +101,6 @@ fn drop_rows(rows: &mut Rows, statement: &Stmt)
 {
     match statement {
         Stmt::DropTable(name) => rows.clear(name),
-        Stmt::CreateTable(_)
-        | Stmt::CreatePublication(_)
-        | Stmt::DropPublication(_)
-        | Stmt::GrantRemote(_)
-        | Stmt::GrantConsolidate(_)
-        | Stmt::CreateSubscription(_)
-        | Stmt::StartSubscription(_)
-        | Stmt::StopSubscription(_)
-        | Stmt::Synchronize(_)
-        | Stmt::DropSubscription(_)
-        | Stmt::CreateTrigger(_)
-        | Stmt::DropTrigger(_)
-        | Stmt::Dml(_)
-        | Stmt::Select(_)
-        | Stmt::Commit
-        | Stmt::Rollback
-        | Stmt::Passthrough(_)
-        | Stmt::PassthroughStop => {}
+        _ => {}
     }
 }

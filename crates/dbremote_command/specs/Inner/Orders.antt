@@ -1,5 +1,6 @@
 -- What orders may be.
-use Rattle.std.specs.Prelude.{◌≡◌, ◌≤◌, ◌||◌, ⊤, IsTrue, false}
+use Rattle.std.specs.Prelude.{◌≡◌, ◌||◌, ⊤, IsTrue, false}
+use Rattle.sr_mail_cut.specs.Inner.Cuts.{IsMessageLimit}
 use Rattle.sr_agent.specs.declared.options.Options.{Options}
 use Rattle.dbremote_command.specs.declared.order.Order.{Order}
 use Rattle.dbremote_command.specs.declared.order.Order.TheVariants.{Init, Sql, Agent, Show}
@@ -8,8 +9,7 @@ use Rattle.dbremote_command.specs.declared.order.Order.TheVariants.{Init, Sql, A
 pub record MayRun (options : Options) : Type 0 where
   pub some_pass : IsTrue (options.receive || options.send)
   pub no_restart : options.restart ≡ false
-  pub least : 10000 ≤ options.length
-  pub most : options.length ≤ 1048576
+  pub limit : IsMessageLimit options.length
 
 abbrev pub MayOrder : Order → Type 0
 MayOrder (Init name user) = ⊤

@@ -1,5 +1,5 @@
 -- The statements that make a catalog from a new one.
-use Rattle.std.specs.Prelude.{◌≡◌, ℕ, cond, List, [], ◌∷◌, ◌++◌, map, filter, Option, Some, None, bytes_eq}
+use Rattle.std.specs.Prelude.{◌≡◌, ℕ, Bool, cond, List, [], ◌∷◌, ◌++◌, map, filter, Option, Some, None, bytes_eq}
 use Rattle.std.specs.List.{AllByRecursion}
 use Rattle.sr_ast.specs.NormalForms.{IsNormal}
 use Rattle.sr_ast.specs.declared.create.ColumnRule.{ColumnRule}
@@ -26,6 +26,10 @@ given_address u = cond (bytes_eq u.address u.name) None (Some u.address)
 
 abbrev pub grant_rule : User → Grant
 grant_rule u = record { user = u.name; address = given_address u }
+
+-- the user of a name, above or below, with an address
+abbrev pub user_at : List ℕ → Bool → List ℕ → User
+user_at name above address = record { name = name; above = above; address = address }
 
 -- the GRANT of a user
 unfoldable pub grant_of : User → Stmt

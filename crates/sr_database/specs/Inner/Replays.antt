@@ -1,12 +1,13 @@
 -- A log that is read again from its beginning, entry by entry.
-use Rattle.std.specs.Prelude.{◌≡◌, ◌≢◌, ℕ, ◌+◌, ◌≤◌, ◌<◌, ◌^◌, ⊤, Bool, true, false, List, [], ◌∷◌, ◌++◌, length, take, drop, Option, Some, None, IsTrue}
+use Rattle.std.specs.Prelude.{◌≡◌, ◌≢◌, ℕ, ◌+◌, ◌≤◌, ◌<◌, ⊤, Bool, true, false, List, [], ◌∷◌, ◌++◌, length, take, drop, Option, Some, None, IsTrue}
 use Rattle.sr_base.specs.Fields.{IsName}
+use Rattle.sr_base.specs.Values.{farthest_offset}
 use Rattle.sr_book.specs.Entries.{Name}
 use Rattle.sr_database_history.specs.Fitting.{Fits, Stored}
 use Rattle.sr_database_history.specs.Folds.{state_of, end_of, books_of}
 use Rattle.sr_database_history.specs.Recorded.{Recorded, entry_of}
 use Rattle.sr_logfile.specs.Inner.Heads.{IsClosed}
-use Rattle.sr_logfile.specs.Records.{header, record_of, open_records, Spells}
+use Rattle.sr_logfile.specs.Records.{header, record_of, open_records, Spells, header_size}
 use Rattle.sr_logform.specs.Entries.{entry_spelling, IsEntry}
 use Rattle.sr_logform.specs.declared.entry.Entry.{Entry}
 use Rattle.sr_rows.specs.Marks.{Marked}
@@ -66,8 +67,8 @@ pub record BeginsWith (r : Recorded) (bytes : List ℕ) : Type 0 where
 
 -- a log's bytes begin with a header and the records of these entries, up to a position, where a gate stands
 pub record HasRead (es : List Recorded) (position : ℕ) (bytes : List ℕ) : Type 0 where
-  pub prefix : bytes ≡ (header 0 ++ open_records (bodies es)) ++ drop (16 + position) bytes
-  pub some : 0 < length (drop (16 + position) bytes)
+  pub prefix : bytes ≡ (header 0 ++ open_records (bodies es)) ++ drop (header_size + position) bytes
+  pub some : 0 < length (drop (header_size + position) bytes)
 
 -- these entries stand there, and what follows an open gate behind them is no record of one that may follow, at this place
 pub record LacksNext (publisher : Name) (bytes : List ℕ) (place : ℕ) : Type 0 where
@@ -104,14 +105,14 @@ pub record IsReplayedSome (catalog : Lists) (rows : Marked) (books : BookMap) : 
 -- behind whatever history was read an entry of so many bytes was followed, or may not stand there
 abbrev pub FollowsAny : Lists → Lists → Marked → Marked → BookMap → BookMap → ℕ → Entry → Bool → Type 0
 FollowsAny catalog new_catalog rows new_rows books new_books count entry may =
-    (position : ℕ) (publisher : Name) (es : List Recorded) → IsReplayed catalog rows books position publisher es → position + (count + 5) ≤ 2 ^ 62
+    (position : ℕ) (publisher : Name) (es : List Recorded) → IsReplayed catalog rows books position publisher es → position + (count + 5) ≤ farthest_offset
     → Followed catalog new_catalog rows new_rows books new_books position (position + (count + 5)) publisher es entry may
 
 -- one entry more was read behind a history, up to an end, and its record stands in the log at the position
 pub record HasReadOn (new_catalog : Lists) (new_rows : Marked) (new_books : BookMap) (position end : ℕ) (publisher : Name) (es : List Recorded) (log : File) (seen : Seen) : Type 0 where
   pub r : Recorded
   pub is : IsReplayed new_catalog new_rows new_books end publisher (es ++ r ∷ [])
-  pub begins : IsTrue seen.observable → BeginsWith r (drop (16 + position) (bytes_of seen.files log))
+  pub begins : IsTrue seen.observable → BeginsWith r (drop (header_size + position) (bytes_of seen.files log))
 
 -- it was, behind whatever history was read up to there
 abbrev pub IsReadOn : Lists → Lists → Marked → Marked → BookMap → BookMap → ℕ → ℕ → Name → File → Seen → Type 0
@@ -123,7 +124,7 @@ pub record EndsThere (catalog new_catalog : Lists) (rows new_rows : Marked) (boo
   pub catalog_is : new_catalog ≡ catalog
   pub rows_are : new_rows ≡ rows
   pub books_are : new_books ≡ books
-  pub closed : IsTrue seen.observable → IsClosed (drop (16 + position) (bytes_of seen.files log))
+  pub closed : IsTrue seen.observable → IsClosed (drop (header_size + position) (bytes_of seen.files log))
 
 -- the one or the other
 abbrev pub IsNextEntry : Lists → Lists → Marked → Marked → BookMap → BookMap → ℕ → Name → File → Seen → Option ℕ → Type 0

@@ -6,7 +6,8 @@ use Rattle.sr_base.specs.declared.value.Value.{Value as Cell}
 use Rattle.sr_book.specs.Entries.{Name}
 use Rattle.sr_exec_dml.specs.Applying.{place_of}
 use Rattle.sr_exec_fits.specs.Rows.{IsRow}
-use Rattle.sr_exec_dml.specs.Statements.{key_of, table_named}
+use Rattle.sr_exec_where.specs.Keys.{key_of}
+use Rattle.sr_exec_dml.specs.Statements.{table_named}
 use Rattle.sr_logform.specs.declared.change.Change.{Change}
 use Rattle.sr_logform.specs.declared.outcome.Outcome.{Outcome}
 use Rattle.sr_logform.specs.declared.outcome.Outcome.TheVariants as outcomes

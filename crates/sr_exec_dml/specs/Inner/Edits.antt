@@ -1,12 +1,12 @@
 -- What comes to stand at a key, as a statement's rows are taken and put one after the other.
-use Rattle.std.specs.Prelude.{◌≡◌, ℕ, Bool, true, false, cond, List, [], ◌∷◌, ◌++◌, map, Option, Some, None, Result, Ok, Err}
+use Rattle.std.specs.Prelude.{◌≡◌, ◌≢◌, ℕ, Bool, true, false, cond, List, [], ◌∷◌, ◌++◌, map, Option, Some, None, Result, Ok, Err, MatchResult}
 use Rattle.std.specs.Ordering.{is_eq}
 use Rattle.sr_base.specs.declared.value.Value.{Value as Cell}
 use Rattle.sr_base.specs.Order.{key_cmp}
 use Rattle.sr_rows.specs.Walks.{Entry}
 use Rattle.sr_logform.specs.declared.change.Change.{Change}
 use Rattle.sr_catalog_schema.specs.declared.fault.DmlFault.{DmlFault}
-use Rattle.sr_catalog_schema.specs.declared.fault.DmlFault.TheVariants.{Duplicate}
+use Rattle.sr_catalog_schema.specs.declared.fault.DmlFault.TheVariants.{Duplicate, Memory}
 use Rattle.sr_exec_dml.specs.declared.edit.Edit.{Edit}
 use Rattle.sr_exec_dml.specs.declared.edit.Edit.TheVariants.{Gone, New, Moved, Twice}
 use Rattle.sr_exec_dml.specs.declared.effect.RowEffect.{RowEffect}
@@ -77,6 +77,12 @@ abbrev pub prefixed : {A E : Type 0} → List A → Result (List A) E → Result
 prefixed done (Err e) = Err e
 prefixed done (Ok rest) = Ok (done ++ rest)
 
+-- an edit is noted: changes are there before the rest, whatever comes behind it, or the fault is that of the edit
+abbrev pub Notes : Result (Unit {0}) DmlFault → List Change → (Result (List Change) DmlFault → Result (List Change) DmlFault) → List Change → Type 0
+Notes result before edit after =
+    MatchResult result (λ _. (rest : Result (List Change) DmlFault) → prefixed before (edit rest) ≡ prefixed after rest)
+    (λ fault. fault ≢ Memory → (rest : Result (List Change) DmlFault) → edit rest ≡ Err fault)
+
 -- the selected rows of some, with what they become: a key that is taken, and the row that is put, if one is
 abbrev pub picked : List Entry → List RowEffect → List (List Cell × Option (List Cell))
 picked [] effects = []
@@ -113,3 +119,8 @@ with_pick key (Ok (Becomes row)) rest = front (Ok (key, Some row)) rest
 abbrev pub picks_of : Table → Option (List (List ℕ × Expr)) → Option Expr → List Entry → Picks
 picks_of table sets condition [] = Ok []
 picks_of table sets condition (e ∷ entries) = with_pick e.0 (effect_of table sets condition e.1) (picks_of table sets condition entries)
+
+-- what is picked of one row, if it is there
+abbrev pub one_pick : Table → Option (List (List ℕ × Expr)) → Option Expr → List Cell → Option (List Cell) → Picks
+one_pick table sets condition key None = Ok []
+one_pick table sets condition key (Some row) = with_pick key (effect_of table sets condition row) (Ok [])

@@ -13,9 +13,11 @@ use Rattle.sr_exec_dml.specs.declared.changes.Changes.{Changes}
 use Rattle.sr_exec_dml.specs.Applying.{applied}
 use Rattle.sr_exec_dml.specs.Inner.Conditions.{TableFits, RowsFit}
 use Rattle.sr_exec_dml.specs.FittingChanges.{ChangesFit}
-use Rattle.sr_exec_dml.specs.Holding.{under, are_two, one_of, is_same_row, held}
+use Rattle.sr_exec_dml.specs.Holding.{under, are_two, one_of, held}
+use Rattle.sr_logform.specs.Outcomes.{is_same_row}
 use Rattle.sr_exec_dml.specs.Inner.RowsAfter.{rows_after}
-use Rattle.sr_exec_dml.specs.Statements.{key_of, table_named, done}
+use Rattle.sr_exec_where.specs.Keys.{key_of}
+use Rattle.sr_exec_dml.specs.Statements.{table_named, done}
 
 -- where there are no rows, each fits
 abbrev pub NoRowsFit : Type 0

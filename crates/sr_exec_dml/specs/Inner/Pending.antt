@@ -13,6 +13,10 @@ abbrev pub and_pending : List ℕ → ℕ → List (List Cell) → List Cell →
 and_pending table width [] values rest = rest
 and_pending table width (old ∷ olds) values rest = and_change table old (Some (take width values)) (and_pending table width olds (drop width values) rest)
 
+-- what is pending of a table, before what becomes of the rows behind it
+abbrev pub pended : Table → Pending → Counted → Counted
+pended table p rest = and_pending table.name (length table.columns) p.olds.items p.values.items rest
+
 -- there are so many values for each
 abbrev pub AreWhole : ℕ → List (List Cell) → List Cell → Type 0
 AreWhole width [] values = values ≡ []
@@ -29,4 +33,4 @@ pub record Awaits (table : Table) (row : List Cell) (effect_is : Result RowEffec
   pub is : effect_is ≡ Ok effect
   pub keeps : KeepsKey table row effect
   pub whole : AreWhole (length table.columns) after.olds.items after.values.items
-  pub behind : (rest : Counted) → and_pending table.name (length table.columns) before.olds.items before.values.items (with_effect table.name row (Ok effect) rest) ≡ and_pending table.name (length table.columns) after.olds.items after.values.items rest
+  pub behind : (rest : Counted) → pended table before (with_effect table.name row (Ok effect) rest) ≡ pended table after rest

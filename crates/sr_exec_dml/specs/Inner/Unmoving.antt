@@ -9,7 +9,8 @@ use Rattle.sr_catalog_schema.specs.declared.table.Table.{Table}
 use Rattle.sr_exec_dml.specs.declared.effect.RowEffect.{RowEffect}
 use Rattle.sr_exec_dml.specs.declared.effect.RowEffect.TheVariants.{Stays, Goes, Becomes}
 use Rattle.sr_exec_dml.specs.Holding.{with_change}
-use Rattle.sr_exec_dml.specs.Statements.{key_of, effect_of}
+use Rattle.sr_exec_where.specs.Keys.{key_of}
+use Rattle.sr_exec_dml.specs.Statements.{effect_of}
 
 -- changes and the number of rows that are selected, or a fault
 abbrev pub Counted : Type 0

@@ -2,6 +2,7 @@
 use Rattle.std.specs.Prelude.{◌≡◌, ◌≢◌, ℕ, ◌+◌, ◌-◌, ◌^◌, ◌<◌, ◌≤◌, List, ◌∷◌, ◌++◌, length, drop, Option, Some, None, IsTrue}
 use Rattle.std.specs.Int.{w32, to_be_bytes}
 use Rattle.std.specs.List.{AllByRecursion}
+use Rattle.sr_base.specs.Values.{farthest_offset}
 use Rattle.sr_site.specs.declared.file.File.{File}
 use Rattle.sr_site.specs.Causes.{Rose}
 use Rattle.sr_site.specs.Files.{bytes_of}
@@ -11,7 +12,7 @@ use Rattle.sr_logfile.specs.declared.fault.LogFault.TheVariants.{Disk, Full, Dam
 use Rattle.sr_logfile.specs.declared.head.Head.{Head}
 use Rattle.sr_logfile.specs.declared.head.Head.TheVariants.{Closed, Cut, Open}
 use Rattle.sr_logfile.specs.Damage.{BeginsRecord, LacksRecord}
-use Rattle.sr_logfile.specs.Records.{header, open_records, IsBody, Spells}
+use Rattle.sr_logfile.specs.Records.{header, open_records, IsBody, Spells, header_size}
 
 -- bytes that begin with a gate that is not open
 pub record IsClosed (bytes : List ℕ) : Type 0 where
@@ -50,7 +51,7 @@ pub record FitsBody (place position count size : ℕ) : Type 0 where
   pub some : 1 ≤ count
   pub most : count ≤ 2 ^ 26
   pub inside : place + 5 + count < size
-  pub limit : position + 5 + count ≤ 2 ^ 62
+  pub limit : position + 5 + count ≤ farthest_offset
 
 -- what stands at the front of bytes at a position: a closed gate, or a whole record up to its end
 abbrev pub IsRecordEnd : ℕ → List ℕ → Option ℕ → Type 0
@@ -83,8 +84,8 @@ RecordsCause file before now (Damaged at) = (IsTrue before.observable → LacksR
 -- the records up to a position are whole, and a gate stands there
 pub record Reaches (base position : ℕ) (bytes : List ℕ) : Type 0 where
   pub bodies : List (List ℕ)
-  pub bytes_are : bytes ≡ (header base ++ open_records bodies) ++ drop (16 + (position - base)) bytes
-  pub some : 0 < length (drop (16 + (position - base)) bytes)
+  pub bytes_are : bytes ≡ (header base ++ open_records bodies) ++ drop (header_size + (position - base)) bytes
+  pub some : 0 < length (drop (header_size + (position - base)) bytes)
   pub all_bodies : AllByRecursion IsBody bodies
   pub position_is : position ≡ base + length (open_records bodies)
 

@@ -17,10 +17,9 @@ use Rattle.sr_logform.specs.declared.outcome.Clash.{Clash}
 use Rattle.sr_logform.specs.declared.outcome.Clash.TheVariants as clashes
 use Rattle.sr_logform.specs.declared.outcome.Outcome.{Outcome}
 use Rattle.sr_logform.specs.declared.outcome.Outcome.TheVariants as outcomes
-use Rattle.sr_logform.specs.Outcomes.{change_spelling, IsChange, Images, ImagesHave, clash_spelling, outcome_spelling, OutcomeHas, IsOutcome, note_spelling, IsNote}
+use Rattle.sr_logform.specs.Outcomes.{change_spelling, IsChange, Images, ImagesHave, clash_spelling, outcome_spelling, OutcomeHas, IsOutcome, note_spelling, IsNote, is_same_row}
 use Rattle.sr_logform.specs.Inner.Outcomes.{change_at, change_of, images_at, images_spelling, are_two, clash_at, outcome_at, note_at}
 use Rattle.sr_logform.specs.Inner.RuleLaws.{Tells, checked_format, same_row_tells}
-use Rattle.sr_logform.specs.Inner.Rules.{is_same_row}
 
 pub row_format : IsFormat row_at row_spelling IsRow
 row_format = list_format value_format

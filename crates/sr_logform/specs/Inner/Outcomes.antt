@@ -14,8 +14,8 @@ use Rattle.sr_logform.specs.declared.outcome.Clash.{Clash}
 use Rattle.sr_logform.specs.declared.outcome.Clash.TheVariants as clashes
 use Rattle.sr_logform.specs.declared.outcome.Outcome.{Outcome}
 use Rattle.sr_logform.specs.declared.outcome.Outcome.TheVariants as outcomes
-use Rattle.sr_logform.specs.Inner.Rules.{checked_at, is_same_row}
-use Rattle.sr_logform.specs.Outcomes.{Images}
+use Rattle.sr_logform.specs.Inner.Rules.{checked_at}
+use Rattle.sr_logform.specs.Outcomes.{Images, is_same_row}
 
 -- whether they differ
 abbrev pub are_two : Images → Bool

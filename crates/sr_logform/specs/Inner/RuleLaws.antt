@@ -1,10 +1,11 @@
 -- A field with a rule: what is read is spelled so and keeps the rule, and what is spelled so and keeps it is read again.
-use Rattle.std.proofs.Common.{◌≡◌, ◌↔◌, ℕ, Bool, true, false, cond, not, ◌&&◌, List, [], ◌∷◌, ◌++◌, length, map, Option, Some, None, Ok, Err, refl, sym, ap, subst, inl, inr, arith}
+use Rattle.std.proofs.Common.{◌≡◌, ◌↔◌, ℕ, Bool, true, cond, not, List, [], ◌∷◌, ◌++◌, length, map, Option, Some, None, Ok, Err, refl, sym, ap, subst, inl, inr, arith}
 use Rattle.std.specs.List.{AllByRecursion}
 use Rattle.std.specs.Ordering.{is_eq}
 use Rattle.std.specs.Str.{bytes_eq}
 use Rattle.std.specs.declared.cmp.Ordering.{Ordering}
 use Rattle.std.specs.declared.cmp.Ordering.TheVariants.{Less, Equal, Greater}
+use Rattle.std.proofs.lemmas.Bool.{and_from}
 use Rattle.sr_base.specs.declared.value.Value.{Value}
 use Rattle.sr_base.specs.declared.value.Value.TheVariants.{Null, Int, Big, Str, Date}
 use Rattle.sr_base.specs.Fields.{list_spelling}
@@ -14,9 +15,11 @@ use Rattle.sr_base.specs.Order.{key_cmp}
 use Rattle.sr_base.specs.Reading.{Read}
 use Rattle.sr_base.specs.Inner.Reading.{IsBytes, Takes, IsWithin, IsFormat}
 use Rattle.sr_base.proofs.Exact.{keys_tie}
+use Rattle.sr_base.proofs.Truths.{both_true}
 use Rattle.sr_book.proofs.Folds.{same_name, name_test}
 use Rattle.sr_logform.specs.Rules.{is_present, IsFilledListOf, AreDistinct, AreColumns}
-use Rattle.sr_logform.specs.Inner.Rules.{checked_at, is_filled, filled_at, is_absent, are_distinct, are_columns, columns_at, is_same_row}
+use Rattle.sr_logform.specs.Inner.Rules.{checked_at, is_filled, filled_at, is_absent, are_distinct, are_columns, columns_at}
+use Rattle.sr_logform.specs.Outcomes.{is_same_row}
 
 -- a test tells whether a rule is kept
 abbrev pub Tells : {A : Type 0} → (A → Bool) → (A → Type 0) → Type 0
@@ -60,13 +63,6 @@ pub filled_tells : {A : Type 0} → Tells (is_filled {A = A}) (λ xs. ¬ (xs ≡
 filled_tells [] = (λ e. absurd cc, λ h. absurd (h refl))
 filled_tells (x ∷ xs) = (λ e f. absurd cc, λ h. refl)
 
-both : (a b : Bool) → (a && b) ≡ true → (a ≡ true) × (b ≡ true)
-both true b e = (refl, e)
-both false b e = absurd cc
-
-and : (a b : Bool) → a ≡ true → b ≡ true → (a && b) ≡ true
-and a b e f = rw (e, f) refl
-
 differs : (name other : List ℕ) → not (bytes_eq name other) ≡ true → ¬ (name ≡ other)
 differs name other e f =
     let g : not (bytes_eq name name) ≡ true = subst (λ (x : List ℕ). not (bytes_eq name x) ≡ true) (sym f) e in
@@ -81,21 +77,21 @@ told_apart name other h = elim (name_test name other) [
 pub absent_tells : (name : List ℕ) → Tells (is_absent name) (AllByRecursion (λ other. ¬ (name ≡ other)))
 absent_tells name [] = (λ e. tt, λ h. refl)
 absent_tells name (other ∷ names) = (
-  λ e. let p = both (not (bytes_eq name other)) (is_absent name names) e in (differs name other p.0, (absent_tells name names).0 p.1),
-  λ h. and (not (bytes_eq name other)) (is_absent name names) (told_apart name other h.0) ((absent_tells name names).1 h.1),
+  λ e. let p = both_true (not (bytes_eq name other)) (is_absent name names) e in (differs name other p.0, (absent_tells name names).0 p.1),
+  λ h. and_from (not (bytes_eq name other)) (is_absent name names) (told_apart name other h.0) ((absent_tells name names).1 h.1),
 )
 
 pub distinct_tells : Tells are_distinct AreDistinct
 distinct_tells [] = (λ e. tt, λ h. refl)
 distinct_tells (name ∷ names) = (
-  λ e. let p = both (is_absent name names) (are_distinct names) e in ((absent_tells name names).0 p.0, (distinct_tells names).0 p.1),
-  λ h. and (is_absent name names) (are_distinct names) ((absent_tells name names).1 h.0) ((distinct_tells names).1 h.1),
+  λ e. let p = both_true (is_absent name names) (are_distinct names) e in ((absent_tells name names).0 p.0, (distinct_tells names).0 p.1),
+  λ h. and_from (is_absent name names) (are_distinct names) ((absent_tells name names).1 h.0) ((distinct_tells names).1 h.1),
 )
 
 pub columns_tell : {A : Type 0} (name : A → List ℕ) → Tells (are_columns name) (λ xs. ¬ (xs ≡ []) × AreDistinct (map name xs))
 columns_tell name xs = (
-  λ e. let p = both (is_filled xs) (are_distinct (map name xs)) e in ((filled_tells xs).0 p.0, (distinct_tells (map name xs)).0 p.1),
-  λ h. and (is_filled xs) (are_distinct (map name xs)) ((filled_tells xs).1 h.0) ((distinct_tells (map name xs)).1 h.1),
+  λ e. let p = both_true (is_filled xs) (are_distinct (map name xs)) e in ((filled_tells xs).0 p.0, (distinct_tells (map name xs)).0 p.1),
+  λ h. and_from (is_filled xs) (are_distinct (map name xs)) ((filled_tells xs).1 h.0) ((distinct_tells (map name xs)).1 h.1),
 )
 
 is_equal : (o : Ordering) → is_eq o ≡ true → o ≡ Equal

@@ -1,12 +1,9 @@
 -- Fields that keep a rule besides, and the rules.
 -- Here is what no contract of the program says by itself.
-use Rattle.std.specs.Prelude.{ℕ, Bool, true, false, not, ◌&&◌, List, [], ◌∷◌, length, map, Option, Some, None, Ok, Err, if◌then◌else◌}
+use Rattle.std.specs.Prelude.{ℕ, Bool, true, false, not, ◌&&◌, List, [], ◌∷◌, length, map, Ok, Err, if◌then◌else◌}
 use Rattle.std.specs.List.{list_all}
-use Rattle.std.specs.Ordering.{is_eq}
 use Rattle.std.specs.Str.{bytes_eq}
-use Rattle.sr_base.specs.declared.value.Value.{Value}
 use Rattle.sr_base.specs.Inner.Fields.{list_at}
-use Rattle.sr_base.specs.Order.{key_cmp}
 use Rattle.sr_base.specs.Reading.{Read, ◌>>=◌}
 
 -- a field that breaks at its own first byte where its value fails a test
@@ -43,12 +40,3 @@ are_columns name xs = is_filled xs && are_distinct (map name xs)
 -- it breaks at its count where it is empty or names one twice
 unfoldable pub columns_at : {A : Type 0} → (A → List ℕ) → (List ℕ → Read A) → List ℕ → Read (List A)
 columns_at name item = checked_at (are_columns name) (list_at item)
-
--- ---- a row before and a row after that differ, so that not both are none
-
--- whether both are none, or equal rows
-abbrev pub is_same_row : Option (List Value) → Option (List Value) → Bool
-is_same_row None None = true
-is_same_row None (Some after) = false
-is_same_row (Some before) None = false
-is_same_row (Some before) (Some after) = is_eq (key_cmp before after)

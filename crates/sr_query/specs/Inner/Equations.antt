@@ -11,7 +11,7 @@ use Rattle.sr_ast.specs.declared.operator.Binary.TheVariants.{And, Equal}
 use Rattle.sr_ast.specs.Inner.Classes.{place_of}
 use Rattle.sr_eval.specs.Inner.Resolutions.{Resolution}
 use Rattle.sr_eval.specs.Inner.Resolutions.Resolution.{literal, place, unary, binary}
-use Rattle.sr_exec_dml.specs.Checks.{Scope}
+use Rattle.sr_exec_where.specs.Checks.{Scope}
 use Rattle.sr_query.specs.declared.equations.Equation.{Equation as OfProgram}
 use Rattle.sr_query.specs.declared.equations.Side.{Side}
 use Rattle.sr_query.specs.declared.equations.Side.TheVariants.{Literal, Place}

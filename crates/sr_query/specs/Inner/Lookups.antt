@@ -7,14 +7,14 @@ use Rattle.sr_base.specs.declared.value.Kind.{Kind}
 use Rattle.sr_base.specs.declared.value.Value.{Value as Cell}
 use Rattle.sr_eval.specs.Inner.Resolutions.{Resolution}
 use Rattle.sr_eval.specs.Inner.Resolutions.Resolution.{literal, place, unary, binary}
-use Rattle.sr_exec_dml.specs.Checks.{Scope}
-use Rattle.sr_exec_dml.specs.Inner.Fixing.{with_value}
-use Rattle.sr_exec_dml.specs.Sequences.{or_else}
+use Rattle.sr_exec_where.specs.Checks.{Scope}
+use Rattle.sr_exec_where.specs.Inner.Fixing.{with_value}
+use Rattle.sr_catalog_schema.specs.Firsts.{first_of}
 use Rattle.sr_query.specs.Inner.Equations.{Equation}
 
 -- what a column of a type holds that is equal to a value: the value as it is, where none is
-abbrev pub held_as : Kind → Cell → Cell
-held_as kind v = unwrap_or (fitted v kind) v
+abbrev pub fitted_or_given : Kind → Cell → Cell
+fitted_or_given kind v = unwrap_or (fitted v kind) v
 
 -- the values of the sources before
 module _ (values : List Cell) where
@@ -32,17 +32,17 @@ module _ (values : List Cell) where
   -- the same of equations: the first that does it
   abbrev pub equated : ℕ → List Equation → Option Cell
   equated n [] = None
-  equated n (e ∷ es) = or_else (equated_one n e) (equated n es)
+  equated n (e ∷ es) = first_of (equated_one n e) (equated n es)
 
   -- the value of the column at a place
   abbrev pub fixed_value : List Equation → ℕ → Option (Option (List ℕ) × List ℕ × Kind) → Option Cell
   fixed_value es n None = None
-  fixed_value es n (Some c) = option_map (held_as c.2) (equated n es)
+  fixed_value es n (Some c) = option_map (fitted_or_given c.2) (equated n es)
 
   -- the key, whose columns stand at these places of the next source
-  abbrev pub fixed_key : Scope → List Equation → List ℕ → Option (List Cell)
-  fixed_key columns es [] = Some []
-  fixed_key columns es (n ∷ places) = with_value (fixed_value es n (slice_get columns n)) (fixed_key columns es places)
+  abbrev pub equated_key : Scope → List Equation → List ℕ → Option (List Cell)
+  equated_key columns es [] = Some []
+  equated_key columns es (n ∷ places) = with_value (fixed_value es n (slice_get columns n)) (equated_key columns es places)
 
 -- the combinations of a row, if there is one
 abbrev pub over_one : {A B : Type 0} → (A → List B) → Option A → List B

@@ -9,7 +9,7 @@ use Rattle.sr_base.specs.declared.value.Value.TheVariants.{Null}
 use Rattle.sr_base.specs.Inner.Order.{value_cmp_total}
 use Rattle.sr_ast.specs.declared.query.OrderBy.{OrderBy}
 use Rattle.sr_ast.specs.Inner.Classes.{place_of}
-use Rattle.sr_exec_dml.specs.Checks.{Scope}
+use Rattle.sr_exec_where.specs.Checks.{Scope}
 use Rattle.sr_query.specs.declared.placing.Placed.{Placed}
 use Rattle.sr_query.specs.declared.rank.Rank.{Rank}
 use Rattle.sr_query.specs.declared.rank.Listed.{Listed}

@@ -12,7 +12,7 @@ use Rattle.sr_eval.specs.Inner.Resolutions.{Resolution, resolved, meaning_at}
 use Rattle.sr_eval.specs.Inner.Resolutions.Resolution.{literal}
 use Rattle.sr_eval.specs.Inner.Resolving.{resolution_of}
 use Rattle.sr_catalog_schema.specs.declared.fault.DmlFault.{DmlFault}
-use Rattle.sr_exec_dml.specs.Checks.{Scope}
+use Rattle.sr_exec_where.specs.Checks.{Scope}
 use Rattle.sr_exec_dml.specs.Sequences.{each}
 use Rattle.sr_exec_dml.specs.Statements.{tested}
 use Rattle.sr_query.specs.Combinations.{and_then}

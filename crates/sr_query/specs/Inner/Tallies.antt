@@ -9,7 +9,7 @@ use Rattle.sr_eval.specs.Inner.Resolutions.{Resolution}
 use Rattle.sr_eval.specs.Inner.Resolving.{resolution_of}
 use Rattle.sr_catalog_schema.specs.declared.fault.DmlFault.{DmlFault}
 use Rattle.sr_catalog_schema.specs.declared.fault.DmlFault.TheVariants.{Memory}
-use Rattle.sr_exec_dml.specs.Checks.{Scope}
+use Rattle.sr_exec_where.specs.Checks.{Scope}
 use Rattle.sr_exec_dml.specs.Sequences.{each, followed}
 use Rattle.sr_query.specs.Combinations.{kept}
 use Rattle.sr_query.specs.Inner.Preparing.{resolved_in, value_by}
@@ -76,3 +76,8 @@ Takes result scope conditions before row after =
     (rest : List (List Cell)) → MatchResult result
     (λ _. tallied scope conditions before (row ∷ rest) ≡ tallied scope conditions after rest)
     (λ fault. fault ≢ Memory → tallied scope conditions before (row ∷ rest) ≡ Err fault)
+
+-- from what was told to what is told behind all rows: the values of the items are there
+abbrev pub TakesAll : Result (Unit {0}) DmlFault → Scope → List Expr → List Told → List (List Cell) → List Told → Type 0
+TakesAll result scope conditions before rows after =
+    MatchResult result (λ _. tallied scope conditions before rows ≡ each_over after []) (λ fault. fault ≢ Memory → tallied scope conditions before rows ≡ Err fault)

@@ -6,7 +6,7 @@ use Rattle.sr_base.specs.declared.value.Value.{Value as Cell}
 use Rattle.sr_exec_dml.specs.Applying.{applied}
 use Rattle.sr_exec_fits.specs.Rows.{IsRow}
 use Rattle.sr_exec_dml.specs.FittingChanges.{ChangesFit}
-use Rattle.sr_exec_dml.specs.Statements.{key_of}
+use Rattle.sr_exec_where.specs.Keys.{key_of}
 use Rattle.sr_logform.specs.declared.change.Change.{Change}
 use Rattle.sr_rows.specs.Marks.{Place}
 use Rattle.sr_resolve_triggers.specs.Bindings.{UpdateConflict}

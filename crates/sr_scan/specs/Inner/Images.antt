@@ -6,7 +6,9 @@ use Rattle.sr_base.specs.declared.value.Value.{Value as Cell}
 use Rattle.sr_ast.specs.declared.stmt.Stmt.{Stmt}
 use Rattle.sr_book.specs.Entries.{Name}
 use Rattle.sr_catalog_change.specs.Changes.{refusal, next}
-use Rattle.sr_exec_dml.specs.Statements.{key_of, table_named}
+use Rattle.sr_exec_where.specs.Keys.{key_of}
+use Rattle.sr_exec_dml.specs.Statements.{table_named}
+use Rattle.sr_exec_where.specs.Inner.Fixing.{with_value}
 use Rattle.sr_database_history.specs.Fitting.{fitted_in}
 use Rattle.sr_logform.specs.declared.change.Change.{Change}
 use Rattle.sr_logform.specs.declared.entry.Entry.{Entry}
@@ -50,12 +52,6 @@ abbrev pub changes_told : SubscribedTables → List Change → List Op
 changes_told subscribed_tables changes = flat_map (λ c. change_told (subscribed_tables c.table) c) changes
 
 -- ---- conflicts
-
--- the values, where each is there
-abbrev pub with_value : Option Cell → Option (List Cell) → Option (List Cell)
-with_value None key = None
-with_value (Some v) None = None
-with_value (Some v) (Some key) = Some (v ∷ key)
 
 abbrev pub all_of : List (Option Cell) → Option (List Cell)
 all_of [] = Some []

@@ -4,7 +4,7 @@ use Rattle.sr_base.specs.Values.{offset_from}
 use Rattle.sr_book.specs.Entries.{Name}
 use Rattle.sr_book.specs.declared.book.Book.{Book}
 use Rattle.sr_mail_cut.specs.Bodies.{RisesPast, last_at, first_long}
-use Rattle.sr_mail_cut.specs.Cuts.{AreCut, HasGiven, file_length}
+use Rattle.sr_mail_cut.specs.Cuts.{AreCut, HasGiven, file_length, least_message, most_message}
 use Rattle.sr_database.specs.Views.{View}
 use Rattle.sr_logform.specs.declared.op.Transaction.{Transaction}
 use Rattle.sr_msgform.specs.declared.message.Message.{Message}
@@ -26,8 +26,8 @@ aim_at db user book limit ask = record {
 pub record IsAim (aim : Aim) : Type 0 where
   pub ask : aim.head.ask_count ≡ 0 → aim.head.ask_offset.0 ≡ 0
   pub names : file_length aim.head 0 ≤ 227
-  pub least : 10000 ≤ aim.limit
-  pub most : aim.limit ≤ 1048576
+  pub least : least_message ≤ aim.limit
+  pub most : aim.limit ≤ most_message
 
 -- of the transactions that were pushed these messages were made; the cutter holds the others
 pub record HasMade (aim : Aim) (post : Post) (pushed : List Transaction) (messages : List Message) : Type 0 where

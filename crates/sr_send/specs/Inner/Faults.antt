@@ -1,6 +1,6 @@
 -- The faults of what a pass stands on, as its own.
 use Rattle.std.specs.Prelude.{◌≡◌, ⊤, Option, None, Result, Ok, Err}
-use Rattle.sr_mail_cut.specs.Bodies.{longest_transaction}
+use Rattle.sr_logform.specs.Limits.{longest_transaction}
 use Rattle.sr_mail_cut.specs.declared.too_long.TooLong.{TooLong}
 use Rattle.sr_mail_cut.specs.declared.too_long.TooLong.TheVariants as long
 use Rattle.sr_database_files.specs.declared.fault.DatabaseFault.{DatabaseFault}

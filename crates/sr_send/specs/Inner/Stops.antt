@@ -4,7 +4,8 @@ use Rattle.std.specs.List.{AllByRecursion}
 use Rattle.sr_base.specs.declared.offset.Offset.{Offset}
 use Rattle.sr_book.specs.Entries.{Name}
 use Rattle.sr_book.specs.declared.book.Book.{Book}
-use Rattle.sr_mail_cut.specs.Bodies.{first_long, longest_transaction}
+use Rattle.sr_mail_cut.specs.Bodies.{first_long}
+use Rattle.sr_logform.specs.Limits.{longest_transaction}
 use Rattle.sr_mail_cut.specs.Cuts.{AreCut}
 use Rattle.sr_database.specs.Databases.{IsDatabase}
 use Rattle.sr_database.specs.Inner.Entries.{IsNext}

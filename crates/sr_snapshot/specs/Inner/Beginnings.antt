@@ -4,7 +4,7 @@ use Rattle.std.specs.List.{AllByRecursion}
 use Rattle.std.specs.Str.{IsUtf8}
 use Rattle.sr_ast.specs.Layout.{printed}
 use Rattle.sr_base.specs.Fields.{IsName}
-use Rattle.sr_base.specs.Values.{IsValue}
+use Rattle.sr_base.specs.Values.{IsValue, farthest_offset}
 use Rattle.sr_base.specs.declared.value.Value.{Value as Cell}
 use Rattle.sr_book.specs.Entries.{Name}
 use Rattle.sr_book.specs.declared.book.Book.{Book}
@@ -35,7 +35,7 @@ pub record IsBook (b : Book) : Type 0 where
 -- a text in UTF-8 spells the catalog, statement by statement; each row fits its table, stands under its key and has values; there is one book for
 -- each user, in order of grant
 pub record IsBeginning (b : Beginning) : Type 0 where
-  pub place : b.place ≤ 2 ^ 62
+  pub place : b.place ≤ farthest_offset
   pub publisher : IsName b.state.catalog.publisher
   pub catalog : IsSpelled b.state.catalog
   pub texts : AllByRecursion IsUtf8 (map printed (statements b.state.catalog))

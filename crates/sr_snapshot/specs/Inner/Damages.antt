@@ -17,7 +17,7 @@ use Rattle.sr_catalog_schema.specs.Catalogs.{Lists, nothing_but}
 use Rattle.sr_catalog_schema.specs.declared.table.Table.{Table}
 use Rattle.sr_catalog_schema.specs.declared.user.User.{User}
 use Rattle.sr_catalog_script_laws.specs.Inner.Scripts.{statements}
-use Rattle.sr_exec_dml.specs.Statements.{key_of}
+use Rattle.sr_exec_where.specs.Keys.{key_of}
 use Rattle.sr_exec_fits.specs.Rows.{IsRow}
 use Rattle.sr_parse.specs.Prints.{Prints}
 use Rattle.sr_rows.specs.Inner.Marks.{IsPast}

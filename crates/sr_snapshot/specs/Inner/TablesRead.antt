@@ -8,7 +8,7 @@ use Rattle.sr_base.specs.Inner.Values.{value_at}
 use Rattle.sr_base.specs.Values.{IsValue, row_spelling}
 use Rattle.sr_base.specs.declared.value.Value.{Value as Cell}
 use Rattle.sr_catalog_schema.specs.declared.table.Table.{Table}
-use Rattle.sr_exec_dml.specs.Statements.{key_of}
+use Rattle.sr_exec_where.specs.Keys.{key_of}
 use Rattle.sr_exec_fits.specs.Rows.{IsRow}
 use Rattle.sr_logform.specs.Entries.{table_spelling}
 use Rattle.sr_rows.specs.Inner.Steps.{at_mark}

@@ -1,20 +1,18 @@
 -- A world of three databases with tables, publications and rows: one consolidated, and two below it that have one table each.
 use Rattle.std.specs.Prelude.{ℕ, true, false, List, [], ◌∷◌, length, Some, None, codes, pos}
 use Rattle.sr_base.specs.Values.{offset_from}
-use Rattle.sr_base.specs.declared.value.Kind.TheVariants as kind
 use Rattle.sr_base.specs.declared.value.Value.{Value as Cell}
 use Rattle.sr_base.specs.declared.value.Value.TheVariants.{Int}
 use Rattle.sr_ast.specs.Layout.{printed}
 use Rattle.sr_ast.specs.declared.create.CreatePublication.{CreatePublication}
 use Rattle.sr_ast.specs.declared.create.CreateTable.{CreateTable}
-use Rattle.sr_ast.specs.declared.create.Grant.{Grant}
 use Rattle.sr_ast.specs.declared.create.SubscriptionRule.{SubscriptionRule}
 use Rattle.sr_ast.specs.declared.stmt.Stmt.TheVariants as stmt
 use Rattle.sr_book.specs.Entries.{Name}
 use Rattle.sr_book.specs.declared.note.Note.TheVariants.{Confirmed, Asked, Raised, Sent}
 use Rattle.sr_database_history.specs.Recorded.{plain, ran, conflict}
 use Rattle.sr_database_history.specs.Recorded.{Recorded, own, taken, ddl, sync, pass, note}
-use Rattle.sr_database_history.specs.Inner.Sample.{cons, r1, table_t, column_id, column_n, create_t, create_u, row, inserted}
+use Rattle.sr_database_history.specs.Inner.Sample.{cons, r1, table_t, column_id, column_n, create_t, create_u, row, inserted, integer, grant}
 use Rattle.sr_logform.specs.declared.change.Change.{Change}
 use Rattle.sr_logform.specs.declared.op.Op.{Op}
 use Rattle.sr_logform.specs.declared.op.Op.TheVariants.{Insert, Set, Clear, Exec}
@@ -40,7 +38,7 @@ name_q = codes "q"
 
 -- CREATE TABLE t (id INTEGER NOT NULL, PRIMARY KEY (id)), which r2 has: of the table t of the others the key alone
 abbrev pub create_slim : CreateTable
-create_slim = record { name = table_t; columns = record { name = column_id; kind = kind.Int; not_null = true } ∷ []; key = column_id ∷ [] }
+create_slim = record { name = table_t; columns = integer column_id true ∷ []; key = column_id ∷ [] }
 
 -- CREATE PUBLICATION p (TABLE t)
 abbrev pub create_p : CreatePublication
@@ -49,10 +47,6 @@ create_p = record { name = name_p; articles = record { table = table_t; columns 
 -- CREATE PUBLICATION q (TABLE t (id))
 abbrev pub create_q : CreatePublication
 create_q = record { name = name_q; articles = record { table = table_t; columns = column_id ∷ []; condition = None; by = None } ∷ [] }
-
--- TO user, behind GRANT REMOTE and GRANT CONSOLIDATE
-abbrev pub grant : Name → Grant
-grant user = record { user = user; address = None }
 
 -- TO publication FOR user, behind CREATE SUBSCRIPTION and START SUBSCRIPTION
 abbrev pub subscription : Name → Name → SubscriptionRule

@@ -4,12 +4,15 @@ use Rattle.std.specs.Prelude.{◌≡◌, List, ◌++◌}
 use Rattle.sr_book.specs.Entries.{Name}
 use Rattle.sr_database_history.specs.Recorded.{Recorded}
 use Rattle.sr_world_model.specs.Steps.{DatabaseStep, history_after_all}
+use Rattle.sr_world_model.specs.Worlds.{World, acts_by, after_all, history}
 use Rattle.sr_msgform.specs.declared.message.Message.{Message}
+use Rattle.sr_site.specs.Files.{Files}
 use Rattle.sr_site.specs.Happenings.{Happening}
 use Rattle.sr_site.specs.Images.{IsImage, MayLeave}
 use Rattle.sr_site.specs.Seen.{Seen}
+use Rattle.sr_database_meaning.specs.Events.{PutFile}
 use Rattle.sr_database_meaning.specs.Traces.{AtEach}
-use Rattle.sr_world_runs.specs.Worlds.{IsSettledBetween, IsAhead, RestsAt}
+use Rattle.sr_world_runs.specs.Worlds.{IsSettledBetween, IsAhead, RestsAt, RestsBehind}
 
 -- so it is at each moment from the one to the other, along the steps that had been made of what was found, and then those that the run made; it is settled
 -- before each of these
@@ -19,3 +22,17 @@ pub record RestsAtEach (messages : List Message) (owner : Name) (es : List Recor
   pub ahead : IsAhead found
   pub moments : AtEach (λ since. RestsAt messages owner es (found ++ made) since (IsImage before) (MayLeave before.first (since ++ before.happened))) more
   pub joints : IsSettledBetween owner (history_after_all es found) made before more
+
+-- a run as it ended, or as it broke off: the world before it, whose it was, the files that it had put, and that whatever a crash may leave then rests on one
+-- history, to which that of this world leads by steps that put just these
+pub record EndedRun : Type 0 where
+  pub world : World Recorded
+  pub owner : Name
+  pub put_files : List PutFile
+  pub first : Files
+  pub moment : List Happening
+  pub rest : RestsBehind world.messages owner (history world owner) put_files (MayLeave first moment)
+
+-- the world behind it
+abbrev pub world_behind : EndedRun → World Recorded
+world_behind run = after_all run.world (acts_by run.owner run.rest.database_steps)

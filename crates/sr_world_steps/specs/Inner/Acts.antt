@@ -1,10 +1,11 @@
 -- Steps that are asked for, and those of the world that they are.
 use Rattle.std.specs.Prelude.{◌≡◌, ⊤, ℕ, ◌<◌, List, Some, slice_get}
-use Rattle.sr_book.specs.Entries.{Name, local}
+use Rattle.sr_book.specs.Entries.{Name, local, from_user}
 use Rattle.sr_book.specs.Histories.{taken_end}
 use Rattle.sr_book.specs.declared.note.Note.{Note as BookNote}
 use Rattle.sr_book.specs.declared.note.Note.TheVariants.{Confirmed, Asked, Raised, Sent}
 use Rattle.sr_database_history.specs.Recorded.{Recorded, note, entry_of}
+use Rattle.sr_logform.specs.declared.op.Op.{Op}
 use Rattle.sr_msgform.specs.declared.message.Message.{Message}
 use Rattle.sr_msgform.specs.Messages.{IsMessage}
 use Rattle.sr_world.specs.Inner.Real.{IsStep}
@@ -14,7 +15,7 @@ use Rattle.sr_world_model.specs.Worlds.{World, WorldStep as Act, history, happen
 use Rattle.sr_world_steps.specs.declared.step.NotAStep.{NotAStep}
 use Rattle.sr_world_steps.specs.declared.step.NotAStep.TheVariants.{Rule, Memory}
 use Rattle.sr_world_steps.specs.declared.step.WorldStep.{WorldStep}
-use Rattle.sr_world_steps.specs.declared.step.WorldStep.TheVariants.{Commit, Note, SentNote, Put, Crash}
+use Rattle.sr_world_steps.specs.declared.step.WorldStep.TheVariants.{Commit, Take, Note, SentNote, Put, Crash}
 use Rattle.sr_world_steps.specs.Inner.Shown.{Shown, Shows}
 use Rattle.sr_world_untouched.specs.Untouched.{KeysAgree}
 
@@ -47,6 +48,7 @@ IsSent (Sent end messages confirm) = ⊤
 -- a step of the world is the one that is asked for
 abbrev pub IsAsked : World Recorded → WorldStep → Act Recorded → Type 0
 IsAsked w (Commit at entry) act = (r : Recorded) × (act ≡ by at (append r)) × (entry_of r ≡ entry) × (layers.sees r ≡ local)
+IsAsked w (Take at user) act = (r : Recorded) × (place : ℕ) × (ops : List Op) × (act ≡ by at (append r)) × (layers.sees r ≡ from_user user place ops)
 IsAsked w (Note at user what place) act = (act ≡ by at (append (note user what))) × IsSaid w at user what place
 IsAsked w (SentNote at user what) act = (act ≡ by at (append (note user what))) × IsSent what
 IsAsked w (Put at m) act = (act ≡ by at (put m)) × IsMessage m
@@ -67,6 +69,7 @@ pub record HasStepped (w : World Recorded) (step : WorldStep) (now : Shown) : Ty
 -- the place of a step's kind, from 1
 abbrev pub rule_of : WorldStep → ℕ
 rule_of (Commit at entry) = 1
+rule_of (Take at user) = 2
 rule_of (Note at user what place) = 3
 rule_of (SentNote at user what) = 4
 rule_of (Put at m) = 5

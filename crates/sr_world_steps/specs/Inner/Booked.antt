@@ -1,5 +1,5 @@
 -- The book of a user, and the end of a history, as a log shows them.
-use Rattle.std.specs.Prelude.{ℕ, List, [], ◌∷◌, if◌then◌else◌}
+use Rattle.std.specs.Prelude.{ℕ, [], ◌∷◌, if◌then◌else◌}
 use Rattle.std.specs.Str.{bytes_eq}
 use Rattle.sr_book.specs.Books.{with_note, with_taken}
 use Rattle.sr_book.specs.Entries.{Name}

@@ -10,7 +10,7 @@ use Rattle.sr_world.specs.Inner.Real.{IsStep}
 use Rattle.sr_world_model.specs.Steps.{append, put}
 use Rattle.sr_world_model.specs.Worlds.{World, history}
 use Rattle.sr_world_steps.specs.declared.step.WorldStep.{WorldStep}
-use Rattle.sr_world_steps.specs.declared.step.WorldStep.TheVariants.{Put}
+use Rattle.sr_world_steps.specs.declared.step.WorldStep.TheVariants.{Put, Take}
 use Rattle.sr_world_steps.specs.Inner.Acts.{by, HasStepped, IsAsked, IsNoStep}
 use Rattle.sr_world_steps.specs.Inner.Places.{Log, StandsAt}
 use Rattle.sr_world_steps.specs.Inner.Shown.{Shown, Shows}
@@ -45,6 +45,15 @@ IsFound w shown step d entry (Some f) = HasFound w shown step d entry f.0 f.1
 -- whichever world is shown so
 unfoldable pub IsFoundIn : Shown → WorldStep → Name → Entry → Option (ℕ × ℕ) → Type 0
 IsFoundIn shown step d entry found = (w : World Recorded) → Shows w shown → IsFound w shown step d entry found
+
+-- the place, the end and the entry of a take; or the world does not allow it
+abbrev pub IsTook : World Recorded → Shown → Name → Name → Option (ℕ × ℕ × Entry) → Type 0
+IsTook w shown d user None = IsNoStep w (Take d user)
+IsTook w shown d user (Some f) = HasFound w shown (Take d user) d f.2 f.0 f.1
+
+-- whichever world is shown so
+unfoldable pub IsTookIn : Shown → Name → Name → Option (ℕ × ℕ × Entry) → Type 0
+IsTookIn shown d user found = (w : World Recorded) → Shows w shown → IsTook w shown d user found
 
 -- a step was made, or the world does not allow it
 abbrev pub IsMade : World Recorded → WorldStep → Shown → Bool → Type 0

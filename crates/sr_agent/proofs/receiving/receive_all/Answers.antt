@@ -1,4 +1,4 @@
-use Rattle.std.proofs.Common.{◌≡◌, refl}
+use Rattle.std.proofs.Common.{refl}
 use Rattle.std.proofs.lemmas.Result.{err_from_is_err_and}
 use Rattle.sr_agent.proofs.All.{all_broken, all_done, all_stopped, ready_then}
 use Rattle.sr_agent.proofs.receiving.receive_all.Goals as goal

@@ -1,7 +1,7 @@
 use Rattle.std.proofs.Common.{◌≡◌, ◌≤◌, [], ◌∷◌, ap, sym, subst, arith}
 use Rattle.sr_ast.specs.Inner.Chains.{chain_size}
 use Rattle.sr_ast.specs.declared.action.Action.{Action}
-use Rattle.sr_catalog_triggers.proofs.Sizes.{size_of, item-le}
+use Rattle.sr_ast.proofs.Sizes.{size_of, item-le}
 use Rattle.sr_catalog_triggers.proofs.looking.+looking.Goals as goal
 
 pub first_in-first_at-requires : goal.first_in-first_at-requires

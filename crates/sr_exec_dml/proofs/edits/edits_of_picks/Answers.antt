@@ -2,7 +2,7 @@ use Rattle.std.proofs.Common.{◌≡◌, [], ◌∷◌, ◌++◌, Option, sym, a
 use Rattle.std.specs.BTreeMap as tree
 use Rattle.sr_base.specs.Order.{key_cmp}
 use Rattle.sr_exec_dml.specs.Inner.Edits.{AreEdits, taken_of, put_of, with_entry}
-use Rattle.sr_exec_dml.specs.Statements.{key_of}
+use Rattle.sr_exec_where.specs.Keys.{key_of}
 use Rattle.sr_exec_dml.proofs.Folding.{Key}
 use Rattle.sr_exec_dml.proofs.Putting.{put-AreEdits, taken-AreEdits}
 use Rattle.sr_exec_dml.proofs.edits.edits_of_picks.Goals as goal

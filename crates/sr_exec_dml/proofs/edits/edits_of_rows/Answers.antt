@@ -1,9 +1,9 @@
-use Rattle.std.proofs.Common.{◌≡◌, [], ◌∷◌, ◌++◌, sym, ap, subst, append_assoc, ◌∙◌}
+use Rattle.std.proofs.Common.{◌≡◌, [], ◌∷◌, ◌++◌, sym, ap, subst, append_assoc, ◌∙◌, map}
 use Rattle.std.specs.BTreeMap as tree
 use Rattle.sr_base.specs.Order.{key_cmp}
 use Rattle.sr_exec_dml.specs.Inner.Edits.{AreEdits}
-use Rattle.sr_exec_dml.specs.Statements.{key_of, entry_of}
-use Rattle.std.proofs.Common.{map}
+use Rattle.sr_exec_where.specs.Keys.{key_of}
+use Rattle.sr_exec_dml.specs.Statements.{entry_of}
 use Rattle.sr_exec_dml.proofs.Folding.{Key}
 use Rattle.sr_exec_dml.proofs.Putting.{put-AreEdits}
 use Rattle.sr_exec_dml.proofs.edits.edits_of_rows.Goals as goal

@@ -1,6 +1,6 @@
 use Rattle.std.proofs.Common.{◌≡◌, length}
 use Rattle.sr_exec_dml.specs.Inner.Edits.{prefixed}
-use Rattle.sr_exec_dml.specs.Inner.Preparing.{given_row}
+use Rattle.sr_exec_dml.specs.Inner.Making.{given_row}
 use Rattle.sr_exec_dml.specs.Sequences.{each}
 use Rattle.sr_exec_dml.proofs.inserting.given_rows.Given as goal
 

@@ -10,7 +10,9 @@ use Rattle.sr_exec_dml.specs.Holding.{held}
 use Rattle.sr_exec_dml.specs.Sequences.{each, followed}
 use Rattle.sr_exec_dml.specs.Storing.{inserted_row}
 use Rattle.std.proofs.lemmas.Result.{err_from_is_err_and}
-use Rattle.sr_exec_dml.specs.Statements.{names_of, unknown_in_insert, bad_in_insert, inserted_rows, inserted, in_order, counted, entry_of}
+use Rattle.sr_exec_where.specs.Naming.{names_of}
+use Rattle.sr_exec_where.specs.Checks.{unknown_in_insert, bad_in_insert}
+use Rattle.sr_exec_dml.specs.Statements.{inserted_rows, inserted, in_order, counted, entry_of}
 use Rattle.sr_exec_dml.proofs.inserting.insert.Goals as goal
 
 inserted_is : (table : Table) (i : Insert) (before : List Entry) (rows : List (List Value)) → unknown_in_insert table i ≡ None → bad_in_insert table i ≡ None → inserted_rows table i ≡ Ok rows

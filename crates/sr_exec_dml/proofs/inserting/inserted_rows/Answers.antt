@@ -3,7 +3,7 @@ use Rattle.std.specs.Prelude.{MatchResult}
 use Rattle.sr_base.specs.declared.value.Value.{Value}
 use Rattle.sr_catalog_schema.specs.declared.fault.DmlFault.{DmlFault}
 use Rattle.sr_catalog_schema.specs.declared.fault.DmlFault.TheVariants.{Memory}
-use Rattle.sr_exec_dml.specs.Inner.Preparing.{given_row}
+use Rattle.sr_exec_dml.specs.Inner.Making.{given_row}
 use Rattle.sr_exec_dml.specs.Sequences.{each}
 use Rattle.sr_exec_dml.specs.Storing.{inserted_row}
 use Rattle.sr_exec_dml.proofs.Readied.{rows_given}

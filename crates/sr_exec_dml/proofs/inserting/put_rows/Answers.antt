@@ -2,7 +2,8 @@ use Rattle.std.proofs.Common.{◌++◌, map, sym, subst, ◌∙◌}
 use Rattle.sr_rows.specs.Walks.{table_rows}
 use Rattle.sr_exec_dml.specs.Inner.Conditions.{Answers}
 use Rattle.sr_exec_dml.specs.Holding.{held}
-use Rattle.sr_exec_dml.specs.Statements.{key_of, entry_of}
+use Rattle.sr_exec_where.specs.Keys.{key_of}
+use Rattle.sr_exec_dml.specs.Statements.{entry_of}
 use Rattle.sr_exec_dml.proofs.Outcomes.{settled-one, settled-put}
 use Rattle.sr_exec_dml.proofs.inserting.put_rows.Goals as goal
 

@@ -1,7 +1,8 @@
 use Rattle.std.proofs.Common.{rules, ◌≡◌, Ok, true, map, IsSome, sym, ap, ◌∙◌}
 use Rattle.std.proofs.lemmas.Result.{err_from_is_err_and}
 use Rattle.std.specs.Option.{option_copied}
-use Rattle.sr_exec_dml.specs.Inner.Preparing.{new_row, resolution_in, selected_at}
+use Rattle.sr_exec_dml.specs.Inner.Making.{new_row, selected_at}
+use Rattle.sr_exec_where.specs.Inner.Preparing.{resolution_in}
 use Rattle.sr_exec_dml.proofs.Readied.{effect_unselected, effect_unmade}
 use Rattle.sr_exec_dml.proofs.moving.effect_of.Goals as goal
 

@@ -2,7 +2,8 @@ use Rattle.std.proofs.Common.{◌≡◌, ◌++◌, [], ◌∷◌, Some, Ok, sym,
 use Rattle.std.proofs.lemmas.Result.{err_from_is_err_and}
 use Rattle.std.specs.Option.{option_copied}
 use Rattle.sr_exec_dml.specs.declared.effect.RowEffect.TheVariants.{Becomes}
-use Rattle.sr_exec_dml.specs.Statements.{key_of, effect_of}
+use Rattle.sr_exec_where.specs.Keys.{key_of}
+use Rattle.sr_exec_dml.specs.Statements.{effect_of}
 use Rattle.sr_exec_dml.proofs.Alone.{not_there, picked_by, it_faults, it_stays, it_goes, it_becomes}
 use Rattle.sr_exec_dml.proofs.single.moved_at.Goals as goal
 

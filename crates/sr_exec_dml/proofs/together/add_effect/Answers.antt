@@ -1,6 +1,7 @@
 use Rattle.std.proofs.Common.{rules, ◌≡◌, Ok, true, map, sym, ap, ◌∙◌}
 use Rattle.sr_exec_dml.specs.Inner.Edits.{prefixed}
-use Rattle.sr_exec_dml.specs.Inner.Preparing.{new_row, resolution_in, selected_at}
+use Rattle.sr_exec_dml.specs.Inner.Making.{new_row, selected_at}
+use Rattle.sr_exec_where.specs.Inner.Preparing.{resolution_in}
 use Rattle.sr_exec_dml.proofs.Pended.{added, effect_updated}
 use Rattle.sr_exec_dml.proofs.together.add_effect.Goals as goal
 

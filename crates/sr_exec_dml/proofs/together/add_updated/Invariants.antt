@@ -1,6 +1,7 @@
 use Rattle.std.proofs.Common.{◌≡◌, map, length}
 use Rattle.sr_exec_dml.specs.Inner.Edits.{prefixed}
-use Rattle.sr_exec_dml.specs.Inner.Preparing.{new_row, resolution_in}
+use Rattle.sr_exec_dml.specs.Inner.Making.{new_row}
+use Rattle.sr_exec_where.specs.Inner.Preparing.{resolution_in}
 use Rattle.sr_exec_dml.proofs.together.add_updated.Given as goal
 
 abbrev pub invariant-columns : goal.invariant-columns

@@ -1,7 +1,8 @@
 use Rattle.std.proofs.Common.{rules, ◌≡◌, ◌++◌, ◌∷◌, [], true, length, drop, refl, sym, ap, subst, ◌∙◌}
 use Rattle.std.specs.Option.{option_copied}
 use Rattle.sr_exec_dml.specs.Inner.Pending.{Adds}
-use Rattle.sr_exec_dml.specs.Statements.{effect_of, key_of}
+use Rattle.sr_exec_dml.specs.Statements.{effect_of}
+use Rattle.sr_exec_where.specs.Keys.{key_of}
 use Rattle.sr_exec_dml.proofs.Pended.{added_behind, awaits_one}
 use Rattle.sr_exec_dml.proofs.together.await_row.Goals as goal
 

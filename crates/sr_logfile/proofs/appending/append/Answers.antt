@@ -2,7 +2,8 @@
 use Rattle.std.proofs.Common.{true, ℕ, List, [], ◌∷◌, rules, sym, ap, ◌∙◌, subst}
 use Rattle.std.specs.Prelude.{IsTrue}
 use Rattle.sr_site.specs.Files.{Files, bytes_of, overwritten}
-use Rattle.sr_logfile.proofs.Appends.{bytes_of-with_bytes, first_torn, first_written, second_torn, second_part, second_written, OnErr-always}
+use Rattle.sr_logfile.proofs.Appends.{first_torn, first_written, second_torn, second_part, second_written, OnErr-always}
+use Rattle.sr_site.proofs.Images.{bytes_of-with_bytes}
 use Rattle.sr_logfile.proofs.Makings.{commit_stops_1, commit_stops_2, commit_stops_3, commit_made}
 use Rattle.sr_logfile.proofs.Moments.{moments_1, moments_2, moments_3, moments_4}
 use Rattle.sr_logfile.proofs.appending.append.Goals as goal

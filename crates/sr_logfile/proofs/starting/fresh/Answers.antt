@@ -3,7 +3,7 @@ use Rattle.std.specs.Prelude.{IsTrue}
 use Rattle.sr_site.specs.Inner.Growing.{disk_stays_on}
 use Rattle.sr_logfile.proofs.Makings.{fresh_stops_1, fresh_stops_2, fresh_made}
 use Rattle.sr_site.specs.Files.{Files, bytes_of, overwritten}
-use Rattle.sr_logfile.proofs.Appends.{bytes_of-with_bytes}
+use Rattle.sr_site.proofs.Images.{bytes_of-with_bytes}
 use Rattle.sr_logfile.proofs.Records.{spells_fresh}
 use Rattle.sr_logfile.proofs.Starts.{fresh_1, fresh_2, fresh_3, length_filled}
 use Rattle.sr_logfile.proofs.starting.fresh.Goals as goal

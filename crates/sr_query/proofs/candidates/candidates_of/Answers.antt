@@ -4,7 +4,7 @@ use Rattle.sr_rows.specs.Walks.{Entry}
 use Rattle.sr_query.specs.Combinations.{kept}
 use Rattle.sr_query.specs.Inner.Candidates.{as_rows}
 use Rattle.sr_query.specs.Inner.Equations.{equations}
-use Rattle.sr_query.specs.Inner.Lookups.{fixed_key}
+use Rattle.sr_query.specs.Inner.Lookups.{equated_key}
 use Rattle.sr_query.specs.Sources.{conditions_of}
 use Rattle.sr_query.proofs.Alone.{all_left, one_left}
 use Rattle.sr_query.proofs.candidates.candidates_of.Goals as goal
@@ -15,7 +15,7 @@ returns-in-Some c =
     let scope = c.args.prepared.now.scope.now in
     let conditions = conditions_of c.args.prepared.now.select.now in
     let joined = c.args.joined.now in
-    let fixed : fixed_key [] joined.scope (equations scope conditions) joined.table.now.key ≡ Some c.in-Some.key = sym c.in_ok-key.ensures.key ∙ c.in-Some.is in
+    let fixed : equated_key [] joined.scope (equations scope conditions) joined.table.now.key ≡ Some c.in-Some.key = sym c.in_ok-key.ensures.key ∙ c.in-Some.is in
     record {
       rows = one_left rows scope conditions joined c.in-Some.key c.requires.source c.and_holds_where_both_hold.ensures.held fixed
           ∙ ap (λ (o : Option (List Cell)). kept scope conditions (as_rows o)) (sym c.get.ensures.row);

@@ -8,7 +8,7 @@ use Rattle.sr_exec_dml.specs.Inner.Edits.{prefixed}
 use Rattle.sr_query.specs.Combinations.{combinations, kept, over_each}
 use Rattle.sr_query.specs.Inner.Combinations.{Keeps}
 use Rattle.sr_query.specs.Inner.Equations.{equations}
-use Rattle.sr_query.specs.Inner.Lookups.{fixed_key}
+use Rattle.sr_query.specs.Inner.Lookups.{equated_key}
 use Rattle.sr_query.specs.Sources.{conditions_of}
 use Rattle.sr_query.specs.Inner.Walks.{AreJoined, columns_left, found, seen}
 use Rattle.sr_query.proofs.Combined.{columns_on, values_on, fit_on, begins_walk, goes_on, row_of_source}
@@ -26,8 +26,8 @@ walk-returns-in-Some-2-clause-kept t c =
     let sources = subst (AreJoined rows) begins c.requires.joined in
     let same : c.as_slice-2.result.now ≡ bounds = search rules in
     let scope = c.args.prepared.now.scope.now in
-    let fixed : fixed_key (values_of bounds) joined.scope (equations scope conditions) joined.table.now.key ≡ Some c.in-Some-2.key =
-    ap (λ bs. fixed_key (values_of bs) joined.scope (equations scope conditions) joined.table.now.key) (sym same) ∙ sym c.in_ok-key.ensures.key ∙ c.in-Some-2.is in
+    let fixed : equated_key (values_of bounds) joined.scope (equations scope conditions) joined.table.now.key ≡ Some c.in-Some-2.key =
+    ap (λ bs. equated_key (values_of bs) joined.scope (equations scope conditions) joined.table.now.key) (sym same) ∙ sym c.in_ok-key.ensures.key ∙ c.in-Some-2.is in
     keeps_all rows scope conditions bounds joined after c.in-Some-2.key sources.0 c.and_holds_where_both_hold.ensures.held fixed
     c.walk_at.result (found c.args.kept.now.items) (found c.walk_at.new.kept.items) c.args.left.now begins c.walk_at.ensures.kept
 

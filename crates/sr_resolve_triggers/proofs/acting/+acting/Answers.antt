@@ -1,7 +1,7 @@
 use Rattle.std.proofs.Common.{◌≡◌, ◌≤◌, [], ◌∷◌, ap, sym, subst, arith}
 use Rattle.sr_ast.specs.Inner.Chains.{chain_size}
 use Rattle.sr_ast.specs.declared.action.Action.{Action}
-use Rattle.sr_catalog_triggers.proofs.Sizes.{size_of, item-le}
+use Rattle.sr_ast.proofs.Sizes.{size_of, item-le}
 use Rattle.sr_resolve_triggers.proofs.acting.+acting.Goals as goal
 
 pub act_all-act-requires : goal.act_all-act-requires

@@ -1,6 +1,6 @@
 use Rattle.std.proofs.Common.{◌≡◌, length, map}
 use Rattle.sr_ast.specs.Exprs.{term_of}
-use Rattle.sr_exec_dml.specs.Statements.{names_of}
+use Rattle.sr_exec_where.specs.Naming.{names_of}
 use Rattle.sr_resolve_triggers.specs.Actions.{row_made, value_in}
 use Rattle.sr_resolve_triggers.specs.Inner.Actions.{after_items}
 use Rattle.sr_resolve_triggers.specs.Inner.Running.{update_conflict_of}

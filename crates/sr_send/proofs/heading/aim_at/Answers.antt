@@ -9,12 +9,12 @@ use Rattle.sr_send.proofs.heading.aim_at.Goals as goal
 pub returns-in_err-head-clause-good : goal.returns-in_err-head-clause-good
 returns-in_err-head-clause-good c =
     good_at c.args.db.now c.args.user.now c.args.book.now c.args.length c.args.ask c.publisher-publisher.result.now (c.publisher-publisher.ensures.publisher ∙ ap (λ (l : Lists). l.publisher) c.base_catalog.ensures.catalog) c.requires.ask
-    c.are_short.ensures.publisher c.are_short.ensures.user c.requires.least c.requires.most
+    c.are_short.ensures.publisher c.are_short.ensures.user c.requires.limit.least c.requires.limit.most
 
 pub returns-in_err-address-clause-good : goal.returns-in_err-address-clause-good
 returns-in_err-address-clause-good c =
     good_at c.args.db.now c.args.user.now c.args.book.now c.args.length c.args.ask c.publisher-publisher.result.now (c.publisher-publisher.ensures.publisher ∙ ap (λ (l : Lists). l.publisher) c.base_catalog.ensures.catalog) c.requires.ask
-    c.are_short.ensures.publisher c.are_short.ensures.user c.requires.least c.requires.most
+    c.are_short.ensures.publisher c.are_short.ensures.user c.requires.limit.least c.requires.limit.most
 
 pub returns-clause-aim : goal.returns-clause-aim
 returns-clause-aim c =
@@ -29,4 +29,4 @@ returns-clause-aim c =
 pub returns-clause-good : goal.returns-clause-good
 returns-clause-good c =
     good_at c.args.db.now c.args.user.now c.args.book.now c.args.length c.args.ask c.publisher-publisher.result.now (c.publisher-publisher.ensures.publisher ∙ ap (λ (l : Lists). l.publisher) c.base_catalog.ensures.catalog) c.requires.ask
-    c.are_short.ensures.publisher c.are_short.ensures.user c.requires.least c.requires.most
+    c.are_short.ensures.publisher c.are_short.ensures.user c.requires.limit.least c.requires.limit.most

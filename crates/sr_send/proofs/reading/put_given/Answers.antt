@@ -1,4 +1,4 @@
-use Rattle.std.proofs.Common.{Option, refl, subst}
+use Rattle.std.proofs.Common.{Option, subst}
 use Rattle.sr_base.specs.declared.offset.Offset.{Offset}
 use Rattle.sr_send.specs.Inner.Steps.{DoneStep}
 use Rattle.sr_send.specs.Inner.Stops.{ReadStop}

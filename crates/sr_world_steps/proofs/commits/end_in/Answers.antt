@@ -1,4 +1,4 @@
-use Rattle.sr_world_steps.proofs.Roomy.{spelled_where}
+use Rattle.sr_world_entries.proofs.Roomy.{spelled_where}
 use Rattle.sr_world_steps.proofs.commits.end_in.Goals as goal
 
 pub go_on-requires-clause-spelled : goal.go_on-requires-clause-spelled

@@ -1,4 +1,4 @@
-use Rattle.std.proofs.Common.{rules, ◌≡◌, ◌∷◌}
+use Rattle.std.proofs.Common.{rules}
 use Rattle.sr_world_steps.proofs.Found.{passed_more}
 use Rattle.sr_world_steps.proofs.places.found.Goals as goal
 

@@ -1,4 +1,3 @@
-use Rattle.std.proofs.Common.{rules, ◌≡◌}
 use Rattle.sr_world_steps.proofs.Found.{set_entry}
 use Rattle.sr_world_steps.proofs.places.push_entry.Goals as goal
 

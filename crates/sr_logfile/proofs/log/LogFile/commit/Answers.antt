@@ -84,8 +84,8 @@ returns-clause-moments g c told bodies is settled =
     subst (λ (l : Log). RestsThroughout (HasOrLacks l bodies c.args.framed.now) before now) view_is
     (has_or_lacks log bodies c.args.framed.now before now c.requires.framed (omega arith) is' settled' (c.append.ensures.moments told))
 
-pub returns-then-need-gt-LAST_OFFSET-clause-moments : goal.returns-then-need-gt-LAST_OFFSET-clause-moments
-returns-then-need-gt-LAST_OFFSET-clause-moments g c told bodies is settled = record { more = []; is = refl; moments = λ image there. inl (settled image there) }
+pub returns-then-need-gt-FARTHEST_OFFSET-clause-moments : goal.returns-then-need-gt-FARTHEST_OFFSET-clause-moments
+returns-then-need-gt-FARTHEST_OFFSET-clause-moments g c told bodies is settled = record { more = []; is = refl; moments = λ image there. inl (settled image there) }
 
 -- the other files, seen through the fields of the log
 pub returns-in_err-append-clause-beside : goal.returns-in_err-append-clause-beside
@@ -106,6 +106,6 @@ returns-clause-beside g c told =
     subst (λ (l : Log). RestsThroughout (KeepsOthers l.file before) before now) view_is
     (rests log.file before (commit_calls log.file (gate_of log) c.args.framed.now) now _ (refl, (refl, (refl, (refl, tt)))) (c.append.ensures.happened told))
 
-pub returns-then-need-gt-LAST_OFFSET-clause-beside : goal.returns-then-need-gt-LAST_OFFSET-clause-beside
-returns-then-need-gt-LAST_OFFSET-clause-beside g c told =
+pub returns-then-need-gt-FARTHEST_OFFSET-clause-beside : goal.returns-then-need-gt-FARTHEST_OFFSET-clause-beside
+returns-then-need-gt-FARTHEST_OFFSET-clause-beside g c told =
     record { more = []; is = refl; moments = λ image there. record { old = image; stood = there; others = with_same image c.args.self.now.file } }

@@ -1,9 +1,0 @@
-use Rattle.std.proofs.Common.{◌≡◌, length}
-use Rattle.sr_ast.specs.Pages.{put_all, in_row}
-use Rattle.sr_ast.proofs.printing.print_row.Given as goal
-
-abbrev pub invariant-items : goal.invariant-items
-invariant-items g l = put_all l.page (in_row g.T.Printed.pieces l.rest) ≡ put_all l.fn.page (in_row g.T.Printed.pieces l.items)
-
-abbrev pub decreases-items : goal.decreases-items
-decreases-items g l = length l.rest

@@ -1,0 +1,4 @@
+pub mod Checks
+pub mod Keys
+pub mod Naming
+pub mod Inner

@@ -1,0 +1,13 @@
+-- A column and a grant, made of their parts.
+use Rattle.std.specs.Prelude.{ℕ, Bool, List, Option}
+use Rattle.sr_base.specs.declared.value.Kind.{Kind}
+use Rattle.sr_ast.specs.declared.create.ColumnRule.{ColumnRule}
+use Rattle.sr_ast.specs.declared.create.Grant.{Grant}
+
+-- the rule of a column: its name, its kind, and whether it is NOT NULL
+abbrev pub column_of : List ℕ → Kind → Bool → ColumnRule
+column_of name kind not_null = record { name = name; kind = kind; not_null = not_null }
+
+-- what stands behind GRANT REMOTE TO: the user, and the address where one is given
+abbrev pub grant_of : List ℕ → Option (List ℕ) → Grant
+grant_of user address = record { user = user; address = address }

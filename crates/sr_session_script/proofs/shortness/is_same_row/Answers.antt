@@ -1,9 +1,0 @@
-use Rattle.std.proofs.Common.{ap, ◌∙◌}
-use Rattle.std.specs.Ordering.{is_eq}
-use Rattle.sr_session_script.proofs.Alike.{same_where}
-use Rattle.sr_session_script.proofs.shortness.is_same_row.Goals as goal
-
-pub returns : goal.returns
-returns c = record {
-  same = same_where c.is_eq.result c.args.before.now c.args.after.now (c.is_eq.ensures ∙ ap is_eq c.cmp.ensures);
-}

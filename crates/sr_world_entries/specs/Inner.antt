@@ -1,0 +1,4 @@
+pub mod Ends
+pub mod Judging
+pub mod Saying
+pub mod Taking
