@@ -181,7 +181,7 @@ ops_own_nothing c user (p ∷ ops) (None ∷ meant) none e =
     (ops_own_nothing c user ops meant none.1 (or_second (is_conflict p.1) (list_any (λ q. is_conflict q.1) ops) e))
 
 -- where no statement ran, none is meant
-none_meant : (ops : List (Op × Outcome)) (meant : List (Option Stmt)) → AreMeant (map (λ p. text_done p.0 p.1) ops) meant → list_any has_run ops ≡ false → AllByRecursion (λ m. m ≡ None) meant
+pub none_meant : (ops : List (Op × Outcome)) (meant : List (Option Stmt)) → AreMeant (map (λ p. text_done p.0 p.1) ops) meant → list_any has_run ops ≡ false → AllByRecursion (λ m. m ≡ None) meant
 none_meant [] [] are e = tt
 none_meant [] (m ∷ meant) are e = absurd are
 none_meant (p ∷ ops) [] are e = absurd are

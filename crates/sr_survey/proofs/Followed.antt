@@ -1,5 +1,5 @@
 -- A survey follows statements.
-use Rattle.std.proofs.Common.{◌≡◌, ℕ, ◌≤◌, Bool, true, false, ◌||◌, List, [], ◌∷◌, ◌++◌, Option, Some, None, is_some, Result, Ok, Err, OnOk, refl, sym, ap, subst, ◌∙◌}
+use Rattle.std.proofs.Common.{◌≡◌, ℕ, ◌≤◌, Bool, true, false, ◌||◌, List, [], ◌∷◌, ◌++◌, Option, Some, None, is_some, Result, Ok, Err, OnOk, refl, sym, ap, inl, inr, subst, ⊎_elim, ◌∙◌}
 use Rattle.std.specs.List.{AllByRecursion}
 use Rattle.sr_ast.specs.declared.stmt.Stmt.{Stmt}
 use Rattle.sr_book.specs.Entries.{Name}
@@ -10,18 +10,27 @@ use Rattle.sr_logform.specs.declared.change.Change.{Change}
 use Rattle.sr_logform.specs.declared.entry.Entry.TheVariants.{Pass}
 use Rattle.sr_scan.specs.Inner.Images.{unless_refused, catalog_behind, catalog_after}
 use Rattle.sr_scan.specs.Inner.Meanings.{texts_of, IsMeant, AreMeant}
-use Rattle.sr_survey.proofs.Noting.{le_trans, knows_itself, knows_on}
+use Rattle.sr_survey.proofs.Noting.{le_trans, max_itself, max_on, knows_itself, knows_on}
 use Rattle.sr_survey.proofs.Served.{keys_stay}
 use Rattle.sr_survey.specs.Inner.Alike.{touches, touched}
 use Rattle.sr_survey.specs.Inner.Effects.{Notes}
-use Rattle.sr_survey.specs.Inner.Following.{since_of, IsNoted, AreNoted, started_by, KeepsKeys, Follows}
+use Rattle.sr_survey.specs.Inner.Following.{since_of, IsNoted, AreNoted, IsStarted, started_by, KeepsKeys, Follows}
 use Rattle.sr_survey.specs.Inner.Keyed.{keys_of}
 use Rattle.sr_survey.specs.Inner.Texts.{FollowsTexts}
 use Rattle.sr_survey.specs.declared.survey.Survey.{Survey}
 use Rattle.sr_ast.specs.declared.create.SubscriptionRule.{SubscriptionRule}
+use Rattle.sr_survey_places.specs.declared.key.Key.{Key}
+
+or_first : (a b : Bool) → (a || b) ≡ false → a ≡ false
+or_first true b e = e
+or_first false b e = refl
+
+or_second : (a b : Bool) → (a || b) ≡ false → b ≡ false
+or_second true b e = cc
+or_second false b e = e
 
 follows_itself : (s : Survey) (at : ℕ) → Follows s [] at s
-follows_itself s at = record { catalog = refl; touched = λ user e. cc; noted = tt; knows = knows_itself s }
+follows_itself s at = record { catalog = refl; touched = λ user e. cc; bound = λ user. max_itself (since_of s user) at; others = λ user e. refl; noted = tt; only = λ user k h. inl h; knows = knows_itself s }
 
 -- ---- several statements
 
@@ -50,11 +59,25 @@ noted_both : (b c : Survey) → KeepsKeys b c → (ms ns : List (Option Stmt)) �
 noted_both b c knows [] ns x y = y
 noted_both b c knows (m ∷ ms) ns x y = (noted_stays b c knows m x.0, noted_both b c knows ms ns x.1 y)
 
+started_left : (ms ns : List (Option Stmt)) (user : Name) (k : Key) → IsStarted ms user k → IsStarted (ms ++ ns) user k
+started_left [] ns user k h = absurd h
+started_left (None ∷ ms) ns user k h = started_left ms ns user k h
+started_left (Some s ∷ ms) ns user k (inl h) = inl h
+started_left (Some s ∷ ms) ns user k (inr h) = inr (started_left ms ns user k h)
+
+started_right : (ms ns : List (Option Stmt)) (user : Name) (k : Key) → IsStarted ns user k → IsStarted (ms ++ ns) user k
+started_right [] ns user k h = h
+started_right (None ∷ ms) ns user k h = started_right ms ns user k h
+started_right (Some s ∷ ms) ns user k h = inr (started_right ms ns user k h)
+
 follows_on : (a b c : Survey) (ms ns : List (Option Stmt)) (at : ℕ) → Follows a ms at b → Follows b ns at c → Follows a (ms ++ ns) at c
 follows_on a b c ms ns at x y = record {
   catalog = y.catalog ∙ ap (λ d. catalog_after d ns) x.catalog ∙ sym (after_both a.catalog ms ns);
   touched = λ user e. go user (touched user ms) (touched user ns) refl refl (sym (touched_both user ms ns) ∙ e);
+  bound = λ user. max_on (since_of a user) (since_of b user) (since_of c user) at (y.bound user) (x.bound user);
+  others = λ user e. y.others user (or_second (touched user ms) (touched user ns) (sym (touched_both user ms ns) ∙ e)) ∙ x.others user (or_first (touched user ms) (touched user ns) (sym (touched_both user ms ns) ∙ e));
   noted = noted_both b c y.knows.keys ms ns x.noted y.noted;
+  only = λ user k h. ⊎_elim (λ i. ⊎_elim (λ j. inl j) (λ j. inr (started_left ms ns user k j)) (x.only user k i)) (λ i. inr (started_right ms ns user k i)) (y.only user k h);
   knows = knows_on a b c x.knows y.knows;
 } where
   go : (user : Name) (p q : Bool) → touched user ms ≡ p → touched user ns ≡ q → (p || q) ≡ true → at ≤ since_of c user
@@ -68,7 +91,10 @@ pub refused_followed : (a b : Survey) (s : Stmt) (at : ℕ) → Notes a s at b �
 refused_followed a b s at notes refused = record {
   catalog = notes.catalog ∙ sym (stays (refusal a.catalog s) (subst (λ c. is_some (refusal c s) ≡ true) notes.catalog refused));
   touched = λ user e. notes.touched user (from_or (touches user s) e);
+  bound = notes.bound;
+  others = λ user e. notes.others user (or_first (touches user s) false e);
   noted = (notes.noted, tt);
+  only = λ user k h. ⊎_elim (λ i. inl i) (λ i. inr (inl i)) (notes.only user k h);
   knows = notes.knows;
 } where
   stays : (o : Option DdlFault) → is_some o ≡ true → unless_refused o a.catalog (next a.catalog s) ≡ a.catalog
@@ -83,13 +109,18 @@ pub accepted_followed : (a b : Survey) (s : Stmt) (at : ℕ) (d : Lists) → Not
 accepted_followed a b s at d notes accepted is = record {
   catalog = is ∙ ap (λ c. next c s) notes.catalog ∙ sym (goes (refusal a.catalog s) (subst (λ c. is_some (refusal c s) ≡ false) notes.catalog accepted));
   touched = λ user e. notes.touched user (from_or (touches user s) e);
+  bound = notes.bound;
+  others = λ user e. notes.others user (or_first (touches user s) false e);
   noted = (noted_stays b (record b { catalog = d }) (record { his = λ user k h. h; begun = λ k h. h }) (Some s) notes.noted, tt);
+  only = λ user k h. ⊎_elim (λ i. inl i) (λ i. inr (inl i)) (notes.only user k h);
   knows = record {
     keys = record { his = notes.knows.keys.his; begun = notes.knows.keys.begun };
     same = notes.knows.same;
     rises = notes.knows.rises;
     begin = notes.knows.begin;
     end = notes.knows.end;
+    most = notes.knows.most;
+    count = notes.knows.count;
     given_up = notes.knows.given_up;
   };
 } where
@@ -108,7 +139,7 @@ follows_nothing s at = record { meant = []; are = tt; follows = follows_itself s
 
 -- nothing is meant
 unmeant : (s : Survey) (at : ℕ) → Follows s (None ∷ []) at s
-unmeant s at = record { catalog = refl; touched = λ user e. cc; noted = (tt, tt); knows = knows_itself s }
+unmeant s at = record { catalog = refl; touched = λ user e. cc; bound = λ user. max_itself (since_of s user) at; others = λ user e. refl; noted = (tt, tt); only = λ user k h. inl h; knows = knows_itself s }
 
 pub follows_no_text : (s : Survey) (at : ℕ) → FollowsTexts s (None ∷ []) at s
 follows_no_text s at = record { meant = None ∷ []; are = (refl, tt); follows = unmeant s at }

@@ -224,7 +224,7 @@ begun_surveyed publisher done base s b is = record {
   catalog = b.catalog ∙ is;
   places = λ k x h. absurd (b.none k x h);
   covers = λ user first rest q e begun. absurd (none_behind first rest q e (subst (λ n. n ≤ end_of first) b.begin begun));
-  shows = λ user first rest e since. same user first rest e since (ends_there first rest e (le_on (end_of done) (since_of s user) (end_of first) (b.since user) since));
+  shows = λ user first rest e since. same user first rest e since (ends_there first rest e (le_on (end_of done) (since_of s user) (end_of first) (let now : since_of s user ≡ end_of done = b.since user in omega arith) since));
   each = λ user first rest q e begun run. absurd (none_behind first rest q e (subst (λ n. n ≤ end_of first) b.begin begun));
   served = subst (λ c. AllByRecursion (IsServed s) c.subscriptions) (sym b.catalog) b.served;
 } where

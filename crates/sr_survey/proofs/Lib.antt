@@ -1,7 +1,10 @@
 pub mod Alike
+pub mod Charted
 pub mod Concerned
 pub mod Followed
+pub mod GivingUp
 pub mod Having
+pub mod Jumping
 pub mod Keeping
 pub mod Keyed
 pub mod Listing

@@ -1,7 +1,9 @@
 pub mod Alike
+pub mod Charts
 pub mod Concerning
 pub mod Effects
 pub mod Following
+pub mod GivingUp
 pub mod Keyed
 pub mod Offices
 pub mod Quiet

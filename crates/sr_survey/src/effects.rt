@@ -21,7 +21,7 @@ use std::alloc::Global;
 
 impl Survey {
     /// Notes what a statement that ends at an offset starts, and whom it may show another catalog.
-    #[tactic(auto, using(crate::proofs::Noting::quiet_noted, crate::proofs::Noting::stopped, crate::proofs::Noting::dropped))]
+    #[tactic(auto, using(crate::proofs::Noting::quiet_noted))]
     pub(crate) fn note(&mut self, alloc: Global, statement: &Stmt, at: u64) -> Result<(), NoMemory>
         ensures noted { OnOk result (Notes self.old statement.now at self.new) }
     {

@@ -9,11 +9,11 @@ ghost use Rattle.sr_survey_places.specs.Inner.Listed.{IsListedUnder};
 ghost use Rattle.sr_survey_places.specs.declared.key.Key.{Key as AKey};
 ghost use Rattle.sr_survey_places.specs.declared.key.Key.TheVariants as keyed;
 
+use crate::chart::Chart;
 use crate::rows::{list_changes, list_rows};
 use sr_base::{Copied, Name, NoMemory, Row};
-use sr_catalog::Catalog;
 use sr_logform::{Change, Entry, Op, Outcome};
-use sr_survey_places::{Key, Listings, Place, Unlisted};
+use sr_survey_places::{Key, Listings, Place};
 use std::alloc::Global;
 
 /// Lists an entry, which stands at `place`, by the catalog before it.
@@ -21,10 +21,10 @@ use std::alloc::Global;
 pub(crate) fn list_entry(
     alloc: Global,
     lists: &mut Listings,
-    catalog: &Catalog,
+    catalog: &Chart,
     entry: &Entry,
     place: Place,
-) -> Result<(), Unlisted>
+) -> Result<(), NoMemory>
     ensures listed { OnOk result (IsListedUnder lists.old.lists (entry_keys catalog.now entry.now) place lists.new.lists) }
 {
     match entry {
@@ -58,7 +58,7 @@ pub(crate) fn list_entry(
 }
 
 /// Lists a place under a key.
-fn list_one(lists: &mut Listings, alloc: Global, key: Key, place: Place) -> Result<(), Unlisted>
+fn list_one(lists: &mut Listings, alloc: Global, key: Key, place: Place) -> Result<(), NoMemory>
     ensures listed { OnOk result ((k : AKey) → key ≡ k → IsListedUnder lists.old.lists (k ∷ []) place lists.new.lists) }
 {
     let listed = lists.add(alloc, &key, place);
@@ -71,12 +71,12 @@ fn list_one(lists: &mut Listings, alloc: Global, key: Key, place: Place) -> Resu
 fn list_pass(
     alloc: Global,
     lists: &mut Listings,
-    catalog: &Catalog,
+    catalog: &Chart,
     users: &[Name],
     only: bool,
     changes: &[Change],
     place: Place,
-) -> Result<(), Unlisted>
+) -> Result<(), NoMemory>
     ensures listed { OnOk result (IsListedUnder lists.old.lists (map keyed.Text users.now ++ pass_keys catalog.now only changes.now) place lists.new.lists) }
 {
     list_users(alloc, lists, users, place)?;
@@ -84,12 +84,13 @@ fn list_pass(
     Ok(())
 }
 
+/// Lists a place under each user that is named: logarithmic time for each.
 fn list_users(
     alloc: Global,
     lists: &mut Listings,
     users: &[Name],
     place: Place,
-) -> Result<(), Unlisted>
+) -> Result<(), NoMemory>
     ensures listed { OnOk result (IsListedUnder lists.old.lists (map keyed.Text users.now) place lists.new.lists) }
 {
     let mut left = users;
@@ -105,11 +106,11 @@ fn list_users(
 fn list_here(
     alloc: Global,
     lists: &mut Listings,
-    catalog: &Catalog,
+    catalog: &Chart,
     only: bool,
     changes: &[Change],
     place: Place,
-) -> Result<(), Unlisted>
+) -> Result<(), NoMemory>
     ensures listed { OnOk result (IsListedUnder lists.old.lists (pass_keys catalog.now only changes.now) place lists.new.lists) }
 {
     if only {
@@ -123,11 +124,11 @@ fn list_here(
 fn list_taken(
     alloc: Global,
     lists: &mut Listings,
-    catalog: &Catalog,
+    catalog: &Chart,
     from: &Name,
     ops: &[(Op, Outcome)],
     place: Place,
-) -> Result<(), Unlisted>
+) -> Result<(), NoMemory>
     ensures listed { OnOk result (IsListedUnder lists.old.lists (taken_keys catalog.now from.now ops.now) place lists.new.lists) }
 {
     if has_run(ops) {
@@ -137,15 +138,16 @@ fn list_taken(
     list_told(alloc, lists, catalog, from, ops, place)
 }
 
+/// Lists a transaction in which no statement ran: under the key by which its origin finds it, and by its changes.
 #[tactic(auto, using(sr_survey_places::proofs::Joined::listed_both))]
 fn list_told(
     alloc: Global,
     lists: &mut Listings,
-    catalog: &Catalog,
+    catalog: &Chart,
     from: &Name,
     ops: &[(Op, Outcome)],
     place: Place,
-) -> Result<(), Unlisted>
+) -> Result<(), NoMemory>
     ensures listed { OnOk result (IsListedUnder lists.old.lists ((back_key from.now ops.now ∷ []) ++ ops_keys catalog.now ops.now) place lists.new.lists) }
 {
     list_one(lists, alloc, back_key(alloc, from, ops)?, place)?;
@@ -165,14 +167,14 @@ fn back_key(alloc: Global, from: &Name, ops: &[(Op, Outcome)]) -> Result<Key, No
     }
 }
 
-/// Lists a place by the changes of ops, each by its outcome.
+/// Lists a place by the changes of ops, each by its outcome. It takes one pass over the ops, and the time of `list_changes` for the changes of each.
 fn list_ops(
     alloc: Global,
     lists: &mut Listings,
-    catalog: &Catalog,
+    catalog: &Chart,
     ops: &[(Op, Outcome)],
     place: Place,
-) -> Result<(), Unlisted>
+) -> Result<(), NoMemory>
     ensures listed { OnOk result (IsListedUnder lists.old.lists (ops_keys catalog.now ops.now) place lists.new.lists) }
 {
     let mut left = ops;
@@ -187,10 +189,10 @@ fn list_ops(
 fn list_op(
     alloc: Global,
     lists: &mut Listings,
-    catalog: &Catalog,
+    catalog: &Chart,
     op: &(Op, Outcome),
     place: Place,
-) -> Result<(), Unlisted>
+) -> Result<(), NoMemory>
     ensures listed { OnOk result (IsListedUnder lists.old.lists (op_keys catalog.now op.now) place lists.new.lists) }
 {
     match &op.1 {
@@ -218,13 +220,13 @@ fn list_op(
 fn list_met(
     alloc: Global,
     lists: &mut Listings,
-    catalog: &Catalog,
+    catalog: &Chart,
     op: &Op,
     inserts: &[Change],
     before: &Row,
     after: &Row,
     place: Place,
-) -> Result<(), Unlisted>
+) -> Result<(), NoMemory>
     ensures listed { OnOk result (IsListedUnder lists.old.lists (met_keys catalog.now op.now inserts.now before.now after.now) place lists.new.lists) }
 {
     match op {
@@ -239,13 +241,13 @@ fn list_met(
 fn list_set(
     alloc: Global,
     lists: &mut Listings,
-    catalog: &Catalog,
+    catalog: &Chart,
     table: &Name,
     inserts: &[Change],
     before: &Row,
     after: &Row,
     place: Place,
-) -> Result<(), Unlisted>
+) -> Result<(), NoMemory>
     ensures listed { OnOk result (IsListedUnder lists.old.lists (changes_keys catalog.now inserts.now ++ change_keys catalog.now (row_changed table.now before.now after.now)) place lists.new.lists) }
 {
     list_changes(alloc, lists, catalog, inserts, place)?;
@@ -253,7 +255,7 @@ fn list_set(
     Ok(())
 }
 
-/// Whether a statement ran in one of the ops.
+/// Whether a statement ran in one of the ops. It takes one pass over them.
 pub(crate) fn has_run(ops: &[(Op, Outcome)]) -> bool
     ensures run { result ≡ list_any has_run ops.now }
 {
@@ -276,7 +278,7 @@ fn is_run(op: &Op, outcome: &Outcome) -> bool
     }
 }
 
-/// Whether one of the ops met another value.
+/// Whether one of the ops met another value. It takes one pass over them.
 fn has_conflict(ops: &[(Op, Outcome)]) -> bool
     ensures conflict { result ≡ list_any (λ p. is_conflict p.1) ops.now }
 {

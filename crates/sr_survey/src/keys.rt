@@ -97,7 +97,7 @@ fn by_value<'a>(_table: &Table, scope: &Scope, by: &'a Expr, row: &'a [Value]) -
     }
 }
 
-/// The value of the first column that a reference means.
+/// The value of the first column that a reference means. It takes one pass over the columns.
 fn found_at<'a>(
     scope: &Scope,
     row: &'a [Value],

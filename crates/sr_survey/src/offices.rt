@@ -100,7 +100,7 @@ fn put_behind(keys: Seq<Key>, key: Key) -> Result<Seq<Key>, NoMemory>
     }
 }
 
-/// Whether a key is among others.
+/// Whether a key is among others. It takes one pass over them.
 fn has_key(keys: &[Key], key: &Key) -> bool
     ensures has { result ≡ has_key keys.now key.now }
 {

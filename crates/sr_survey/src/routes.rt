@@ -13,7 +13,7 @@ use std::alloc::{AllocError, Global};
 
 /// A table, its columns for an expression, and the articles of it, each with its publication.
 #[derive(Drop)]
-pub(crate) struct Routes {
+pub struct Routes {
     pub(crate) table: Table,
     pub(crate) scope: Scope,
     pub(crate) articles: Seq<(Name, Article)>,
@@ -40,7 +40,7 @@ pub(crate) fn routes_of(
     })
 }
 
-/// The articles of a table, each with its publication.
+/// The articles of a table, each with its publication. It takes a pass over the articles of each publication.
 fn articles_of(
     alloc: Global,
     publications: &[Publication],
@@ -82,7 +82,7 @@ fn route_in(
     }
 }
 
-/// The first article of a table.
+/// The first article of a table. It takes one pass over the articles.
 fn article_of<'a>(table: &Name, articles: &'a [Article]) -> Option<&'a Article>
     ensures { option_copied result ≡ find (λ a. bytes_eq table.now a.table) articles.now }
 {

@@ -7,24 +7,25 @@ ghost use Rattle.sr_scan.specs.Inner.Images.{row_changed};
 ghost use Rattle.sr_survey.specs.Inner.Keyed.{article_key, row_keys, keys_if, routes_of, change_keys, changes_keys};
 ghost use Rattle.sr_survey_places.specs.Inner.Listed.{IsListedUnder};
 
+use crate::chart::Chart;
 use crate::keys::article_key;
 use crate::routes::{Routes, routes_of};
-use sr_base::{Name, Row, Value};
+use sr_base::{Name, NoMemory, Row, Value};
 use sr_catalog::Catalog;
 use sr_catalog_schema::Article;
 use sr_exec_fits::is_row;
 use sr_logform::Change;
-use sr_survey_places::{Listings, Place, Unlisted};
+use sr_survey_places::{Listings, Place};
 use std::alloc::Global;
 
-/// Lists a place under the keys of changes. Each costs by its own two rows and by the articles of its table.
+/// Lists a place under the keys of changes. Each costs by its own two rows and by the articles of its table, where these are at hand.
 pub(crate) fn list_changes(
     alloc: Global,
     lists: &mut Listings,
-    catalog: &Catalog,
+    catalog: &Chart,
     changes: &[Change],
     place: Place,
-) -> Result<(), Unlisted>
+) -> Result<(), NoMemory>
     ensures listed { OnOk result (IsListedUnder lists.old.lists (changes_keys catalog.now changes.now) place lists.new.lists) }
 {
     let mut left = changes;
@@ -36,14 +37,30 @@ pub(crate) fn list_changes(
 }
 
 /// Lists a place under the keys of the row before and of the row after; of a table that is not there under none.
-#[tactic(auto, using(crate::proofs::Listing::change_none, crate::proofs::Listing::change_some))]
 fn list_change(
+    alloc: Global,
+    lists: &mut Listings,
+    catalog: &Chart,
+    change: &Change,
+    place: Place,
+) -> Result<(), NoMemory>
+    ensures listed { OnOk result (IsListedUnder lists.old.lists (change_keys catalog.now change.now) place lists.new.lists) }
+{
+    match catalog.routes(&change.table) {
+        Some(routes) => list_both(alloc, lists, routes, change, place),
+        None => list_change_anew(alloc, lists, catalog.catalog(), change, place),
+    }
+}
+
+/// The same where the articles of the table are not at hand.
+#[tactic(auto, using(crate::proofs::Listing::change_none, crate::proofs::Listing::change_some))]
+fn list_change_anew(
     alloc: Global,
     lists: &mut Listings,
     catalog: &Catalog,
     change: &Change,
     place: Place,
-) -> Result<(), Unlisted>
+) -> Result<(), NoMemory>
     ensures listed { OnOk result (IsListedUnder lists.old.lists (change_keys catalog.now change.now) place lists.new.lists) }
 {
     let Some(table) = catalog.table(&change.table) else {
@@ -62,7 +79,7 @@ fn list_both(
     routes: &Routes,
     change: &Change,
     place: Place,
-) -> Result<(), Unlisted>
+) -> Result<(), NoMemory>
     requires scope { routes.now.scope ≡ scope_of routes.now.table }
     ensures listed { OnOk result (IsListedUnder lists.old.lists (keys_if routes.now.table routes.now.articles change.now.before ++ keys_if routes.now.table routes.now.articles change.now.after) place lists.new.lists) }
 {
@@ -72,8 +89,26 @@ fn list_both(
 }
 
 /// Lists a place under the keys of two rows of a table, one in place of the other; of a table that is not there under none.
-#[tactic(auto, using(crate::proofs::Listing::change_none, crate::proofs::Listing::change_some))]
 pub(crate) fn list_rows(
+    alloc: Global,
+    lists: &mut Listings,
+    catalog: &Chart,
+    table: &Name,
+    before: &Row,
+    after: &Row,
+    place: Place,
+) -> Result<(), NoMemory>
+    ensures listed { OnOk result (IsListedUnder lists.old.lists (change_keys catalog.now (row_changed table.now before.now after.now)) place lists.new.lists) }
+{
+    match catalog.routes(table) {
+        Some(routes) => list_two(alloc, lists, routes, before, after, place),
+        None => list_rows_anew(alloc, lists, catalog.catalog(), table, before, after, place),
+    }
+}
+
+/// The same where the articles of the table are not at hand.
+#[tactic(auto, using(crate::proofs::Listing::change_none, crate::proofs::Listing::change_some))]
+fn list_rows_anew(
     alloc: Global,
     lists: &mut Listings,
     catalog: &Catalog,
@@ -81,7 +116,7 @@ pub(crate) fn list_rows(
     before: &Row,
     after: &Row,
     place: Place,
-) -> Result<(), Unlisted>
+) -> Result<(), NoMemory>
     ensures listed { OnOk result (IsListedUnder lists.old.lists (change_keys catalog.now (row_changed table.now before.now after.now)) place lists.new.lists) }
 {
     let Some(there) = catalog.table(table) else {
@@ -101,7 +136,7 @@ fn list_two(
     before: &Row,
     after: &Row,
     place: Place,
-) -> Result<(), Unlisted>
+) -> Result<(), NoMemory>
     requires scope { routes.now.scope ≡ scope_of routes.now.table }
     ensures listed { OnOk result (IsListedUnder lists.old.lists (keys_if routes.now.table routes.now.articles (Some before.now) ++ keys_if routes.now.table routes.now.articles (Some after.now)) place lists.new.lists) }
 {
@@ -117,7 +152,7 @@ fn list_if(
     routes: &Routes,
     row: &Option<Row>,
     place: Place,
-) -> Result<(), Unlisted>
+) -> Result<(), NoMemory>
     requires scope { routes.now.scope ≡ scope_of routes.now.table }
     ensures listed { OnOk result (IsListedUnder lists.old.lists (keys_if routes.now.table routes.now.articles row.now) place lists.new.lists) }
 {
@@ -135,7 +170,7 @@ fn list_row(
     routes: &Routes,
     row: &Row,
     place: Place,
-) -> Result<(), Unlisted>
+) -> Result<(), NoMemory>
     requires scope { routes.now.scope ≡ scope_of routes.now.table }
     ensures listed { OnOk result (IsListedUnder lists.old.lists (row_keys routes.now.table routes.now.articles row.now) place lists.new.lists) }
 {
@@ -146,13 +181,14 @@ fn list_row(
     list_by(alloc, lists, routes, cells, place)
 }
 
+/// Lists a place under the keys by which articles give a row. It takes one pass over the articles.
 fn list_by(
     alloc: Global,
     lists: &mut Listings,
     routes: &Routes,
     row: &[Value],
     place: Place,
-) -> Result<(), Unlisted>
+) -> Result<(), NoMemory>
     requires scope { routes.now.scope ≡ scope_of routes.now.table }
     requires row { IsRow routes.now.table.columns row.now }
     ensures listed { OnOk result (IsListedUnder lists.old.lists (filter_map (article_key routes.now.table row.now) routes.now.articles) place lists.new.lists) }
@@ -174,7 +210,7 @@ fn list_route(
     route: &(Name, Article),
     row: &[Value],
     place: Place,
-) -> Result<(), Unlisted>
+) -> Result<(), NoMemory>
     requires scope { routes.now.scope ≡ scope_of routes.now.table }
     requires row { IsRow routes.now.table.columns row.now }
     ensures listed { OnOk result (IsListedUnder lists.old.lists (filter_map (article_key routes.now.table row.now) (route.now ∷ [])) place lists.new.lists) }

@@ -10,11 +10,11 @@ ghost use Rattle.sr_survey.specs.Inner.Concerning.{runs};
 ghost use Rattle.sr_survey.specs.Inner.Following.{Follows};
 ghost use Rattle.sr_survey.specs.Inner.Texts.{FollowsTexts};
 
+use crate::chart::Chart;
 use crate::entries::has_run;
 use crate::survey::Survey;
 use sr_ast::Stmt;
 use sr_base::{Name, NoMemory, Seq, Text};
-use sr_catalog::Catalog;
 use sr_logform::{Change, Entry, Op, Outcome};
 use sr_parse::printed_statement;
 use std::alloc::Global;
@@ -56,7 +56,7 @@ impl Survey {
         self.follow_text(alloc, text, at)
     }
 
-    /// Follows the statements of ops that ran, one after the other.
+    /// Follows the statements of ops that ran, one after the other, in one pass over the ops.
     fn follow_ops(&mut self, alloc: Global, ops: &[(Op, Outcome)], at: u64) -> Result<(), NoMemory>
         ensures followed { OnOk result (FollowsTexts self.old (map (λ p. text_done p.0 p.1) ops.now) at self.new) }
     {
@@ -131,10 +131,10 @@ fn text_done<'a>(op: &'a Op, outcome: &Outcome) -> Option<&'a Text>
 }
 
 /// Whether a catalog refuses a statement.
-fn is_refused(alloc: Global, catalog: &Catalog, statement: &Stmt) -> Result<bool, NoMemory>
+fn is_refused(alloc: Global, catalog: &Chart, statement: &Stmt) -> Result<bool, NoMemory>
     ensures refused { IfOk result (λ told. told ≡ is_some (refusal catalog.now statement.now)) }
 {
-    match catalog.refusal(alloc, statement)? {
+    match catalog.catalog().refusal(alloc, statement)? {
         None => Ok(false),
         Some(fault) => {
             drop(fault);

@@ -1,9 +1,9 @@
 -- What a search among places in order finds.
-use Rattle.std.proofs.Common.{◌≡◌, ◌⊎◌, ℕ, ◌+◌, ◌<◌, ◌≤◌, List, length, get_or, Some, None, sym, ap, inl, inr, subst, arith, ◌∙◌, ⊎_elim}
+use Rattle.std.proofs.Common.{◌≡◌, ℕ, ◌<◌, ◌≤◌, List, length, get_or, Some, None, ap, arith, ◌∙◌, ⊎_elim}
 use Rattle.std.proofs.lemmas.List.{get_or_default}
 use Rattle.std.proofs.lemmas.List.Elements.{Contains-get_or}
 use Rattle.std.proofs.lemmas.Bool.{cases_lt}
-use Rattle.std.specs.List.{AllWithin, Contains}
+use Rattle.std.specs.List.{AllWithin}
 use Rattle.sr_survey_places.specs.Inner.Search.{InOrder, IsOwn, IsFirstPast}
 use Rattle.sr_survey_places.specs.declared.place.Place.{Place}
 
@@ -22,33 +22,26 @@ not_own own p d at order passed left other is = ⊎_elim before behind (cases_lt
       let same : (get_or own is.0 d).end ≡ p.end = ap (λ (x : Place). x.end) (get_or_default own is.0 d p is.1) ∙ is.2 in
       other within (omega arith)
 
-pub first_is : (places own : List Place) (sent from at : ℕ) (d : Place) → InOrder places → AllWithin (λ p. p.end ≤ sent) places 0 from → AllWithin (λ p. sent < p.end) places from (length places)
-    → from ≤ at → at < length places → ((k : ℕ) (e : Place) → from ≤ k → k < at → IsOwn own (get_or places k e)) → ¬ (IsOwn own (get_or places at d))
-    → IsFirstPast places own sent (Some (get_or places at d))
-first_is places own sent from at d order passed left after within mine other =
-    (Contains-get_or places at d within, left at d after within, other, λ x has late none. later x has.0 has.1 has.2 late none) where
-      later : (x : Place) (k : ℕ) → k < length places → get_or places k x ≡ x → sent < x.end → ¬ (IsOwn own x) → (get_or places at d).end ≤ x.end
-      later x k l is late none = ⊎_elim before behind (cases_lt k at) where
-        before : k < at → (get_or places at d).end ≤ x.end
-        before lt = absurd (⊎_elim
-            (λ (h : k < from). let early : (get_or places k x).end ≤ sent = passed k x (omega arith) h in let same : (get_or places k x).end ≡ x.end = ap (λ (y : Place). y.end) is in absurd (omega arith))
-            (λ (h : from ≤ k). none (subst (IsOwn own) is (mine k x h lt))) (cases_lt k from))
+pub first_is : (places : List Place) (sent at : ℕ) (d : Place) → InOrder places → AllWithin (λ p. p.end ≤ sent) places 0 at → AllWithin (λ p. sent < p.end) places at (length places)
+    → at < length places → IsFirstPast places sent (Some (get_or places at d))
+first_is places sent at d order passed left within = (Contains-get_or places at d within, left at d (omega arith) within, λ x has late. later x has.0 has.1 has.2 late) where
+  later : (x : Place) (k : ℕ) → k < length places → get_or places k x ≡ x → sent < x.end → (get_or places at d).end ≤ x.end
+  later x k l is late = ⊎_elim before behind (cases_lt k at) where
+    same : (get_or places k x).end ≡ x.end
+    same = ap (λ (y : Place). y.end) is
 
-        behind : at ≤ k → (get_or places at d).end ≤ x.end
-        behind le =
-            let in_order : (get_or places at d).end ≤ (get_or places k d).end = order at k d le l in
-            let same : (get_or places k d).end ≡ x.end = ap (λ (y : Place). y.end) (get_or_default places k d x l ∙ is) in
-            omega arith
+    before : k < at → (get_or places at d).end ≤ x.end
+    before lt = let early : (get_or places k x).end ≤ sent = passed k x (omega arith) lt in let e : (get_or places k x).end ≡ x.end = same in absurd (omega arith)
 
-pub none_is : (places own : List Place) (sent from at : ℕ) → AllWithin (λ p. p.end ≤ sent) places 0 from
-    → length places ≤ at → ((k : ℕ) (e : Place) → from ≤ k → k < at → IsOwn own (get_or places k e)) → IsFirstPast places own sent None
-none_is places own sent from at passed all mine = λ x has late. ⊎_elim
-    (λ (h : has.0 < from). let early : (get_or places has.0 x).end ≤ sent = passed has.0 x (omega arith) h in let same : (get_or places has.0 x).end ≡ x.end = ap (λ (y : Place). y.end) has.2 in absurd (omega arith))
-    (λ (h : from ≤ has.0). let l : has.0 < length places = has.1 in subst (IsOwn own) has.2 (mine has.0 x h (omega arith))) (cases_lt has.0 from)
+    behind : at ≤ k → (get_or places at d).end ≤ x.end
+    behind le =
+        let in_order : (get_or places at d).end ≤ (get_or places k d).end = order at k d le l in
+        let e : (get_or places k d).end ≡ x.end = ap (λ (y : Place). y.end) (get_or_default places k d x l ∙ is) in
+        omega arith
 
--- one place more that is left out
-pub mine_more : (places own : List Place) (from at : ℕ) (d : Place) → ((k : ℕ) (e : Place) → from ≤ k → k < at → IsOwn own (get_or places k e)) → at < length places → IsOwn own (get_or places at d)
-    → (k : ℕ) (e : Place) → from ≤ k → k < at + 1 → IsOwn own (get_or places k e)
-mine_more places own from at d mine within here k e after before = ⊎_elim
-    (λ (h : k < at). mine k e after h)
-    (λ (h : at ≤ k). let same : at ≡ k = omega arith in subst (λ (n : ℕ). IsOwn own (get_or places n e)) same (subst (IsOwn own) (get_or_default places at d e within) here)) (cases_lt k at)
+pub none_is : (places : List Place) (sent at : ℕ) → AllWithin (λ p. p.end ≤ sent) places 0 at → length places ≤ at → IsFirstPast places sent None
+none_is places sent at passed all = λ x has.
+    let l : has.0 < length places = has.1 in
+    let early : (get_or places has.0 x).end ≤ sent = passed has.0 x (omega arith) (omega arith) in
+    let same : (get_or places has.0 x).end ≡ x.end = ap (λ (y : Place). y.end) has.2 in
+    omega arith

@@ -1,17 +1,14 @@
 -- The first place under several keys.
-use Rattle.std.proofs.Common.{◌≡◌, ◌⊎◌, ℕ, ◌<◌, ◌≤◌, Bool, true, false, leb, leb-true, cond, List, [], ◌∷◌, ◌++◌, length, Option, Some, None, refl, sym, inl, inr, subst, arith, ⊎_elim}
+use Rattle.std.proofs.Common.{◌≡◌, ◌⊎◌, ℕ, ◌<◌, ◌≤◌, Bool, true, false, leb, leb-true, cond, List, [], ◌∷◌, ◌++◌, Option, Some, None, refl, sym, inl, inr, subst, arith, ⊎_elim}
 use Rattle.std.proofs.lemmas.Bool.{leb-false}
 use Rattle.std.proofs.lemmas.List.Elements.{Contains-append_left, Contains-append_right, Contains-append_cases, Contains-push, Contains-push_cases}
 use Rattle.std.specs.List.{Contains}
-use Rattle.sr_survey_places.specs.Inner.Search.{IsOwn, IsFirstPast, earlier}
-use Rattle.sr_survey_places.specs.Inner.Listed.{ByKey, under, IsUnder, IsFirstAmong}
+use Rattle.sr_survey_places.specs.Inner.Search.{IsFirstPast, earlier}
+use Rattle.sr_survey_places.specs.Inner.Listed.{ByKey, under, IsUnder, IsFirstUnder}
 use Rattle.sr_survey_places.specs.declared.key.Key.{Key}
 use Rattle.sr_survey_places.specs.declared.place.Place.{Place}
 
-module _ (lists : ByKey) (from : Key) (sent : ℕ) where
-  abbrev own : List Place
-  own = under lists from
-
+module _ (lists : ByKey) (sent : ℕ) where
   under_left : (done : List Key) (k : Key) (x : Place) → IsUnder lists done x → IsUnder lists (done ++ k ∷ []) x
   under_left done k x u = record { key = u.key; among = Contains-append_left done (k ∷ []) u.key u.among; there = u.there }
 
@@ -25,23 +22,23 @@ module _ (lists : ByKey) (from : Key) (sent : ℕ) where
     go (inl h) = inl (record { key = u.key; among = h; there = u.there })
     go (inr e) = inr (subst (λ q. Contains (under lists q) x) (sym e) u.there)
 
-  pub first_none : IsFirstAmong lists [] from sent None
-  first_none x u late = let none : u.among.0 < 0 = u.among.1 in absurd (omega arith)
+  pub first_none : IsFirstUnder lists [] sent None
+  first_none x u = let none : u.among.0 < 0 = u.among.1 in absurd (omega arith)
 
-  pub first_more : (done : List Key) (k : Key) (o p : Option Place) → IsFirstAmong lists done from sent o → IsFirstPast (under lists k) own sent p → IsFirstAmong lists (done ++ k ∷ []) from sent (earlier o p)
-  first_more done k None None a b = λ x u late. ⊎_elim (λ h. a x h late) (λ h. b x h late) (parted done k x u)
+  pub first_more : (done : List Key) (k : Key) (o p : Option Place) → IsFirstUnder lists done sent o → IsFirstPast (under lists k) sent p → IsFirstUnder lists (done ++ k ∷ []) sent (earlier o p)
+  first_more done k None None a b = λ x u. ⊎_elim (λ h. a x h) (λ h. b x h) (parted done k x u)
   first_more done k None (Some q) a b =
-      (under_last done k q b.0, b.1, b.2, λ x u late other. ⊎_elim (λ h. absurd (other (a x h late))) (λ h. b.3 x h late other) (parted done k x u))
+      (under_last done k q b.0, b.1, λ x u late. ⊎_elim (λ h. let early : x.end ≤ sent = a x h in absurd (omega arith)) (λ h. b.2 x h late) (parted done k x u))
   first_more done k (Some p) None a b =
-      (under_left done k p a.0, a.1, a.2, λ x u late other. ⊎_elim (λ h. a.3 x h late other) (λ h. absurd (other (b x h late))) (parted done k x u))
+      (under_left done k p a.0, a.1, λ x u late. ⊎_elim (λ h. a.2 x h late) (λ h. let early : x.end ≤ sent = b x h in absurd (omega arith)) (parted done k x u))
   first_more done k (Some p) (Some q) a b = go (leb p.end q.end) refl where
-    go : (t : Bool) → leb p.end q.end ≡ t → IsFirstAmong lists (done ++ k ∷ []) from sent (cond t (Some p) (Some q))
+    go : (t : Bool) → leb p.end q.end ≡ t → IsFirstUnder lists (done ++ k ∷ []) sent (cond t (Some p) (Some q))
     go true e =
         let le : p.end ≤ q.end = leb-true p.end q.end e in
-        (under_left done k p a.0, a.1, a.2, λ x u late other. ⊎_elim (λ h. a.3 x h late other) (λ h. let no_less : q.end ≤ x.end = b.3 x h late other in omega arith) (parted done k x u))
+        (under_left done k p a.0, a.1, λ x u late. ⊎_elim (λ h. a.2 x h late) (λ h. let no_less : q.end ≤ x.end = b.2 x h late in omega arith) (parted done k x u))
     go false e =
         let less : q.end < p.end = leb-false p.end q.end e in
-        (under_last done k q b.0, b.1, b.2, λ x u late other. ⊎_elim (λ h. let no_less : p.end ≤ x.end = a.3 x h late other in omega arith) (λ h. b.3 x h late other) (parted done k x u))
+        (under_last done k q b.0, b.1, λ x u late. ⊎_elim (λ h. let no_less : p.end ≤ x.end = a.2 x h late in omega arith) (λ h. b.2 x h late) (parted done k x u))
 
   wide_left : (ks js : List Key) (x : Place) → IsUnder lists ks x → IsUnder lists (ks ++ js) x
   wide_left ks js x u = record { key = u.key; among = Contains-append_left ks js u.key u.among; there = u.there }
@@ -56,17 +53,17 @@ module _ (lists : ByKey) (from : Key) (sent : ℕ) where
     go (inr h) = inr (record { key = u.key; among = h; there = u.there })
 
   -- the first under some keys and the first under others: the one that ends first
-  pub first_both : (ks js : List Key) (o p : Option Place) → IsFirstAmong lists ks from sent o → IsFirstAmong lists js from sent p → IsFirstAmong lists (ks ++ js) from sent (earlier o p)
-  first_both ks js None None a b = λ x u late. ⊎_elim (λ h. a x h late) (λ h. b x h late) (either ks js x u)
+  pub first_both : (ks js : List Key) (o p : Option Place) → IsFirstUnder lists ks sent o → IsFirstUnder lists js sent p → IsFirstUnder lists (ks ++ js) sent (earlier o p)
+  first_both ks js None None a b = λ x u. ⊎_elim (λ h. a x h) (λ h. b x h) (either ks js x u)
   first_both ks js None (Some q) a b =
-      (wide_right ks js q b.0, b.1, b.2, λ x u late other. ⊎_elim (λ h. absurd (other (a x h late))) (λ h. b.3 x h late other) (either ks js x u))
+      (wide_right ks js q b.0, b.1, λ x u late. ⊎_elim (λ h. let early : x.end ≤ sent = a x h in absurd (omega arith)) (λ h. b.2 x h late) (either ks js x u))
   first_both ks js (Some p) None a b =
-      (wide_left ks js p a.0, a.1, a.2, λ x u late other. ⊎_elim (λ h. a.3 x h late other) (λ h. absurd (other (b x h late))) (either ks js x u))
+      (wide_left ks js p a.0, a.1, λ x u late. ⊎_elim (λ h. a.2 x h late) (λ h. let early : x.end ≤ sent = b x h in absurd (omega arith)) (either ks js x u))
   first_both ks js (Some p) (Some q) a b = go (leb p.end q.end) refl where
-    go : (t : Bool) → leb p.end q.end ≡ t → IsFirstAmong lists (ks ++ js) from sent (cond t (Some p) (Some q))
+    go : (t : Bool) → leb p.end q.end ≡ t → IsFirstUnder lists (ks ++ js) sent (cond t (Some p) (Some q))
     go true e =
         let le : p.end ≤ q.end = leb-true p.end q.end e in
-        (wide_left ks js p a.0, a.1, a.2, λ x u late other. ⊎_elim (λ h. a.3 x h late other) (λ h. let no_less : q.end ≤ x.end = b.3 x h late other in omega arith) (either ks js x u))
+        (wide_left ks js p a.0, a.1, λ x u late. ⊎_elim (λ h. a.2 x h late) (λ h. let no_less : q.end ≤ x.end = b.2 x h late in omega arith) (either ks js x u))
     go false e =
         let less : q.end < p.end = leb-false p.end q.end e in
-        (wide_right ks js q b.0, b.1, b.2, λ x u late other. ⊎_elim (λ h. let no_less : p.end ≤ x.end = a.3 x h late other in omega arith) (λ h. b.3 x h late other) (either ks js x u))
+        (wide_right ks js q b.0, b.1, λ x u late. ⊎_elim (λ h. let no_less : p.end ≤ x.end = a.2 x h late in omega arith) (λ h. b.2 x h late) (either ks js x u))

@@ -1,5 +1,7 @@
+pub mod Among
 pub mod Exact
 pub mod Joined
+pub mod Leaving
 pub mod Listing
 pub mod Finding
 pub mod First

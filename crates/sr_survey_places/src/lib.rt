@@ -1,7 +1,7 @@
 //! Places of a log, listed under keys: which entries concern whom.
 //!
-//! It stands on sr_base alone and knows neither entries nor catalogs. The contract that matters most is that of `Listings::first_past`: it answers the
-//! first place under a key that ends past an offset and was not taken from a user, and nothing only where there is none.
+//! It stands on sr_base alone and knows neither entries nor catalogs. The contract that matters most is that of `Listings::first_among`: it answers the
+//! first place under some keys that ends past an offset and was not taken from a user, and nothing only where there is none.
 #![tactic(auto)]
 
 mod key;
@@ -11,7 +11,5 @@ mod place;
 mod search;
 
 pub use key::Key;
-pub use listed::Unlisted;
 pub use listings::Listings;
 pub use place::Place;
-pub use search::earlier;

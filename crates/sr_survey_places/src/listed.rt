@@ -1,29 +1,22 @@
 //! Places are listed under keys, and looked up.
 
-ghost use Rattle.std.specs.Prelude.{◌≡◌, ◌⊎◌, ◌++◌, ◌∷◌, [], ℕ, ◌≤◌, ◌+◌, true, false, IfOk, OnOk, OnErr, IsTrue};
-ghost use Rattle.std.specs.List.{Contains};
+ghost use Rattle.std.specs.Prelude.{◌≡◌, ◌⊎◌, ◌++◌, ◌∷◌, [], ℕ, ◌≤◌, ◌<◌, ◌+◌, ◌-◌, ◌^◌, min, length, true, false, Some, IfOk, OnOk, OnErr, IsTrue};
+ghost use Rattle.std.specs.BTreeMap.{IsUnchanged};
+ghost use Rattle.std.specs.List.{Contains, insert};
 ghost use Rattle.sr_survey_places.specs.Inner.Ready.{IsReady};
 ghost use Rattle.sr_survey_places.specs.Inner.Search.{InOrder, IsFirstPast};
 ghost use Rattle.sr_survey_places.specs.declared.place.Place.{Place as APlace};
 ghost use Rattle.sr_survey_places.specs.Inner.Keys.{is_shared};
-ghost use Rattle.sr_survey_places.specs.Inner.Listed.{under, has_list, IsEmpty, IsBegun, IsListedUnder, IsFirstAmong};
+ghost use Rattle.sr_survey_places.specs.Inner.Listed.{under, has_list, count_of, IsEmpty, IsBegun, IsListedUnder, IsLeft, IsFirstUnder, IsFirstAmong};
 
 use crate::key::Key;
 use crate::listings::Listings;
 use crate::place::Place;
-use crate::search::{earlier, first_past};
+use crate::search::{count_passed, earlier, first_past, is_own};
 use sr_base::{Copied, NoMemory, Seq};
 use std::alloc::{AllocError, Global};
 use std::collections::BTreeMap;
-
-/// Why a place is not listed.
-#[derive(Debug, Drop)]
-pub enum Unlisted {
-    /// There is no memory for it.
-    Memory,
-    /// It ends before it begins, or begins before the last place under the key ends. Places are listed in their order.
-    Order,
-}
+use std::mem::replace;
 
 impl Listings {
     /// Listings with nothing in them. They take no memory.
@@ -36,16 +29,17 @@ impl Listings {
         }
     }
 
-    /// How many places are listed: a place under several keys counts under each.
+    /// How many places are listed, as far as a `usize` can say: a place under several keys counts under each.
     pub fn count(&self) -> usize
-        ensures count { result ≡ self.now.count }
+        ensures count { result ≡ min (count_of self.now.lists) (2 ^ 64 - 1) }
     {
         self.count
     }
 
-    /// Begins the places under a key, if they are not begun yet.
+    /// Begins the places under a key, if they are not begun yet. Where memory lacks all is as it was.
     pub fn begin(&mut self, alloc: Global, key: &Key) -> Result<(), NoMemory>
         ensures begun { OnOk result (IsBegun self.old.lists key.now self.new.lists) }
+        ensures left { OnErr result (IsUnchanged self.old.lists self.new.lists) }
     {
         if self.lists.contains_key(key) {
             return Ok(());
@@ -57,63 +51,88 @@ impl Listings {
         }
     }
 
-    /// Lists a place under a key, where it is begun, behind those that are listed there. The last one is not listed again.
-    #[tactic(auto, using(crate::proofs::Listing::ready_listed))]
-    pub fn add(&mut self, alloc: Global, key: &Key, place: Place) -> Result<(), Unlisted>
+    /// Lists a place under a key, where it is begun, in the order of the ends. The last one there is not listed again. Where memory lacks all
+    /// places, and what is begun, are as they were. It takes logarithmic time, and a pass over the places that end past it.
+    #[tactic(auto, using(crate::proofs::Listing::ready_listed, crate::proofs::Leaving::ready_left))]
+    pub fn add(&mut self, alloc: Global, key: &Key, place: Place) -> Result<(), NoMemory>
         ensures listed { OnOk result (IsListedUnder self.old.lists (key.now ∷ []) place self.new.lists) }
+        ensures left { OnErr result (IsLeft self.old.lists self.new.lists) }
     {
         self.make_ready(alloc, key)?;
-        if self.push(key, place)? {
-            self.count = self.count.saturating_add(1);
-        }
-        Ok(())
+        self.put(alloc, key, place)
     }
 
     /// Makes a key ready for a place: one of rows has a list only where it is begun.
-    #[tactic(auto, using(crate::proofs::Listing::ready_already, crate::proofs::Listing::ready_begun))]
-    fn make_ready(&mut self, alloc: Global, key: &Key) -> Result<(), Unlisted>
+    #[tactic(auto, using(crate::proofs::Listing::ready_already, crate::proofs::Listing::ready_begun, crate::proofs::Leaving::unchanged_left))]
+    fn make_ready(&mut self, alloc: Global, key: &Key) -> Result<(), NoMemory>
         ensures ready { OnOk result (IsReady self.old.lists key.now self.new.lists) }
+        ensures left { OnErr result (IsLeft self.old.lists self.new.lists) }
     {
         if key.is_shared() {
             return Ok(());
         }
-        match self.begin(alloc, key) {
-            Ok(()) => Ok(()),
-            Err(_) => Err(Unlisted::Memory),
-        }
+        self.begin(alloc, key)
     }
 
-    /// Lists a place behind those of a key that has some, and answers whether it was not there yet.
-    fn push(&mut self, key: &Key, place: Place) -> Result<bool, Unlisted>
+    /// Lists a place among those of a key that has some.
+    fn put(&mut self, alloc: Global, key: &Key, place: Place) -> Result<(), NoMemory>
         requires there { is_shared key.now ≡ false → has_list self.old.lists key.now ≡ true }
         ensures listed { OnOk result (IsListedUnder self.old.lists (key.now ∷ []) place self.new.lists) }
+        ensures left { OnErr result (IsLeft self.old.lists self.new.lists) }
     {
         match self.lists.get_mut(key) {
-            Some(places) => push(places, place),
-            None => Ok(false),
+            Some(places) => put(alloc, places, &mut self.count, place),
+            None => Ok(()),
         }
     }
 
-    /// The first place under a key that ends past an offset and is none that was taken from a user, who is named by the key `from`; `None` only where
-    /// there is none. It takes logarithmic time, and as much again for each that it leaves out.
-    pub fn first_past(&self, key: &Key, from: &Key, sent: u64) -> Option<Place>
-        ensures first { IsFirstPast (under self.now.lists key.now) (under self.now.lists from.now) sent result }
+    /// The first place under one of some keys, in two parts, that ends past an offset and is none that was taken from a user, who is named by the key
+    /// `from`; `None` only where there is none.
+    ///
+    /// It takes logarithmic time for each key, and as much again for each place that it leaves out. Who goes on behind what it answers has each place left
+    /// out once, under however many keys it stands.
+    pub fn first_among(&self, keys: &[Key], others: &[Key], from: &Key, sent: u64) -> Option<Place>
+        ensures first { IsFirstAmong self.now.lists (keys.now ++ others.now) from.now sent result }
     {
-        first_past(self.places(key), self.places(from), sent)
+        let own = self.places(from);
+        let mut passed = sent;
+        'places: while let Some(place) = self.first_of_both(keys, others, passed) {
+            if !is_own(own, place) {
+                return Some(place);
+            }
+            passed = place.end;
+        }
+        None
     }
 
-    /// The first place under one of some keys that ends past an offset and is none that was taken from a user, who is named by the key `from`; `None`
-    /// only where there is none. It takes the time of `first_past` for each key.
-    pub fn first_among(&self, keys: &[Key], from: &Key, sent: u64) -> Option<Place>
-        ensures first { IsFirstAmong self.now.lists keys.now from.now sent result }
+    /// The first place under one of some keys, in two parts, that ends past an offset. It takes the time of `first_past` for each key.
+    #[tactic(auto, using(crate::proofs::First::first_both))]
+    fn first_of_both(&self, keys: &[Key], others: &[Key], sent: u64) -> Option<Place>
+        ensures first { IsFirstUnder self.now.lists (keys.now ++ others.now) sent result }
+    {
+        let first = self.first_under(keys, sent);
+        let other = self.first_under(others, sent);
+        earlier(first, other)
+    }
+
+    /// The first place under one of some keys that ends past an offset. It takes the time of `first_past` for each key.
+    fn first_under(&self, keys: &[Key], sent: u64) -> Option<Place>
+        ensures first { IsFirstUnder self.now.lists keys.now sent result }
     {
         let mut first = None;
         let mut left = keys;
         'keys: while let Some((key, rest)) = left.split_first() {
-            first = earlier(first, self.first_past(key, from, sent));
+            first = earlier(first, self.first_past(key, sent));
             left = rest;
         }
         first
+    }
+
+    /// The first place under a key that ends past an offset. It takes logarithmic time.
+    fn first_past(&self, key: &Key, sent: u64) -> Option<Place>
+        ensures first { IsFirstPast (under self.now.lists key.now) sent result }
+    {
+        first_past(self.places(key), sent)
     }
 
     /// The places under a key.
@@ -128,24 +147,50 @@ impl Listings {
     }
 }
 
-/// Puts a place behind others, if it is not the last of them, and answers whether it was put.
-#[tactic(auto, using(crate::proofs::Listing::there_behind, crate::proofs::Listing::stays_behind, crate::proofs::Listing::only_behind))]
-fn push(places: &mut Seq<Place>, place: Place) -> Result<bool, Unlisted>
+/// Puts a place among others, in the order of the ends, if it is not the last of them, and counts it. Where memory lacks they are as
+/// they were.
+fn put(
+    alloc: Global,
+    places: &mut Seq<Place>,
+    count: &mut usize,
+    place: Place,
+) -> Result<(), NoMemory>
     requires order { InOrder places.old }
     ensures order { InOrder places.new }
     ensures there { OnOk result (Contains places.new place) }
     ensures stays { (x : APlace) → Contains places.old x → Contains places.new x }
     ensures only { (x : APlace) → Contains places.new x → Contains places.old x ⊎ (x ≡ place) }
+    ensures more { length places.old ≤ length places.new }
+    ensures one { length places.new ≤ length places.old + 1 }
+    ensures counted { count.new ≡ min (count.old + (length places.new - length places.old)) (2 ^ 64 - 1) }
+    ensures left { OnErr result (places.new ≡ places.old) }
 {
+    let before = *count;
     if is_last(places.as_slice(), place) {
-        return Ok(false);
+        return Ok(());
     }
-    if !may_follow(places.as_slice(), place) {
-        return Err(Unlisted::Order);
+    let at = count_passed(places.as_slice(), place.end);
+    match put_at(alloc, places, at, place) {
+        Ok(()) => {
+            *count = before.saturating_add(1);
+            Ok(())
+        }
+        Err(refused) => Err(refused),
     }
-    match places.push(place) {
-        Ok(()) => Ok(true),
-        Err(_) => Err(Unlisted::Memory),
+}
+
+/// Puts a place where so many of others stand before it. Where memory lacks they are as they were.
+fn put_at(alloc: Global, places: &mut Seq<Place>, at: usize, place: Place) -> Result<(), NoMemory>
+    requires bound { at ≤ length places.old }
+    ensures put { OnOk result (places.new ≡ insert places.old at place) }
+    ensures left { OnErr result (places.new ≡ places.old) }
+{
+    let mut items = replace(places, Seq::empty(alloc)).into_vec();
+    let put = items.insert(at, place);
+    *places = Seq::from_vec(items);
+    match put {
+        Ok(()) => Ok(()),
+        Err(_) => Err(AllocError),
     }
 }
 
@@ -156,27 +201,5 @@ fn is_last(places: &[Place], place: Place) -> bool
     match places.last() {
         Some(last) => last.start == place.start && last.end == place.end,
         None => false,
-    }
-}
-
-/// Whether a place may stand behind others.
-fn may_follow(places: &[Place], place: Place) -> bool
-    requires order { InOrder places.now }
-    ensures follows { IsTrue result → InOrder (places.now ++ place ∷ []) }
-{
-    match places.last() {
-        Some(last) => last.end <= place.start && place.start < place.end,
-        None => place.start < place.end,
-    }
-}
-
-impl From<AllocError> for Unlisted {
-    ghost use Rattle.std.specs.Prelude.{◌≡◌};
-    ghost use Rattle.sr_survey_places.specs.declared.listed.Unlisted.TheVariants.{Memory};
-
-    ghost from_gives = { λ _ e. e ≡ Memory };
-
-    fn from(_refused: AllocError) -> Unlisted {
-        Unlisted::Memory
     }
 }

@@ -7,7 +7,7 @@ ghost use Rattle.sr_survey_places.specs.Inner.Search.{InOrder, IsOwn, IsFirstPas
 use crate::place::Place;
 
 /// How many of the places end at an offset or before it. It takes logarithmic time.
-fn count_passed(places: &[Place], sent: u64) -> usize
+pub(crate) fn count_passed(places: &[Place], sent: u64) -> usize
     requires { InOrder places.now }
     ensures bound { result ≤ length places.now }
     ensures passed { AllWithin (λ p. p.end ≤ sent) places.now 0 result }
@@ -27,7 +27,7 @@ fn count_before(places: &[Place], end: u64) -> usize
 }
 
 /// Whether a place is among others, by its end. It takes logarithmic time.
-fn is_own(own: &[Place], place: Place) -> bool
+pub(crate) fn is_own(own: &[Place], place: Place) -> bool
     requires { InOrder own.now }
     ensures own { IsTrue result → IsOwn own.now place }
     ensures other { result ≡ false → ¬ (IsOwn own.now place) }
@@ -36,25 +36,21 @@ fn is_own(own: &[Place], place: Place) -> bool
     at < own.len() && own[at].end == place.end
 }
 
-/// The first of the places that ends past an offset and is not among others. It takes logarithmic time, and as much again for each that it leaves out.
-pub(crate) fn first_past(places: &[Place], own: &[Place], sent: u64) -> Option<Place>
-    requires places { InOrder places.now }
-    requires own { InOrder own.now }
-    ensures first { IsFirstPast places.now own.now sent result }
+/// The first of the places that ends past an offset. It takes logarithmic time.
+pub(crate) fn first_past(places: &[Place], sent: u64) -> Option<Place>
+    requires { InOrder places.now }
+    ensures first { IsFirstPast places.now sent result }
 {
-    let mut at = count_passed(places, sent);
-    'places: while at < places.len() {
-        let place = places[at];
-        if !is_own(own, place) {
-            return Some(place);
-        }
-        at += 1;
+    let at = count_passed(places, sent);
+    if at < places.len() {
+        Some(places[at])
+    } else {
+        None
     }
-    None
 }
 
 /// The one of two places that ends first, where there are two.
-pub fn earlier(place: Option<Place>, other: Option<Place>) -> Option<Place>
+pub(crate) fn earlier(place: Option<Place>, other: Option<Place>) -> Option<Place>
     ensures earlier { result ≡ earlier place other }
 {
     match (place, other) {

@@ -1,5 +1,5 @@
 -- What a survey does with the statements of an entry.
-use Rattle.std.specs.Prelude.{◌≡◌, ⊤, ℕ, ◌≤◌, true, List, [], Option, Some, None, max}
+use Rattle.std.specs.Prelude.{◌≡◌, ◌⊎◌, ⊤, ℕ, ◌≤◌, true, false, List, [], ◌∷◌, Option, Some, None, max}
 use Rattle.std.specs.BTreeMap as tree
 use Rattle.std.specs.List.{All, Contains, AllByRecursion}
 use Rattle.sr_ast.specs.declared.create.SubscriptionRule.{SubscriptionRule}
@@ -12,7 +12,7 @@ use Rattle.sr_survey.specs.Inner.Alike.{touched}
 use Rattle.sr_survey.specs.Inner.Keyed.{keys_of}
 use Rattle.sr_survey.specs.declared.office.Office.{Office}
 use Rattle.sr_survey.specs.declared.survey.Survey.{Survey}
-use Rattle.sr_survey_places.specs.Inner.Listed.{under, is_begun}
+use Rattle.sr_survey_places.specs.Inner.Listed.{under, is_begun, count_of}
 use Rattle.sr_survey_places.specs.declared.key.Key.{Key}
 
 -- offices by their users' names
@@ -72,6 +72,17 @@ abbrev pub IsNoted : Survey → Option Stmt → Type 0
 IsNoted s None = ⊤
 IsNoted s (Some statement) = AreNoted s (started_by statement)
 
+-- a key of the subscription that is started, if there is one, is its user's
+abbrev pub IsOfRule : Option SubscriptionRule → Name → Key → Type 0
+IsOfRule None user k = ⊥
+IsOfRule (Some r) user k = (user ≡ r.user) × Contains (keys_of r.publication r.value) k
+
+-- a key of a subscription that one of several statements starts
+abbrev pub IsStarted : List (Option Stmt) → Name → Key → Type 0
+IsStarted [] user k = ⊥
+IsStarted (None ∷ meant) user k = IsStarted meant user k
+IsStarted (Some s ∷ meant) user k = IsOfRule (started_by s) user k ⊎ IsStarted meant user k
+
 -- keys that were a user's are his still, and keys that were begun stay so
 pub record KeepsKeys (old new : Survey) : Type 0 where
   pub his : (user : Name) (k : Key) → Contains (keys_at old.offices user) k → Contains (keys_at new.offices user) k
@@ -84,11 +95,17 @@ pub record StillKnows (old new : Survey) : Type 0 where
   pub rises : (user : Name) → since_of old user ≤ since_of new user
   pub begin : new.begin ≡ old.begin
   pub end : new.end ≡ old.end
+  pub most : new.most ≡ old.most
+  pub count : count_of new.places.lists ≡ count_of old.places.lists
   pub given_up : new.given_up ≡ old.given_up
 
--- a survey follows statements that end at an offset: its catalog goes on, whom they touch is shown another one since, and what they start is noted
+-- a survey follows statements that end at an offset: its catalog goes on, whom they touch is shown another one since and nobody else
+-- is, and what they start is noted and nothing else
 pub record Follows (old : Survey) (meant : List (Option Stmt)) (at : ℕ) (new : Survey) : Type 0 where
   pub catalog : new.catalog ≡ catalog_after old.catalog meant
+  pub others : (user : Name) → touched user meant ≡ false → since_of new user ≡ since_of old user
   pub touched : (user : Name) → touched user meant ≡ true → at ≤ since_of new user
+  pub bound : (user : Name) → since_of new user ≤ max (since_of old user) at
   pub noted : AllByRecursion (IsNoted new) meant
+  pub only : (user : Name) (k : Key) → Contains (keys_at new.offices user) k → Contains (keys_at old.offices user) k ⊎ IsStarted meant user k
   pub knows : StillKnows old new

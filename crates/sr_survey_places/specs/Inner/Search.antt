@@ -1,5 +1,5 @@
 -- Places in order, and the first of them that is not left out.
-use Rattle.std.specs.Prelude.{◌≡◌, ⊤, ℕ, ◌≤◌, ◌<◌, cond, nat_le, List, [], Option, Some, None, length, slice_index_or}
+use Rattle.std.specs.Prelude.{◌≡◌, ℕ, ◌≤◌, ◌<◌, cond, nat_le, List, [], Option, Some, None, length, slice_index_or}
 use Rattle.std.specs.List.{Contains}
 use Rattle.std.specs.List.Sorted.{IsNonDecreasingBy}
 use Rattle.sr_survey_places.specs.declared.place.Place.{Place}
@@ -17,10 +17,10 @@ InOrder places = IsNonDecreasingBy (λ p. p.end) places
 abbrev pub IsOwn : List Place → Place → Type 0
 IsOwn own p = (k : ℕ) × (k < length own) × ((slice_index_or own k p).end ≡ p.end)
 
--- the first place that ends past an offset and is not among others; none only where there is none
-abbrev pub IsFirstPast : List Place → List Place → ℕ → Option Place → Type 0
-IsFirstPast places own sent None = (x : Place) → Contains places x → sent < x.end → IsOwn own x
-IsFirstPast places own sent (Some p) = Contains places p × (sent < p.end) × ¬ (IsOwn own p) × ((x : Place) → Contains places x → sent < x.end → ¬ (IsOwn own x) → p.end ≤ x.end)
+-- the first place that ends past an offset; none only where there is none
+abbrev pub IsFirstPast : List Place → ℕ → Option Place → Type 0
+IsFirstPast places sent None = (x : Place) → Contains places x → x.end ≤ sent
+IsFirstPast places sent (Some p) = Contains places p × (sent < p.end) × ((x : Place) → Contains places x → sent < x.end → p.end ≤ x.end)
 
 -- the one that ends first
 abbrev pub earlier : Option Place → Option Place → Option Place

@@ -1,11 +1,21 @@
-use Rattle.std.proofs.Common.{sym}
+use Rattle.std.proofs.Common.{OnOk, refl, subst}
+use Rattle.sr_survey.specs.Inner.Keyed.{change_keys}
 use Rattle.sr_survey.proofs.Listing.{change_some}
 use Rattle.sr_survey_places.proofs.Listing.{on_ok}
+use Rattle.sr_survey_places.specs.Inner.Listed.{IsListedUnder}
 use Rattle.sr_survey.proofs.rows.list_change.Goals as goal
 
-pub returns : goal.returns
-returns c = record {
-  listed = on_ok c.list_both-listed.result c.list_both-listed.ensures.listed
-      (λ h. change_some c.args.lists.now.lists c.list_both-listed.new.lists.lists c.args.place c.args.catalog.now c.args.change.now c.in-Some.table.now c.in_ok-routes.routes.table c.in_ok-routes.routes.articles
-      (sym c.in-Some.ensures.table) c.in_ok-routes.ensures.table c.in_ok-routes.ensures.articles h);
+pub returns-in-Some : goal.returns-in-Some
+returns-in-Some c =
+    let routes = c.in-Some.routes.now in
+    let is = c.in-Some.ensures.route in
+    record {
+      listed = on_ok c.list_both.result c.list_both.ensures.listed
+          (λ h. change_some c.args.lists.now.lists c.list_both.new.lists.lists c.args.place c.args.catalog.now c.args.change.now routes.table routes.table routes.articles is.table refl is.articles h);
+    }
+
+pub returns-in-None : goal.returns-in-None
+returns-in-None c = record {
+  listed = subst (λ l. OnOk c.list_change_anew.result (IsListedUnder c.args.lists.now.lists (change_keys l c.args.change.now) c.args.place c.list_change_anew.new.lists.lists)) c.catalog.ensures.catalog
+      c.list_change_anew.ensures.listed;
 }

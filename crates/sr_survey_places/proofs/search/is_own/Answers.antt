@@ -1,4 +1,3 @@
-use Rattle.std.proofs.Common.{◌≡◌, arith}
 use Rattle.std.proofs.lemmas.Bool.{eqb-false}
 use Rattle.sr_survey_places.proofs.Finding.{not_own}
 use Rattle.sr_survey_places.proofs.search.is_own.Goals as goal

@@ -1,29 +1,37 @@
-use Rattle.std.proofs.Common.{◌≡◌, [], ◌∷◌, ◌++◌, refl, sym, ap, subst, append_assoc, rules, ◌∙◌}
-use Rattle.std.proofs.lemmas.List.{nil_from_length, append-nil}
-use Rattle.sr_survey_places.specs.Inner.Listed.{IsFirstAmong}
-use Rattle.sr_survey_places.proofs.First.{first_none, first_more}
+use Rattle.std.proofs.Common.{◌<◌, ◌++◌, Some, arith, rules, subst}
+use Rattle.sr_survey_places.specs.Inner.Search.{IsOwn}
+use Rattle.sr_survey_places.specs.Inner.Listed.{IsFirstUnder}
+use Rattle.sr_survey_places.proofs.Among.{none_own, own_more, among_found, among_none}
 use Rattle.sr_survey_places.proofs.listings.Listings.first_among.Goals as goal
 
-pub keys-init : goal.keys-init
-keys-init c = ([], refl, first_none c.args.self.now.lists c.args.from.now c.args.sent)
+pub places-init : goal.places-init
+places-init c = record { from = omega arith; own = none_own c.args.self.now.lists (c.args.keys.now ++ c.args.others.now) c.args.from.now c.args.sent }
 
-pub keys-preserved : goal.keys-preserved
-keys-preserved c =
+pub returns-then-not-is_own : goal.returns-then-not-is_own
+returns-then-not-is_own c =
     let lists = c.args.self.now.lists in
+    let keys = c.args.keys.now ++ c.args.others.now in
     let from = c.args.from.now in
-    let done = c.keys.invariant.0 in
-    let key = c.in-Some.key.now in
-    let e : c.keys.left.now ≡ key ∷ c.in-Some.rest.now = search rules in (
-      done ++ key ∷ [],
-      append_assoc done (key ∷ []) c.in-Some.rest.now ∙ ap (λ xs. done ++ xs) (sym e) ∙ c.keys.invariant.1,
-      subst (λ o. IsFirstAmong lists (done ++ key ∷ []) from c.args.sent o) (sym c.earlier-first.ensures.earlier)
-          (first_more lists from c.args.sent done key c.keys.first c.first_past.result c.keys.invariant.2 c.first_past.ensures.first),
-    )
+    record {
+      first = among_found lists keys from c.args.sent c.places.passed c.in-Some.place c.places.invariant.from c.in-Some.ensures.first
+          (subst (λ own. IsOwn own c.in-Some.place → ⊥) c.places-own.ensures.places (c.is_own.ensures.other (search rules))) c.places.invariant.own;
+    }
+
+pub places-preserved : goal.places-preserved
+places-preserved c =
+    let lists = c.args.self.now.lists in
+    let keys = c.args.keys.now ++ c.args.others.now in
+    let from = c.args.from.now in
+    let first : IsFirstUnder lists keys c.places.passed (Some c.in-Some.place) = c.in-Some.ensures.first in
+    let past : c.places.passed < c.in-Some.place.end = first.1 in
+    record {
+      from = omega arith;
+      own = own_more lists keys from c.args.sent c.places.passed c.in-Some.place first
+          (subst (λ own. IsOwn own c.in-Some.place) c.places-own.ensures.places (c.is_own.ensures.own (search rules))) c.places.invariant.own;
+    }
 
 pub returns : goal.returns
 returns c =
     let lists = c.args.self.now.lists in
-    let done = c.keys.invariant.0 in
-    let none : c.keys.left.now ≡ [] = nil_from_length _ c.in_default.ensures.cases in
-    let all : done ≡ c.args.keys.now = sym (append-nil done) ∙ ap (λ xs. done ++ xs) (sym none) ∙ c.keys.invariant.1 in
-    record { first = subst (λ ks. IsFirstAmong lists ks c.args.from.now c.args.sent c.keys.first) all c.keys.invariant.2 }
+    let keys = c.args.keys.now ++ c.args.others.now in
+    record { first = among_none lists keys c.args.from.now c.args.sent c.places.passed c.in_default.ensures.first c.places.invariant.own }

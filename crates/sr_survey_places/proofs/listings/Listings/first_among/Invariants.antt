@@ -1,10 +1,12 @@
-use Rattle.std.proofs.Common.{◌≡◌, ◌++◌, List, length}
-use Rattle.sr_survey_places.specs.Inner.Listed.{IsFirstAmong}
-use Rattle.sr_survey_places.specs.declared.key.Key.{Key}
+use Rattle.std.proofs.Common.{◌≤◌, ◌++◌, ◌-◌, ◌^◌}
+use Rattle.sr_survey_places.proofs.Among.{AreOwn}
 use Rattle.sr_survey_places.proofs.listings.Listings.first_among.Given as goal
 
-abbrev pub invariant-keys : goal.invariant-keys
-invariant-keys l = (done : List Key) × (done ++ l.left ≡ l.keys) × IsFirstAmong l.self.lists done l.from l.sent l.first
+abbrev pub invariant-places : goal.invariant-places
+invariant-places l = record {
+  from : l.sent ≤ l.passed;
+  own : AreOwn l.self.lists (l.keys ++ l.others) l.from l.sent l.passed;
+}
 
-abbrev pub decreases-keys : goal.decreases-keys
-decreases-keys l = length l.left
+abbrev pub decreases-places : goal.decreases-places
+decreases-places l = 2 ^ 64 - l.passed

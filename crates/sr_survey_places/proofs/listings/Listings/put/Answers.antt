@@ -1,0 +1,49 @@
+use Rattle.std.proofs.Common.{◌≡◌, ◌-◌, ◌^◌, min, length, rules, sym, ap, subst, is_some}
+use Rattle.std.specs.BTreeMap as tree
+use Rattle.sr_survey_places.specs.Inner.Search.{InOrder, places_in}
+use Rattle.sr_survey_places.specs.Inner.Keys.{key_cmp}
+use Rattle.sr_survey_places.specs.Inner.Listed.{count_of}
+use Rattle.sr_survey_places.proofs.Listing.{stays_in_order, count_put, counted_more, counted_bound, listed_more, listed_nothing, put_back, on_ok, on_err}
+use Rattle.sr_survey_places.proofs.listings.Listings.put.Goals as goal
+
+pub put-requires : goal.put-requires
+put-requires c = record { order = subst (λ o. InOrder (places_in o)) (sym c.in-Some.ensures.value) (c.args.self.now.in_order c.args.key.now) }
+
+pub invariant_of-self : goal.invariant_of-self
+invariant_of-self c =
+    let lists = c.args.self.now.lists in
+    let new = c.get_mut.follows.lender c.put.new.places in
+    let holds = c.get_mut.follows.holds c.put.new.places in
+    let counts = count_put lists new c.args.key.now c.in-Some.places.now c.put.new.places (sym c.in-Some.ensures.value) holds.0 in
+    record {
+      in_order = stays_in_order lists new c.args.key.now c.put.new.places (holds.3 (search rules)).0 c.put.ensures.order c.args.self.now.in_order;
+      counted = counted_more (count_of lists) (count_of new) (length c.in-Some.places.now) (length c.put.new.places) c.args.self.now.count c.put.new.count (2 ^ 64 - 1) counts c.put.ensures.more
+          c.args.self.now.counted c.put.ensures.counted;
+    }
+
+pub invariant_of-self-in-None : goal.invariant_of-self-in-None
+invariant_of-self-in-None c = record {
+  in_order = λ q. subst (λ m. InOrder (places_in (tree.get key_cmp m q))) (sym c.get_mut.follows.holds-at-none) (c.args.self.now.in_order q);
+  counted = subst (λ m. c.args.self.now.count ≡ min (count_of m) (2 ^ 64 - 1)) (sym c.get_mut.follows.holds-at-none) c.args.self.now.counted;
+}
+
+pub returns-in-Some : goal.returns-in-Some
+returns-in-Some c =
+    let lists = c.args.self.now.lists in
+    let new = c.get_mut.follows.lender c.put.new.places in
+    let holds = c.get_mut.follows.holds c.put.new.places in
+    let was = sym c.in-Some.ensures.value in
+    let put = (holds.3 (search rules)).0 in
+    let counts = count_put lists new c.args.key.now c.in-Some.places.now c.put.new.places was holds.0 in
+    record {
+      listed = on_ok c.put.result c.put.ensures.there
+          (λ there. listed_more lists new c.args.key.now c.args.place c.in-Some.places.now c.put.new.places was put
+          (counted_bound (count_of lists) (count_of new) (length c.in-Some.places.now) (length c.put.new.places) counts c.put.ensures.one) there c.put.ensures.stays c.put.ensures.only);
+      left = on_err c.put.result c.put.ensures.left (λ back. put_back lists new c.args.key.now c.in-Some.places.now c.put.new.places was put back holds.0);
+    }
+
+pub returns-in-None : goal.returns-in-None
+returns-in-None c = record {
+  listed = listed_nothing c.args.self.now.lists c.get_mut.follows.lender-at-none c.args.key.now c.args.place c.get_mut.follows.holds-at-none (ap is_some (sym c.in-None.ensures.value)) c.requires.there;
+  left = tt;
+}
