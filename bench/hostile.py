@@ -5,10 +5,10 @@ import random
 
 import common
 import logs
+import offices
 import opening
 from beside import Growth, milliseconds
 from exchange import agent
-from offices import nobodys
 
 MIB = 1024 * 1024
 TWO_KEYS = b"CREATE TABLE t (id INTEGER, n INTEGER, PRIMARY KEY (id, n));\n"
@@ -138,7 +138,12 @@ def filled_and_emptied(times, rows=1_000):
 
 def idle(bench, partners):
     """A run with nothing to do, where nothing was ever sent."""
-    return milliseconds(agent(bench, nobodys(bench, partners, bench.size(10_000, 500)), "hq", "-s"))
+    return milliseconds(agent(bench, offices.nobodys(bench, partners, bench.size(10_000, 500)), "hq", "-s"))
+
+
+def sent(bench, folder):
+    """A run that sends, from a copy of a folder."""
+    return milliseconds(agent(bench, offices.anew(bench, folder), "hq", "-s"))
 
 
 def grows(bench):
@@ -161,4 +166,17 @@ def grows(bench):
         Growth("script: references in one CREATE TRIGGER", half // 10, lambda many: ran(bench, f"trigger-{many}", trigger(many))),
         Growth("script: subscriptions made and started", bench.size(2_048, 512), lambda many: ran(bench, f"subscribed-{many}", subscriptions(many))),
         Growth("agent: partners with nothing to do, never sent", bench.size(500, 20), lambda partners: idle(bench, partners)),
+        *of_offices(bench),
+    ]
+
+
+def of_offices(bench):
+    """The jobs of a head office with twice the partners, and with twice the log."""
+    partners, rows = bench.size(500, 10), bench.size(10_000, 500)
+    return [
+        Growth("agent: partners, first send of 10,000 rows", partners, lambda count: sent(bench, offices.unsent(bench, count, rows))),
+        Growth("agent: partners, one new row each", partners, lambda count: sent(bench, offices.one_each(bench, count, rows))),
+        Growth("agent: partners, a letter from each", partners, lambda count: offices.receiving(bench, count).ours()),
+        Growth("agent: rows that came in, 1,000 partners", rows, lambda count: milliseconds(agent(bench, offices.taken(bench, 2 * partners, count), "hq", "-s"))),
+        Growth("agent: rows of a first send, 1,000 partners", rows, lambda count: sent(bench, offices.unsent(bench, 2 * partners, count))),
     ]

@@ -29,17 +29,18 @@ class Differing:
 
     tables = TABLES
 
-    def __init__(self, program, folder, seed, tree):
+    def __init__(self, program, folder, seed, tree, present=None):
+        """`present` are the databases that are there, where some of the tree are but partners of others."""
         self.drawing = Drawing(seed)
         self.tree = tree
-        self.world = World(program, folder, self.drawing, tree)
+        self.world = World(program, folder, self.drawing, present or tree)
         self.databases = self.world.databases
         self.scripts = Scripts(self.drawing, self.databases)
 
     def begin(self):
         """Makes the databases with their tables, partners, publications and triggers."""
         self.world.begin()
-        for publisher in self.tree:
+        for publisher in self.databases:
             self.world.script(publisher, self.make_tables() + self.drawing.shuffled(self.grants(publisher)))
             self.publish(publisher)
             self.make_triggers(publisher, self.drawing.below(4))
@@ -180,7 +181,7 @@ class Conflicting(Differing):
     def begin(self):
         """Makes the databases; those below subscribe to partitions."""
         self.world.begin()
-        for publisher in self.tree:
+        for publisher in self.databases:
             articles = [self.article(publisher, name) for name in self.tables]
             self.world.script(publisher, [*self.make_tables(), *self.grants(publisher), CreatePublication("p", articles)])
             for user, is_above in self.databases[publisher].catalog.users.items():

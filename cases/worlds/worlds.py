@@ -12,11 +12,14 @@ import tempfile
 import demonstration
 from forging import Forging
 from kinds import TREES, Conflicting, Cutting, Differing
+from offices import PRESENT, TREE, Serving
 from sizes import FIXED
 from world import Difference
 
 KINDS = [Differing, Conflicting, Cutting, Forging]
 WORLDS = len(KINDS) * len(TREES)
+# worlds of a head office with many partners, one for each so many others
+SERVED = 8
 ROUNDS = 80
 # a seed and a count each; the logs of 1,001 statements have more than 9,000 bytes
 DEMONSTRATIONS = [(7, 0), (1, 101), (11, 1001), (2**64 - 1, 301)]
@@ -26,14 +29,24 @@ def live(program, number):
     """One world from its beginning on; answers how many runs it took, and the difference that ended it or None."""
     kind = KINDS[number // len(TREES) % len(KINDS)]
     with tempfile.TemporaryDirectory() as folder:
-        drawn = kind(program, folder, number, TREES[number % len(TREES)])
-        try:
-            drawn.begin()
-            for _ in range(ROUNDS):
-                drawn.round()
-        except Difference as difference:
-            return drawn.world.runs, f"world {number}, {kind.__name__.lower()}, {difference}"
-        return drawn.world.runs, None
+        return lived(kind(program, folder, number, TREES[number % len(TREES)]), number)
+
+
+def served(program, number):
+    """One world of a head office with many partners, as `live` does it."""
+    with tempfile.TemporaryDirectory() as folder:
+        return lived(Serving(program, folder, number, TREE, PRESENT), number)
+
+
+def lived(drawn, number):
+    """A world that was drawn with a number, from its beginning on: how many runs it took, and the difference that ended it or None."""
+    try:
+        drawn.begin()
+        for _ in range(ROUNDS):
+            drawn.round()
+    except Difference as difference:
+        return drawn.world.runs, f"world {number}, {type(drawn).__name__.lower()}, {difference}"
+    return drawn.world.runs, None
 
 
 def fixed(program, build):
@@ -55,10 +68,11 @@ def shown(program, seed, count):
 
 
 def lives(program, count):
-    """The demonstrations, the fixed worlds, and so many drawn ones."""
+    """The demonstrations, the fixed worlds, and so many drawn ones, with as many of a head office as belong to them."""
     yield from (shown(program, seed, count_of) for seed, count_of in DEMONSTRATIONS)
     yield from (fixed(program, build) for build in FIXED)
     yield from (live(program, number) for number in range(count))
+    yield from (served(program, number) for number in range(-(-count // SERVED)))
 
 
 def main(arguments):
@@ -74,7 +88,7 @@ def main(arguments):
         if difference is not None:
             print(f"worlds: {difference}")
             differences += 1
-    print(f"worlds: {count}, {len(FIXED)} of fixed sizes, {len(DEMONSTRATIONS)} demonstrations, {runs} runs, {len(TREES)} trees, {differences} differences")
+    print(f"worlds: {count}, {-(-count // SERVED)} of a head office with {len(TREE) - 1} partners, {len(FIXED)} of fixed sizes, {len(DEMONSTRATIONS)} demonstrations, {runs} runs, {len(TREES)} trees, {differences} differences")
     return 1 if differences else 0
 
 

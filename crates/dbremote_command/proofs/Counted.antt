@@ -9,7 +9,7 @@ use Rattle.sr_database.specs.Views.{View}
 use Rattle.sr_database_files.specs.declared.fault.DatabaseFault.{DatabaseFault}
 use Rattle.sr_database_files.specs.declared.fault.DatabaseFault.TheVariants.{Missing, Exists, Damaged, Disk, Full, Long, Memory}
 use Rattle.sr_database_history.specs.Recorded.{Recorded}
-use Rattle.sr_session.specs.Reached.{IsBroken}
+use Rattle.sr_database.specs.Broken.{IsBroken}
 use Rattle.sr_session.specs.declared.fault.SessionFault.{SessionFault}
 use Rattle.sr_session.specs.declared.fault.SessionFault.TheVariants as session
 use Rattle.sr_site.specs.Causes.{DiskStays}

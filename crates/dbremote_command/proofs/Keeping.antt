@@ -13,7 +13,7 @@ use Rattle.sr_database_files.specs.declared.fault.DatabaseFault.{DatabaseFault}
 use Rattle.sr_database_files.specs.declared.fault.DatabaseFault.TheVariants as store
 use Rattle.sr_database_history.specs.Recorded.{Recorded}
 use Rattle.sr_session_script.specs.Acts.{entries_of}
-use Rattle.sr_session.specs.Reached.{IsBroken}
+use Rattle.sr_database.specs.Broken.{IsBroken}
 use Rattle.sr_session.specs.Runs.{RanScript}
 use Rattle.sr_site.specs.Causes.{Rose}
 use Rattle.sr_site.specs.Files.{Files}

@@ -13,7 +13,7 @@ use Rattle.sr_catalog_schema.specs.declared.fault.DdlFault.{DdlFault}
 use Rattle.sr_catalog_schema.specs.declared.fault.DdlFault.TheVariants as ddl
 use Rattle.sr_session_script.specs.declared.refusal.Refusal.{Refusal}
 use Rattle.sr_session_script.specs.declared.refusal.Refusal.TheVariants.{Ddl, Dml}
-use Rattle.sr_session.specs.Reached.{IsBroken}
+use Rattle.sr_database.specs.Broken.{IsBroken}
 use Rattle.sr_session.specs.declared.fault.SessionFault.{SessionFault}
 use Rattle.sr_session.specs.declared.fault.SessionFault.TheVariants as session
 use Rattle.sr_site.specs.Causes.{Rose}

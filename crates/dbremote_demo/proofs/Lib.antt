@@ -1,3 +1,4 @@
+mod Alone
 mod Chains
 mod Counted
 mod Endings

@@ -1,4 +1,5 @@
 pub mod Courses
+pub mod LeftAlone
 pub mod Demonstrations
 pub mod Runs
 pub mod Scripts

@@ -43,7 +43,8 @@ use std::mem::forget;
 /// is as judging has it, in the state that those before it left: a conflict is decided by the triggers of the database above, and by nothing else.
 /// Each entry of the log goes on to say what is so, where each did before: a Sync the rows that its user sees, a Pass the changes that its statement
 /// makes; and the offsets in each partner's book are in order, and the counts of his asks rise. And all that the run does are steps that its database may
-/// make in a world of databases, by its own history and the messages that were put: so it keeps a good world good, whatever the others do. Between two
+/// make in a world of databases, by its own history and the messages that were put: so it keeps a good world good, whatever the others do; and there, at
+/// each key that a database below has not touched, this holds exactly the row of the view of the one above, as of the last transaction that it took. Between two
 /// of these steps, and at the return where no call of the disk failed, whatever a crash leaves is the same history; and behind a put nothing is done to
 /// the mail but further puts.
 #[tactic(auto, using(crate::proofs::Statuses::of_runs, crate::proofs::Completing::run_complete, crate::proofs::Completing::run_caught_up, crate::proofs::Partners::partners_kept, crate::proofs::Partners::puts_true, crate::proofs::Partners::decided_kept, crate::proofs::Partners::good_kept, crate::proofs::Partners::steps_made))]

@@ -24,3 +24,4 @@ pub mod Purged
 pub mod Ordering
 pub mod OrderSteps
 pub mod OrderStops
+pub mod Least

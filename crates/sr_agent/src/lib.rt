@@ -15,6 +15,7 @@ mod receiving;
 mod reporting;
 mod running;
 mod sending;
+mod sharing;
 mod telling;
 
 pub use fault::AgentFault;

@@ -15,6 +15,7 @@ use crate::partner::{Partner, names_of, quiet_partners};
 use crate::progress::Progress;
 use crate::receiving::receive_all;
 use crate::sending::send_in_order;
+use crate::sharing::shared_by;
 use sr_base::Name;
 use sr_database::Database;
 use sr_site::{Sink, Site};
@@ -127,5 +128,8 @@ fn send_pass<S: Site, O: Sink>(
     if !options.send {
         return Ok(());
     }
-    send_in_order(alloc, db, site, options.length, partners, sink)
+    let mut shared = shared_by(db, partners);
+    let outcome = send_in_order(alloc, db, site, options.length, partners, &mut shared, sink);
+    drop(shared);
+    outcome
 }

@@ -1,4 +1,5 @@
 pub mod Books
+pub mod Broken
 pub mod Causes
 pub mod Commits
 pub mod Databases

@@ -1,6 +1,6 @@
 -- The window that is to be tried, in the inbox and among message files.
-use Rattle.std.proofs.Common.{◌≡◌, ℕ, ◌<◌, Bool, true, false, ◌||◌, cond, if◌then◌else◌, List, [], ◌∷◌, ◌++◌, get_or, Option, Some, None, Result, Ok, Err, refl, sym, ap, subst, ◌∙◌, arith}
-use Rattle.std.specs.Prelude.{IfNone, IfOk, map}
+use Rattle.std.proofs.Common.{◌≡◌, ℕ, ◌<◌, Bool, true, false, ◌||◌, cond, if◌then◌else◌, List, [], ◌∷◌, ◌++◌, get_or, length, Option, Some, None, Result, Ok, Err, refl, sym, ap, subst, ◌∙◌, arith}
+use Rattle.std.specs.Prelude.{IfNone, IfOk, MatchOption, map}
 use Rattle.std.specs.List.{AllByRecursion, Contains}
 use Rattle.std.proofs.lemmas.List.{ext_get_or}
 use Rattle.sr_base.specs.declared.offset.Offset.{Offset}
@@ -157,3 +157,18 @@ pub not_read_answer : {A E : Type 0} (pairs : Pairs) (w : Window) (bytes : List 
 not_read_answer pairs w bytes (Ok None) assembled none = not_read pairs w bytes assembled none
 not_read_answer pairs w bytes (Ok (Some x)) assembled none = tt
 not_read_answer pairs w bytes (Err e) assembled none = tt
+
+-- ---- answers of calls
+
+-- an answer that is no Some is None
+pub none_there : {A : Type 0} (o : Option A) (P : Type 0) (Q : A → Type 0) → ((x : A) → ¬ (o ≡ Some x)) → MatchOption o P Q → P
+none_there None P Q none is = is
+none_there (Some x) P Q none is = absurd (none x refl)
+
+pub none_holds : {A : Type 0} (o : Option A) (P : Type 0) → ((x : A) → ¬ (o ≡ Some x)) → IfNone o P → P
+none_holds None P none is = is
+none_holds (Some x) P none is = absurd (none x refl)
+
+pub no_length : (ts : List Transaction) → length ts ≡ 0 → ts ≡ []
+no_length [] none = refl
+no_length (t ∷ ts) none = absurd (omega (arith, none))

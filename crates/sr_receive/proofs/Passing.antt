@@ -1,208 +1,49 @@
--- A pass: notes, windows, and what is raised after them.
-use Rattle.std.proofs.Common.{◌≡◌, ◌⊎◌, ℕ, ◌+◌, List, [], ◌∷◌, ◌++◌, length, Option, Some, None, Result, Ok, Err, refl, sym, ap, subst, ◌∙◌, append_assoc, inl, inr, arith}
-use Rattle.std.specs.Prelude.{IfErr, IfOk, OnErr, OnOk, map}
+-- A pass: the notes that come first, windows, and what is raised behind them.
+use Rattle.std.proofs.Common.{◌≡◌, ◌+◌, ℕ, ◌-◌, ◌^◌, List, [], ◌∷◌, ◌++◌, length, Option, Some, None, Result, Ok, Err, refl, sym, ap, subst, ◌∙◌, append_assoc, inl, inr, arith}
+use Rattle.std.specs.Prelude.{IfOk, OnErr, map, min}
 use Rattle.std.specs.Option.{option_map}
 use Rattle.std.proofs.lemmas.List.{append-nil}
-use Rattle.sr_base.specs.declared.offset.Offset.{Offset}
 use Rattle.sr_book.specs.Entries.{Name}
 use Rattle.sr_book.specs.declared.book.Book.{Book}
 use Rattle.sr_book.specs.declared.note.Note.{Note}
+use Rattle.sr_catalog_schema.specs.declared.user.User.{User}
 use Rattle.sr_database.specs.Books.{book_in}
-use Rattle.sr_database.specs.Views.{View, committed}
+use Rattle.sr_database.specs.Databases.{IsOf}
+use Rattle.sr_database.specs.Views.{committed}
+use Rattle.sr_database_did.specs.Inner.Did.{PlaceView, Did}
+use Rattle.sr_database_did.specs.Inner.Effects.{Effect, entered, End, whole, asked, entries, mail_behind, trace, under_way}
+use Rattle.sr_database_did.proofs.Joins.{did_on, entries_on, mail_on, trace_then}
 use Rattle.sr_database_history.specs.Folds.{State, next, state_from}
 use Rattle.sr_database_history.specs.Recorded.{Recorded, note}
 use Rattle.sr_database_history.proofs.Joined.{state_from-append}
+use Rattle.sr_database_meaning.specs.Events.{Event, commit}
+use Rattle.sr_database_meaning.specs.Inner.Events.{AreQuiet}
+use Rattle.sr_mail.specs.Inboxes.{Gathered}
 use Rattle.sr_mail.specs.declared.window.Window.{Window}
-use Rattle.sr_catalog_schema.specs.declared.user.User.{User}
-use Rattle.sr_site.specs.Causes.{DiskStays}
 use Rattle.sr_site.specs.Happenings.{Happening, mail_in}
-use Rattle.sr_site.specs.Seen.{Seen}
-use Rattle.sr_receive.specs.Acts.{ReceiveAct, PassState, stand_of, AreActs, entries_of, mail_after}
 use Rattle.sr_receive_gather.specs.Bags.{filed_of, Holds, IsPartnerMail}
-use Rattle.sr_receive.specs.Entering.{IsReady, Reached}
-use Rattle.sr_receive.specs.Inner.Entering.{CommitStop, NotesStop}
 use Rattle.sr_receive_gather.specs.Greatest.{asks, confirms, has_gap, raises}
 use Rattle.sr_receive_gather.specs.MessageFiles.{MessageFile}
-use Rattle.sr_receive.specs.Passes.{HasRaised, IsMailAt, IsStart, StoppedAtEnd, StoppedAtNotes, StoppedAtWindows, StoppedBehind, StoppedFrom, StopsAmong, act_reports, begun_by, first_notes, first_of, gap_report, note_entries}
-use Rattle.sr_receive.specs.Inner.Passes.{IsDeviceFault, PassedBehind, PassedFrom, PassedPartnerMail, StoppedPartnerMail}
-use Rattle.sr_receive.specs.Inner.Takings.{StandsThere, StopsWith, TriedAll}
+use Rattle.sr_receive_gather.specs.Windows.{NoneLeads}
 use Rattle.sr_receive_gather.specs.declared.bag.Filed.{Filed}
 use Rattle.sr_receive_gather.specs.declared.bag.PartnerMail.{PartnerMail}
 use Rattle.sr_receive_gather.specs.declared.fault.ReceiveFault.{ReceiveFault}
-use Rattle.sr_receive_gather.specs.declared.fault.ReceiveFault.TheVariants.{Disk, Mail, Full, Long, Memory}
-use Rattle.sr_receive.specs.declared.receiving.Received.{Received}
 use Rattle.sr_receive_gather.specs.declared.report.Report.{Report}
-use Rattle.sr_receive.specs.declared.taking.Progress.{Progress}
-use Rattle.sr_receive.proofs.Committing.{reached_none}
-use Rattle.sr_receive.proofs.Faulting.{fault_on, reached_steady}
-use Rattle.sr_receive.proofs.Joins.{reached_on, state_then, told_on}
+use Rattle.sr_receive.specs.Acts.{ReceiveAct, PassState, stand_of, IsAtRest, entries_of, mail_after, taken_in}
+use Rattle.sr_receive.specs.Entering.{IsReady}
+use Rattle.sr_receive.specs.Inner.Noting.{EntersAll, NotAll}
+use Rattle.sr_receive.specs.Inner.Passes.{IsDeviceFault, Passed, ReceivedMail}
+use Rattle.sr_receive.specs.Inner.Running.{HasRaised, StoppedRaising, WentBehind, WentThrough}
+use Rattle.sr_receive.specs.Inner.Stands.{Stand, Acted, IsResting, Stopped, effects_of, publisher_in}
+use Rattle.sr_receive.specs.Passes.{PassedInPart, StopsAmong, act_reports, first_notes, first_of, gap_report, note_entries}
+use Rattle.sr_receive.specs.declared.receiving.Received.{Received}
+use Rattle.sr_receive.proofs.Acted.{few_taken}
+use Rattle.sr_receive.proofs.Committing.{ready_did, state_did}
+use Rattle.sr_receive.proofs.Ends.{mail_did, quiet_way, reached_did, refused_did, told_mail_at, told_next, why_did}
+use Rattle.sr_receive.proofs.Leading.{none_leads}
+use Rattle.sr_receive.proofs.Telling.{Tells, told_entries, told_mail, told_steps, told_trace}
 
 -- ---- notes
-
-stopped_at : (old new : View) (before now : Seen) (r : Recorded) (rs : List Recorded) (fault : ReceiveFault) → CommitStop old new before now r fault → StopsAmong old new before now (r ∷ rs) fault
-stopped_at old new before now r rs Disk stop = record { entries = []; refused = r ∷ []; rest = rs; parts = refl; is = tt; reached = stop }
-stopped_at old new before now r rs Mail stop = absurd stop
-stopped_at old new before now r rs (Full end need) stop = record { entries = []; refused = r ∷ []; rest = rs; parts = refl; is = stop.0; reached = stop.1 }
-stopped_at old new before now r rs (Long size limit) stop = record { entries = []; refused = r ∷ []; rest = rs; parts = refl; is = stop.0; reached = stop.1 }
-stopped_at old new before now r rs Memory stop = record { entries = []; refused = []; rest = r ∷ rs; parts = refl; is = tt; reached = stop }
-
-among_whole : (old new : View) (before now : Seen) (whole : List Recorded) → Reached old new before now whole [] → StopsAmong old new before now whole Memory
-among_whole old new before now whole reached = record { entries = whole; refused = []; rest = []; parts = sym (append-nil whole); is = tt; reached = reached }
-
-pub notes_among : (old new : View) (before now : Seen) (whole : List Recorded) (fault : ReceiveFault) → NotesStop old new before now whole fault → StopsAmong old new before now whole fault
-notes_among old new before now [] fault stop = subst (λ (f : ReceiveFault). StopsAmong old new before now [] f) (sym stop.0) (among_whole old new before now [] stop.1)
-notes_among old new before now (r ∷ rs) fault stop = stopped_at old new before now r rs fault stop
-
-among_prefix : (old new : View) (before now : Seen) (whole more : List Recorded) (fault : ReceiveFault) → StopsAmong old new before now whole fault → StopsAmong old new before now (whole ++ more) fault
-among_prefix old new before now whole more fault stops = record {
-  entries = stops.entries;
-  refused = stops.refused;
-  rest = stops.rest ++ more;
-  parts = ap (λ (l : List Recorded). l ++ more) stops.parts ∙ append_assoc stops.entries (stops.refused ++ stops.rest) more ∙ ap (λ (l : List Recorded). stops.entries ++ l) (append_assoc stops.refused stops.rest more);
-  is = stops.is;
-  reached = stops.reached;
-}
-
-among_behind : (old db new : View) (before middle now : Seen) (done whole : List Recorded) (fault : ReceiveFault) → Reached old db before middle done [] → StopsAmong db new middle now whole fault → StopsAmong old new before now (done ++ whole) fault
-among_behind old db new before middle now done whole fault reached stops = record {
-  entries = done ++ stops.entries;
-  refused = stops.refused;
-  rest = stops.rest;
-  parts = ap (λ (l : List Recorded). done ++ l) stops.parts ∙ sym (append_assoc done stops.entries (stops.refused ++ stops.rest));
-  is = stops.is;
-  reached = reached_on old db new before middle now done stops.entries (begun_by fault stops.refused) reached stops.reached;
-}
-
--- the first note stopped
-pub first_stopped : (old new : View) (before now : Seen) (one two : List Recorded) (fault : ReceiveFault) → NotesStop old new before now one fault → StopsAmong old new before now (one ++ two) fault
-first_stopped old new before now one two fault stop = among_prefix old new before now one two fault (notes_among old new before now one fault stop)
-
--- the second did, or not
-pub both_noted : (old db new : View) (before middle now : Seen) (one two : List Recorded) (result : Result (Unit {0}) ReceiveFault) → Reached old db before middle one [] → OnOk result (Reached db new middle now two []) → OnOk result (Reached old new before now (one ++ two) [])
-both_noted old db new before middle now one two (Ok x) first second = reached_on old db new before middle now one two [] first second
-both_noted old db new before middle now one two (Err fault) first second = tt
-
-pub second_stopped : (old db new : View) (before middle now : Seen) (one two : List Recorded) (result : Result (Unit {0}) ReceiveFault) → Reached old db before middle one [] → IfErr result (NotesStop db new middle now two)
-    → IfErr result (StopsAmong old new before now (one ++ two))
-second_stopped old db new before middle now one two (Ok x) first stop = tt
-second_stopped old db new before middle now one two (Err fault) first stop = among_behind old db new before middle now one two fault first (notes_among db new middle now two fault stop)
-
--- what was to be raised
-pub raise_among : (old new : View) (before now : Seen) (whole : List Recorded) (fault : ReceiveFault) → NotesStop old new before now whole fault ⊎ ((fault ≡ Memory) × Reached old new before now whole []) → StopsAmong old new before now whole fault
-raise_among old new before now whole fault (inl stop) = notes_among old new before now whole fault stop
-raise_among old new before now whole fault (inr short) = subst (λ (f : ReceiveFault). StopsAmong old new before now whole f) (sym short.0) (among_whole old new before now whole short.1)
-
--- ---- the windows
-
--- where they begin
-pub stands_first : (db : View) (seen : Seen) (user : Name) (message_files : List MessageFile) (received : ℕ) (dropped_windows : List Window) (first : PassState) (progress : Progress) (reports : List Report) → IsReady db seen → IsStart db received dropped_windows first
-    → progress.received.0 ≡ received → progress.took ≡ 0 → progress.told ≡ length reports → StandsThere db db seen seen user message_files first [] progress reports reports
-stands_first db seen user message_files received dropped_windows first progress reports ready start at none told = let zero : length reports ≡ length reports + 0 = omega arith in record {
-  some = ready.some;
-  publisher = refl;
-  are = tt;
-  reached = reached_none db seen ready.usable ready.idle;
-  state = sym start.state;
-  received = at ∙ sym start.received_is;
-  took = none;
-  told = told ∙ zero;
-  reports_are = sym (append-nil reports);
-  mail = λ _. refl;
-  steady = refl;
-}
-
-pub holds_first : (db : View) (received : ℕ) (message_files : List MessageFile) (dropped_windows : List Window) (first : PassState) (partner_mail : PartnerMail) → IsPartnerMail message_files dropped_windows partner_mail → IsStart db received dropped_windows first → Holds message_files first.dropped_windows partner_mail.inbox
-holds_first db received message_files dropped_windows first partner_mail is start = subst (λ (l : List Window). Holds message_files l partner_mail.inbox) (sym start.dropped_windows_are) is.inbox
-
--- a window may be under way no more
-pub windows_stopped : (db new : View) (before now : Seen) (user : Name) (message_files : List MessageFile) (first : PassState) (partner_mail partner_mail' : PartnerMail) (reports reports' : List Report) (fault : ReceiveFault) → partner_mail'.files.items ≡ map filed_of message_files
-    → StopsWith db new before now user message_files first partner_mail'.inbox reports reports' fault → StoppedBehind db new before now user message_files first partner_mail' reports reports' fault
-windows_stopped db new before now user message_files first partner_mail partner_mail' reports reports' fault files stops =
-    let s = stops.stops in
-    record {
-      dropped_windows' = (stand_of first s.acts).dropped_windows;
-      partner_mail_is = record { files = files; inbox = stops.holds };
-      stopped = record {
-        acts = s.acts;
-        are = s.are;
-        dropped_windows_are = refl;
-        stopped = inl (record { refused = s.refused; is = s.is; next = s.next; reached = s.reached; mail = s.mail; reports_are = s.reports_are });
-      };
-    }
-
--- all was tried, and what was to be raised is
-raised_then : (old db new : View) (before middle now : Seen) (user : Name) (message_files : List MessageFile) (first : PassState) (progress : Progress) (files : List Filed) (partner_mail' : PartnerMail) (reports all all' : List Report) (answer : Received) → files ≡ map filed_of message_files
-    → partner_mail'.files.items ≡ files → TriedAll old db before middle user message_files first partner_mail'.inbox progress reports all → HasRaised user progress files all all' answer → Reached db new middle now (note_entries user (raises progress.received.0 files)) []
-    → DiskStays middle now → PassedBehind old new before now user message_files first partner_mail' reports all' answer
-raised_then old db new before middle now user message_files first progress files partner_mail' reports all all' answer are same tried raised noted stays =
-    let end : answer.end.0 ≡ progress.received.0 = ap (λ (o : Offset). o.0) raised.end in
-    let acts = tried.acts in
-    let notes : note_entries user (raises progress.received.0 files) ≡ note_entries user (raises answer.end.0 (map filed_of message_files)) = λ i. note_entries user (raises (sym end i) (are i)) in
-    let gaps : gap_report user progress.received.0 files ≡ gap_report user answer.end.0 (map filed_of message_files) = λ i. gap_report user (sym end i) (are i) in
-    let asked : has_gap progress.received.0 files ≡ has_gap answer.end.0 (map filed_of message_files) = λ i. has_gap (sym end i) (are i) in
-    let shown : (reports ++ act_reports user acts) ++ gap_report user progress.received.0 files ≡ reports ++ (act_reports user acts ++ gap_report user progress.received.0 files) = append_assoc reports (act_reports user acts) (gap_report user progress.received.0 files) in
-    record {
-      dropped_windows' = (stand_of first acts).dropped_windows;
-      partner_mail_is = record { files = same ∙ are; inbox = tried.holds };
-      passed = record {
-        acts = acts;
-        are = tried.stands.are;
-        rest = tried.rest;
-        dropped_windows_are = refl;
-        reached = subst (λ (l : List Recorded). Reached old new before now (entries_of user acts ++ l) []) notes
-            (reached_on old db new before middle now (entries_of user acts) (note_entries user (raises progress.received.0 files)) [] tried.stands.reached noted);
-        mail = λ told. stays.mail ∙ tried.stands.mail told;
-        steady = stays.mail_faults ∙ tried.stands.steady;
-        reports_are = raised.reports_are ∙ ap (λ (l : List Report). l ++ gap_report user progress.received.0 files) tried.stands.reports_are ∙ shown
-            ∙ ap (λ (l : List Report). reports ++ (act_reports user acts ++ l)) gaps;
-        took = raised.took ∙ tried.stands.took;
-        end = end ∙ tried.stands.received;
-        ask = raised.ask ∙ asked;
-      };
-    }
-
-stopped_then : (old db new : View) (before middle now : Seen) (user : Name) (message_files : List MessageFile) (first : PassState) (progress : Progress) (files : List Filed) (partner_mail' : PartnerMail) (reports all all' : List Report) (fault : ReceiveFault) → files ≡ map filed_of message_files
-    → partner_mail'.files.items ≡ files → TriedAll old db before middle user message_files first partner_mail'.inbox progress reports all → all' ≡ all → StopsAmong db new middle now (note_entries user (raises progress.received.0 files)) fault
-    → DiskStays middle now → StoppedBehind old new before now user message_files first partner_mail' reports all' fault
-stopped_then old db new before middle now user message_files first progress files partner_mail' reports all all' fault are same tried told stops stays =
-    let acts = tried.acts in
-    let notes : note_entries user (raises (stand_of first acts).received (map filed_of message_files)) ≡ note_entries user (raises progress.received.0 files) = λ i. note_entries user (raises (sym tried.stands.received i) (sym are i)) in
-    record {
-      dropped_windows' = (stand_of first acts).dropped_windows;
-      partner_mail_is = record { files = same ∙ are; inbox = tried.holds };
-      stopped = record {
-        acts = acts;
-        are = tried.stands.are;
-        dropped_windows_are = refl;
-        stopped = inr (record {
-          at_rest = tried.rest;
-          raised = stops.entries;
-          refused = stops.refused;
-          rest = stops.rest;
-          parts = notes ∙ stops.parts;
-          is = stops.is;
-          reached = reached_on old db new before middle now (entries_of user acts) stops.entries (begun_by fault stops.refused) tried.stands.reached stops.reached;
-          mail = λ told. stays.mail ∙ tried.stands.mail told;
-          reports_are = told ∙ tried.stands.reports_are;
-        });
-      };
-    }
-
-pub raised_answer : (old db new : View) (before middle now : Seen) (user : Name) (message_files : List MessageFile) (first : PassState) (progress : Progress) (files : List Filed) (partner_mail' : PartnerMail) (reports all all' : List Report) (result : Result Received ReceiveFault)
-    → files ≡ map filed_of message_files → partner_mail'.files.items ≡ files → TriedAll old db before middle user message_files first partner_mail'.inbox progress reports all → IfOk result (HasRaised user progress files all all')
-    → OnOk result (Reached db new middle now (note_entries user (raises progress.received.0 files)) []) → DiskStays middle now → IfOk result (PassedBehind old new before now user message_files first partner_mail' reports all')
-raised_answer old db new before middle now user message_files first progress files partner_mail' reports all all' (Ok answer) are same tried raised noted stays =
-    raised_then old db new before middle now user message_files first progress files partner_mail' reports all all' answer are same tried raised noted stays
-raised_answer old db new before middle now user message_files first progress files partner_mail' reports all all' (Err fault) are same tried raised noted stays = tt
-
-pub stopped_answer : (old db new : View) (before middle now : Seen) (user : Name) (message_files : List MessageFile) (first : PassState) (progress : Progress) (files : List Filed) (partner_mail' : PartnerMail) (reports all all' : List Report) (result : Result Received ReceiveFault)
-    → files ≡ map filed_of message_files → partner_mail'.files.items ≡ files → TriedAll old db before middle user message_files first partner_mail'.inbox progress reports all → OnErr result (all' ≡ all)
-    → IfErr result (StopsAmong db new middle now (note_entries user (raises progress.received.0 files))) → DiskStays middle now → IfErr result (StoppedBehind old new before now user message_files first partner_mail' reports all')
-stopped_answer old db new before middle now user message_files first progress files partner_mail' reports all all' (Ok answer) are same tried told stops stays = tt
-stopped_answer old db new before middle now user message_files first progress files partner_mail' reports all all' (Err fault) are same tried told stops stays =
-    stopped_then old db new before middle now user message_files first progress files partner_mail' reports all all' fault are same tried told stops stays
-
--- ---- after the notes
 
 note_still : (s : State) (user : Name) (what : Note) → next s (note user what) ≡ s
 unfolding next
@@ -212,149 +53,281 @@ notes_still : (s : State) (user : Name) (notes : List Note) → state_from s (no
 notes_still s user [] = refl
 notes_still s user (what ∷ notes) = ap (λ (x : State). state_from x (note_entries user notes)) (note_still s user what) ∙ notes_still s user notes
 
--- the notes leave the state
-noted_state : (old db : View) (before middle : Seen) (user : Name) (book : Book) (files : List Filed) → IsReady old before → Reached old db before middle (first_notes user book files) [] → committed db ≡ committed old
-noted_state old db before middle user book files ready reached =
-    let one = note_entries user (confirms book files) in
-    let two = note_entries user (asks book files) in
-    state_then old db before middle (one ++ two) ready reached
-    ∙ state_from-append (committed old) one two
-    ∙ ap (λ (x : State). state_from x two) (notes_still (committed old) user (confirms book files))
-    ∙ notes_still (committed old) user (asks book files)
-
 -- the book of a user who is granted
 pub book_is : (o : Option User) (b book : Book) → Some book ≡ option_map (λ _. b) o → book ≡ b
 book_is None b book e = absurd cc
 book_is (Some user) b book e = cc
 
-module _ (old db new : View) (before middle now : Seen) (user : Name) (book : Book) (files : List Filed) (ready : IsReady old before) (noted : Reached old db before middle (first_notes user book files) []) (stays : DiskStays before middle) where
-  same_publisher : db.catalog.publisher ≡ old.catalog.publisher
-  same_publisher = ap (λ (s : State). s.catalog.publisher) (noted_state old db before middle user book files ready noted)
+-- what entries come to that are committed one behind the other
+all_entries : (rs : List Recorded) → entries (map entered rs) ≡ rs
+all_entries [] = refl
+all_entries (r ∷ rs) = ap (λ (l : List Recorded). r ∷ l) (all_entries rs)
 
-  start_behind : (dropped_windows : List Window) → IsStart db book.log_received dropped_windows (first_of old book dropped_windows)
-  start_behind dropped_windows = record { state = sym (noted_state old db before middle user book files ready noted); received_is = refl; dropped_windows_are = refl; left = refl }
+all_mail : (rs : List Recorded) (before : List Happening) → mail_behind (map entered rs) before ≡ before
+all_mail [] before = refl
+all_mail (r ∷ rs) before = all_mail rs before
 
-  mail_from : (acts : List ReceiveAct) → mail_after db.catalog.publisher acts (mail_in middle.happened) ≡ mail_after old.catalog.publisher acts (mail_in before.happened)
-  mail_from acts = λ i. mail_after (same_publisher i) acts (stays.mail i)
+all_trace : (rs : List Recorded) → trace (map entered rs) ≡ map commit (entries (map entered rs))
+all_trace [] = refl
+all_trace (r ∷ rs) = ap (λ (l : List Event). commit r ∷ l) (all_trace rs)
 
-  passed_from : (message_files : List MessageFile) (first : PassState) (dropped_windows' : List Window) (reports reports' : List Report) (answer : Received) → PassedFrom db new middle now user message_files [] first dropped_windows' reports reports' answer
-      → PassedFrom old new before now user message_files (first_notes user book files) first dropped_windows' reports reports' answer
-  passed_from message_files first dropped_windows' reports reports' answer passed = record {
-    acts = passed.acts;
-    are = subst (λ (n : Name). AreActs n user message_files first passed.acts) same_publisher passed.are;
-    rest = passed.rest;
-    dropped_windows_are = passed.dropped_windows_are;
-    reached = reached_on old db new before middle now (first_notes user book files) (entries_of user passed.acts ++ note_entries user (raises answer.end.0 (map filed_of message_files))) [] noted passed.reached;
-    mail = λ told. passed.mail (told_on before middle noted.stays told) ∙ mail_from passed.acts;
-    steady = passed.steady ∙ stays.mail_faults;
-    reports_are = passed.reports_are;
-    took = passed.took;
-    end = passed.end;
-    ask = passed.ask;
+-- of entries the first were committed
+pub stops_among : (a b : PlaceView) (rs : List Recorded) (fault : ReceiveFault) → IsReady a.db a.seen → NotAll a b rs fault → StopsAmong a.db b.db a.seen b.seen rs fault
+stops_among a b rs fault ready not = subst (λ (f : ReceiveFault). StopsAmong a.db b.db a.seen b.seen rs f) (sym not.is) (record {
+  entries = not.done;
+  refused = asked not.end;
+  rest = not.rest;
+  parts = not.parts;
+  is = refused_did a b (map entered not.done) not.end not.did;
+  reached = reached_did a b (map entered not.done) not.end not.done ready (all_entries not.done) (all_trace not.done) (subst AreQuiet (sym not.quiet) tt) not.did;
+})
+
+-- ---- notes, acts, and notes again
+
+module _ (notes : List Recorded) (publisher user : Name) (acts : List ReceiveAct) (raised : List Recorded) where
+  abbrev between : List Effect
+  between = map entered notes ++ (effects_of publisher user acts ++ map entered raised)
+
+  between_entries : entries between ≡ notes ++ (entries_of user acts ++ raised)
+  between_entries =
+      entries_on (map entered notes) (effects_of publisher user acts ++ map entered raised)
+      ∙ (λ i. all_entries notes i ++ entries_on (effects_of publisher user acts) (map entered raised) i)
+      ∙ ap (λ (l : List Recorded). notes ++ l) (λ i. told_entries publisher user acts i ++ all_entries raised i)
+
+  between_mail : (before : List Happening) → mail_behind between before ≡ mail_after publisher acts before
+  between_mail before =
+      mail_on (map entered notes) (effects_of publisher user acts ++ map entered raised) before
+      ∙ mail_on (effects_of publisher user acts) (map entered raised) (mail_behind (map entered notes) before)
+      ∙ all_mail raised (mail_behind (effects_of publisher user acts) (mail_behind (map entered notes) before))
+      ∙ ap (mail_behind (effects_of publisher user acts)) (all_mail notes before)
+      ∙ told_mail publisher user acts before
+
+  between_trace : trace between ≡ map commit (entries between)
+  between_trace =
+      trace_then (map entered notes) (effects_of publisher user acts ++ map entered raised) (all_trace notes)
+      (trace_then (effects_of publisher user acts) (map entered raised) (told_trace publisher user acts) (all_trace raised))
+
+-- ---- of one partner mail
+
+-- where windows begin
+pub record IsBeginning (a : PlaceView) (s : Stand) (book : Book) (mail : PartnerMail) : Type 0 where
+  pub state : s.state ≡ committed a.db
+  pub received : s.received ≡ book.log_received
+  pub took : s.took ≡ 0
+  pub told : s.told ≡ length s.reports
+  pub inbox : s.inbox ≡ mail.inbox
+  pub left : s.left ≡ []
+
+module _ (o a d : PlaceView) (s : Stand) (mail mail' : PartnerMail) (reports' : List Report) (ready : IsReady o.db o.seen) (beginning : IsBeginning a s (book_in o.db.books s.user) mail) (files : mail'.files.items ≡ mail.files.items)
+    (noted : Did o a (map entered (first_notes s.user (book_in o.db.books s.user) mail.files.items)) whole) where
+  abbrev book : Book
+  book = book_in o.db.books s.user
+
+  abbrev publisher : Name
+  publisher = o.db.catalog.publisher
+
+  -- the notes leave the state
+  noted_state : committed a.db ≡ committed o.db
+  noted_state =
+      let one = note_entries s.user (confirms book mail.files.items) in
+      let two = note_entries s.user (asks book mail.files.items) in
+      state_did o a (map entered (one ++ two)) ready noted
+      ∙ ap (state_from (committed o.db)) (all_entries (one ++ two))
+      ∙ state_from-append (committed o.db) one two
+      ∙ ap (λ (x : State). state_from x two) (notes_still (committed o.db) s.user (confirms book mail.files.items))
+      ∙ notes_still (committed o.db) s.user (asks book mail.files.items)
+
+  same_publisher : publisher_in s ≡ publisher
+  same_publisher = ap (λ (x : State). x.catalog.publisher) (beginning.state ∙ noted_state)
+
+  module _ (message_files : List MessageFile) (dropped_windows : List Window) (is : IsPartnerMail message_files dropped_windows mail) where
+    abbrev first : PassState
+    first = first_of o.db book dropped_windows
+
+    abbrev notes : List Recorded
+    notes = first_notes s.user book (map filed_of message_files)
+
+    noted_there : Did o a (map entered notes) whole
+    noted_there = subst (λ (f : List Filed). Did o a (map entered (first_notes s.user book f)) whole) is.files noted
+
+    told_first : Tells publisher s.user message_files first s.reports [] s
+    told_first = let zero : length s.reports ≡ length s.reports + 0 = omega arith in record {
+      user_is = refl;
+      publisher_is = same_publisher;
+      are = tt;
+      state = beginning.state ∙ noted_state;
+      received = beginning.received;
+      left = beginning.left;
+      holds = subst (λ (l : List Gathered). Holds message_files dropped_windows l) (sym beginning.inbox) is.inbox;
+      took = beginning.took;
+      told = beginning.told ∙ zero;
+      reports_are = sym (append-nil s.reports);
+    }
+
+    -- acts, and what was committed behind them
+    module _ (last : Stand) (c : PlaceView) (end : End) (acted : Acted s last a c end) where
+      tells : Tells publisher s.user message_files first s.reports acted.acts last
+      tells = told_steps publisher s.user message_files first s.reports s last acted.acts told_first acted.steps
+
+      abbrev at : PassState
+      at = stand_of first acted.acts
+
+      effects_are : effects_of (publisher_in s) s.user acted.acts ≡ effects_of publisher s.user acted.acts
+      effects_are = ap (λ (n : Name). effects_of n s.user acted.acts) same_publisher
+
+      mail_there : mail'.inbox ≡ last.inbox → IsPartnerMail message_files at.dropped_windows mail'
+      mail_there inbox = record { files = files ∙ is.files; inbox = subst (λ (l : List Gathered). Holds message_files at.dropped_windows l) (sym inbox) tells.holds }
+
+    module _ (last : Stand) (c : PlaceView) (acted : Acted s last a c whole) where
+      behind : (raised : List Recorded) (end : End) → Did c d (map entered raised) end → Did o d (between notes publisher s.user acted.acts raised) end
+      behind raised end did =
+          did_on o a d (map entered notes) (effects_of publisher s.user acted.acts ++ map entered raised) end noted_there
+          (subst (λ (l : List Effect). Did a d (l ++ map entered raised) end) (effects_are last c whole acted) (did_on a c d (effects_of (publisher_in s) s.user acted.acts) (map entered raised) end acted.did did))
+
+      at_rest : IsResting last → IsAtRest message_files (at last c whole acted)
+      at_rest rest =
+          let t = tells last c whole acted in
+          let dropped' = (at last c whole acted).dropped_windows in
+          (sym t.left ∙ rest.idle, subst (λ (n : ℕ). NoneLeads message_files dropped' n) t.received (none_leads message_files dropped' last.inbox last.received t.holds rest.none))
+
+      raised_are : (files' : List Filed) → files' ≡ map filed_of message_files → note_entries last.user (raises last.received files') ≡ note_entries s.user (raises (at last c whole acted).received (map filed_of message_files))
+      raised_are files' same = let t = tells last c whole acted in λ i. note_entries (t.user_is i) (raises (t.received i) (same i))
+
+      few : taken_in acted.acts ≡ min (taken_in acted.acts) (2 ^ 64 - 1)
+      few =
+          let ready' = ready_did o a (map entered notes) ready noted_there in
+          let some = ready'.some in
+          let value = acted.did.value acted.did.state.0 some.publisher some.es some.is in
+          let less = few_taken c.db some.publisher s.user some.es acted.acts (subst (λ (l : List Recorded). IsOf c.db some.publisher (some.es ++ l)) (told_entries (publisher_in s) s.user acted.acts) value) in
+          omega (arith, less)
+
+    went_through : (answer : Received) → WentThrough s a d (map filed_of message_files) mail'.inbox reports' answer
+        → (dropped_windows' : List Window) × IsPartnerMail message_files dropped_windows' mail' × Passed o.db d.db o.seen d.seen s.user message_files dropped_windows dropped_windows' s.reports reports' answer
+    went_through answer went =
+        let acts = went.acted.acts in
+        let last = went.last in
+        let t = tells last went.middle whole went.acted in
+        let there = at last went.middle whole went.acted in
+        let raised = note_entries last.user (raises last.received (map filed_of message_files)) in
+        let end_is : answer.end.0 ≡ last.received = went.raised.end in
+        let did = behind last went.middle went.acted raised whole went.noted in
+        let raised_is : raised ≡ note_entries s.user (raises answer.end.0 (map filed_of message_files)) = λ i. note_entries (t.user_is i) (raises (sym end_is i) (map filed_of message_files)) in
+        let gap_is : gap_report last.user last.received (map filed_of message_files) ≡ gap_report s.user answer.end.0 (map filed_of message_files) = λ i. gap_report (t.user_is i) (sym end_is i) (map filed_of message_files) in (
+          there.dropped_windows,
+          mail_there last went.middle whole went.acted went.inbox_is,
+          record {
+            acts = acts;
+            are = t.are;
+            rest = at_rest last went.middle went.acted went.rest;
+            dropped_windows_are = refl;
+            reached = reached_did o d (between notes publisher s.user acts raised) whole (notes ++ (entries_of s.user acts ++ note_entries s.user (raises answer.end.0 (map filed_of message_files)))) ready
+                (between_entries notes publisher s.user acts raised ∙ ap (λ (l : List Recorded). notes ++ (entries_of s.user acts ++ l)) raised_is) (between_trace notes publisher s.user acts raised) tt did;
+            mail = λ told. mail_did o d (between notes publisher s.user acts raised) whole ready did told ∙ between_mail notes publisher s.user acts raised (mail_in o.seen.happened);
+            steady = did.cause;
+            reports_are = went.raised.reports_are ∙ (λ i. t.reports_are i ++ gap_is i) ∙ append_assoc s.reports (act_reports s.user acts) (gap_report s.user answer.end.0 (map filed_of message_files));
+            took = went.raised.took ∙ t.took ∙ sym (few last went.middle went.acted);
+            end = end_is ∙ t.received;
+            ask = went.raised.ask ∙ ap (λ (n : ℕ). has_gap n (map filed_of message_files)) (sym end_is);
+          },
+        )
+
+    stopped_windows : (fault : ReceiveFault) → Stopped s mail'.inbox reports' a d fault
+        → (dropped_windows' : List Window) × IsPartnerMail message_files dropped_windows' mail' × PassedInPart o.db d.db o.seen d.seen s.user message_files dropped_windows dropped_windows' s.reports reports' fault
+    stopped_windows fault stopped =
+        let acts = stopped.acted.acts in
+        let end = stopped.end in
+        let t = tells stopped.middle d end stopped.acted in
+        let there = at stopped.middle d end stopped.acted in
+        let effects = map entered notes ++ effects_of publisher s.user acts in
+        let did : Did o d (between notes publisher s.user acts []) end =
+        did_on o a d (map entered notes) (effects_of publisher s.user acts ++ []) end noted_there
+        (subst (λ (l : List Effect). Did a d l end) (effects_are stopped.middle d end stopped.acted ∙ sym (append-nil (effects_of publisher s.user acts))) stopped.acted.did) in (
+          there.dropped_windows,
+          mail_there stopped.middle d end stopped.acted stopped.inbox_is,
+          subst (λ (f : ReceiveFault). PassedInPart o.db d.db o.seen d.seen s.user message_files dropped_windows there.dropped_windows s.reports reports' f) (sym stopped.is) (inr (record {
+            acts = acts;
+            are = t.are;
+            dropped_windows_are = refl;
+            stopped = inl (record {
+              refused = asked end;
+              is = refused_did o d (between notes publisher s.user acts []) end did;
+              next = told_next publisher s.user message_files first s.reports acts stopped.middle t end stopped.under_way;
+              reached = reached_did o d (between notes publisher s.user acts []) end (notes ++ entries_of s.user acts) ready
+                  (between_entries notes publisher s.user acts [] ∙ ap (λ (l : List Recorded). notes ++ l) (append-nil (entries_of s.user acts))) (between_trace notes publisher s.user acts []) (quiet_way stopped.middle end stopped.under_way) did;
+              mail = λ told.
+                  told_mail_at publisher s.user message_files first s.reports acts stopped.middle t end (mail_after publisher acts (mail_in o.seen.happened)) (mail_in d.seen.happened) stopped.under_way
+                  (mail_did o d (between notes publisher s.user acts []) end ready did told ∙ ap (λ (l : List Happening). under_way end ++ l) (between_mail notes publisher s.user acts [] (mail_in o.seen.happened)));
+              reports_are = stopped.reports_are ∙ t.reports_are;
+            });
+          })),
+        )
+
+    stopped_raising : (fault : ReceiveFault) → StoppedRaising s a d (map filed_of message_files) mail'.inbox reports' fault
+        → (dropped_windows' : List Window) × IsPartnerMail message_files dropped_windows' mail' × PassedInPart o.db d.db o.seen d.seen s.user message_files dropped_windows dropped_windows' s.reports reports' fault
+    stopped_raising fault stopped =
+        let acts = stopped.acted.acts in
+        let not = stopped.noted in
+        let t = tells stopped.last stopped.middle whole stopped.acted in
+        let there = at stopped.last stopped.middle whole stopped.acted in
+        let did = behind stopped.last stopped.middle stopped.acted not.done not.end not.did in
+        let quiet : AreQuiet (under_way not.end) = subst AreQuiet (sym not.quiet) tt in (
+          there.dropped_windows,
+          mail_there stopped.last stopped.middle whole stopped.acted stopped.inbox_is,
+          subst (λ (f : ReceiveFault). PassedInPart o.db d.db o.seen d.seen s.user message_files dropped_windows there.dropped_windows s.reports reports' f) (sym not.is) (inr (record {
+            acts = acts;
+            are = t.are;
+            dropped_windows_are = refl;
+            stopped = inr (record {
+              at_rest = at_rest stopped.last stopped.middle stopped.acted stopped.rest;
+              raised = not.done;
+              refused = asked not.end;
+              rest = not.rest;
+              parts = sym (raised_are stopped.last stopped.middle stopped.acted (map filed_of message_files) refl) ∙ not.parts;
+              is = refused_did o d (between notes publisher s.user acts not.done) not.end did;
+              reached = reached_did o d (between notes publisher s.user acts not.done) not.end (notes ++ (entries_of s.user acts ++ not.done)) ready (between_entries notes publisher s.user acts not.done) (between_trace notes publisher s.user acts not.done) quiet did;
+              mail = λ told. mail_did o d (between notes publisher s.user acts not.done) not.end ready did told
+                  ∙ (λ i. not.quiet i ++ between_mail notes publisher s.user acts not.done (mail_in o.seen.happened) i);
+              reports_are = stopped.reports_are ∙ t.reports_are;
+            });
+          })),
+        )
+
+  why_windows : (fault : ReceiveFault) → Stopped s mail'.inbox reports' a d fault → IsDeviceFault o.seen d.seen fault
+  why_windows fault stopped = subst (λ (f : ReceiveFault). IsDeviceFault o.seen d.seen f) (sym stopped.is) (why_did o d _ stopped.end (did_on o a d _ _ stopped.end noted stopped.acted.did))
+
+  why_raising : (fault : ReceiveFault) → StoppedRaising s a d mail.files.items mail'.inbox reports' fault → IsDeviceFault o.seen d.seen fault
+  why_raising fault stopped =
+      let not = stopped.noted in
+      subst (λ (f : ReceiveFault). IsDeviceFault o.seen d.seen f) (sym not.is) (why_did o d _ not.end (did_on o a d _ _ not.end noted (did_on a stopped.middle d _ _ not.end stopped.acted.did not.did)))
+
+  pub received_mail : (result : Result Received ReceiveFault) → WentBehind s a d mail.files.items mail'.inbox reports' result → ReceivedMail o d s.user mail mail' s.reports reports' result
+  received_mail (Ok answer) went =
+      record { why = tt; passed = λ message_files dropped_windows is. went_through message_files dropped_windows is answer (subst (λ (f : List Filed). WentThrough s a d f mail'.inbox reports' answer) is.files went) }
+  received_mail (Err fault) (inl stopped) = record { why = why_windows fault stopped; passed = λ message_files dropped_windows is. stopped_windows message_files dropped_windows is fault stopped }
+  received_mail (Err fault) (inr stopped) = record {
+    why = why_raising fault stopped;
+    passed = λ message_files dropped_windows is. stopped_raising message_files dropped_windows is fault (subst (λ (f : List Filed). StoppedRaising s a d f mail'.inbox reports' fault) is.files stopped);
   }
-
-  mail_at : (message_files : List MessageFile) (s : PassState) (fault : ReceiveFault) (acts : List ReceiveAct) → IsMailAt fault db.catalog.publisher user message_files s (mail_after db.catalog.publisher acts (mail_in middle.happened)) (mail_in now.happened)
-      → IsMailAt fault old.catalog.publisher user message_files s (mail_after old.catalog.publisher acts (mail_in before.happened)) (mail_in now.happened)
-  mail_at message_files s fault acts at =
-      subst (λ (l : List Happening). IsMailAt fault old.catalog.publisher user message_files s l (mail_in now.happened)) (mail_from acts)
-      (subst (λ (n : Name). IsMailAt fault n user message_files s (mail_after db.catalog.publisher acts (mail_in middle.happened)) (mail_in now.happened)) same_publisher at)
-
-  stopped_within : (message_files : List MessageFile) (first : PassState) (acts : List ReceiveAct) (reports reports' : List Report) (fault : ReceiveFault)
-      → StoppedAtWindows db new middle now user message_files [] first acts reports reports' fault ⊎ StoppedAtEnd db new middle now user message_files [] first acts reports reports' fault
-      → StoppedAtWindows old new before now user message_files (first_notes user book files) first acts reports reports' fault ⊎ StoppedAtEnd old new before now user message_files (first_notes user book files) first acts reports reports' fault
-  stopped_within message_files first acts reports reports' fault (inl at) = inl (record {
-    refused = at.refused;
-    is = at.is;
-    next = at.next;
-    reached = reached_on old db new before middle now (first_notes user book files) (entries_of user acts) (begun_by fault at.refused) noted at.reached;
-    mail = λ told. mail_at message_files (stand_of first acts) fault acts (at.mail (told_on before middle noted.stays told));
-    reports_are = at.reports_are;
-  })
-  stopped_within message_files first acts reports reports' fault (inr at) = inr (record {
-    at_rest = at.at_rest;
-    raised = at.raised;
-    refused = at.refused;
-    rest = at.rest;
-    parts = at.parts;
-    is = at.is;
-    reached = reached_on old db new before middle now (first_notes user book files) (entries_of user acts ++ at.raised) (begun_by fault at.refused) noted at.reached;
-    mail = λ told. at.mail (told_on before middle noted.stays told) ∙ mail_from acts;
-    reports_are = at.reports_are;
-  })
-
-  stopped_from : (message_files : List MessageFile) (first : PassState) (dropped_windows' : List Window) (reports reports' : List Report) (fault : ReceiveFault) → StoppedFrom db new middle now user message_files [] first dropped_windows' reports reports' fault
-      → StoppedFrom old new before now user message_files (first_notes user book files) first dropped_windows' reports reports' fault
-  stopped_from message_files first dropped_windows' reports reports' fault stopped = record {
-    acts = stopped.acts;
-    are = subst (λ (n : Name). AreActs n user message_files first stopped.acts) same_publisher stopped.are;
-    dropped_windows_are = stopped.dropped_windows_are;
-    stopped = stopped_within message_files first stopped.acts reports reports' fault stopped.stopped;
-  }
-
-  -- what a partner mail says
-  partner_mail_passed : (partner_mail partner_mail' : PartnerMail) (reports reports' : List Report) (answer : Received) → book ≡ book_in old.books user → files ≡ partner_mail.files.items
-      → ((message_files : List MessageFile) (dropped_windows : List Window) (first : PassState) → IsPartnerMail message_files dropped_windows partner_mail → IsStart db book.log_received dropped_windows first → PassedBehind db new middle now user message_files first partner_mail' reports reports' answer)
-      → PassedPartnerMail old new before now user partner_mail partner_mail' reports reports' answer
-  partner_mail_passed partner_mail partner_mail' reports reports' answer book_same files_same behind = record {
-    passed = λ message_files dropped_windows is.
-        let b = behind message_files dropped_windows (first_of old book dropped_windows) is (start_behind dropped_windows) in
-        let passed = passed_from message_files (first_of old book dropped_windows) b.dropped_windows' reports reports' answer b.passed in
-        let P : Book → List Filed → Type 0 = λ k f. PassedFrom old new before now user message_files (first_notes user k f) (first_of old k dropped_windows) b.dropped_windows' reports reports' answer in
-        (b.dropped_windows', b.partner_mail_is, subst (λ (k : Book). P k (map filed_of message_files)) book_same (subst (λ (f : List Filed). P book f) (files_same ∙ is.files) passed));
-  }
-
-  partner_mail_stopped : (partner_mail partner_mail' : PartnerMail) (reports reports' : List Report) (fault : ReceiveFault) → book ≡ book_in old.books user → files ≡ partner_mail.files.items → IsDeviceFault middle now fault
-      → ((message_files : List MessageFile) (dropped_windows : List Window) (first : PassState) → IsPartnerMail message_files dropped_windows partner_mail → IsStart db book.log_received dropped_windows first → StoppedBehind db new middle now user message_files first partner_mail' reports reports' fault)
-      → StoppedPartnerMail old new before now user partner_mail partner_mail' reports reports' fault
-  partner_mail_stopped partner_mail partner_mail' reports reports' fault book_same files_same why behind = record {
-    why = fault_on before middle now fault (reached_steady old db before middle (first_notes user book files) noted stays) why;
-    passed = λ message_files dropped_windows is.
-        let b = behind message_files dropped_windows (first_of old book dropped_windows) is (start_behind dropped_windows) in
-        let stopped = stopped_from message_files (first_of old book dropped_windows) b.dropped_windows' reports reports' fault b.stopped in
-        let P : Book → List Filed → Type 0 = λ k f. StoppedFrom old new before now user message_files (first_notes user k f) (first_of old k dropped_windows) b.dropped_windows' reports reports' fault in
-        (b.dropped_windows', b.partner_mail_is, inr (subst (λ (k : Book). P k (map filed_of message_files)) book_same (subst (λ (f : List Filed). P book f) (files_same ∙ is.files) stopped)));
-  }
-
-pub partner_mail_passed_answer : (old db new : View) (before middle now : Seen) (user : Name) (book : Book) (files : List Filed) (partner_mail partner_mail' : PartnerMail) (reports reports' : List Report) (result : Result Received ReceiveFault) → IsReady old before
-    → Reached old db before middle (first_notes user book files) [] → DiskStays before middle → book ≡ book_in old.books user → files ≡ partner_mail.files.items
-    → ((message_files : List MessageFile) (dropped_windows : List Window) (first : PassState) → IsPartnerMail message_files dropped_windows partner_mail → IsStart db book.log_received dropped_windows first → IfOk result (PassedBehind db new middle now user message_files first partner_mail' reports reports'))
-    → IfOk result (PassedPartnerMail old new before now user partner_mail partner_mail' reports reports')
-partner_mail_passed_answer old db new before middle now user book files partner_mail partner_mail' reports reports' (Ok answer) ready noted stays book_same files_same behind =
-    partner_mail_passed old db new before middle now user book files ready noted stays partner_mail partner_mail' reports reports' answer book_same files_same behind
-partner_mail_passed_answer old db new before middle now user book files partner_mail partner_mail' reports reports' (Err fault) ready noted stays book_same files_same behind = tt
-
-pub partner_mail_stopped_answer : (old db new : View) (before middle now : Seen) (user : Name) (book : Book) (files : List Filed) (partner_mail partner_mail' : PartnerMail) (reports reports' : List Report) (result : Result Received ReceiveFault) → IsReady old before
-    → Reached old db before middle (first_notes user book files) [] → DiskStays before middle → book ≡ book_in old.books user → files ≡ partner_mail.files.items → IfErr result (IsDeviceFault middle now)
-    → ((message_files : List MessageFile) (dropped_windows : List Window) (first : PassState) → IsPartnerMail message_files dropped_windows partner_mail → IsStart db book.log_received dropped_windows first → IfErr result (StoppedBehind db new middle now user message_files first partner_mail' reports reports'))
-    → IfErr result (StoppedPartnerMail old new before now user partner_mail partner_mail' reports reports')
-partner_mail_stopped_answer old db new before middle now user book files partner_mail partner_mail' reports reports' (Ok answer) ready noted stays book_same files_same why behind = tt
-partner_mail_stopped_answer old db new before middle now user book files partner_mail partner_mail' reports reports' (Err fault) ready noted stays book_same files_same why behind =
-    partner_mail_stopped old db new before middle now user book files ready noted stays partner_mail partner_mail' reports reports' fault book_same files_same why behind
 
 -- the notes stopped
-pub notes_stopped : (old new : View) (before now : Seen) (user : Name) (book : Book) (files : List Filed) (partner_mail : PartnerMail) (reports : List Report) (fault : ReceiveFault) → DiskStays before now → book ≡ book_in old.books user → files ≡ partner_mail.files.items
-    → IsDeviceFault before now fault → StopsAmong old new before now (first_notes user book files) fault → StoppedPartnerMail old new before now user partner_mail partner_mail reports reports fault
-notes_stopped old new before now user book files partner_mail reports fault stays book_same files_same why stops = record {
-  why = why;
-  passed = λ message_files dropped_windows is.
-      let P : Book → List Filed → Type 0 = λ k f. StoppedAtNotes old new before now (first_notes user k f) dropped_windows dropped_windows reports reports fault in
-      let at : P book files = record { stops = stops; dropped_windows_are = refl; mail = λ _. stays.mail; reports_are = refl } in
-      (dropped_windows, is, inl (subst (λ (k : Book). P k (map filed_of message_files)) book_same (subst (λ (f : List Filed). P book f) (files_same ∙ is.files) at)));
+pub notes_stopped : (o a : PlaceView) (user : Name) (mail : PartnerMail) (reports : List Report) (fault : ReceiveFault) → IsReady o.db o.seen → NotAll o a (first_notes user (book_in o.db.books user) mail.files.items) fault
+    → ReceivedMail o a user mail mail reports reports (Err fault)
+notes_stopped o a user mail reports fault ready not = record {
+  why = subst (λ (f : ReceiveFault). IsDeviceFault o.seen a.seen f) (sym not.is) (why_did o a (map entered not.done) not.end not.did);
+  passed = λ message_files dropped_windows is. (
+    dropped_windows,
+    is,
+    inl (record {
+      stops = subst (λ (f : List Filed). StopsAmong o.db a.db o.seen a.seen (first_notes user (book_in o.db.books user) f) fault) is.files (stops_among o a (first_notes user (book_in o.db.books user) mail.files.items) fault ready not);
+      dropped_windows_are = refl;
+      mail = λ told. mail_did o a (map entered not.done) not.end ready not.did told ∙ (λ i. not.quiet i ++ all_mail not.done (mail_in o.seen.happened) i);
+      reports_are = refl;
+    }),
+  );
 }
 
--- for want of memory, before anything was done
-pub nothing_received : (old : View) (seen : Seen) (user : Name) (partner_mail : PartnerMail) (reports : List Report) → IsReady old seen → StoppedPartnerMail old old seen seen user partner_mail partner_mail reports reports Memory
-nothing_received old seen user partner_mail reports ready = record {
-  why = record { disk = refl; mail = refl };
-  passed = λ message_files dropped_windows is.
-      let notes = first_notes user (book_in old.books user) (map filed_of message_files) in (
-        dropped_windows,
-        is,
-        inl (record {
-          stops = record { entries = []; refused = []; rest = notes; parts = refl; is = tt; reached = reached_none old seen ready.usable ready.idle };
-          dropped_windows_are = refl;
-          mail = λ _. refl;
-          reports_are = refl;
-        }),
-      );
-}
+-- windows were tried, and then what was to be raised was, or not
+pub went_behind : (s last : Stand) (a b c : PlaceView) (files : List Filed) (reports : List Report) (result : Result Received ReceiveFault) → Acted s last a b whole → IsResting last → EntersAll b c (note_entries last.user (raises last.received files)) result
+    → IfOk result (HasRaised last files reports) → OnErr result (reports ≡ last.reports) → WentBehind s a c files last.inbox reports result
+went_behind s last a b c files reports (Ok answer) acted rest noted raised same = record { last = last; middle = b; acted = acted; rest = rest; inbox_is = refl; noted = noted; raised = raised }
+went_behind s last a b c files reports (Err fault) acted rest noted raised same = inr (record { last = last; middle = b; acted = acted; rest = rest; inbox_is = refl; reports_are = same; noted = noted })

@@ -1,75 +1,62 @@
--- The entry of a transaction, judged and committed.
-use Rattle.std.proofs.Common.{◌≡◌, true, List, [], ◌∷◌, Result, Ok, Err, refl, sym, ap, subst, ◌∙◌, arith}
-use Rattle.std.specs.Prelude.{IsSome, IfErr, IfOk, OnOk}
-use Rattle.std.proofs.lemmas.List.{append-nil}
+-- A transaction, judged and taken.
+use Rattle.std.proofs.Common.{◌≡◌, ℕ, ◌+◌, ◌-◌, ◌^◌, ◌<◌, ◌≤◌, Bool, true, false, cond, List, [], ◌∷◌, length, refl, sym, ap, subst, ◌∙◌, inl}
+use Rattle.std.proofs.lemmas.Bool.{lt-ltb, le-ltb}
+use Rattle.std.specs.Prelude.{IsSome, map, min, nat_lt}
+use Rattle.sr_base.specs.declared.offset.Offset.{Offset}
 use Rattle.sr_book.specs.Entries.{Name}
-use Rattle.sr_database.specs.Inner.Commits.{CanCommit, CanCommitSome}
-use Rattle.sr_database.specs.Databases.{IsOf, IsHeld, IsDatabase}
+use Rattle.sr_catalog_schema.specs.Members.{user_name}
+use Rattle.sr_catalog_schema.specs.Names.{named}
 use Rattle.sr_database.specs.Views.{View, committed}
+use Rattle.sr_database_did.specs.Inner.Did.{PlaceView, Did}
+use Rattle.sr_database_did.specs.Inner.Effects.{entered, End, whole, refused, failed, full, long, short}
+use Rattle.sr_database_did.proofs.Still.{IsStill, alike_still, calls_did, short_did}
 use Rattle.sr_database_history.specs.Fitting.{DonesFit, FitsState}
-use Rattle.sr_database_history.specs.Folds.{State}
-use Rattle.sr_database_history.specs.Recorded.{Recorded, Done, taken}
-use Rattle.sr_logfile.specs.Log.{Log}
+use Rattle.sr_database_history.specs.Folds.{State, after_dones, next}
+use Rattle.sr_database_history.specs.Recorded.{Done, taken, done_of}
 use Rattle.sr_logform.specs.Inner.Entries.{IsShortEntry}
 use Rattle.sr_logform.specs.declared.entry.Entry.{Entry}
 use Rattle.sr_logform.specs.declared.entry.Entry.TheVariants.{From}
 use Rattle.sr_logform.specs.declared.op.Op.{Op}
 use Rattle.sr_logform.specs.declared.op.Transaction.{Transaction}
 use Rattle.sr_logform.specs.declared.outcome.Outcome.{Outcome}
-use Rattle.sr_catalog_schema.specs.Members.{user_name}
-use Rattle.sr_catalog_schema.specs.Names.{named}
-use Rattle.sr_site.specs.Causes.{Stays}
-use Rattle.sr_site.specs.Files.{Files}
+use Rattle.sr_resolve.specs.Taking.{is_above}
 use Rattle.sr_site.specs.Seen.{Seen}
-use Rattle.sr_database_meaning.proofs.Going.{nothing}
-use Rattle.sr_receive.specs.Entering.{IsReady, Reached}
-use Rattle.sr_receive.specs.Inner.Entering.{CommitStop}
-use Rattle.sr_receive_judged.specs.Judged.{IsEntryOf}
+use Rattle.sr_receive_judged.specs.Judged.{AreDone, IsEntryOf}
 use Rattle.sr_receive_judged.specs.Inner.Judged.{IsAlike}
-use Rattle.sr_receive.specs.Reports.{outcome_reports}
-use Rattle.sr_receive.specs.Inner.Reports.{entry_reports}
-use Rattle.sr_receive.specs.Inner.Takings.{Entered, NotEntered}
+use Rattle.sr_receive_gather.specs.Windows.{past}
 use Rattle.sr_receive_gather.specs.declared.fault.ReceiveFault.{ReceiveFault}
-use Rattle.sr_receive_gather.specs.declared.fault.ReceiveFault.TheVariants.{Disk, Mail, Full, Long, Memory}
+use Rattle.sr_receive_gather.specs.declared.fault.ReceiveFault.TheVariants.{Memory}
 use Rattle.sr_receive_gather.specs.declared.report.Report.{Report}
-use Rattle.sr_receive.proofs.Committing.{ready_then, settled_as}
-use Rattle.sr_receive.proofs.Joins.{reached_on}
-use Rattle.sr_database.proofs.Commits.{committed_is}
+use Rattle.sr_receive.specs.Acts.{took}
+use Rattle.sr_receive.specs.Entering.{IsReady}
+use Rattle.sr_receive.specs.Inner.Noting.{IsEndOf, NotEntered}
+use Rattle.sr_receive.specs.Inner.Running.{IsItsEntry}
+use Rattle.sr_receive.specs.Inner.Stands.{Stand, Acted, IsUnderWay, Stopped, made_of, with_reports}
+use Rattle.sr_receive.proofs.Acting.{acted_one, stopped_at}
+use Rattle.sr_receive.proofs.Committing.{ready_did, state_did}
 
 -- ---- a value of the same history
 
-held_alike : (old new : View) (publisher : Name) (es : List Recorded) (files : Files) → new.log ≡ old.log → IsHeld old publisher es files → IsHeld new publisher es files
-held_alike old new publisher es files same held =
-    subst (λ (l : Log). IsHeld (record new { log = l }) publisher es files) (sym same) (record { stands = held.stands; log_is = held.log_is })
+module _ (old new : View) (seen : Seen) (ready : IsReady old seen) (alike : IsAlike old new) where
+  alike_place : IsStill (record { db = old; seen = seen }) (record { db = new; seen = seen }) []
+  alike_place = alike_still old new seen alike.log (λ none. alike.idle) alike.value ready.usable
 
-database_alike : (old new : View) (publisher : Name) (es : List Recorded) (seen : Seen) → IsAlike old new → IsDatabase old publisher es seen → IsDatabase new publisher es seen
-database_alike old new publisher es seen alike database = record {
-  is = alike.value publisher es database.is;
-  held = held_alike old new publisher es seen.files alike.log database.held;
-  settled = λ image there. held_alike old new publisher es image alike.log (database.settled image there);
-}
+  alike_did : Did (record { db = old; seen = seen }) (record { db = new; seen = seen }) [] whole
+  alike_did = calls_did _ _ [] alike_place refl
 
-still : (seen : Seen) → Stays seen seen
-still seen = record { observable = refl; first = refl; grows = λ moment there. there; disk = omega arith; mail = omega arith }
+  pub ready_alike : IsReady new seen
+  ready_alike = ready_did _ _ [] ready alike_did
 
-reached_alike : (old new : View) (seen : Seen) → IsReady old seen → IsAlike old new → Reached old new seen seen [] []
-reached_alike old new seen ready alike = record {
-  state = (subst (λ (l : Log). l.usable ≡ true) (sym alike.log) ready.usable, refl);
-  idle = alike.idle;
-  room = λ publisher es is. tt;
-  value = λ yes publisher es is. subst (λ (l : List Recorded). IsOf new publisher l) (sym (append-nil es)) (alike.value publisher es is);
-  database = λ told yes publisher es is. subst (λ (l : List Recorded). IsDatabase new publisher l seen) (sym (append-nil es)) (database_alike old new publisher es seen alike is);
-  went = λ told publisher es is. nothing seen publisher es (settled_as old publisher es seen is);
-  stays = still seen;
-}
+  pub committed_alike : committed new ≡ committed old
+  committed_alike = state_did _ _ [] ready alike_did
 
-pub ready_alike : (old new : View) (seen : Seen) → IsReady old seen → IsAlike old new → IsReady new seen
-ready_alike old new seen ready alike = ready_then old new seen seen [] ready (reached_alike old new seen ready alike)
+  -- where a pass stands then
+  pub alike_acted : (s : Stand) → s.state ≡ committed old → Acted s (record s { state = committed new }) (record { db = old; seen = seen }) (record { db = new; seen = seen }) whole
+  alike_acted s is = record { acts = []; steps = λ i. record s { state = (committed_alike ∙ sym is) i }; did = alike_did }
 
-committed_alike : (old new : View) (seen : Seen) → IsReady old seen → IsAlike old new → committed new ≡ committed old
-committed_alike old new seen ready alike =
-    let some = ready.some in
-    committed_is new some.publisher some.es (alike.value some.publisher some.es some.is) ∙ sym (committed_is old some.publisher some.es some.is)
+  -- for want of memory, before anything was done
+  pub alike_short : (s : Stand) → Stopped s s.inbox s.reports (record { db = old; seen = seen }) (record { db = new; seen = seen }) Memory
+  alike_short s = stopped_at s _ _ (short []) Memory refl (short_did _ _ [] alike_place refl) (inl refl)
 
 -- ---- its entry may be committed
 
@@ -77,74 +64,60 @@ fits_taken : (s : State) (user : Name) (t : Transaction) (dones : List Done) →
 unfolding FitsState
 fits_taken s user t dones known fit = (known, fit)
 
-pub can_enter : (old new : View) (seen : Seen) (user : Name) (t : Transaction) (entry : Entry) → IsReady old seen → IsSome (named user_name user old.catalog.users) → IsAlike old new → (is : IsEntryOf (committed old) user t entry)
-    → CanCommit new entry (taken user t.at is.judged.dones)
-can_enter old new seen user t entry ready known alike is =
+pub its_entry : (old new : View) (seen : Seen) (user : Name) (t : Transaction) (entry : Entry) → IsReady old seen → IsSome (named user_name user old.catalog.users) → IsAlike old new → IsEntryOf (committed old) user t entry → IsItsEntry new user t entry
+its_entry old new seen user t entry ready known alike is =
+    let judged = is.judged in
     let s : committed old ≡ committed new = sym (committed_alike old new seen ready alike) in
+    let of : entry ≡ From user t.at (map done_of judged.dones) = is.is ∙ ap (λ (l : List (Op × Outcome)). From user t.at l) judged.are in
     record {
-      is = ap (λ (l : List (Op × Outcome)). From user t.at l) (sym is.judged.are) ∙ sym is.is;
-      meant = is.judged.meant;
-      short = subst (λ (e : Entry). IsShortEntry e) (sym is.is) (record { items = (is.few.few, is.judged.short); filled = is.few.filled });
-      follows = (alike.idle, subst (λ (x : State). FitsState x (taken user t.at is.judged.dones)) s (fits_taken (committed old) user t is.judged.dones known is.judged.fit));
+      dones = judged.dones;
+      done = subst (λ (x : State). AreDone x (is_above x user) t.ops judged.dones) s judged.done;
+      is = of;
+      can = record {
+        is = sym of;
+        meant = judged.meant;
+        short = subst (λ (e : Entry). IsShortEntry e) (sym is.is) (record { items = (is.few.few, judged.short); filled = is.few.filled });
+        follows = (alike.idle, subst (λ (x : State). FitsState x (taken user t.at judged.dones)) s (fits_taken (committed old) user t judged.dones known judged.fit));
+      };
     }
 
-pub can_enter_some : (old new : View) (seen : Seen) (user : Name) (t : Transaction) (entry : Entry) → IsReady old seen → IsSome (named user_name user old.catalog.users) → IsAlike old new → IsEntryOf (committed old) user t entry → CanCommitSome new entry
-can_enter_some old new seen user t entry ready known alike is = record { r = taken user t.at is.judged.dones; can = can_enter old new seen user t entry ready known alike is }
+-- ---- it is committed, or not
 
--- ---- it was committed, or not
+next_taken : (s : State) (user : Name) (at : Offset) (dones : List Done) → next s (taken user at dones) ≡ after_dones dones s
+unfolding next
+next_taken s user at dones = refl
 
-pub entered_then : (old db new : View) (before now : Seen) (user : Name) (t : Transaction) (entry : Entry) (made : List Report) → IsReady old before → IsAlike old db → (is : IsEntryOf (committed old) user t entry) → made ≡ entry_reports user entry
-    → Reached db new before now (taken user t.at is.judged.dones ∷ []) [] → Entered old new before now user t made
-entered_then old db new before now user t entry made ready alike is reports reached = record {
-  dones = is.judged.dones;
-  done = is.judged.done;
-  made_are = reports ∙ ap (entry_reports user) is.is ∙ ap (outcome_reports user t.at 1) is.judged.are;
-  reached = reached_on old db new before before now [] (taken user t.at is.judged.dones ∷ []) [] (reached_alike old db before ready alike) reached;
-}
+module _ (s : Stand) (a b : PlaceView) (t : Transaction) (dones : List Done) (rest : List Transaction) (left : s.left ≡ t ∷ rest) (done : AreDone s.state (is_above s.state s.user) t.ops dones) where
+  pub acted_took : (received took' told : ℕ) (reports made : List Report) → IsReady a.db a.seen → s.state ≡ committed a.db → Did a b (entered (taken s.user t.at dones) ∷ []) whole → received ≡ t.at.0 → took' ≡ min (s.took + 1) (2 ^ 64 - 1)
+      → told ≡ s.told + length made → reports ≡ with_reports s.told made s.reports → made ≡ made_of s t dones
+      → Acted s (record s { state = committed b.db; received = received; took = took'; told = told; reports = reports; left = rest }) a b whole
+  acted_took received took' told reports made ready state did at count next_told shown made_is =
+      let after : committed b.db ≡ after_dones dones s.state =
+      state_did a b (entered (taken s.user t.at dones) ∷ []) ready did ∙ next_taken (committed a.db) s.user t.at dones ∙ ap (after_dones dones) (sym state) in
+      let told_is : told ≡ s.told + length (made_of s t dones) = next_told ∙ ap (λ (l : List Report). s.told + length l) made_is in
+      let reports_are : reports ≡ with_reports s.told (made_of s t dones) s.reports = shown ∙ ap (λ (l : List Report). with_reports s.told l s.reports) made_is in
+      acted_one s _ a b (took t dones)
+      (record { rest = rest; left_are = left; done = done; same = λ i. record s { state = after i; received = at i; took = count i; told = told_is i; reports = reports_are i; left = rest } })
+      did
 
-pub not_entered_then : (old db new : View) (before now : Seen) (user : Name) (t : Transaction) (entry : Entry) (fault : ReceiveFault) → IsReady old before → IsAlike old db → (is : IsEntryOf (committed old) user t entry)
-    → CommitStop db new before now (taken user t.at is.judged.dones) fault → NotEntered old new before now user t fault
-not_entered_then old db new before now user t entry Disk ready alike is stop = record {
-  dones = is.judged.dones;
-  done = is.judged.done;
-  stop = reached_on old db new before before now [] [] (taken user t.at is.judged.dones ∷ []) (reached_alike old db before ready alike) stop;
-}
-not_entered_then old db new before now user t entry Mail ready alike is stop = absurd stop
-not_entered_then old db new before now user t entry (Full end need) ready alike is stop = record {
-  dones = is.judged.dones;
-  done = is.judged.done;
-  stop = (stop.0, reached_on old db new before before now [] [] [] (reached_alike old db before ready alike) stop.1);
-}
-not_entered_then old db new before now user t entry (Long size limit) ready alike is stop = record {
-  dones = is.judged.dones;
-  done = is.judged.done;
-  stop = (stop.0, reached_on old db new before before now [] [] [] (reached_alike old db before ready alike) stop.1);
-}
-not_entered_then old db new before now user t entry Memory ready alike is stop =
-    reached_on old db new before before now [] [] [] (reached_alike old db before ready alike) stop
+  next_way : (end : End) → IsEndOf (taken s.user t.at dones) end → IsUnderWay s end
+  next_way whole of = absurd of
+  next_way (refused r) of = record { t = t; dones = dones; rest = rest; is = of; left_are = left; done = done }
+  next_way (failed hs) of = absurd of
+  next_way (full r end need) of = record { t = t; dones = dones; rest = rest; is = of; left_are = left; done = done }
+  next_way (long r size limit) of = record { t = t; dones = dones; rest = rest; is = of; left_are = left; done = done }
+  next_way (short hs) of = inl of
 
--- for want of memory, before anything was done
-pub not_judged : (old db : View) (seen : Seen) (user : Name) (t : Transaction) → IsReady old seen → IsAlike old db → NotEntered old db seen seen user t Memory
-not_judged old db seen user t ready alike = reached_alike old db seen ready alike
+  pub not_taken : (fault : ReceiveFault) → NotEntered a b (taken s.user t.at dones) fault → Stopped s s.inbox s.reports a b fault
+  not_taken fault not = stopped_at s a b not.end fault not.is not.did (next_way not.end not.of)
 
--- ---- answers
+-- ---- transactions past an offset
 
-pub entered_answer : {A : Type 0} (result : Result A ReceiveFault) (items : A → List Report) (old db new : View) (before now : Seen) (user : Name) (t : Transaction) (entry : Entry) → IsReady old before → IsAlike old db → (is : IsEntryOf (committed old) user t entry)
-    → IfOk result (λ made. items made ≡ entry_reports user entry) → OnOk result (Reached db new before now (taken user t.at is.judged.dones ∷ []) []) → IfOk result (λ made. Entered old new before now user t (items made))
-entered_answer (Ok made) items old db new before now user t entry ready alike is reports reached = entered_then old db new before now user t entry (items made) ready alike is reports reached
-entered_answer (Err fault) items old db new before now user t entry ready alike is reports reached = tt
+past_by : (b : Bool) (received : ℕ) (t : Transaction) (rest : List Transaction) → nat_lt received t.at.0 ≡ b → past received (t ∷ rest) ≡ cond b (t ∷ past received rest) (past received rest)
+past_by b received t rest is = ap (λ (c : Bool). cond c (t ∷ past received rest) (past received rest)) is
 
-pub stopped_answer : {A : Type 0} (old db new : View) (before now : Seen) (user : Name) (t : Transaction) (entry : Entry) (result : Result A ReceiveFault) → IsReady old before → IsAlike old db → (is : IsEntryOf (committed old) user t entry)
-    → IfErr result (CommitStop db new before now (taken user t.at is.judged.dones)) → IfErr result (NotEntered old new before now user t)
-stopped_answer old db new before now user t entry (Ok made) ready alike is stop = tt
-stopped_answer old db new before now user t entry (Err fault) ready alike is stop = not_entered_then old db new before now user t entry fault ready alike is stop
+pub past_taken : (received : ℕ) (t : Transaction) (rest : List Transaction) → received < t.at.0 → past received (t ∷ rest) ≡ t ∷ past received rest
+past_taken received t rest lies = past_by true received t rest (lt-ltb received t.at.0 lies)
 
--- ---- an answer that goes through
-
-pub through_ok : {A : Type 0} (P : Type 0) (result : Result A ReceiveFault) (outcome : Result (Unit {0}) ReceiveFault) → OnOk result (outcome ≡ Ok tt) → OnOk outcome P → OnOk result P
-through_ok P (Ok told) outcome is so = subst (λ (o : Result (Unit {0}) ReceiveFault). OnOk o P) is so
-through_ok P (Err fault) outcome is so = tt
-
-pub through_err : {A : Type 0} (holds : ReceiveFault → Type 0) (result : Result A ReceiveFault) (outcome : Result (Unit {0}) ReceiveFault) → IfErr result (λ fault. outcome ≡ Err fault) → IfErr outcome holds → IfErr result holds
-through_err holds (Ok told) outcome is so = tt
-through_err holds (Err fault) outcome is so = subst (λ (o : Result (Unit {0}) ReceiveFault). IfErr o holds) is so
+pub past_left : (received : ℕ) (t : Transaction) (rest : List Transaction) → t.at.0 ≤ received → past received (t ∷ rest) ≡ past received rest
+past_left received t rest lies = past_by false received t rest (le-ltb received t.at.0 lies)

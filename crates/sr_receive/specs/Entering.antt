@@ -1,12 +1,13 @@
 -- Entries that a pass commits, one after the other.
-use Rattle.std.specs.Prelude.{◌≡◌, true, false, List, [], ◌∷◌, ◌++◌, map, IsTrue}
+use Rattle.std.specs.Prelude.{◌≡◌, true, List, [], ◌++◌, map, IsTrue}
 use Rattle.sr_book.specs.Entries.{Name}
 use Rattle.sr_database_history.specs.Folds.{end_of}
 use Rattle.sr_database_history.specs.Recorded.{Recorded}
-use Rattle.sr_site.specs.Causes.{Stays, Rose}
+use Rattle.sr_site.specs.Causes.{Stays}
 use Rattle.sr_site.specs.Seen.{Seen}
 use Rattle.sr_database_meaning.specs.Events.{commit}
 use Rattle.sr_database_meaning.specs.Traces.{Went}
+use Rattle.sr_database.specs.Broken.{IsBroken}
 use Rattle.sr_database.specs.Databases.{IsOf, IsOfSome, IsDatabase, HasDatabase}
 use Rattle.sr_database.specs.Rooms.{HaveRoom}
 use Rattle.sr_database.specs.Views.{View}
@@ -17,12 +18,6 @@ pub record IsReady (view : View) (seen : Seen) : Type 0 where
   pub idle : view.pending ≡ []
   pub some : IsOfSome view
   pub stands : IsTrue seen.observable → HasDatabase view seen
-
--- the entry whose commit the disk refused, if it refused one: then the database is not used again
-abbrev pub IsBroken : List Recorded → View → Seen → Seen → Type 0
-IsBroken [] new before now = (new.log.usable ≡ true) × (now.disk_faults ≡ before.disk_faults)
-IsBroken (r ∷ []) new before now = (new.log.usable ≡ false) × Rose before.disk_faults now.disk_faults
-IsBroken (r ∷ other ∷ rs) new before now = ⊥
 
 -- these entries were committed, and then the commit of one was begun that the disk refused, if there is one: the database of a history is that
 -- of the history with the entries, each of which has room, and its site went through their commits

@@ -1,4 +1,5 @@
-pub mod Entering
-pub mod Reports
-pub mod Takings
+pub mod Noting
 pub mod Passes
+pub mod Reports
+pub mod Running
+pub mod Stands

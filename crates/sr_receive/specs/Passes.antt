@@ -14,20 +14,17 @@ use Rattle.sr_mail.specs.declared.window.Window.{Window}
 use Rattle.sr_site.specs.Happenings.{Happening, mail_in}
 use Rattle.sr_site.specs.Seen.{Seen}
 use Rattle.sr_receive.specs.Acts.{ReceiveAct, PassState, stand_of, AreActs, IsAtRest, IsNextTaken, entries_of, op_reports, torn_reports, mail_after}
-use Rattle.sr_receive_gather.specs.Bags.{filed_of, IsPartnerMail}
+use Rattle.sr_receive_gather.specs.Bags.{filed_of}
 use Rattle.sr_receive.specs.Entering.{Reached}
 use Rattle.sr_receive_gather.specs.Fetches.{RefetchedInPart}
 use Rattle.sr_receive_gather.specs.Greatest.{confirms, asks, raises, has_gap, upto_in}
 use Rattle.sr_receive_gather.specs.MessageFiles.{MessageFile}
 use Rattle.sr_receive_gather.specs.Windows.{IsDue}
 use Rattle.sr_receive_gather.specs.declared.bag.Filed.{Filed}
-use Rattle.sr_receive_gather.specs.declared.bag.PartnerMail.{PartnerMail}
 use Rattle.sr_receive_gather.specs.declared.fault.ReceiveFault.{ReceiveFault}
 use Rattle.sr_receive_gather.specs.declared.fault.ReceiveFault.TheVariants.{Disk, Mail, Full, Long, Memory}
-use Rattle.sr_receive.specs.declared.receiving.Received.{Received}
 use Rattle.sr_receive_gather.specs.declared.report.Report.{Report}
 use Rattle.sr_receive_gather.specs.declared.report.Report.TheVariants.{Gap}
-use Rattle.sr_receive.specs.declared.taking.Progress.{Progress}
 
 -- where a pass begins
 abbrev pub first_of : View → Book → List Window → PassState
@@ -157,24 +154,3 @@ abbrev pub PassedInPart : View → View → Seen → Seen → Name → List Mess
 PassedInPart old new before now user message_files dropped_windows dropped_windows' reports reports' fault =
     StoppedAtNotes old new before now (first_notes user (book_in old.books user) (map filed_of message_files)) dropped_windows dropped_windows' reports reports' fault
     ⊎ StoppedFrom old new before now user message_files (first_notes user (book_in old.books user) (map filed_of message_files)) (first_of old (book_in old.books user) dropped_windows) dropped_windows' reports reports' fault
-
--- ---- the same of one partner mail, after its notes
-
--- what is raised after them, and the answer
-pub record HasRaised (user : Name) (progress : Progress) (files : List Filed) (reports reports' : List Report) (answer : Received) : Type 0 where
-  pub took : answer.took ≡ progress.took
-  pub end : answer.end ≡ progress.received
-  pub ask : answer.ask ≡ has_gap progress.received.0 files
-  pub reports_are : reports' ≡ reports ++ gap_report user progress.received.0 files
-
--- where it begins
-pub record IsStart (db : View) (received : ℕ) (dropped_windows : List Window) (first : PassState) : Type 0 where
-  pub state : first.state ≡ committed db
-  pub received_is : first.received ≡ received
-  pub dropped_windows_are : first.dropped_windows ≡ dropped_windows
-  pub left : first.left ≡ []
-
-pub record StoppedBehind (old new : View) (before now : Seen) (user : Name) (message_files : List MessageFile) (first : PassState) (partner_mail' : PartnerMail) (reports reports' : List Report) (fault : ReceiveFault) : Type 0 where
-  pub dropped_windows' : List Window
-  pub partner_mail_is : IsPartnerMail message_files dropped_windows' partner_mail'
-  pub stopped : StoppedFrom old new before now user message_files [] first dropped_windows' reports reports' fault

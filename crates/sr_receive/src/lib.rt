@@ -7,6 +7,7 @@
 
 mod laws;
 mod noting;
+mod pass;
 mod receiving;
 mod reporting;
 mod taking;

@@ -1,37 +1,28 @@
 //! The windows of a user's message files, tried one after the other.
 
-ghost use Rattle.std.specs.Prelude.{◌≡◌, ◌≤◌, ◌↔◌, ◌∷◌, ◌++◌, [], List, length, IsSome, IsTrue, IfErr, IfNone, IfOk, IfSome, OnErr, OnOk, Some, option_map, if◌then◌else◌};
+ghost use Rattle.std.specs.Prelude.{true, ◌≡◌, ◌↔◌, ◌∷◌, ◌++◌, [], List, IsTrue, IfErr, IfNone, IfOk, IfSome, OnErr, OnOk, Some, option_map};
 ghost use Rattle.std.specs.List.{AllByRecursion};
 ghost use Rattle.sr_base.specs.Values.{offset_from};
 ghost use Rattle.sr_mail_cut.specs.Bodies.{IsBody};
-ghost use Rattle.sr_database.specs.Views.{View as AView};
+ghost use Rattle.sr_database_did.specs.Inner.Places.{IsLent};
+ghost use Rattle.sr_receive_gather.specs.Fetches.{FetchStop};
+ghost use Rattle.sr_receive_gather.specs.Inner.Fetches.{FoundAll};
 ghost use Rattle.sr_logform.specs.Inner.Ops.{IsShortTransaction};
 ghost use Rattle.sr_logform.specs.declared.op.Transaction.{Transaction as ATransaction};
 ghost use Rattle.sr_mail.specs.Inner.Assembled.{AreOfOneWindow};
-ghost use Rattle.sr_mail.specs.Inboxes.{pieces_of, is_dropped};
-ghost use Rattle.sr_mail.specs.Inner.Inboxes.{is_seen};
-ghost use Rattle.sr_mail.specs.Seen.{same_window, window_of};
+ghost use Rattle.sr_mail.specs.Inner.Inboxes.{IsNext};
+ghost use Rattle.sr_mail.specs.Seen.{window_of};
 ghost use Rattle.sr_mail.specs.declared.piece.Piece.{Piece as APiece};
-ghost use Rattle.sr_mail.specs.declared.window.Window.{Window as AWindow};
-ghost use Rattle.sr_catalog_schema.specs.Members.{user_name};
-ghost use Rattle.sr_catalog_schema.specs.Names.{named};
-ghost use Rattle.sr_site.specs.Seen.{Seen as SiteSeen};
-ghost use Rattle.sr_receive.specs.Acts.{ReceiveAct, PassState, stand_of, IsReadAs};
-ghost use Rattle.sr_receive_gather.specs.Fetches.{Pairs};
-ghost use Rattle.sr_receive_gather.specs.Bags.{Holds};
-ghost use Rattle.sr_receive.specs.Entering.{IsReady};
-ghost use Rattle.sr_receive_gather.specs.MessageFiles.{MessageFile as AMessageFile};
-ghost use Rattle.sr_receive.specs.Passes.{AreSteady};
-ghost use Rattle.sr_receive.specs.Inner.Passes.{IsDeviceFault};
-ghost use Rattle.sr_receive.specs.Inner.Takings.{IsIdle, IsOnTrial, IsUnderTrial, StandsThere, StopsWith, TriedAll, TriedOne};
-ghost use Rattle.sr_receive_gather.specs.Windows.{AreOf, IsDue, Spell};
+ghost use Rattle.sr_receive.specs.Acts.{IsReadAs};
+ghost use Rattle.sr_receive.specs.Inner.Running.{IsReadyPass, KeepsLoans, Runs, TriesFound, TriesRead, stand};
+ghost use Rattle.sr_receive.specs.Inner.Stands.{IsResting, Loses};
+ghost use Rattle.sr_receive_gather.specs.Windows.{AreOf, Spell};
 ghost use Rattle.sr_receive_gather.specs.declared.fault.ReceiveFault.TheVariants.{Memory as memory};
-ghost use Rattle.sr_receive_gather.specs.declared.report.Report.{Report as AReport};
 ghost use Rattle.sr_receive_gather.specs.declared.report.Report.TheVariants.{Torn as torn_report};
 
-use crate::taking::{Progress, take_all};
+use crate::pass::Pass;
 use sr_base::{Copied, Name, NoMemory, Offset};
-use sr_database::Database;
+use sr_database_did::Place;
 use sr_logform::Transaction;
 use sr_mail::{Inbox, Piece, Window, assemble};
 use sr_mail_cut::read_body;
@@ -40,174 +31,126 @@ use sr_receive_gather::{ReceiveFault, Report, fetch_all};
 use sr_site::Site;
 use std::alloc::Global;
 
-/// Tries windows as long as a whole one leads on from what was received.
-pub(crate) fn try_all<S: Site>(
-    alloc: Global,
-    db: &mut Database,
-    site: &mut S,
-    user: &Name,
-    inbox: &mut Inbox,
-    progress: &mut Progress,
-    reports: &mut Vec<Report>,
-) -> Result<(), ReceiveFault>
-    requires ready { IsReady db.old (S.seen site.old) }
-    requires user { IsSome (named user_name user.now db.old.catalog.users) }
-    requires told { progress.old.told ≤ length reports.old.items }
-    ensures steady { OnOk result (AreSteady (S.seen site.old) (S.seen site.new)) }
-    ensures why { IfErr result (IsDeviceFault (S.seen site.old) (S.seen site.new)) }
-    ensures ready { OnOk result (IsReady db.new (S.seen site.new)) }
-    ensures users { OnOk result (IsSome (named user_name user.now db.new.catalog.users)) }
-    ensures tried { (from : AView) (before : SiteSeen) (message_files : List AMessageFile) (first : PassState) (acts : List ReceiveAct) (all : List AReport)
-        → StandsThere from db.old before (S.seen site.old) user.now message_files first acts progress.old all reports.old.items → IsIdle (stand_of first acts) → Holds message_files (stand_of first acts).dropped_windows inbox.old
-        → OnOk result (TriedAll from db.new before (S.seen site.new) user.now message_files first inbox.new progress.new all reports.new.items) }
-    ensures cause { (from : AView) (before : SiteSeen) (message_files : List AMessageFile) (first : PassState) (acts : List ReceiveAct) (all : List AReport)
-        → StandsThere from db.old before (S.seen site.old) user.now message_files first acts progress.old all reports.old.items → IsIdle (stand_of first acts) → Holds message_files (stand_of first acts).dropped_windows inbox.old
-        → IfErr result (StopsWith from db.new before (S.seen site.new) user.now message_files first inbox.new all reports.new.items) }
-{
-    'windows: for _ in 0..u64::MAX {
-        let Some(pieces) = inbox.next(alloc, progress.received)? else {
-            return Ok(());
-        };
-        try_one(alloc, db, site, user, inbox, progress, reports, pieces)?;
-    }
-    Err(ReceiveFault::Memory)
-}
-
-/// Tries the window of these pieces.
-fn try_one<S: Site>(
-    alloc: Global,
-    db: &mut Database,
-    site: &mut S,
-    user: &Name,
-    inbox: &mut Inbox,
-    progress: &mut Progress,
-    reports: &mut Vec<Report>,
-    pieces: Vec<Piece>,
-) -> Result<(), ReceiveFault>
-    requires ready { IsReady db.old (S.seen site.old) }
-    requires user { IsSome (named user_name user.now db.old.catalog.users) }
-    requires told { progress.old.told ≤ length reports.old.items }
-    requires filled { ¬ (pieces.items ≡ []) }
-    requires one_window { (w : AWindow) × AllByRecursion (λ p. window_of p ≡ w) pieces.items }
-    ensures steady { OnOk result (AreSteady (S.seen site.old) (S.seen site.new)) }
-    ensures why { IfErr result (IsDeviceFault (S.seen site.old) (S.seen site.new)) }
-    ensures ready { OnOk result (IsReady db.new (S.seen site.new)) }
-    ensures told { OnOk result (progress.new.told ≤ length reports.new.items) }
-    ensures users { OnOk result (IsSome (named user_name user.now db.new.catalog.users)) }
-    ensures tried { (w : AWindow) (from : AView) (before : SiteSeen) (message_files : List AMessageFile) (first : PassState) (acts : List ReceiveAct) (all : List AReport)
-        → StandsThere from db.old before (S.seen site.old) user.now message_files first acts progress.old all reports.old.items → IsIdle (stand_of first acts) → Holds message_files (stand_of first acts).dropped_windows inbox.old
-        → IsDue message_files (stand_of first acts).dropped_windows progress.old.received.0 w pieces.items → OnOk result (TriedOne from db.new before (S.seen site.new) user.now message_files first acts inbox.new progress.new all reports.new.items) }
-    ensures cause { (w : AWindow) (from : AView) (before : SiteSeen) (message_files : List AMessageFile) (first : PassState) (acts : List ReceiveAct) (all : List AReport)
-        → StandsThere from db.old before (S.seen site.old) user.now message_files first acts progress.old all reports.old.items → IsIdle (stand_of first acts) → Holds message_files (stand_of first acts).dropped_windows inbox.old
-        → IsDue message_files (stand_of first acts).dropped_windows progress.old.received.0 w pieces.items → IfErr result (StopsWith from db.new before (S.seen site.new) user.now message_files first inbox.new all reports.new.items) }
-{
-    let Some(window) = window_of(pieces.as_slice()) else {
-        drop(pieces);
-        return Ok(());
-    };
-    let found = fetch_all(alloc, site, db.catalog().publisher(), user, pieces)?;
-    try_found(
-        alloc, db, site, user, inbox, progress, reports, window, found,
-    )
-}
-
-/// Tries a window of which the pieces were fetched again. It is dropped where one of them did not come.
-fn try_found<S: Site>(
-    alloc: Global,
-    db: &mut Database,
-    site: &mut S,
-    user: &Name,
-    inbox: &mut Inbox,
-    progress: &mut Progress,
-    reports: &mut Vec<Report>,
-    window: Window,
-    found: Option<Vec<(Piece, Message)>>,
-) -> Result<(), ReceiveFault>
-    requires ready { IsReady db.old (S.seen site.old) }
-    requires user { IsSome (named user_name user.now db.old.catalog.users) }
-    requires told { progress.old.told ≤ length reports.old.items }
-    requires filled { IfSome found (λ pairs. ¬ (pairs.items ≡ [])) }
-    requires one_window { IfSome found (λ pairs. AreOfOneWindow pairs.items) }
-    ensures steady { OnOk result (AreSteady (S.seen site.old) (S.seen site.new)) }
-    ensures why { IfErr result (IsDeviceFault (S.seen site.old) (S.seen site.new)) }
-    ensures ready { OnOk result (IsReady db.new (S.seen site.new)) }
-    ensures told { OnOk result (progress.new.told ≤ length reports.new.items) }
-    ensures users { OnOk result (IsSome (named user_name user.now db.new.catalog.users)) }
-    ensures tried { (pieces : List APiece) (middle : SiteSeen) (from : AView) (before : SiteSeen) (message_files : List AMessageFile) (first : PassState) (acts : List ReceiveAct) (all : List AReport)
-        → StandsThere from db.old before middle user.now message_files first acts progress.old all reports.old.items → IsIdle (stand_of first acts) → Holds message_files (stand_of first acts).dropped_windows inbox.old
-        → IsOnTrial from.catalog.publisher user.now message_files (stand_of first acts) window pieces (option_map (λ pairs. pairs.items) found) middle (S.seen site.old) → OnOk result (TriedOne from db.new before (S.seen site.new) user.now message_files first acts inbox.new progress.new all reports.new.items) }
-    ensures cause { (pieces : List APiece) (middle : SiteSeen) (from : AView) (before : SiteSeen) (message_files : List AMessageFile) (first : PassState) (acts : List ReceiveAct) (all : List AReport)
-        → StandsThere from db.old before middle user.now message_files first acts progress.old all reports.old.items → IsIdle (stand_of first acts) → Holds message_files (stand_of first acts).dropped_windows inbox.old
-        → IsOnTrial from.catalog.publisher user.now message_files (stand_of first acts) window pieces (option_map (λ pairs. pairs.items) found) middle (S.seen site.old) → IfErr result (StopsWith from db.new before (S.seen site.new) user.now message_files first inbox.new all reports.new.items) }
-{
-    match found {
-        None => {
-            lose(inbox, window);
-            Ok(())
-        }
-        Some(pairs) => {
-            let read = read_window(alloc, window, pairs.as_slice());
-            drop(pairs);
-            match read {
-                Ok(read) => take_read(
-                    alloc, db, site, user, inbox, progress, reports, window, read,
-                ),
-                Err(_) => Err(ReceiveFault::Memory),
+impl<'d, 's, 'p, 'r, S: Site> Pass<'d, 's, 'p, 'r, S> {
+    /// Tries windows as long as a whole one leads on from what was received.
+    pub(crate) fn try_all(&mut self, inbox: &mut Inbox) -> Result<(), ReceiveFault>
+        requires ready { IsReadyPass S.seen self.old }
+        ensures loans { KeepsLoans self.old self.new }
+        ensures ran { Runs S.seen self.old inbox.old [] self.new inbox.new [] result }
+        ensures rest { OnOk result (IsResting (stand self.new inbox.new [])) }
+    {
+        'windows: for _ in 0..u64::MAX {
+            let Some(pieces) = inbox.next(self.place.alloc, self.progress.received)? else {
+                return Ok(());
+            };
+            match self.try_one(inbox, pieces) {
+                Ok(()) => {}
+                Err(fault) => return Err(fault),
             }
         }
+        Err(ReceiveFault::Memory)
     }
-}
 
-/// Takes the transactions that were read of a window. It is torn where none were, and reported as such before it is lost: where there is no memory for
-/// the report, nothing is done.
-fn take_read<S: Site>(
-    alloc: Global,
-    db: &mut Database,
-    site: &mut S,
-    user: &Name,
-    inbox: &mut Inbox,
-    progress: &mut Progress,
-    reports: &mut Vec<Report>,
-    window: Window,
-    read: Option<Vec<Transaction>>,
-) -> Result<(), ReceiveFault>
-    requires ready { IsReady db.old (S.seen site.old) }
-    requires user { IsSome (named user_name user.now db.old.catalog.users) }
-    requires told { progress.old.told ≤ length reports.old.items }
-    requires short { IfSome read (λ txs. AllByRecursion IsShortTransaction txs.items) }
-    ensures steady { OnOk result (AreSteady (S.seen site.old) (S.seen site.new)) }
-    ensures why { IfErr result (IsDeviceFault (S.seen site.old) (S.seen site.new)) }
-    ensures ready { OnOk result (IsReady db.new (S.seen site.new)) }
-    ensures told { OnOk result (progress.new.told ≤ length reports.new.items) }
-    ensures users { OnOk result (IsSome (named user_name user.now db.new.catalog.users)) }
-    ensures tried { (pairs : Pairs) (middle : SiteSeen) (from : AView) (before : SiteSeen) (message_files : List AMessageFile) (first : PassState) (acts : List ReceiveAct) (all : List AReport)
-        → StandsThere from db.old before middle user.now message_files first acts progress.old all reports.old.items → IsIdle (stand_of first acts) → Holds message_files (stand_of first acts).dropped_windows inbox.old
-        → IsUnderTrial from.catalog.publisher user.now message_files (stand_of first acts) window pairs (option_map (λ txs. txs.items) read) middle (S.seen site.old) → OnOk result (TriedOne from db.new before (S.seen site.new) user.now message_files first acts inbox.new progress.new all reports.new.items) }
-    ensures cause { (pairs : Pairs) (middle : SiteSeen) (from : AView) (before : SiteSeen) (message_files : List AMessageFile) (first : PassState) (acts : List ReceiveAct) (all : List AReport)
-        → StandsThere from db.old before middle user.now message_files first acts progress.old all reports.old.items → IsIdle (stand_of first acts) → Holds message_files (stand_of first acts).dropped_windows inbox.old
-        → IsUnderTrial from.catalog.publisher user.now message_files (stand_of first acts) window pairs (option_map (λ txs. txs.items) read) middle (S.seen site.old) → IfErr result (StopsWith from db.new before (S.seen site.new) user.now message_files first inbox.new all reports.new.items) }
-{
-    match read {
-        None => match push_torn(alloc, reports, user, window) {
-            Ok(()) => {
+    /// Tries the window of these pieces.
+    fn try_one(&mut self, inbox: &mut Inbox, pieces: Vec<Piece>) -> Result<(), ReceiveFault>
+        requires ready { IsReadyPass S.seen self.old }
+        requires next { IsNext inbox.old self.old.progress.received.0 pieces.items }
+        ensures loans { KeepsLoans self.old self.new }
+        ensures ran { Runs S.seen self.old inbox.old [] self.new inbox.new [] result }
+    {
+        let Some(window) = window_of(pieces.as_slice()) else {
+            drop(pieces);
+            return Ok(());
+        };
+        match fetch_again(&mut self.place, self.user, pieces) {
+            Ok(found) => self.try_found(inbox, window, found),
+            Err(fault) => Err(fault),
+        }
+    }
+
+    /// Tries a window of which the pieces were fetched again. It is dropped where one of them did not come.
+    fn try_found(
+        &mut self,
+        inbox: &mut Inbox,
+        window: Window,
+        found: Option<Vec<(Piece, Message)>>,
+    ) -> Result<(), ReceiveFault>
+        requires ready { IsReadyPass S.seen self.old }
+        requires filled { IfSome found (λ pairs. ¬ (pairs.items ≡ [])) }
+        requires one_window { IfSome found (λ pairs. AreOfOneWindow pairs.items) }
+        ensures loans { KeepsLoans self.old self.new }
+        ensures ran { TriesFound S.seen self.old inbox.old self.new inbox.new window (option_map (λ pairs. pairs.items) found) result }
+    {
+        match found {
+            None => {
                 lose(inbox, window);
                 Ok(())
             }
-            Err(fault) => Err(fault),
-        },
-        Some(transactions) => {
-            let ts = transactions.as_slice();
-            let outcome = take_all(alloc, db, site, user, progress, reports, ts);
-            drop(transactions);
-            outcome
+            Some(pairs) => {
+                let read = read_window(self.place.alloc, window, pairs.as_slice());
+                drop(pairs);
+                match read {
+                    Ok(read) => self.take_read(inbox, window, read),
+                    Err(_) => Err(ReceiveFault::Memory),
+                }
+            }
         }
     }
+
+    /// Takes the transactions that were read of a window. It is torn where none were, and reported as such before it is lost: where there is no memory for
+    /// the report, nothing is done.
+    fn take_read(
+        &mut self,
+        inbox: &mut Inbox,
+        window: Window,
+        read: Option<Vec<Transaction>>,
+    ) -> Result<(), ReceiveFault>
+        requires ready { IsReadyPass S.seen self.old }
+        requires short { IfSome read (λ txs. AllByRecursion IsShortTransaction txs.items) }
+        ensures loans { KeepsLoans self.old self.new }
+        ensures ran { TriesRead S.seen self.old inbox.old self.new inbox.new window (option_map (λ txs. txs.items) read) result }
+    {
+        match read {
+            None => match push_torn(self.place.alloc, self.reports, self.user, window) {
+                Ok(()) => {
+                    lose(inbox, window);
+                    Ok(())
+                }
+                Err(fault) => Err(fault),
+            },
+            Some(transactions) => {
+                let outcome = self.take_all(transactions.as_slice());
+                drop(transactions);
+                outcome
+            }
+        }
+    }
+}
+
+/// Fetches the files of a window's pieces again.
+fn fetch_again<'d, 's, S: Site>(
+    place: &mut Place<'d, 's, S>,
+    user: &Name,
+    pieces: Vec<Piece>,
+) -> Result<Option<Vec<(Piece, Message)>>, ReceiveFault>
+    requires usable { place.old.db.now.log.usable ≡ true }
+    ensures lent { IsLent place.old place.new }
+    ensures db { place.new.db.now ≡ place.old.db.now }
+    ensures found { IfOk result (λ found. FoundAll place.old.db.now.catalog.publisher user.now pieces.items (S.seen place.old.site.now) (S.seen place.new.site.now) (option_map (λ pairs. pairs.items) found)) }
+    ensures cause { IfErr result (FetchStop place.old.db.now.catalog.publisher user.now pieces.items (S.seen place.old.site.now) (S.seen place.new.site.now)) }
+{
+    fetch_all(
+        place.alloc,
+        place.site,
+        place.db.catalog().publisher(),
+        user,
+        pieces,
+    )
 }
 
 /// The window is not tried again.
 fn lose(inbox: &mut Inbox, window: Window)
-    ensures pieces { (w : AWindow) → pieces_of inbox.new w ≡ pieces_of inbox.old w }
-    ensures dropped { (w : AWindow) → is_dropped inbox.new w ≡ (if same_window window w then is_seen inbox.old w else is_dropped inbox.old w) }
+    ensures lost { Loses inbox.old inbox.new window }
 {
     inbox.drop_window(Offset(window.prev), Offset(window.upto), window.total);
 }

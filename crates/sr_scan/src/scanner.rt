@@ -7,6 +7,7 @@ ghost use Rattle.sr_scan.specs.Inner.Changed.{IsTold, or_before};
 ghost use Rattle.sr_scan.specs.Inner.Images.{catalog_behind};
 ghost use Rattle.sr_scan.specs.Inner.Meanings.{IsGiven};
 ghost use Rattle.sr_scan.specs.Inner.Scanners.{IsFed, Follows, transaction_of};
+ghost use Rattle.sr_scan.specs.Inner.Views.{AreViews};
 
 use crate::entries::{Told, own_ops, tell_entry};
 use crate::statements::{is_refused, meant_by};
@@ -27,8 +28,8 @@ use std::mem::replace;
 /// the user has its table. A text that no statement prints, and a statement that is refused, change nothing. None of these is met in a
 /// history that may stand in a log.
 ///
-/// It takes a pass or two over the catalog's subscriptions for each of its tables. Whoever reads many entries makes a `Scanner`.
-#[tactic(auto, using(crate::proofs::Telling::given_from_told))]
+/// It takes a pass or two over the catalog's subscriptions for each of its tables. Whoever reads the entries of a log one after the other makes a
+/// `Scanner`; whoever has some of one catalog makes what the user has of its tables once, and asks `given_by`.
 pub fn given(
     alloc: Global,
     catalog: &Catalog,
@@ -38,9 +39,25 @@ pub fn given(
     ensures given { IfOk result (λ ops. IsGiven catalog.now entry.now user.now ops.items) }
 {
     let views = views_of(alloc, catalog, user)?;
-    let told = tell_entry(alloc, catalog, &views, user, entry);
+    let given = given_by(alloc, catalog, &views, entry, user);
     drop(views);
-    Ok(ops_in(told?))
+    given
+}
+
+/// What `given` says, by what the user has of each table of the catalog. It takes the time of the entry, and more only where a statement is in it.
+#[tactic(auto, using(crate::proofs::Telling::given_from_told))]
+pub fn given_by(
+    alloc: Global,
+    catalog: &Catalog,
+    views: &Views,
+    entry: &Entry,
+    user: &Name,
+) -> Result<Vec<Op>, NoMemory>
+    requires views { AreViews catalog.now user.now views.now }
+    ensures given { IfOk result (λ ops. IsGiven catalog.now entry.now user.now ops.items) }
+{
+    let told = tell_entry(alloc, catalog, views, user, entry)?;
+    Ok(ops_in(told))
 }
 
 /// The ops of what an entry comes to.

@@ -15,10 +15,10 @@ use std::alloc::{AllocError, Global};
 use std::collections::BTreeMap;
 
 /// What a user has of each table, by the table's name. One is found in few steps.
-pub(crate) type Views = BTreeMap<Name, TableView>;
+pub type Views = BTreeMap<Name, TableView>;
 
 /// What a user has of each table of a catalog. It takes a pass or two over the subscriptions for each table.
-pub(crate) fn views_of(alloc: Global, catalog: &Catalog, user: &Name) -> Result<Views, NoMemory>
+pub fn views_of(alloc: Global, catalog: &Catalog, user: &Name) -> Result<Views, NoMemory>
     ensures views { IfOk result (λ views. AreViews catalog.now user.now views) }
 {
     let mut views = BTreeMap::new(alloc);

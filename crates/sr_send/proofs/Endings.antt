@@ -29,7 +29,7 @@ use Rattle.sr_send.specs.PutFiles.{IsDue, AreMessages, put_files}
 use Rattle.sr_send.specs.Posting.{IsSteady}
 use Rattle.sr_send.specs.Inner.Posting.{Posted, PutFault}
 use Rattle.sr_send.specs.Inner.Steps.{Emptied, IsDueAlone, Bodyless, Completed, AllRead, PutAll}
-use Rattle.sr_send.specs.Inner.Stops.{IsPartSent, HeldStop, LastStop, EndStop, PutStop}
+use Rattle.sr_send.specs.Inner.Stops.{ReadStop, IsPartSent, HeldStop, LastStop, EndStop, PutStop}
 use Rattle.sr_send.specs.Unsent.{unsent}
 use Rattle.sr_send.specs.declared.aim.Aim.{Aim}
 use Rattle.sr_send.specs.declared.fault.SendFault.{SendFault}
@@ -286,8 +286,8 @@ pub rest_stopped : (db : View) (aim : Aim) (book : Book) (ask : Bool) (user : Na
 rest_stopped db aim book ask user post before middle now fault read stop = inr (last_read db aim book ask user post before middle now fault read stop)
 
 -- nothing was put, for want of memory
-pub nothing_put : (db : View) (aim : Aim) (book : Book) (ask : Bool) (user : Name) (seen : Seen) → IsAim aim → PutStop db aim book ask user seen seen Memory
-nothing_put db aim book ask user seen good = inl (record {
+pub not_begun : (db : View) (aim : Aim) (user : Name) (seen : Seen) → IsAim aim → ReadStop db aim user seen seen Memory
+not_begun db aim user seen good = record {
   pushed = [];
   messages = [];
   prefix = record { begins = λ rest. cut_there aim.head aim.limit (has_room aim good) aim.prev rest };
@@ -296,7 +296,10 @@ nothing_put db aim book ask user seen good = inl (record {
   begins = λ told publisher es database. record { rest = unsent publisher es user aim.prev.0; parts = refl };
   cause = (refl, refl);
   ends = ends_same seen;
-})
+}
+
+pub nothing_put : (db : View) (aim : Aim) (book : Book) (ask : Bool) (user : Name) (seen : Seen) → IsAim aim → PutStop db aim book ask user seen seen Memory
+nothing_put db aim book ask user seen good = inl (not_begun db aim user seen good)
 
 -- ---- as the code meets them
 

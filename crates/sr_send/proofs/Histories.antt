@@ -44,7 +44,7 @@ past_found sent place at (op ∷ ops) is =
     ∙ ap (λ (n : ℕ). cond (nat_lt sent n) (record { at = offset_from n; ops = op ∷ ops } ∷ []) []) (sym is)
 
 -- with one entry more
-unsent_more : (publisher user : Name) (rs : List Recorded) (r : Recorded) (sent : ℕ) (at : Offset) → at.0 ≡ end_of (rs ++ r ∷ [])
+pub unsent_more : (publisher user : Name) (rs : List Recorded) (r : Recorded) (sent : ℕ) (at : Offset) → at.0 ≡ end_of (rs ++ r ∷ [])
     → unsent publisher (rs ++ r ∷ []) user sent ≡ unsent publisher rs user sent ++ newer sent (transaction_of at (gives (state_of publisher rs) r user))
 unsent_more publisher user rs r sent at is =
     let place : at.0 ≡ end_of rs + (size r + 5) = is ∙ end_from-more 0 rs r in
@@ -54,7 +54,7 @@ unsent_more publisher user rs r sent at is =
     ∙ ap (λ (ts : List Transaction). unsent publisher rs user sent ++ ts) (past_found sent (end_of rs + (size r + 5)) at ops place)
 
 -- those of a prefix are the first
-unsent_prefix : (publisher user : Name) (rs qs : List Recorded) (sent : ℕ) → IsPrefixOf (unsent publisher rs user sent) (unsent publisher (rs ++ qs) user sent)
+pub unsent_prefix : (publisher user : Name) (rs qs : List Recorded) (sent : ℕ) → IsPrefixOf (unsent publisher rs user sent) (unsent publisher (rs ++ qs) user sent)
 unsent_prefix publisher user rs qs sent = record {
   rest = past sent (given_from (state_of publisher rs) (end_of rs) qs user);
   parts = ap (past sent) (joined publisher user rs qs) ∙ past-append sent (given_of publisher rs user) (given_from (state_of publisher rs) (end_of rs) qs user);

@@ -15,3 +15,6 @@ pub mod PassEnds
 pub mod Truths
 pub mod TrueSentMessages
 pub mod Written
+pub mod Known
+pub mod Jumps
+pub mod Told

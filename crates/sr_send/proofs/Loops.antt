@@ -44,7 +44,7 @@ behind_fed : (sent : ℕ) (after end old new : Offset) → IsBehind sent after.0
 behind_fed sent after end old new behind later (inl same) = λ n past further. subst (λ (o : Offset). o.0 < n) (sym same) (behind n past (omega (arith, later, further)))
 behind_fed sent after end old new behind later (inr is) = λ n past further. subst (λ (o : Offset). o.0 < n) (sym is) further
 
-posted_behind_read : (before middle now : Seen) (events : List Event) → Posted before middle [] → Posted middle now events → Posted before now events
+pub posted_behind_read : (before middle now : Seen) (events : List Event) → Posted before middle [] → Posted middle now events → Posted before now events
 posted_behind_read before middle now events read posted = posted_on before middle now [] events refl read posted
 
 pub step_on : (db : View) (aim : Aim) (scan scan' : Scan) (old new : Post) (after end : Offset) (entry : Entry) (before middle now : Seen) → IsBehind aim.prev.0 after.0 old.end.0 → Posted before middle [] → IsSteady before middle
@@ -73,7 +73,7 @@ fault_from before middle now added (Full end need) steady cause = cause
 fault_from before middle now added (Long size limit) steady cause = (steady_on before middle now steady cause.0, cause.1, cause.2)
 fault_from before middle now added Memory steady cause = (cause.0 ∙ steady.disk, cause.1 ∙ steady.mail)
 
-stop_from : (aim : Aim) (old : Post) (before middle now : Seen) (added : List Transaction) (fault : SendFault) → Posted before middle [] → IsSteady before middle → PushStop aim old middle now added fault
+pub stop_from : (aim : Aim) (old : Post) (before middle now : Seen) (added : List Transaction) (fault : SendFault) → Posted before middle [] → IsSteady before middle → PushStop aim old middle now added fault
     → PushStop aim old before now added fault
 stop_from aim old before middle now added fault read steady stop = record {
   messages = stop.messages;

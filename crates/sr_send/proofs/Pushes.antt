@@ -1,6 +1,6 @@
 -- Transactions pushed, with the messages that they close.
-use Rattle.std.proofs.Common.{◌≡◌, ℕ, ◌+◌, ◌≤◌, ◌<◌, List, [], ◌∷◌, ◌++◌, length, Some, None, Result, Ok, Err, refl, sym, ap, subst, ◌∙◌, arith, append_assoc, length-append, inl, inr}
-use Rattle.std.specs.Prelude.{cond, nat_lt, true, false, Bool, OnOk, IfErr}
+use Rattle.std.proofs.Common.{◌≡◌, ℕ, ◌+◌, ◌≤◌, ◌<◌, List, [], ◌∷◌, ◌++◌, length, Option, Some, None, Result, Ok, Err, refl, sym, ap, subst, ◌∙◌, arith, append_assoc, length-append, inl, inr}
+use Rattle.std.specs.Prelude.{cond, nat_lt, true, false, Bool, OnOk, IfErr, IfSome}
 use Rattle.std.specs.List.{AllByRecursion}
 use Rattle.std.proofs.lemmas.List.{append-nil}
 use Rattle.sr_base.specs.declared.offset.Offset.{Offset}
@@ -26,7 +26,7 @@ use Rattle.sr_send.specs.PutFiles.{put_files}
 use Rattle.sr_send.specs.Inner.Passing.{IsPassed}
 use Rattle.sr_send.specs.Posting.{IsSteady}
 use Rattle.sr_send.specs.Inner.Posting.{Posted, PutFault}
-use Rattle.sr_send.specs.Inner.Steps.{newer, EndsAt, Pushed, Fed}
+use Rattle.sr_send.specs.Inner.Steps.{newer, EndsAt, EndsWith, Pushed, Fed}
 use Rattle.sr_send.specs.Inner.Stops.{IsPartSent, StopFault, PushStop, FeedStop}
 use Rattle.sr_send.specs.declared.aim.Aim.{Aim}
 use Rattle.sr_send.specs.declared.fault.SendFault.{SendFault}
@@ -157,15 +157,7 @@ at_case at (op ∷ ops) t e =
 pub found_at : (old new : Scan) (at : Offset) (entry : Entry) (t : Transaction) → IsFed old at entry (Some t) new → t.at ≡ at
 found_at old new at entry t fed = at_case at _ t fed.gives
 
-pub fed_nothing : (aim : Aim) (scan scan' : Scan) (post : Post) (at : Offset) (entry : Entry) (seen : Seen) → IsFed scan at entry None scan' → Fed aim scan scan' post post at entry seen seen
-fed_nothing aim scan scan' post at entry seen fed = record {
-  added = [];
-  scanned = record { found = None; fed = fed; added_is = refl };
-  pushed = pushed_nothing aim post seen;
-  end = inl refl;
-}
-
-pub fed_some : (aim : Aim) (scan scan' : Scan) (old new : Post) (at : Offset) (entry : Entry) (t : Transaction) (before now : Seen) → IsFed scan at entry (Some t) scan'
+fed_some : (aim : Aim) (scan scan' : Scan) (old new : Post) (at : Offset) (entry : Entry) (t : Transaction) (before now : Seen) → IsFed scan at entry (Some t) scan'
     → Pushed aim old new before now (newer aim.prev.0 (Some t)) → EndsAt old.end t.at new.end → Fed aim scan scan' old new at entry before now
 fed_some aim scan scan' old new at entry t before now fed pushed end = record {
   added = newer aim.prev.0 (Some t);
@@ -175,7 +167,7 @@ fed_some aim scan scan' old new at entry t before now fed pushed end = record {
 }
 
 -- an entry that ends no later than what was sent gives nothing newer
-none_newer : (sent : ℕ) (at : Offset) (ops : List Op) → nat_lt sent at.0 ≡ false → newer sent (transaction_of at ops) ≡ []
+pub none_newer : (sent : ℕ) (at : Offset) (ops : List Op) → nat_lt sent at.0 ≡ false → newer sent (transaction_of at ops) ≡ []
 none_newer sent at [] before = refl
 none_newer sent at (op ∷ ops) before = not_newer sent (record { at = at; ops = op ∷ ops }) before
 
@@ -194,17 +186,21 @@ fed_old aim scan scan' post at entry seen before passed = record {
 pub feed_short : (aim : Aim) (scan : Scan) (old : Post) (at : Offset) (entry : Entry) (seen : Seen) → IsAim aim → FeedStop aim scan old at entry seen seen Memory
 feed_short aim scan old at entry seen good = record { added = []; found = inl refl; stop = stopped_short aim old seen [] good }
 
-pub feed_stopped : (aim : Aim) (scan scan' : Scan) (old : Post) (at : Offset) (entry : Entry) (t : Transaction) (before now : Seen) (fault : SendFault) → IsFed scan at entry (Some t) scan'
-    → PushStop aim old before now (newer aim.prev.0 (Some t)) fault → FeedStop aim scan old at entry before now fault
-feed_stopped aim scan scan' old at entry t before now fault fed stop = record {
-  added = newer aim.prev.0 (Some t);
-  found = inr (record { behind = scan'; scanned = record { found = Some t; fed = fed; added_is = refl } });
+feed_stopped : (aim : Aim) (scan scan' : Scan) (old : Post) (at : Offset) (entry : Entry) (found : Option Transaction) (before now : Seen) (fault : SendFault) → IsFed scan at entry found scan'
+    → PushStop aim old before now (newer aim.prev.0 found) fault → FeedStop aim scan old at entry before now fault
+feed_stopped aim scan scan' old at entry found before now fault fed stop = record {
+  added = newer aim.prev.0 found;
+  found = inr (record { behind = scan'; scanned = record { found = found; fed = fed; added_is = refl } });
   stop = stop;
 }
 
 -- the last offset lies before the end of the entry where it lies before that of the transaction
-pub later_at : (sent : ℕ) (end at : Offset) (t : Transaction) → t.at ≡ at → (sent < at.0 → end.0 < at.0) → sent < t.at.0 → end.0 < t.at.0
+later_at : (sent : ℕ) (end at : Offset) (t : Transaction) → t.at ≡ at → (sent < at.0 → end.0 < at.0) → sent < t.at.0 → end.0 < t.at.0
 later_at sent end at t same later past = subst (λ (o : Offset). end.0 < o.0) (sym same) (later (subst (λ (o : Offset). sent < o.0) same past))
+
+pub later_found : (sent : ℕ) (end at : Offset) (old new : Scan) (entry : Entry) (found : Option Transaction) → IsFed old at entry found new → (sent < at.0 → end.0 < at.0) → IfSome found (λ t. sent < t.at.0 → end.0 < t.at.0)
+later_found sent end at old new entry None fed later = tt
+later_found sent end at old new entry (Some t) fed later = later_at sent end at t (found_at old new at entry t fed) later
 
 -- ---- the answer of a push, as that of a transaction that lies past what was sent
 
@@ -222,12 +218,13 @@ pub new_stopped : (aim : Aim) (old : Post) (t : Transaction) (before now : Seen)
 new_stopped aim old t before now (Ok done) past stop = tt
 new_stopped aim old t before now (Err fault) past stop = stopped_new aim old t before now fault past stop
 
-pub fed_answer : (aim : Aim) (scan scan' : Scan) (old new : Post) (at : Offset) (entry : Entry) (t : Transaction) (before now : Seen) (result : Result (Unit {0}) SendFault) → IsFed scan at entry (Some t) scan'
-    → OnOk result (Pushed aim old new before now (newer aim.prev.0 (Some t))) → OnOk result (EndsAt old.end t.at new.end) → OnOk result (Fed aim scan scan' old new at entry before now)
-fed_answer aim scan scan' old new at entry t before now (Ok done) fed pushed end = fed_some aim scan scan' old new at entry t before now fed pushed end
-fed_answer aim scan scan' old new at entry t before now (Err fault) fed pushed end = tt
+pub fed_answer : (aim : Aim) (scan scan' : Scan) (old new : Post) (at : Offset) (entry : Entry) (found : Option Transaction) (before now : Seen) (result : Result (Unit {0}) SendFault) → IsFed scan at entry found scan'
+    → OnOk result (Pushed aim old new before now (newer aim.prev.0 found)) → OnOk result (EndsWith old.end found new.end) → OnOk result (Fed aim scan scan' old new at entry before now)
+fed_answer aim scan scan' old new at entry None before now (Ok done) fed pushed end = record { added = []; scanned = record { found = None; fed = fed; added_is = refl }; pushed = pushed; end = inl end }
+fed_answer aim scan scan' old new at entry (Some t) before now (Ok done) fed pushed end = fed_some aim scan scan' old new at entry t before now fed pushed end
+fed_answer aim scan scan' old new at entry found before now (Err fault) fed pushed end = tt
 
-pub feed_answer : (aim : Aim) (scan scan' : Scan) (old : Post) (at : Offset) (entry : Entry) (t : Transaction) (before now : Seen) (result : Result (Unit {0}) SendFault) → IsFed scan at entry (Some t) scan'
-    → IfErr result (PushStop aim old before now (newer aim.prev.0 (Some t))) → IfErr result (FeedStop aim scan old at entry before now)
-feed_answer aim scan scan' old at entry t before now (Ok done) fed stop = tt
-feed_answer aim scan scan' old at entry t before now (Err fault) fed stop = feed_stopped aim scan scan' old at entry t before now fault fed stop
+pub feed_answer : (aim : Aim) (scan scan' : Scan) (old : Post) (at : Offset) (entry : Entry) (found : Option Transaction) (before now : Seen) (result : Result (Unit {0}) SendFault) → IsFed scan at entry found scan'
+    → IfErr result (PushStop aim old before now (newer aim.prev.0 found)) → IfErr result (FeedStop aim scan old at entry before now)
+feed_answer aim scan scan' old at entry found before now (Ok done) fed stop = tt
+feed_answer aim scan scan' old at entry found before now (Err fault) fed stop = feed_stopped aim scan scan' old at entry found before now fault fed stop

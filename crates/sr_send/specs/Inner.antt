@@ -8,3 +8,5 @@ pub mod Stops
 pub mod Starts
 pub mod Notes
 pub mod TrueSentMessages
+pub mod Surveys
+pub mod Places

@@ -1,9 +1,9 @@
 //! What an entry gives, pushed to the messages.
 
-ghost use Rattle.std.specs.Prelude.{◌≡◌, ◌<◌, ◌∷◌, [], nat_lt, Some, IfErr, OnOk};
+ghost use Rattle.std.specs.Prelude.{◌≡◌, ◌<◌, ◌∷◌, [], nat_lt, Some, IfErr, IfSome, OnOk};
 ghost use Rattle.sr_logform.specs.Inner.Ops.{IsShortTransaction};
 ghost use Rattle.sr_send.specs.Inner.Aims.{IsAim, HasMadeSome};
-ghost use Rattle.sr_send.specs.Inner.Steps.{newer, EndsAt, Pushed, Fed};
+ghost use Rattle.sr_send.specs.Inner.Steps.{newer, EndsAt, EndsWith, Pushed, Fed};
 ghost use Rattle.sr_send.specs.Inner.Stops.{PushStop, FeedStop};
 
 use crate::aim::Aim;
@@ -81,6 +81,31 @@ fn lies_past(at: Offset, prev: Offset) -> bool
     prev.0 < at.0
 }
 
+/// Pushes what was found, if that is a transaction which lies past what the partner was sent before.
+pub(crate) fn push_found<S: Site>(
+    alloc: Global,
+    site: &mut S,
+    aim: &Aim,
+    post: &mut Post,
+    found: Option<Transaction>,
+) -> Result<(), SendFault>
+    requires aim { IsAim aim.now }
+    requires made { HasMadeSome aim.now post.old }
+    requires later { IfSome found (λ t. aim.now.prev.0 < t.at.0 → post.old.end.0 < t.at.0) }
+    ensures pushed { OnOk result (Pushed aim.now post.old post.new (S.seen site.old) (S.seen site.new) (newer aim.now.prev.0 found)) }
+    ensures end { OnOk result (EndsWith post.old.end found post.new.end) }
+    ensures cause { IfErr result (PushStop aim.now post.old (S.seen site.old) (S.seen site.new) (newer aim.now.prev.0 found)) }
+{
+    match found {
+        None => Ok(()),
+        Some(transaction) => {
+            let outcome = push_new(alloc, site, aim, post, &transaction);
+            drop(transaction);
+            outcome
+        }
+    }
+}
+
 /// Scans an entry that ends at `at`, and pushes what it gives. One that ends no later than what the partner was sent before gives nothing that is to
 /// be sent: it is passed over.
 pub(crate) fn feed_one<S: Site>(
@@ -121,12 +146,6 @@ fn feed_new<S: Site>(
     ensures fed { OnOk result (Fed aim.now scanner.old scanner.new post.old post.new at entry.now (S.seen site.old) (S.seen site.new)) }
     ensures cause { IfErr result (FeedStop aim.now scanner.old post.old at entry.now (S.seen site.old) (S.seen site.new)) }
 {
-    match scanner.feed(alloc, at, entry)? {
-        None => Ok(()),
-        Some(transaction) => {
-            let outcome = push_new(alloc, site, aim, post, &transaction);
-            drop(transaction);
-            outcome
-        }
-    }
+    let found = scanner.feed(alloc, at, entry)?;
+    push_found(alloc, site, aim, post, found)
 }

@@ -1,6 +1,6 @@
 //! A log read entry by entry, and what it gives put as messages.
 
-ghost use Rattle.std.specs.Prelude.{◌≡◌, ◌≤◌, ◌<◌, ◌++◌, true, [], List, IsTrue, IfOk, IfErr, IfSome, OnOk};
+ghost use Rattle.std.specs.Prelude.{◌≡◌, ◌≤◌, ◌<◌, ◌++◌, true, false, [], List, IsTrue, IfOk, IfErr, IfSome, OnOk};
 ghost use Rattle.sr_book.specs.Entries.{Name as AName};
 ghost use Rattle.sr_database_history.specs.Folds.{end_of};
 ghost use Rattle.sr_database_history.specs.Recorded.{Recorded};
@@ -46,8 +46,43 @@ pub(crate) fn next_entry<S: Site>(
     found_or_end(outcome)
 }
 
+/// As `next_entry`, after any offset: none follows one that does not lie within the log.
+pub(crate) fn entry_from<S: Site>(
+    alloc: Global,
+    db: &Database,
+    site: &mut S,
+    after: Offset,
+    buffer: &mut Vec<u8>,
+) -> Result<Option<(Offset, Entry)>, SendFault>
+    requires usable { db.now.log.usable ≡ true }
+    ensures entry { IsTrue (S.seen site.old).observable → (publisher : AName) (done left : List Recorded) → IsDatabase db.now publisher (done ++ left) (S.seen site.old) → after.0 ≡ end_of done
+        → IfOk result (IsEntryAfter done left) }
+    ensures within { IfOk result (λ found. IfSome found (λ x. (after.0 < x.0.0) × (x.0.0 ≤ db.now.log.end))) }
+    ensures posted { Posted (S.seen site.old) (S.seen site.new) [] }
+    ensures steady { OnOk result (IsSteady (S.seen site.old) (S.seen site.new)) }
+    ensures mail { (S.seen site.new).mail_faults ≡ (S.seen site.old).mail_faults }
+    ensures cause { IfErr result (NextFault (S.seen site.old) (S.seen site.new)) }
+{
+    if !is_within(db, after) {
+        return Ok(None);
+    }
+    next_entry(alloc, db, site, after, buffer)
+}
+
+/// Whether an offset lies within the log.
+fn is_within(db: &Database, at: Offset) -> bool
+    requires usable { db.now.log.usable ≡ true }
+    ensures within { IsTrue result → (db.now.log.base ≤ at.0) × (at.0 ≤ db.now.log.end) }
+    ensures without { result ≡ false → db.now.log.base ≤ at.0 → at.0 ≤ db.now.log.end → ⊥ }
+{
+    db.base().0 <= at.0 && at.0 <= db.end().0
+}
+
 /// A step to the end of an entry, where what it gives was put.
-fn stepped_to(end: Offset, outcome: Result<(), SendFault>) -> Result<Option<Offset>, SendFault>
+pub(crate) fn stepped_to(
+    end: Offset,
+    outcome: Result<(), SendFault>,
+) -> Result<Option<Offset>, SendFault>
     ensures { result ≡ stepped_to end outcome }
 {
     match outcome {

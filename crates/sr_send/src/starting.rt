@@ -85,7 +85,11 @@ fn next_end<S: Site>(
 }
 
 /// The last end of an entry, or the base, that does not lie past an offset. It takes no memory.
-fn end_before<S: Site>(db: &Database, site: &mut S, sent: Offset) -> Result<Offset, SendFault>
+pub(crate) fn end_before<S: Site>(
+    db: &Database,
+    site: &mut S,
+    sent: Offset,
+) -> Result<Offset, SendFault>
     requires usable { db.now.log.usable ≡ true }
     ensures walked { IfOk result (λ at. Walked db.now sent.0 at (S.seen site.old) (S.seen site.new)) }
     ensures cause { IfErr result (BeginStop (S.seen site.old) (S.seen site.new)) }
@@ -194,7 +198,7 @@ fn read_still<S: Site>(
 }
 
 /// Whether no statement ran in the entries after an offset. They are read up to the first in which one did.
-fn is_still<S: Site>(
+pub(crate) fn is_still<S: Site>(
     alloc: Global,
     db: &Database,
     site: &mut S,

@@ -9,6 +9,7 @@ use Rattle.sr_logfile.specs.Log.{Log}
 use Rattle.sr_site.specs.Causes.{Rose}
 use Rattle.sr_site.specs.Seen.{Seen}
 use Rattle.sr_site.specs.Streams.{Output, OutputStays}
+use Rattle.sr_database.specs.Broken.{IsBroken}
 use Rattle.sr_database.specs.Causes.{IsTooFar}
 use Rattle.sr_database.specs.Databases.{IsOf}
 use Rattle.sr_database.specs.Views.{View, committed}
@@ -18,7 +19,7 @@ use Rattle.sr_session_script.specs.Acts.{ScriptAct, commits, text_from}
 use Rattle.sr_session_script.specs.Scripts.{ScriptRun as Script, ran}
 use Rattle.sr_session.specs.Ends.{StoreEnd, DidAllActs, EndsAs, SinkEnd}
 use Rattle.sr_session.specs.Ends.{Wrote as LinesOf}
-use Rattle.sr_session.specs.Reached.{IsBroken, Reached}
+use Rattle.sr_session.specs.Reached.{Reached}
 use Rattle.sr_session.specs.Inner.Running.{Ran, Keeps, counted, IsNoSink}
 use Rattle.sr_session.specs.Runs.{RanScript}
 use Rattle.sr_session.specs.Said.{IsPrefix, WrotePrefix, Said}

@@ -18,13 +18,14 @@ use Rattle.sr_database_meaning.specs.Standing.{StandsFor, StandsAs}
 use Rattle.sr_database_meaning.specs.Traces.{Went}
 use Rattle.sr_database_meaning.proofs.Going.{nothing}
 use Rattle.sr_database_meaning.proofs.Joining.{joined}
+use Rattle.sr_database.specs.Broken.{IsBroken}
 use Rattle.sr_database.specs.Databases.{IsOf, IsHeld, IsDatabase}
 use Rattle.sr_database.specs.Rooms.{HaveRoom}
 use Rattle.sr_database.specs.Views.{View}
 use Rattle.sr_database.proofs.Rooms.{rooms_on}
 use Rattle.sr_session_script.specs.Acts.{ScriptAct, entries_of, end_behind, text_from}
 use Rattle.sr_session_script.proofs.Joins.{entries_of-append, end_behind-append, text_from-append}
-use Rattle.sr_session.specs.Reached.{IsBroken, Reached}
+use Rattle.sr_session.specs.Reached.{Reached}
 use Rattle.sr_session.specs.Inner.Steps.{Came}
 
 -- ---- a value that keeps its log

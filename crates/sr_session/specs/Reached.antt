@@ -1,22 +1,17 @@
 -- How far a script came on its database.
-use Rattle.std.specs.Prelude.{◌≡◌, true, false, List, [], ◌∷◌, ◌++◌, map, IsTrue}
+use Rattle.std.specs.Prelude.{◌≡◌, true, List, ◌++◌, map, IsTrue}
 use Rattle.sr_book.specs.Entries.{Name}
 use Rattle.sr_database_history.specs.Folds.{end_of}
 use Rattle.sr_database_history.specs.Recorded.{Recorded}
-use Rattle.sr_site.specs.Causes.{DiskStays, Rose}
+use Rattle.sr_site.specs.Causes.{DiskStays}
 use Rattle.sr_site.specs.Seen.{Seen}
 use Rattle.sr_database_meaning.specs.Events.{commit}
 use Rattle.sr_database_meaning.specs.Traces.{Went}
+use Rattle.sr_database.specs.Broken.{IsBroken}
 use Rattle.sr_database.specs.Databases.{IsOf, IsDatabase}
 use Rattle.sr_database.specs.Rooms.{HaveRoom}
 use Rattle.sr_database.specs.Views.{View}
 use Rattle.sr_session_script.specs.Acts.{ScriptAct, entries_of, end_behind}
-
--- the entry whose commit the disk refused, if it refused one: then the database is not used again
-abbrev pub IsBroken : List Recorded → View → Seen → Seen → Type 0
-IsBroken [] new before now = (new.log.usable ≡ true) × (now.disk_faults ≡ before.disk_faults)
-IsBroken (r ∷ []) new before now = (new.log.usable ≡ false) × Rose before.disk_faults now.disk_faults
-IsBroken (r ∷ other ∷ rs) new before now = ⊥
 
 -- these acts were done, and then the commit of an entry was begun that the disk refused, if there is one: the database of a history is that
 -- of the history with the acts' entries, each of which has room, and its site went through their commits

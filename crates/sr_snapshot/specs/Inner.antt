@@ -1,11 +1,4 @@
 pub mod Beginnings
-pub mod Damages
 pub mod Parts
-pub mod Reading
-pub mod RowsRead
-pub mod ScriptRead
 pub mod Snapshots
-pub mod StateRead
-pub mod TablesRead
-pub mod Views
 pub mod Writing

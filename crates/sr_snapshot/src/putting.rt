@@ -22,7 +22,7 @@ use sr_site::{Disk, File};
 use std::alloc::{AllocError, Global};
 
 /// The first bytes of a snapshot.
-pub(crate) const MAGIC: [u8; 8] = [b'S', b'R', b'S', b'N', b'P', b'0', b'0', b'1'];
+pub const MAGIC: [u8; 8] = [b'S', b'R', b'S', b'N', b'P', b'0', b'0', b'1'];
 
 /// Puts all that stands before the tables.
 pub(crate) fn put_catalog<S: Disk>(

@@ -24,7 +24,7 @@ use sr_site::{Disk, File};
 use std::alloc::Global;
 
 /// The longest snapshot: 1 GiB.
-pub(crate) const LONGEST: u64 = 1_073_741_824;
+pub const LONGEST_SNAPSHOT: u64 = 1_073_741_824;
 
 /// Writes a state in place of the file, and syncs it.
 ///
@@ -45,10 +45,10 @@ pub fn write_state<S: Disk>(
 {
     let texts = state.catalog.script(alloc)?;
     let length = measured(state, texts.as_slice())?;
-    if length > LONGEST {
+    if length > LONGEST_SNAPSHOT {
         return Err(SnapFault::Long {
             length,
-            limit: LONGEST,
+            limit: LONGEST_SNAPSHOT,
         });
     }
     replace(alloc, site, file, state, texts.as_slice())?;

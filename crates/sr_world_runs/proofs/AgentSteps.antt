@@ -1,8 +1,8 @@
--- A run of the agent, from the moment at which nothing was opened yet: it makes steps of a world alone.
-use Rattle.std.proofs.Common.{◌≡◌, ℕ, List, ◌++◌, Result, Ok, Err, sym, subst}
+-- A run of the agent, from the moment at which nothing was opened yet, or on a database that stands open: it makes steps of a world alone.
+use Rattle.std.proofs.Common.{◌≡◌, ℕ, List, [], ◌++◌, Result, Ok, Err, refl, sym, subst, le_refl}
 use Rattle.std.specs.Prelude.{Bool, IsTrue}
 use Rattle.sr_book.specs.Entries.{Name}
-use Rattle.sr_database.specs.Databases.{IsDatabase}
+use Rattle.sr_database.specs.Databases.{HasDatabase, IsDatabase}
 use Rattle.sr_database.specs.Views.{View}
 use Rattle.sr_database_history.specs.Folds.{fresh, state_of}
 use Rattle.sr_database_history.specs.Recorded.{Recorded}
@@ -79,3 +79,16 @@ agent_steps w owner publisher es options view new before opened now written writ
       last = did_last owner es options new opened now still_told written written' ran.lines result did;
       settles = on.settles;
     })
+
+-- ---- on a database that stands open
+
+still_here : (seen : Seen) → RestsThroughout (IsImage seen) seen seen
+still_here seen = record { more = []; is = refl; moments = λ image there. there }
+
+quiet_here : (seen : Seen) → DiskStays seen seen
+quiet_here seen = record { observable = refl; first = refl; grows = λ moment there. there; mail = refl; mail_faults = refl; later = le_refl seen.disk_faults }
+
+pub steps_from_open : (w : World Recorded) (owner : Name) (options : Options) (view new : View) (before now : Seen) (written written' : Output) (result : Result ℕ AgentFault)
+    → IsTrue before.observable → HasDatabase view before → RanAgent view new before now written written' options result → MakesSteps w owner before now
+steps_from_open w owner options view new before now written written' result told database ran =
+    agent_steps w owner database.publisher database.es options view new before before now written written' result told ran.ended.site (still_here before) (quiet_here before) database.is ran

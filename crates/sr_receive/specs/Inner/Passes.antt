@@ -1,9 +1,10 @@
 -- What a pass over a user's message files does.
 -- Here is what no contract of the program says by itself.
-use Rattle.std.specs.Prelude.{◌≡◌, List, [], ◌++◌, map, IsTrue}
+use Rattle.std.specs.Prelude.{◌≡◌, List, [], ◌++◌, map, IsTrue, IfErr, Result, Ok, Err}
 use Rattle.sr_book.specs.Entries.{Name}
 use Rattle.sr_database.specs.Books.{book_in}
 use Rattle.sr_database.specs.Views.{View}
+use Rattle.sr_database_did.specs.Inner.Did.{PlaceView}
 use Rattle.sr_database_history.specs.Recorded.{Recorded}
 use Rattle.sr_mail.specs.declared.window.Window.{Window}
 use Rattle.sr_site.specs.Causes.{Rose}
@@ -63,19 +64,20 @@ pub record ReceiveCause (old new : View) (before now : Seen) (user : Name) (bag 
   pub passed : (message_files : List MessageFile) (dropped_windows : List Window) → Has bag user message_files dropped_windows
       → (dropped_windows' : List Window) × Has bag' user message_files dropped_windows' × PassedInPart old new before now user message_files dropped_windows dropped_windows' reports reports' fault
 
--- ---- the same of one partner mail
+-- ---- the same of one partner mail, whatever was answered
 
-pub record PassedPartnerMail (old new : View) (before now : Seen) (user : Name) (partner_mail partner_mail' : PartnerMail) (reports reports' : List Report) (answer : Received) : Type 0 where
-  pub passed : (message_files : List MessageFile) (dropped_windows : List Window) → IsPartnerMail message_files dropped_windows partner_mail
-      → (dropped_windows' : List Window) × IsPartnerMail message_files dropped_windows' partner_mail' × Passed old new before now user message_files dropped_windows dropped_windows' reports reports' answer
+-- a pass over these message files
+abbrev pub HasPassed : PlaceView → PlaceView → Name → List Report → List Report → Result Received ReceiveFault → List MessageFile → List Window → List Window → Type 0
+HasPassed a b user reports reports' (Ok answer) message_files dropped_windows dropped_windows' = Passed a.db b.db a.seen b.seen user message_files dropped_windows dropped_windows' reports reports' answer
+HasPassed a b user reports reports' (Err fault) message_files dropped_windows dropped_windows' = PassedInPart a.db b.db a.seen b.seen user message_files dropped_windows dropped_windows' reports reports' fault
 
-pub record StoppedPartnerMail (old new : View) (before now : Seen) (user : Name) (partner_mail partner_mail' : PartnerMail) (reports reports' : List Report) (fault : ReceiveFault) : Type 0 where
-  pub why : IsDeviceFault before now fault
-  pub passed : (message_files : List MessageFile) (dropped_windows : List Window) → IsPartnerMail message_files dropped_windows partner_mail
-      → (dropped_windows' : List Window) × IsPartnerMail message_files dropped_windows' partner_mail' × PassedInPart old new before now user message_files dropped_windows dropped_windows' reports reports' fault
+pub record ReceivedMail (a b : PlaceView) (user : Name) (mail mail' : PartnerMail) (reports reports' : List Report) (result : Result Received ReceiveFault) : Type 0 where
+  pub why : IfErr result (IsDeviceFault a.seen b.seen)
+  pub passed : (message_files : List MessageFile) (dropped_windows : List Window) → IsPartnerMail message_files dropped_windows mail
+      → (dropped_windows' : List Window) × IsPartnerMail message_files dropped_windows' mail' × HasPassed a b user reports reports' result message_files dropped_windows dropped_windows'
 
--- what the partner mail's message files come to
-pub record PassedBehind (old new : View) (before now : Seen) (user : Name) (message_files : List MessageFile) (first : PassState) (partner_mail' : PartnerMail) (reports reports' : List Report) (answer : Received) : Type 0 where
-  pub dropped_windows' : List Window
-  pub partner_mail_is : IsPartnerMail message_files dropped_windows' partner_mail'
-  pub passed : PassedFrom old new before now user message_files [] first dropped_windows' reports reports' answer
+pub record ReceivedBag (a b : PlaceView) (user : Name) (bag bag' : List PartnerMail) (reports reports' : List Report) (result : Result Received ReceiveFault) : Type 0 where
+  pub why : IfErr result (IsDeviceFault a.seen b.seen)
+  pub others : OthersStay bag bag' user
+  pub passed : (message_files : List MessageFile) (dropped_windows : List Window) → Has bag user message_files dropped_windows
+      → (dropped_windows' : List Window) × Has bag' user message_files dropped_windows' × HasPassed a b user reports reports' result message_files dropped_windows dropped_windows'

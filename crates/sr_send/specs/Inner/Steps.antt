@@ -42,6 +42,11 @@ pub record IsScanned (old : Scan) (end : Offset) (entry : Entry) (sent : ℕ) (a
 abbrev pub EndsAt : Offset → Offset → Offset → Type 0
 EndsAt old at new = (new ≡ old) ⊎ (new ≡ at)
 
+-- the last offset stays, or is that of what was found
+abbrev pub EndsWith : Offset → Option Transaction → Offset → Type 0
+EndsWith old None new = new ≡ old
+EndsWith old (Some t) new = EndsAt old t.at new
+
 -- transactions were pushed, and the messages that they closed were put
 pub record Pushed (aim : Aim) (old new : Post) (before now : Seen) (added : List Transaction) : Type 0 where
   pub closed : List Message

@@ -10,7 +10,9 @@ use Rattle.sr_book.specs.Entries.{Name}
 use Rattle.sr_book.specs.declared.book.Book.{Book}
 use Rattle.sr_catalog_schema.specs.Members.{user_name}
 use Rattle.sr_catalog_script_laws.specs.Inner.Scripts.{statements, IsSpelled}
-use Rattle.sr_database_history.specs.Folds.{State, fresh}
+use Rattle.sr_catalog_schema.specs.declared.user.User.{User}
+use Rattle.sr_database_history.specs.Folds.{State, books_of, end_of, fresh, state_of}
+use Rattle.sr_database_history.specs.Recorded.{Recorded}
 use Rattle.sr_exec_dml.specs.Inner.Conditions.{RowsFit}
 use Rattle.sr_rows.specs.Marks.{rows_of_table}
 use Rattle.sr_snapshot.specs.declared.state.State.{State as Kept}
@@ -51,3 +53,11 @@ beginning_in s = record { place = s.offset.0; state = record { catalog = s.catal
 -- what a database without an entry begins with
 abbrev pub first_of : Name → Beginning
 first_of publisher = record { place = 0; state = fresh publisher; books = [] }
+
+-- what a history comes to: its end, the state there, and a book for each user
+abbrev pub beginning_behind : Name → List Recorded → Beginning
+beginning_behind publisher es = record {
+  place = end_of es;
+  state = state_of publisher es;
+  books = map (λ (u : User). (u.name, books_of u.name es)) (state_of publisher es).catalog.users;
+}

@@ -17,20 +17,20 @@ returns-in_err-aim-clause-cause g c =
     if_fault (λ (f : SendFault). PutStop c.args.db.now aim c.args.book.now c.args.ask c.args.user.now seen seen f) Memory c.from_residual.result c.from_residual.ensures.1
     (nothing_put c.args.db.now aim c.args.book.now c.args.ask c.args.user.now seen c.aim_at.ensures.good)
 
-pub put_scanned-outcome-requires-clause-aim : goal.put_scanned-outcome-requires-clause-aim
-put_scanned-outcome-requires-clause-aim g c = subst (λ (a : Aim). IsAim a) (sym c.in_ok-aim.ensures.aim) c.aim_at.ensures.good
+pub put_cut-outcome-requires-clause-aim : goal.put_cut-outcome-requires-clause-aim
+put_cut-outcome-requires-clause-aim g c = subst (λ (a : Aim). IsAim a) (sym c.in_ok-aim.ensures.aim) c.aim_at.ensures.good
 
-pub put_scanned-outcome-requires-clause-prev : goal.put_scanned-outcome-requires-clause-prev
-put_scanned-outcome-requires-clause-prev g c = ap (λ (a : Aim). a.prev) c.in_ok-aim.ensures.aim
+pub put_cut-outcome-requires-clause-prev : goal.put_cut-outcome-requires-clause-prev
+put_cut-outcome-requires-clause-prev g c = ap (λ (a : Aim). a.prev) c.in_ok-aim.ensures.aim
 
 pub returns-clause-put : goal.returns-clause-put
 returns-clause-put g c =
     let before = g.S.Held.seen c.args.site.now in
-    let now = g.S.Held.seen c.put_scanned-outcome.new.site in
-    subst (λ (a : Aim). IfOk c.put_scanned-outcome.result (PutAll c.args.db.now a c.args.book.now c.args.ask c.args.user.now before now)) c.in_ok-aim.ensures.aim c.put_scanned-outcome.ensures.put
+    let now = g.S.Held.seen c.put_cut-outcome.new.site in
+    subst (λ (a : Aim). IfOk c.put_cut-outcome.result (PutAll c.args.db.now a c.args.book.now c.args.ask c.args.user.now before now)) c.in_ok-aim.ensures.aim c.put_cut-outcome.ensures.put
 
 pub returns-clause-cause : goal.returns-clause-cause
 returns-clause-cause g c =
     let before = g.S.Held.seen c.args.site.now in
-    let now = g.S.Held.seen c.put_scanned-outcome.new.site in
-    subst (λ (a : Aim). IfErr c.put_scanned-outcome.result (PutStop c.args.db.now a c.args.book.now c.args.ask c.args.user.now before now)) c.in_ok-aim.ensures.aim c.put_scanned-outcome.ensures.cause
+    let now = g.S.Held.seen c.put_cut-outcome.new.site in
+    subst (λ (a : Aim). IfErr c.put_cut-outcome.result (PutStop c.args.db.now a c.args.book.now c.args.ask c.args.user.now before now)) c.in_ok-aim.ensures.aim c.put_cut-outcome.ensures.cause

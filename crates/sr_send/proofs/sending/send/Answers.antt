@@ -9,6 +9,8 @@ use Rattle.sr_send.specs.Passes.{SendCause}
 use Rattle.sr_send.specs.Posting.{IsDeviceFault}
 use Rattle.sr_send.specs.declared.fault.SendFault.{SendFault}
 use Rattle.sr_send.proofs.PassEnds.{book_is, has_book, put_stopped, sent_none, sent_noted, note_stopped, pass_device, note_device, still_database}
+use Rattle.sr_send.proofs.Known.{shared_noted}
+use Rattle.sr_send.proofs.Posts.{of_disk}
 use Rattle.sr_send.proofs.Results.{if_fault}
 use Rattle.sr_send.proofs.sending.send.Goals as goal
 
@@ -81,3 +83,10 @@ returns-clause-sent g c =
     let is : c.in-Some.book ≡ book_in db.books c.args.user.now = book_is (named user_name c.args.user.now db.catalog.users) _ _ (sym c.in-Some.is ∙ c.book.ensures.book) in
     sent_noted db c.args.user.now c.in-Some.book c.args.length c.args.ask is c.note_sent.new.db before middle now c.in_ok-sent.sent c.in_ok-sent.ensures.put (c.is_empty.ensures.some c.if-is_empty.false) c.note_sent.ensures.stays
     c.in_ok-note_sent.ensures.noted
+
+pub returns-clause-surveyed : goal.returns-clause-surveyed
+returns-clause-surveyed g c =
+    let middle = g.S.Held.seen c.put_due.new.site in
+    let now = g.S.Held.seen c.note_sent.new.site in
+    shared_noted c.args.db.now c.note_sent.new.db c.put_due.new.shared.survey middle now (sent_note c.args.user.now c.in-Some.book c.in_ok-sent.sent.end c.in_ok-sent.sent.put) (of_disk middle now c.note_sent.ensures.stays)
+    c.in_ok-note_sent.ensures.noted c.in_ok-sent.ensures.surveyed

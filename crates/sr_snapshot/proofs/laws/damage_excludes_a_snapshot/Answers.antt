@@ -1,5 +1,0 @@
-use Rattle.sr_snapshot.proofs.Exclusion.{damage_excludes}
-use Rattle.sr_snapshot.proofs.laws.damage_excludes_a_snapshot.Goals as goal
-
-pub returns : goal.returns
-returns c = record { none = damage_excludes }

@@ -1,0 +1,15 @@
+pub mod BooksRead
+pub mod Exclusion
+pub mod FieldReads
+pub mod FileRead
+pub mod Fronts
+pub mod Heres
+pub mod OnePlace
+pub mod Places
+pub mod Readied
+pub mod RowsRead
+pub mod ScriptRead
+pub mod Standing
+pub mod StateRead
+pub mod TablesRead
+pub mod Windows

@@ -1,0 +1,47 @@
+use Rattle.std.proofs.Common.{drop, sym, subst, ◌∙◌}
+use Rattle.sr_base.specs.Inner.Values.{value_at}
+use Rattle.sr_site.specs.Files.{bytes_of}
+use Rattle.sr_snapshot.proofs.Puts.{if_fault}
+use Rattle.sr_snapshot.specs.declared.fault.SnapFault.{SnapFault}
+use Rattle.sr_snapshot_read.proofs.FieldReads.{ready_cause}
+use Rattle.sr_snapshot_read.proofs.Places.{cause_by}
+use Rattle.sr_snapshot_read.proofs.Readied.{cause_readied, taken_readied, value_told}
+use Rattle.sr_snapshot_read.proofs.Windows.{over_then, value_breaks}
+use Rattle.sr_snapshot_read.specs.Inner.Places.{value_in}
+use Rattle.sr_snapshot_read.specs.Inner.Reading.{BreaksWithin, FieldBreaks, TakeCause}
+use Rattle.sr_snapshot_read.proofs.values.read_value.Goals as goal
+
+pub returns-in_err-ready-clause-cause : goal.returns-in_err-ready-clause-cause
+returns-in_err-ready-clause-cause g c =
+    let before = g.S.Held.seen c.args.site.now in
+    let now = g.S.Held.seen c.ready.new.site in
+    if_fault (TakeCause c.args.file (FieldBreaks value_in) before now c.args.window.now) c.in_err-ready.field-0.0 c.from_residual.result c.from_residual.ensures.1
+    (ready_cause c.args.file _ before now c.args.window.now c.in_err-ready.field-0.0 c.in_err-ready.ensures.read c.in_err-ready.ensures.cause)
+
+pub read_field-requires : goal.read_field-requires
+read_field-requires g c = record {
+  over = over_then c.args.file (g.S.Held.seen c.args.site.now) (g.S.Held.seen c.ready.new.site) c.ready.new.self c.in_ok-ready.ensures.read c.in_ok-ready.ensures.over;
+}
+
+pub returns-in-Err-clause-cause : goal.returns-in-Err-clause-cause
+returns-in-Err-clause-cause g c =
+    let before = g.S.Held.seen c.args.site.now in
+    let middle = g.S.Held.seen c.ready.new.site in
+    let now = g.S.Held.seen c.read_field.new.site in
+    let view = c.ready.new.self in
+    let need = c.value_need-need.result in
+    let fault = c.in-Err.fault in
+    subst (λ (e : SnapFault). TakeCause c.args.file (FieldBreaks value_in) before now c.args.window.now e) (sym c.within.ensures)
+    (cause_by c.args.file 1 value_at before now c.args.window.now c.place-place.result fault (c.place-place.ensures.place ∙ c.in_ok-ready.ensures.place)
+    (cause_readied c.args.file (BreaksWithin value_at need) (FieldBreaks value_at) before middle now c.args.window.now view fault c.in_ok-ready.ensures.read c.in_ok-ready.ensures.steady c.in_ok-ready.ensures.place
+    (λ told left broken.
+    let bytes = bytes_of before.files c.args.file in
+    let over = c.in_ok-ready.ensures.over told in
+    value_breaks need (drop view.place bytes) left c.value_need-need.ensures.least
+    (value_told view bytes over c.left.result c.left.ensures.left need (c.in_ok-ready.ensures.enough told) (λ rest is four room. c.value_need-need.ensures.all rest (c.held.ensures.held ∙ is) four room)) broken)
+    c.in-Err.ensures.cause))
+
+pub returns-in-Ok-clause-taken : goal.returns-in-Ok-clause-taken
+returns-in-Ok-clause-taken g c =
+    taken_readied c.args.file _ (g.S.Held.seen c.args.site.now) (g.S.Held.seen c.ready.new.site) (g.S.Held.seen c.read_field.new.site) c.args.window.now c.ready.new.self c.read_field.new.window c.in_ok-ready.ensures.read c.in_ok-ready.ensures.steady
+    c.in_ok-ready.ensures.place c.in-Ok.ensures.taken

@@ -1,0 +1,5 @@
+mod Parted
+mod Published
+mod Received
+mod Going
+mod Keys
