@@ -1,10 +1,11 @@
-"""Looks at the repository itself: its edits, its layers and what its documents name. ../README.md says what is wanted."""
+"""Looks at the repository itself: its edits, its layers, its files of definitions and proofs, and what its documents name. ../README.md says what is wanted."""
 
 import os
 import sys
 
 import edits
 import layers
+import modules
 import names
 from tree import Tree
 
@@ -14,7 +15,7 @@ TOP = os.path.dirname(os.path.dirname(os.path.dirname(os.path.abspath(__file__))
 def wrong(top):
     """All that is not so in a checkout."""
     tree = Tree(top)
-    for part in (edits, layers, names):
+    for part in (edits, layers, modules, names):
         yield from part.wrong(tree)
 
 

@@ -8,6 +8,7 @@ import tempfile
 
 import edits
 import layers
+import modules
 import names
 from tree import Tree
 
@@ -61,6 +62,9 @@ def trials():
     yield layers, turned(page, r"^\| 1 \| sr_base \|", "| 2 | sr_base |"), "stands in layer 1"
     yield layers, turned(page, r"^(\| 2 \| .*\n)(\| 2 \| .*\n)", r"\2\1"), "in another order"
     yield layers, turned(page, r"^\| 2 \| .*\n", ""), "in another order"
+    yield modules, lambda tree: tree.with_text("crates/sr_book/specs/NoSuch.antt", ""), "has no line `mod NoSuch`"
+    yield modules, lambda tree: tree.with_text("crates/sr_book/proofs/NoSuch.antt", ""), "has no line `mod NoSuch`"
+    yield modules, lambda tree: tree.with_text("crates/sr_logfile/specs/Records.antt", None), "it names Records"
     yield names, added("README.md", "This stands on sr_nothing."), "no crate sr_nothing"
     yield names, added("README.md", "See docs/NOTHING_THERE.md."), ""
     yield names, added("README.md", "See docs/nothing-there.md."), "no docs/nothing-there.md"
@@ -139,7 +143,7 @@ def without_reading(part):
 def untold(top):
     """The trials that are not told, and those that an untouched checkout tells."""
     tree = Tree(top)
-    before = {part: set(without_reading(part)(tree)) for part in (edits, layers, names)}
+    before = {part: set(without_reading(part)(tree)) for part in (edits, layers, modules, names)}
     for part, turn, told in trials():
         found = set(without_reading(part)(turn(tree))) - before[part]
         if told and not any(told in line for line in found):

@@ -9,10 +9,11 @@ ghost use Rattle.sr_site.specs.Streams.{Input};
 
 use crate::fault::Fault;
 use crate::running::{keep, open};
-use sr_agent::{Options, agent};
+use sr_agent::Options;
 use sr_base::Text;
 use sr_database::Database;
 use sr_site::{Sink, Site};
+use sr_world_runs::agent;
 use std::alloc::Global;
 
 /// `agent NAME --mail FOLDER`: opens the database and runs the agent on it once. Answers how many lines told of something amiss. Where no fault ended
