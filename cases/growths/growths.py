@@ -175,6 +175,13 @@ class Trial:
         return counts
 
 
+def counts(program, library, room):
+    """Whether the library counts the growths of a program: it does not where the program has the C library in it."""
+    counted = f"{room}/none"
+    subprocess.run([program], cwd=room, env={**os.environ, "LD_PRELOAD": library, "COUNTED": counted}, capture_output=True, check=False)
+    return os.path.exists(counted)
+
+
 def main(arguments):
     """Refuses the growths of each row, and answers the exit status."""
     if len(arguments) not in (2, 3):
@@ -186,6 +193,9 @@ def main(arguments):
     with tempfile.TemporaryDirectory() as room:
         library = f"{room}/refuse.so"
         subprocess.run(["cc", "-O1", "-shared", "-fPIC", "-fno-builtin", "-o", library, f"{HERE}/refuse.c"], check=True)
+        if not counts(program, library, room):
+            print("growths: left out, for the program does not take its memory from the system's C library")
+            return 0
         for name, steps in ROWS.items():
             try:
                 ended, went_on = Trial(program, library, room).row(steps, step)
