@@ -45,8 +45,8 @@ class Faults:
 
 
 class Catalog:
-    """Tables, publications, triggers and users by their names, and subscriptions in order, with whether each is started. Statements are not changed, so a copy
-    has the same ones."""
+    """Tables, publications, triggers, users and options by their names, and subscriptions in order, with whether each is started. Statements are not changed, so
+    a copy has the same ones."""
 
     def __init__(self, publisher):
         self.publisher = publisher
@@ -55,11 +55,12 @@ class Catalog:
         self.triggers = {}
         self.users = {}
         self.subscriptions = {}
+        self.options = {}
 
     def copy(self):
         """Another catalog of the same."""
         other = Catalog(self.publisher)
-        for part in ("tables", "publications", "triggers", "users", "subscriptions"):
+        for part in ("tables", "publications", "triggers", "users", "subscriptions", "options"):
             setattr(other, part, dict(getattr(self, part)))
         return other
 
@@ -76,6 +77,7 @@ class Catalog:
             tree.Drop: self.check_drop,
             tree.Grant: self.check_grant,
             tree.Subscription: self.check_subscription,
+            tree.SetOption: self.check_option,
             tree.PassthroughFor: self.check_users,
         }
         faults = Faults()
@@ -93,6 +95,8 @@ class Catalog:
             self.triggers[statement.name] = statement
         elif isinstance(statement, tree.Grant):
             self.users[statement.user] = statement
+        elif isinstance(statement, tree.SetOption):
+            self.options[statement.name] = statement.value.value.content
         elif isinstance(statement, tree.Drop):
             del self.kind(statement.kind)[statement.name]
         elif statement.verb == "DROP":
@@ -198,6 +202,14 @@ class Catalog:
         if statement.address is not None and not re.fullmatch(rb"[A-Za-z_][A-Za-z0-9_]{0,63}", statement.address):
             faults.add("BadType", statement.user)
         faults.add_past(len(self.users) + 1, MOST_USERS)
+
+    def check_option(self, statement, faults):
+        """SET OPTION, of which there is one: it is On or Off."""
+        value = statement.value.value
+        if statement.name != "verify_all_columns":
+            faults.add("Missing", statement.name)
+        if value is None or value.kind != "VARCHAR" or value.content not in (b"On", b"Off"):
+            faults.add("BadType", statement.name)
 
     def check_users(self, statement, faults):
         """PASSTHROUGH FOR, whose users are below."""

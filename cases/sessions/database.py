@@ -155,7 +155,7 @@ class Run:
         self.lines.append(f"{count} rows")
 
     def on_catalog(self, statement):
-        """CREATE, DROP, GRANT, START, STOP and SYNCHRONIZE outside a region. The open transaction is committed before, also where they are refused."""
+        """CREATE, DROP, GRANT, SET OPTION, START, STOP and SYNCHRONIZE outside a region. The open transaction is committed before, also where they are refused."""
         self.flush()
         catalog = self.database.catalog
         catalog.check(statement)
@@ -181,9 +181,11 @@ class Run:
         self.commit(log.passed(self.users, self.only, printing.statement(statement), changes))
 
     def need_carried(self, statement):
-        """GRANT and SYNCHRONIZE are not carried: they are refused by what is there already or is missing, without ONLY, and else by their first name."""
+        """GRANT, SET OPTION and SYNCHRONIZE are not carried: they are refused by what is there already or is missing, without ONLY, and else by their first name."""
         if isinstance(statement, tree.Grant):
             first = statement.user
+        elif isinstance(statement, tree.SetOption):
+            first = statement.name
         elif isinstance(statement, tree.Subscription) and statement.verb == "SYNCHRONIZE":
             first = statement.publication
         else:

@@ -8,6 +8,7 @@ LONGEST_TEXT = 32767
 MOST_SOURCES = 8
 DEEPEST_IF = 200
 ALIASES = ("old", "new", "remote")
+SWITCHES = (b"on", b"off")
 
 
 class Statements(Expressions):
@@ -34,6 +35,7 @@ class Statements(Expressions):
             "start": self.start,
             "stop": self.stop,
             "synchronize": self.synchronize,
+            "set": self.option,
             "insert": self.insert,
             "update": self.update,
             "delete": self.delete,
@@ -151,7 +153,7 @@ class Statements(Expressions):
         return tree.Subscription(verb, publication, value, self.name())
 
     def value(self):
-        """The value of a subscription: a literal, which may be a negative number."""
+        """The value of a subscription or an option: a literal, which may be a negative number."""
         if self.took_sign("-"):
             if self.token().kind != "number":
                 self.refuse()
@@ -160,6 +162,16 @@ class Statements(Expressions):
         if literal is None:
             self.refuse()
         return literal
+
+    def option(self):
+        """SET OPTION. On and Off are kept so, however their letters were written."""
+        self.need("option")
+        name = self.name()
+        self.need_sign("=")
+        value = self.value().value
+        if value is not None and value.kind == "VARCHAR" and value.content.lower() in SWITCHES:
+            value = value._replace(content=value.content.capitalize())
+        return tree.SetOption(name, tree.Literal(value))
 
     def drop(self):
         """DROP, and what it takes away."""

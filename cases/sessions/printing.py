@@ -97,6 +97,11 @@ def subscription(part):
     return f"{part.verb} SUBSCRIPTION TO {part.publication}{value} FOR {part.user}"
 
 
+def set_option(part):
+    """SET OPTION."""
+    return f"SET OPTION {part.name} = {literal(part.value.value)}"
+
+
 def create_trigger(part):
     """CREATE TRIGGER. Each of its declarations and actions ends with a semicolon."""
     columns = f"OF {', '.join(part.columns)} " if part.columns else ""
@@ -143,6 +148,7 @@ PRINTERS = {
     tree.Drop: drop,
     tree.Grant: grant,
     tree.Subscription: subscription,
+    tree.SetOption: set_option,
     tree.Insert: insert,
     tree.Update: update,
     tree.Delete: delete,

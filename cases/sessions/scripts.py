@@ -39,6 +39,7 @@ class Scripts(Drawing):
             (2, self.drop),
             (6, self.create_publication),
             (5, self.grant),
+            (3, self.option),
             (18, self.subscription),
             (6, self.create_trigger),
             (5, self.passthrough),
@@ -115,6 +116,12 @@ class Scripts(Drawing):
         """GRANT."""
         address = f" TYPE FILE ADDRESS '{self.one(ADDRESSES)}'" if self.chance(0.3) else ""
         return f"GRANT {self.one(('REMOTE', 'REMOTE', 'REMOTE', 'CONSOLIDATE'))} TO {self.one(USERS)}{address}"
+
+    def option(self):
+        """SET OPTION, now and then of one that there is not, or of a value that it has not."""
+        name = self.cased("verify_all_columns") if not self.slips(0.1) else self.one(("x", "option", "global_database_id"))
+        values = ("'On'", "'Off'", "'oN'", "'OFF'") if not self.slips(0.2) else ("'Yes'", "NULL", "1", "- 1", "''", "DATE '2000-01-01'", "'On '")
+        return f"SET OPTION {name} = {self.one(values)}"
 
     def subscription(self):
         """A statement of a subscription, mostly of one that is there, unless it makes one."""
@@ -227,7 +234,7 @@ class Scripts(Drawing):
 
     def to_refuse(self):
         """The bytes of a script of some statements that are spoiled here and there. Its first statement is refused, so nothing of it runs where it is read."""
-        kinds = (self.statement, self.create_trigger, self.create_table, self.create_publication, self.select, self.subscription, self.grant)
+        kinds = (self.statement, self.create_trigger, self.create_table, self.create_publication, self.select, self.subscription, self.grant, self.option)
         parts = [self.at_limit() if self.chance(0.05) else self.one(kinds)() for _ in range(self.one((1, 1, 2, 3)))]
         for _ in range(self.one((0, 1, 1, 1, 2, 3))):
             place = self.random.randrange(len(parts))

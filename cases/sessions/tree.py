@@ -87,6 +87,13 @@ class Subscription(NamedTuple):
     user: str
 
 
+class SetOption(NamedTuple):
+    """SET OPTION. The value is a literal, and the texts On and Off are spelled so."""
+
+    name: str
+    value: object
+
+
 class CreateTrigger(NamedTuple):
     """CREATE TRIGGER. The aliases are pairs of OLD, NEW or REMOTE and a name, the variables pairs of a name and a type."""
 

@@ -23,7 +23,8 @@ class Subscribed(NamedTuple):
 
 
 class Catalog:
-    """Tables, publications with their articles, triggers, users (whether each is the one above), and subscriptions, in order of their creation."""
+    """Tables, publications with their articles, triggers, users (whether each is the one above), and subscriptions, in order of their creation; and whether all
+    columns are verified."""
 
     def __init__(self, publisher):
         self.publisher = publisher
@@ -32,6 +33,7 @@ class Catalog:
         self.triggers = {}
         self.users = {}
         self.subscriptions = []
+        self.verifies = False
 
     def copy(self):
         """One of the same contents, which may be changed."""
@@ -41,6 +43,7 @@ class Catalog:
         other.triggers = dict(self.triggers)
         other.users = dict(self.users)
         other.subscriptions = list(self.subscriptions)
+        other.verifies = self.verifies
         return other
 
     def subscription(self, statement):
@@ -220,6 +223,11 @@ def subscription(catalog, statement):
         catalog.subscriptions[place] = catalog.subscriptions[place]._replace(started=statement.verb == "START")
 
 
+def set_option(catalog, statement):
+    """SET OPTION verify_all_columns."""
+    catalog.verifies = statement.is_on
+
+
 def create_trigger(catalog, statement):
     """CREATE TRIGGER."""
     triggers.check(catalog, statement)
@@ -240,6 +248,7 @@ CHANGES = {
     statements.DropPublication: drop_publication,
     statements.Grant: grant,
     statements.Subscription: subscription,
+    statements.SetOption: set_option,
     statements.CreateTrigger: create_trigger,
     statements.DropTrigger: drop_trigger,
 }

@@ -11,7 +11,8 @@ def insert(table, shown):
 
 
 def of_change(catalog, user, change):
-    """What a change gives a user: the operation that brings his view of its key from the row before to the row behind; None where both are one."""
+    """What a change gives a user: the operation that brings his view of its key from the row before to the row behind; None where both are one. To the user
+    above an update names all columns outside the key where they are to be verified, else, and to a user below, those that differ."""
     name, before, behind = change
     table = catalog.tables.get(name)
     shown_before = seen(catalog, user, name, before)
@@ -22,7 +23,11 @@ def of_change(catalog, user, change):
         return insert(name, shown_behind)
     if shown_behind is None:
         return Remove(name, table.named_key(before))
-    pairs = [(column, old, new) for (column, old), (_, new) in zip(shown_before, shown_behind) if old != new]
+    pairs = [(column, old, new) for (column, old), (_, new) in zip(shown_before, shown_behind)]
+    if catalog.verifies and catalog.users[user]:
+        pairs = [pair for pair in pairs if pair[0] not in table.key_names()]
+    else:
+        pairs = [pair for pair in pairs if pair[1] != pair[2]]
     return Set(name, table.named_key(before), pairs)
 
 

@@ -99,7 +99,7 @@ class Judge:
         if any(name not in table.names() or name in table.key_names() for name, _, _ in columns):
             raise Clashed("NoColumn")
         key = fitted(table, operation.key)
-        fresh = fitted(table, [(name, new) for name, _, new in columns])
+        fresh = fitted(table, [(name, new) for name, old, new in columns if self.is_above or old != new])
         if None in key.values() or any(value is None and name in table.required() for name, value in fresh.items()):
             raise Clashed("Null")
         stored = self.rows.get(table, tuple(key[name] for name in table.key_names()))

@@ -41,7 +41,7 @@ class Differing:
         """Makes the databases with their tables, partners, publications and triggers."""
         self.world.begin()
         for publisher in self.databases:
-            self.world.script(publisher, self.make_tables() + self.drawing.shuffled(self.grants(publisher)))
+            self.world.script(publisher, self.make_tables() + self.drawing.shuffled(self.grants(publisher)) + self.options_set())
             self.publish(publisher)
             self.make_triggers(publisher, self.drawing.below(4))
 
@@ -49,6 +49,10 @@ class Differing:
         """The grants to the database above and to those below."""
         above = [Grant(True, self.tree[publisher])] if self.tree[publisher] else []
         return above + [Grant(False, below) for below, own in self.tree.items() if own == publisher]
+
+    def options_set(self):
+        """SET OPTION, in some databases."""
+        return [statements.SetOption(True)] if self.drawing.chance(0.3) else []
 
     def make_tables(self):
         """CREATE TABLE of most tables: their columns may miss, may stand in another order and have other types."""
@@ -183,7 +187,7 @@ class Conflicting(Differing):
         self.world.begin()
         for publisher in self.databases:
             articles = [self.article(publisher, name) for name in self.tables]
-            self.world.script(publisher, [*self.make_tables(), *self.grants(publisher), CreatePublication("p", articles)])
+            self.world.script(publisher, [*self.make_tables(), *self.grants(publisher), CreatePublication("p", articles), *self.options_set()])
             for user, is_above in self.databases[publisher].catalog.users.items():
                 partitions = [Literal(values.text(name)) for name in self.drawing.some("ABC", [1, 2, 3])]
                 for value in [None] if is_above else partitions:

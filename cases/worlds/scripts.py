@@ -146,6 +146,8 @@ class Scripts:
         """A statement on the catalog, or None; of those on subscriptions only such as passthrough carries where it is to be carried."""
         drawing = self.drawing
         catalog = database.catalog
+        if drawing.chance(0.08):
+            return statements.SetOption(drawing.chance(0.7))
         share = drawing.random.random()
         if share < 0.6 and catalog.subscriptions:
             found = drawing.choice(catalog.subscriptions)

@@ -3,11 +3,18 @@
 import logs
 from faults import Refused, missing, wrong_type
 from rows import execute
-from statements import COMMIT, PASSTHROUGH_STOP, ROLLBACK, Grant, Passthrough, Subscription, is_carried, is_on_catalog, print_statement
+from statements import COMMIT, PASSTHROUGH_STOP, ROLLBACK, VERIFY, Grant, Passthrough, SetOption, Subscription, is_carried, is_on_catalog, print_statement
 from views import seen
 
 DONE = 0
 REFUSED = 4
+
+
+def first_name(statement):
+    """The name by which a statement is refused that is not carried."""
+    if isinstance(statement, SetOption):
+        return VERIFY
+    return statement.publication if isinstance(statement, Subscription) else statement.name
 
 
 class Session:
@@ -52,10 +59,10 @@ class Session:
             self.lines.append("rolled back")
         elif self.region and is_carried(statement):
             self.pass_on(statement)
-        elif self.region and (synchronizes or isinstance(statement, Grant)):
+        elif self.region and (synchronizes or isinstance(statement, (Grant, SetOption))):
             if not self.region.only:
                 self.database.catalog.changed(statement)
-            wrong_type(statement.publication if synchronizes else statement.name)
+            wrong_type(first_name(statement))
         elif synchronizes:
             self.synchronize(statement)
         elif is_on_catalog(statement):

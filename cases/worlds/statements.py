@@ -58,6 +58,12 @@ class Subscription(NamedTuple):
     user: str
 
 
+class SetOption(NamedTuple):
+    """SET OPTION verify_all_columns: whether it is On."""
+
+    is_on: bool
+
+
 class CreateTrigger(NamedTuple):
     """CREATE TRIGGER. `rows` has the names that it gives to OLD, NEW and REMOTE, `variables` a name and a type each."""
 
@@ -135,6 +141,7 @@ class Word(NamedTuple):
     text: str
 
 
+VERIFY = "verify_all_columns"
 COMMIT = Word("COMMIT")
 ROLLBACK = Word("ROLLBACK")
 PASSTHROUGH_STOP = Word("PASSTHROUGH STOP")
@@ -146,12 +153,12 @@ def is_on_catalog(statement):
     """Whether a statement changes the catalog and is committed by itself."""
     if isinstance(statement, Subscription):
         return statement.verb != "SYNCHRONIZE"
-    return isinstance(statement, (CreateTable, DropTable, CreatePublication, DropPublication, Grant, CreateTrigger, DropTrigger))
+    return isinstance(statement, (CreateTable, DropTable, CreatePublication, DropPublication, Grant, SetOption, CreateTrigger, DropTrigger))
 
 
 def is_carried(statement):
-    """Whether passthrough carries a statement: one on rows, and one on the catalog but for GRANT."""
-    return isinstance(statement, ON_ROWS) or is_on_catalog(statement) and not isinstance(statement, Grant)
+    """Whether passthrough carries a statement: one on rows, and one on the catalog but for GRANT and SET OPTION."""
+    return isinstance(statement, ON_ROWS) or is_on_catalog(statement) and not isinstance(statement, (Grant, SetOption))
 
 
 # ---- actions of triggers
@@ -248,6 +255,7 @@ PRINTERS = {
     DropPublication: lambda statement: "DROP PUBLICATION " + statement.name,
     Grant: lambda statement: ("GRANT CONSOLIDATE TO " if statement.above else "GRANT REMOTE TO ") + statement.name,
     Subscription: print_subscription,
+    SetOption: lambda statement: f"SET OPTION {VERIFY} = '{'On' if statement.is_on else 'Off'}'",
     CreateTrigger: print_trigger,
     DropTrigger: lambda statement: "DROP TRIGGER " + statement.name,
     Insert: print_on_rows,

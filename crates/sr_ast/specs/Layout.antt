@@ -14,6 +14,7 @@ use Rattle.sr_ast.specs.declared.create.ArticleRule.{ArticleRule}
 use Rattle.sr_ast.specs.declared.create.Grant.{Grant}
 use Rattle.sr_ast.specs.declared.create.SubscriptionRule.{SubscriptionRule}
 use Rattle.sr_ast.specs.declared.create.CreateTrigger.{CreateTrigger}
+use Rattle.sr_ast.specs.declared.options.OptionRule.{OptionRule}
 use Rattle.sr_ast.specs.declared.query.Dml.{Dml}
 use Rattle.sr_ast.specs.declared.query.Dml.TheVariants as dml
 use Rattle.sr_ast.specs.declared.query.Insert.{Insert}
@@ -99,6 +100,9 @@ fired_pieces c = of_pieces c.columns ++ on_pieces c
 unfoldable pub create_trigger_pieces : CreateTrigger → List Piece
 create_trigger_pieces c = word (codes "CREATE TRIGGER") ∷ word c.name ∷ word (codes "RESOLVE UPDATE") ∷ fired_pieces c
 
+unfoldable pub set_option_pieces : OptionRule → List Piece
+set_option_pieces o = word (codes "SET") ∷ word (codes "OPTION") ∷ word o.name ∷ word (codes "=") ∷ value_pieces o.value
+
 abbrev pub row_of_exprs_pieces : List Expr → List Piece
 row_of_exprs_pieces row = in_parentheses (listed expr_pieces row)
 
@@ -170,6 +174,7 @@ stmt_pieces (stmt.Synchronize r) = word (codes "SYNCHRONIZE SUBSCRIPTION TO") �
 stmt_pieces (stmt.DropSubscription r) = word (codes "DROP SUBSCRIPTION TO") ∷ subscription_pieces r
 stmt_pieces (stmt.CreateTrigger c) = create_trigger_pieces c
 stmt_pieces (stmt.DropTrigger n) = word (codes "DROP TRIGGER") ∷ word n ∷ []
+stmt_pieces (stmt.SetOption o) = set_option_pieces o
 stmt_pieces (stmt.Dml d) = dml_pieces d
 stmt_pieces (stmt.Select s) = select_pieces s
 stmt_pieces stmt.Commit = word (codes "COMMIT") ∷ []

@@ -6,6 +6,7 @@ pub mod Keywords
 pub mod Layout
 pub mod Normal
 pub mod NormalForms
+pub mod Options
 pub mod Pages
 pub mod Printing
 pub mod Statements

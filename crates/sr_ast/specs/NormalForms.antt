@@ -1,5 +1,5 @@
 -- Statements in normal form: each statement that a script spells is one, and its printed text spells it.
-use Rattle.std.specs.Prelude.{◌≢◌, ℕ, ◌+◌, ◌≤◌, max, ⊤, IsUtf8, List, length, Contains, IsTrue, AllPairs}
+use Rattle.std.specs.Prelude.{◌≡◌, ◌≢◌, ℕ, ◌+◌, ◌≤◌, max, ⊤, IsUtf8, List, length, Contains, IsTrue, AllPairs}
 use Rattle.std.specs.List.{AllByRecursion}
 use Rattle.sr_ast.specs.Chains.{Chain}
 use Rattle.sr_ast.specs.Chains.Chain.{done, set, insert, when, choose}
@@ -12,6 +12,7 @@ use Rattle.sr_ast.specs.declared.create.ArticleRule.{ArticleRule}
 use Rattle.sr_ast.specs.declared.create.Grant.{Grant}
 use Rattle.sr_ast.specs.declared.create.SubscriptionRule.{SubscriptionRule}
 use Rattle.sr_ast.specs.declared.create.CreateTrigger.{CreateTrigger}
+use Rattle.sr_ast.specs.declared.options.OptionRule.{OptionRule}
 use Rattle.sr_ast.specs.declared.query.Dml.{Dml}
 use Rattle.sr_ast.specs.declared.query.Dml.TheVariants as dml
 use Rattle.sr_ast.specs.declared.query.Insert.{Insert}
@@ -26,10 +27,12 @@ use Rattle.sr_ast.specs.declared.query.Source.{Source}
 use Rattle.sr_ast.specs.declared.query.Join.{Join}
 use Rattle.sr_ast.specs.declared.query.OrderBy.{OrderBy}
 use Rattle.sr_base.specs.declared.value.Kind.{Kind}
+use Rattle.sr_base.specs.declared.value.Value.{Value}
 use Rattle.sr_ast.specs.declared.stmt.Passthrough.{Passthrough}
 use Rattle.sr_ast.specs.declared.stmt.Stmt.{Stmt}
 use Rattle.sr_ast.specs.declared.stmt.Stmt.TheVariants as stmt
 use Rattle.sr_ast.specs.Normal.{IsPlain, IsNoneOr, IsSomeOf, IsNormalValue, IsNormalKind, IsPlainColumn, IsNormalDeep, IsNormalExpr}
+use Rattle.sr_ast.specs.Options.{settled}
 use Rattle.sr_ast.specs.Terms.{deepest}
 
 -- ---- rows
@@ -114,6 +117,15 @@ pub record IsNormalSubscription (s : SubscriptionRule) : Type 0 where
   pub value : IsNoneOr IsNormalValue s.value
   pub user : IsPlain s.user
 
+-- ---- options
+
+-- a value that an option keeps as it is
+abbrev pub IsSettledValue : Value → Type 0
+IsSettledValue v = IsNormalValue v × (settled v ≡ v)
+
+abbrev pub IsNormalOption : OptionRule → Type 0
+IsNormalOption o = IsPlain o.name × IsSettledValue o.value
+
 -- ---- triggers
 
 -- an alias, and a variable
@@ -173,6 +185,7 @@ IsNormal (stmt.Synchronize s) = IsNormalSubscription s
 IsNormal (stmt.DropSubscription s) = IsNormalSubscription s
 IsNormal (stmt.CreateTrigger c) = IsNormalTrigger c
 IsNormal (stmt.DropTrigger n) = IsPlain n
+IsNormal (stmt.SetOption o) = IsNormalOption o
 IsNormal (stmt.Dml d) = IsNormalDml d
 IsNormal (stmt.Select s) = IsNormalSelect s
 IsNormal stmt.Commit = ⊤

@@ -3,7 +3,7 @@ use Rattle.std.specs.Prelude.{Bool, true, false}
 use Rattle.sr_ast.specs.declared.stmt.Stmt.{Stmt}
 use Rattle.sr_ast.specs.declared.stmt.Stmt.TheVariants as stmt
 
--- what changes the catalog: the statements that begin with CREATE, DROP, GRANT, START or STOP
+-- what changes the catalog: the statements that begin with CREATE, DROP, GRANT, SET, START or STOP
 abbrev pub is_ddl : Stmt → Bool
 is_ddl (stmt.CreateTable c) = true
 is_ddl (stmt.DropTable n) = true
@@ -17,6 +17,7 @@ is_ddl (stmt.StopSubscription r) = true
 is_ddl (stmt.DropSubscription r) = true
 is_ddl (stmt.CreateTrigger c) = true
 is_ddl (stmt.DropTrigger n) = true
+is_ddl (stmt.SetOption o) = true
 is_ddl _ = false
 
 -- what passthrough carries: CREATE and DROP of tables, publications, triggers and subscriptions, START and STOP, INSERT, UPDATE and DELETE

@@ -14,6 +14,7 @@ pub enum Form {
     DropSubscription,
     CreateTrigger,
     DropTrigger,
+    SetOption,
     Insert,
     Update,
     Delete,

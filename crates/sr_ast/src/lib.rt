@@ -12,6 +12,7 @@ mod expr;
 mod form;
 mod keyword;
 mod operator;
+mod options;
 mod query;
 mod stmt;
 mod uses;
@@ -29,6 +30,7 @@ pub use expr::{DEEPEST, Expr, Operand};
 pub use form::Form;
 pub use keyword::Keyword;
 pub use operator::{Binary, Unary};
+pub use options::{OptionRule, settled};
 pub use query::{Delete, Dml, Insert, Item, Items, Join, OrderBy, Select, Source, Update};
 pub use stmt::{Passthrough, Script, Stmt, is_carried, is_ddl};
 pub use uses::{

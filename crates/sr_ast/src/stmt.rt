@@ -4,6 +4,7 @@ ghost use Rattle.sr_ast.specs.Inner.Statements.{form};
 
 use crate::create::{CreatePublication, CreateTable, CreateTrigger, Grant, SubscriptionRule};
 use crate::form::Form;
+use crate::options::OptionRule;
 use crate::query::{Dml, Select};
 use sr_base::{Copied, Name, NoMemory, Seq};
 use std::alloc::Global;
@@ -24,6 +25,7 @@ pub enum Stmt {
     DropSubscription(SubscriptionRule),
     CreateTrigger(CreateTrigger),
     DropTrigger(Name),
+    SetOption(OptionRule),
     Dml(Dml),
     Select(Select),
     Commit,
@@ -51,6 +53,7 @@ impl Stmt {
             Stmt::DropSubscription(_) => Form::DropSubscription,
             Stmt::CreateTrigger(_) => Form::CreateTrigger,
             Stmt::DropTrigger(_) => Form::DropTrigger,
+            Stmt::SetOption(_) => Form::SetOption,
             Stmt::Dml(Dml::Insert(_)) => Form::Insert,
             Stmt::Dml(Dml::Update(_)) => Form::Update,
             Stmt::Dml(Dml::Delete(_)) => Form::Delete,
@@ -73,7 +76,7 @@ pub struct Passthrough {
 /// The statements of a script, in order.
 pub type Script = Seq<Stmt>;
 
-/// Whether the statement changes the catalog: it begins with CREATE, DROP, GRANT, START or STOP.
+/// Whether the statement changes the catalog: it begins with CREATE, DROP, GRANT, SET, START or STOP.
 pub fn is_ddl(stmt: &Stmt) -> bool
     ensures { result ≡ is_ddl stmt.now }
 {
@@ -89,7 +92,8 @@ pub fn is_ddl(stmt: &Stmt) -> bool
         | Stmt::StopSubscription(_)
         | Stmt::DropSubscription(_)
         | Stmt::CreateTrigger(_)
-        | Stmt::DropTrigger(_) => true,
+        | Stmt::DropTrigger(_)
+        | Stmt::SetOption(_) => true,
         _ => false,
     }
 }
@@ -131,6 +135,7 @@ impl Copied for Stmt {
             Stmt::DropSubscription(rule) => Ok(Stmt::DropSubscription(rule.copy(alloc)?)),
             Stmt::CreateTrigger(create) => Ok(Stmt::CreateTrigger(create.copy(alloc)?)),
             Stmt::DropTrigger(name) => Ok(Stmt::DropTrigger(name.copy(alloc)?)),
+            Stmt::SetOption(rule) => Ok(Stmt::SetOption(rule.copy(alloc)?)),
             Stmt::Dml(dml) => Ok(Stmt::Dml(dml.copy(alloc)?)),
             Stmt::Select(select) => Ok(Stmt::Select(select.copy(alloc)?)),
             Stmt::Commit => Ok(Stmt::Commit),

@@ -16,6 +16,7 @@ ghost use Rattle.sr_ast.specs.Layout.{
   variable_pieces,
   of_pieces,
   create_trigger_pieces,
+  set_option_pieces,
   fired_pieces,
   on_pieces,
   body_pieces,
@@ -27,7 +28,7 @@ use crate::print_expr::print_text;
 use crate::printing::{Printed, print_behind, print_led, print_list, print_row};
 use sr_ast::{
     ArticleRule, ColumnRule, CreatePublication, CreateTable, CreateTrigger, Grant, Image,
-    SubscriptionRule,
+    OptionRule, SubscriptionRule,
 };
 use sr_base::{Kind, Name, NoMemory, Text, Value};
 
@@ -245,4 +246,16 @@ fn print_body(trigger: &CreateTrigger, page: &mut Page) -> Result<(), NoMemory>
     print_actions(&trigger.actions, page)?;
     page.word("END")?;
     Ok(())
+}
+
+impl Printed for OptionRule {
+    ghost pieces = { set_option_pieces };
+
+    #[tactic(auto, using(crate::proofs::Prints::steps), unfolding(sr_ast::specs::Layout::set_option_pieces))]
+    fn print(&self, page: &mut Page) -> Result<(), NoMemory> {
+        page.word("SET")?;
+        print_behind("OPTION", &self.name, page)?;
+        print_behind("=", &self.value, page)?;
+        Ok(())
+    }
 }

@@ -239,6 +239,7 @@ impl Printed for Stmt {
             Stmt::DropSubscription(rule) => print_behind("DROP SUBSCRIPTION TO", rule, page),
             Stmt::CreateTrigger(create) => create.print(page),
             Stmt::DropTrigger(name) => print_behind("DROP TRIGGER", name, page),
+            Stmt::SetOption(rule) => rule.print(page),
             Stmt::Dml(dml) => dml.print(page),
             Stmt::Select(select) => select.print(page),
             Stmt::Commit => page.word("COMMIT"),

@@ -16,8 +16,8 @@ use sr_catalog_schema::{DdlFault, Publication, Schema, Subscription, Table, Trig
 use std::alloc::Global;
 use std::marker::Model;
 
-/// What a database knows beside its rows: its publisher, users, tables, publications, triggers and subscriptions. Contracts see
-/// the publisher and the lists, each in order of creation.
+/// What a database knows beside its rows: its publisher, users, tables, publications, triggers, subscriptions and options. Contracts
+/// see the publisher, the lists, each in order of creation, and the options.
 ///
 /// A catalog is always one that statements in normal form have made of a new one, each accepted where it stands; `is_made` says so. Those are the
 /// statements that a text spells, so the catalog's script is read back as itself.
@@ -154,6 +154,14 @@ impl Catalog {
         ensures subscriptions { result.now ≡ self.now.subscriptions }
     {
         self.schema.subscriptions()
+    }
+
+    /// Whether what is given to the user above carries the old value of every column: the option `verify_all_columns` is On. It takes
+    /// no memory.
+    pub fn verifies(&self) -> bool
+        ensures verifies { result ≡ self.now.options.verifies }
+    {
+        self.schema.options().verifies
     }
 
     /// Whether there is the subscription of a rule, and is started. It takes constant time.

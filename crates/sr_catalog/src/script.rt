@@ -6,14 +6,15 @@ ghost use Rattle.sr_ast.specs.Layout.{printed};
 ghost use Rattle.sr_ast.specs.NormalForms.{IsNormal};
 ghost use Rattle.sr_ast.specs.declared.stmt.Stmt.{Stmt};
 ghost use Rattle.sr_catalog_schema.specs.Catalogs.{nothing_but};
-ghost use Rattle.sr_catalog_script_laws.specs.Inner.Scripts.{given_address, grant_rule, grant_of, column_rule, create_table_of, article_rule, create_publication_of, subscription_rule, create_subscription_of, start_of, trigger_stmt, statements, replayed};
+ghost use Rattle.sr_catalog_script_laws.specs.Inner.Scripts.{given_address, grant_rule, grant_of, column_rule, create_table_of, article_rule, create_publication_of, subscription_rule, create_subscription_of, start_of, set_options_of, verifies_rule, trigger_stmt, statements, replayed};
 
 use crate::catalog::Catalog;
 use sr_ast::{
-    ArticleRule, ColumnRule, CreatePublication, CreateTable, Grant, Stmt, SubscriptionRule,
+    ArticleRule, ColumnRule, CreatePublication, CreateTable, Grant, OptionRule, Stmt,
+    SubscriptionRule,
 };
 use sr_ast_print::print;
-use sr_base::{Copied, NoMemory, Seq, Text, text_of};
+use sr_base::{Copied, NoMemory, Seq, Text, Value, name_of, text_of};
 use sr_catalog_schema::{
     Article, Column, Publication, Subscription, Table, Trigger, User, key_names,
 };
@@ -21,8 +22,8 @@ use std::alloc::{AllocError, Global};
 
 impl Catalog {
     /// The statements that make this catalog from a new one, as they print: grants, tables, publications with their articles' columns
-    /// written out, triggers, subscriptions and starts, each kind in order of creation. A grant has no address where it is the user's
-    /// name. They are in normal form, so that each text is read back as its statement; and a new catalog accepts them, and they make this one again.
+    /// written out, triggers, subscriptions and starts, each kind in order of creation, and last `SET OPTION verify_all_columns = 'On'`
+    /// where it is On. A grant has no address where it is the user's name. They are in normal form, so that each text is read back as its statement; and a new catalog accepts them, and they make this one again.
     #[tactic(auto, using(crate::proofs::Printings::joined, sr_catalog_script_laws::proofs::Spelled::script_again, sr_catalog_script_laws::proofs::Spelled::script_normal))]
     pub fn script(&self, alloc: Global) -> Result<Vec<Text>, NoMemory>
         ensures texts { IfOk result (λ texts. texts.items ≡ map printed (statements self.now)) }
@@ -50,7 +51,8 @@ fn add_script(alloc: Global, catalog: &Catalog, texts: &mut Vec<Text>) -> Result
     add_all(alloc, catalog.publications(), texts)?;
     add_all(alloc, catalog.triggers(), texts)?;
     add_all(alloc, catalog.subscriptions(), texts)?;
-    add_starts(alloc, catalog.subscriptions(), texts)
+    add_starts(alloc, catalog.subscriptions(), texts)?;
+    add_options(alloc, catalog, texts)
 }
 
 /// What a statement makes.
@@ -111,6 +113,32 @@ fn start_text(alloc: Global, subscription: &Subscription) -> Result<Text, NoMemo
 {
     let rule = subscription_rule(alloc, subscription)?;
     text_once(alloc, Stmt::StartSubscription(rule))
+}
+
+/// The options that are set.
+fn add_options(alloc: Global, catalog: &Catalog, texts: &mut Vec<Text>) -> Result<(), NoMemory>
+    ensures { OnOk result (texts.new.items ≡ texts.old.items ++ map printed (set_options_of catalog.now.options)) }
+{
+    if !catalog.verifies() {
+        return Ok(());
+    }
+    let rule = verifies_rule(alloc)?;
+    texts.push(text_once(alloc, Stmt::SetOption(rule))?)?;
+    Ok(())
+}
+
+fn verifies_rule(alloc: Global) -> Result<OptionRule, NoMemory>
+    ensures { IfOk result (λ rule. rule ≡ verifies_rule) }
+{
+    // It is a name, so only memory can lack.
+    let Ok(name) = name_of(alloc, b"verify_all_columns") else {
+        return Err(AllocError);
+    };
+    let value = Text::from_str(alloc, "On")?;
+    Ok(OptionRule {
+        name,
+        value: Value::Str(value),
+    })
 }
 
 fn subscription_rule(

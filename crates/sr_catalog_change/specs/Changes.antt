@@ -9,6 +9,7 @@ use Rattle.sr_catalog_schema.specs.Causes.{Causes, no_cause, first_fault}
 use Rattle.sr_catalog_schema.specs.Firsts.{where_true}
 use Rattle.sr_catalog_schema.specs.Names.{taken, without}
 use Rattle.sr_catalog_schema.specs.Members.{publication_name, table_name, trigger_name}
+use Rattle.sr_catalog_ddl.specs.Options.{set_option_causes, options_set}
 use Rattle.sr_catalog_ddl.specs.Publications.{create_publication_causes, drop_publication_causes, publication_of}
 use Rattle.sr_catalog_ddl.specs.Subscriptions.{is_of, marked, create_subscription_causes, start_causes}
 use Rattle.sr_catalog_ddl.specs.Subscriptions.{stop_causes, synchronize_causes, drop_subscription_causes, subscription_of}
@@ -48,6 +49,7 @@ causes c (stmt.Synchronize r) = synchronize_causes c r
 causes c (stmt.DropSubscription r) = drop_subscription_causes c r
 causes c (stmt.CreateTrigger g) = create_trigger_causes c g
 causes c (stmt.DropTrigger n) = drop_trigger_causes c n
+causes c (stmt.SetOption o) = set_option_causes o
 causes c (stmt.Passthrough p) = passthrough_causes c p.users
 causes c _ = no_cause
 
@@ -69,4 +71,5 @@ next c (stmt.StopSubscription r) = record c { subscriptions = map (marked false 
 next c (stmt.DropSubscription r) = record c { subscriptions = filter (λ s. not (is_of r s)) c.subscriptions }
 next c (stmt.CreateTrigger g) = record c { triggers = c.triggers ++ trigger_of g ∷ [] }
 next c (stmt.DropTrigger n) = record c { triggers = without trigger_name n c.triggers }
+next c (stmt.SetOption o) = record c { options = options_set o c.options }
 next c _ = c

@@ -9,8 +9,9 @@ use sr_ast::{CreatePublication, Stmt};
 use sr_base::NoMemory;
 use sr_catalog_ddl::{
     create_publication_fault, create_subscription_fault, create_table_fault,
-    drop_publication_fault, drop_subscription_fault, grant_fault, passthrough_fault,
-    publication_of, start_fault, stop_fault, subscription_of, synchronize_fault, table_of, user_of,
+    drop_publication_fault, drop_subscription_fault, grant_fault, options_set, passthrough_fault,
+    publication_of, set_option_fault, start_fault, stop_fault, subscription_of, synchronize_fault,
+    table_of, user_of,
 };
 use sr_catalog_schema::{DdlFault, Schema};
 use sr_catalog_triggers::{create_trigger_fault, drop_trigger_fault, trigger_of};
@@ -36,6 +37,7 @@ pub fn refusal(schema: &Schema, alloc: Global, stmt: &Stmt) -> Result<Option<Ddl
         Stmt::DropSubscription(rule) => drop_subscription_fault(schema, alloc, rule),
         Stmt::CreateTrigger(rule) => create_trigger_fault(schema, alloc, rule),
         Stmt::DropTrigger(name) => drop_trigger_fault(schema, alloc, name),
+        Stmt::SetOption(rule) => set_option_fault(alloc, rule),
         Stmt::Passthrough(rule) => passthrough_fault(schema, alloc, rule.users.as_slice()),
         _ => Ok(None),
     }
@@ -65,6 +67,10 @@ pub fn apply(schema: &mut Schema, alloc: Global, stmt: &Stmt) -> Result<(), NoMe
         Stmt::DropSubscription(rule) => schema.remove_subscription(alloc, rule),
         Stmt::CreateTrigger(rule) => schema.add_trigger(alloc, trigger_of(alloc, rule)?),
         Stmt::DropTrigger(name) => schema.remove_trigger(alloc, name),
+        Stmt::SetOption(rule) => {
+            schema.set_options(options_set(rule, schema.options()));
+            Ok(())
+        }
         _ => Ok(()),
     }
 }

@@ -1,3 +1,4 @@
+pub mod Options
 pub mod Publications
 pub mod Subscriptions
 pub mod Tables

@@ -1,4 +1,4 @@
--- GRANT REMOTE and GRANT CONSOLIDATE, and the users of PASSTHROUGH.
+-- GRANT REMOTE and GRANT CONSOLIDATE, where a user stands, and the users of PASSTHROUGH.
 use Rattle.std.specs.Prelude.{ℕ, Bool, false, not, ◌&&◌, ◌||◌, nat_le, List, length, Option, Some, None, bytes_eq}
 use Rattle.std.specs.List.{list_any}
 use Rattle.sr_catalog_schema.specs.Members.{user_name}
@@ -41,6 +41,11 @@ user_of above g = record { name = g.user; above = above; address = address_of g.
 abbrev pub is_remote : Option User → Bool
 is_remote None = false
 is_remote (Some u) = not u.above
+
+-- whether a user is there, and above
+abbrev pub stands_above : Option User → Bool
+stands_above None = false
+stands_above (Some u) = u.above
 
 -- what speaks against PASSTHROUGH FOR: a user that is not REMOTE
 unfoldable pub passthrough_causes : Lists → List (List ℕ) → Causes

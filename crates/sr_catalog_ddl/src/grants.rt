@@ -1,4 +1,4 @@
-//! What speaks against a GRANT and against PASSTHROUGH FOR, and the user that is made.
+//! What speaks against a GRANT and against PASSTHROUGH FOR, the user that is made, and where a user stands.
 
 ghost use Rattle.std.specs.Prelude.{◌≡◌, ◌&&◌, not, nat_le, length, IfOk, bytes_eq};
 ghost use Rattle.std.specs.Option.{option_copied};
@@ -7,7 +7,7 @@ ghost use Rattle.sr_catalog_schema.specs.Causes.{first_fault};
 ghost use Rattle.sr_catalog_schema.specs.Firsts.{first_among, where_true};
 ghost use Rattle.sr_catalog_schema.specs.Names.{named};
 ghost use Rattle.sr_catalog_schema.specs.Members.{user_name};
-ghost use Rattle.sr_catalog_ddl.specs.Users.{is_taken, is_bad_address, address_of, user_of, is_remote, grant_causes, passthrough_causes};
+ghost use Rattle.sr_catalog_ddl.specs.Users.{is_taken, is_bad_address, address_of, user_of, is_remote, stands_above, grant_causes, passthrough_causes};
 
 use sr_ast::Grant;
 use sr_base::{BadName, Copied, Name, NoMemory, Text, name_of};
@@ -158,5 +158,15 @@ pub fn is_remote(user: Option<&User>) -> bool
     match user {
         None => false,
         Some(user) => !user.above,
+    }
+}
+
+/// Whether a user is there, and above.
+pub fn stands_above(user: Option<&User>) -> bool
+    ensures { result ≡ stands_above (option_copied user.entry) }
+{
+    match user {
+        None => false,
+        Some(user) => user.above,
     }
 }

@@ -6,11 +6,13 @@ ghost use Rattle.sr_ast.specs.declared.create.CreateTable.{CreateTable as Tablin
 ghost use Rattle.sr_ast.specs.declared.create.CreateTrigger.{CreateTrigger as Triggering};
 ghost use Rattle.sr_ast.specs.declared.create.Grant.{Grant as Granting};
 ghost use Rattle.sr_ast.specs.declared.create.SubscriptionRule.{SubscriptionRule as Rule};
+ghost use Rattle.sr_ast.specs.declared.options.OptionRule.{OptionRule as Setting};
 ghost use Rattle.sr_ast.specs.declared.query.Dml.{Dml as Changing};
 ghost use Rattle.sr_ast.specs.declared.query.Select.{Select as Query};
 ghost use Rattle.sr_ast.specs.declared.stmt.Passthrough.{Passthrough as Passing};
 ghost use Rattle.sr_ast.specs.declared.stmt.Stmt.TheVariants as stmt;
 ghost use Rattle.sr_catalog_change.specs.Changes.{next, refusal};
+ghost use Rattle.sr_catalog_ddl.specs.Options.{options_set};
 ghost use Rattle.sr_catalog_ddl.specs.Publications.{publication_of};
 ghost use Rattle.sr_catalog_ddl.specs.Subscriptions.{is_of, marked, subscription_of};
 ghost use Rattle.sr_catalog_ddl.specs.Tables.{table_of};
@@ -22,7 +24,7 @@ ghost use Rattle.sr_catalog_schema.specs.Names.{without};
 ghost use Rattle.sr_catalog_triggers.specs.Triggers.{trigger_of};
 
 /// What each statement makes of a catalog: a CREATE or GRANT adds the last of its kind, a DROP takes away what has the name or the rule, START and
-/// STOP mark the subscription of the rule, and the others leave the catalog as it is. The table that an accepted CREATE TABLE makes has the
+/// STOP mark the subscription of the rule, SET OPTION sets its option, and the others leave the catalog as it is. The table that an accepted CREATE TABLE makes has the
 /// columns and the key that are written.
 pub fn statements_make()
     ensures create_table { (c : Lists) (t : Tabling) → next c (stmt.CreateTable t) ≡ record c { tables = c.tables ++ table_of t ∷ [] } }
@@ -38,6 +40,7 @@ pub fn statements_make()
     ensures drop_subscription { (c : Lists) (r : Rule) → next c (stmt.DropSubscription r) ≡ record c { subscriptions = filter (λ s. not (is_of r s)) c.subscriptions } }
     ensures create_trigger { (c : Lists) (g : Triggering) → next c (stmt.CreateTrigger g) ≡ record c { triggers = c.triggers ++ trigger_of g ∷ [] } }
     ensures drop_trigger { (c : Lists) (n : List ℕ) → next c (stmt.DropTrigger n) ≡ record c { triggers = without trigger_name n c.triggers } }
+    ensures set_option { (c : Lists) (o : Setting) → next c (stmt.SetOption o) ≡ record c { options = options_set o c.options } }
     ensures synchronize { (c : Lists) (r : Rule) → next c (stmt.Synchronize r) ≡ c }
     ensures passthrough { (c : Lists) (p : Passing) → next c (stmt.Passthrough p) ≡ c }
     ensures passthrough_stop { (c : Lists) → next c stmt.PassthroughStop ≡ c }

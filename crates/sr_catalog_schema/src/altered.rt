@@ -1,10 +1,11 @@
-//! A schema with one list changed. Where memory lacks it stays as it was.
+//! A schema with one list, or its options, changed. Where memory lacks it stays as it was.
 
 ghost use Rattle.std.specs.Prelude.{◌≡◌, ◌∷◌, ◌++◌, [], filter, map, not, OnOk, OnErr};
 ghost use Rattle.sr_catalog_schema.specs.Members.{table_name, publication_name, trigger_name};
 ghost use Rattle.sr_catalog_schema.specs.Names.{without};
 ghost use Rattle.sr_catalog_schema.specs.Rules.{is_of, marked};
 
+use crate::options::Options;
 use crate::publication::Publication;
 use crate::schema::Schema;
 use crate::subscription::Subscription;
@@ -111,5 +112,12 @@ impl Schema {
         ensures err { OnErr result (self.new ≡ self.old) }
     {
         self.subscriptions.remove(alloc, rule)
+    }
+
+    /// Other options. It takes no memory.
+    pub fn set_options(&mut self, options: Options)
+        ensures set { self.new ≡ record self.old { options = options } }
+    {
+        self.options = options;
     }
 }

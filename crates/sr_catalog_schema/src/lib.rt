@@ -1,5 +1,5 @@
 //! What a database knows beside its rows: its tables, users, publications, triggers and subscriptions under their names, how they are
-//! looked up, and the faults by which statements are refused.
+//! looked up, its options, and the faults by which statements are refused.
 //!
 //! It stands on sr_ast. Contracts see a schema as its lists in order of creation. The contract that matters most is that of
 //! `Named::get`: what is found under a name is the first thing of that name.
@@ -13,6 +13,7 @@ mod firsts;
 mod keys;
 mod listed;
 mod named;
+mod options;
 mod publication;
 mod schema;
 mod starts;
@@ -30,6 +31,7 @@ pub use firsts::{
     item_named, limit_where, owned, paired, place_named, where_true,
 };
 pub use named::{HasName, Named, item_at};
+pub use options::Options;
 pub use publication::{Article, Publication};
 pub use schema::Schema;
 pub use subscription::Subscription;

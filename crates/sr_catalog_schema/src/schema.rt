@@ -8,6 +8,7 @@ ghost use Rattle.sr_catalog_schema.specs.Rules.{is_of};
 ghost use Rattle.sr_catalog_schema.specs.Inner.Singles.{IsSingle};
 
 use crate::named::Named;
+use crate::options::Options;
 use crate::publication::Publication;
 use crate::subscription::Subscription;
 use crate::subscriptions::Subscriptions;
@@ -19,8 +20,8 @@ use sr_base::{Copied, Name, NoMemory};
 use std::alloc::Global;
 use std::marker::Model;
 
-/// What a database knows beside its rows: its publisher, users, tables, publications, triggers and subscriptions. Contracts see
-/// the publisher and the lists, each in order of creation.
+/// What a database knows beside its rows: its publisher, users, tables, publications, triggers, subscriptions and options. Contracts
+/// see the publisher, the lists, each in order of creation, and the options.
 #[derive(Drop)]
 pub struct Schema {
     pub(crate) publisher: Name,
@@ -29,6 +30,7 @@ pub struct Schema {
     pub(crate) publications: Named<Publication>,
     pub(crate) triggers: Named<Trigger>,
     pub(crate) subscriptions: Subscriptions,
+    pub(crate) options: Options,
 }
 
 impl Model for Schema {
@@ -48,6 +50,7 @@ impl Model for Schema {
       publications = c.publications;
       triggers = c.triggers;
       subscriptions = c.subscriptions;
+      options = c.options;
     } };
 }
 
@@ -63,6 +66,7 @@ impl Schema {
             publications: Named::new(alloc),
             triggers: Named::new(alloc),
             subscriptions: Subscriptions::new(alloc),
+            options: Options { verifies: false },
         }
     }
 
@@ -128,6 +132,13 @@ impl Schema {
         ensures subscriptions { result.now ≡ self.now.subscriptions }
     {
         self.subscriptions.as_slice()
+    }
+
+    /// The options.
+    pub fn options(&self) -> Options
+        ensures options { result ≡ self.now.options }
+    {
+        self.options
     }
 
     /// The publication of this name. It takes constant time.
@@ -221,6 +232,7 @@ impl Copied for Schema {
             publications: self.publications.copy(alloc)?,
             triggers: self.triggers.copy(alloc)?,
             subscriptions: self.subscriptions.copy(alloc)?,
+            options: self.options,
         })
     }
 }

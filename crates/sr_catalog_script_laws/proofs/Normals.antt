@@ -31,6 +31,7 @@ use Rattle.sr_catalog_schema.proofs.Places.{find-place, find-no_place, found_as_
 use Rattle.sr_catalog_schema.specs.Catalogs.{Lists}
 use Rattle.sr_catalog_schema.specs.Members.{column_name, column_names, key_names, table_name}
 use Rattle.sr_catalog_schema.specs.Names.{taken, place_of}
+use Rattle.sr_catalog_schema.specs.declared.options.Options.{Options}
 use Rattle.sr_catalog_schema.specs.declared.publication.Publication.{Publication}
 use Rattle.sr_catalog_schema.specs.declared.subscription.Subscription.{Subscription}
 use Rattle.sr_catalog_schema.specs.declared.table.Column.{Column}
@@ -204,6 +205,9 @@ with_subscriptions : (c : Lists) (subscriptions : List Subscription) → EachNor
 with_subscriptions c subscriptions each all =
     record { users = each.users; tables = each.tables; publications = each.publications; triggers = each.triggers; subscriptions = all }
 
+with_options : (c : Lists) (options : Options) → EachNormal c → EachNormal (record c { options = options })
+with_options c options each = record { users = each.users; tables = each.tables; publications = each.publications; triggers = each.triggers; subscriptions = each.subscriptions }
+
 -- a mark changes no statement
 marks_normal : (c : Lists) → EachNormal c → (ss : List Subscription) → map subscription_rule ss ≡ map subscription_rule c.subscriptions
     → AllByRecursion (λ s. IsNormalSubscription (subscription_rule s)) ss
@@ -231,4 +235,5 @@ next_normal c (stmt.StopSubscription r) each normal h =
 next_normal c (stmt.DropSubscription r) each normal h = with_subscriptions c _ each (AllByRecursion-filter _ _ c.subscriptions each.subscriptions)
 next_normal c (stmt.CreateTrigger g) each normal h = with_triggers c _ each (AllByRecursion-append _ c.triggers (trigger_of g) each.triggers normal)
 next_normal c (stmt.DropTrigger n) each normal h = with_triggers c _ each (AllByRecursion-filter _ _ c.triggers each.triggers)
+next_normal c (stmt.SetOption o) each normal h = with_options c _ each
 next_normal c _ each normal h = each

@@ -15,6 +15,7 @@ use Rattle.sr_catalog_schema.specs.Catalogs.{Lists, nothing_but}
 use Rattle.sr_catalog_change.specs.Changes.{refusal, next, publication_names, drop_table_causes}
 use Rattle.sr_catalog_schema.specs.Names.{named, without}
 use Rattle.sr_catalog_schema.specs.Members.{publication_name, table_name, trigger_name}
+use Rattle.sr_catalog_ddl.specs.Options.{options_set}
 use Rattle.sr_catalog_ddl.specs.Publications.{publication_of, drop_publication_causes}
 use Rattle.sr_catalog_script_laws.specs.Inner.Scripts.{subscription_rule, unless_refused, replayed, IsMade}
 use Rattle.sr_catalog_ddl.specs.Subscriptions.{is_of, marked, articles_of, subscription_of, twice_subscribed, start_causes}
@@ -27,6 +28,7 @@ use Rattle.sr_catalog_schema.specs.declared.table.Table.{Table}
 use Rattle.sr_catalog_schema.specs.declared.publication.Publication.{Publication}
 use Rattle.sr_catalog_schema.specs.declared.publication.Article.{Article}
 use Rattle.sr_catalog_schema.specs.declared.subscription.Subscription.{Subscription}
+use Rattle.sr_catalog_schema.specs.declared.options.Options.{Options}
 use Rattle.sr_catalog_script_laws.proofs.ReplayCauses.{NoCause, no_cause_of, where_true-None, option_map-None}
 use Rattle.sr_catalog_script_laws.proofs.ReplayLists.{InOrder-append, InOrder-filter, AllByRecursion-append, AllByRecursion-step, AllByRecursion-both, AllByRecursion-filter, AllByRecursion-map, AllByRecursion-unmap, none_passes, list_any-filter, length-filter-le, room_stays, HasRoom-filter, find_more, taken_more, named-without}
 use Rattle.sr_catalog_script_laws.proofs.ReplayPublications.{publication_made, articles_there, publication_with_table, publication_without_table}
@@ -297,6 +299,22 @@ drop_subscription c r stands =
     (subst (λ (rs : List SubscriptionRule). each_subscription c.users c.tables c.publications rs) rules (AllByRecursion-filter _ (stays r) (map subscription_rule c.subscriptions) stands.each_subscription))
     (NoTwo-fewer c.publications (λ s. not (is_of r s)) c.subscriptions stands.starts)
 
+-- ---- options
+
+with_options : (c : Lists) (options : Options) → Stands c → Stands (record c { options = options })
+with_options c options stands = record {
+  users = stands.users;
+  tables = stands.tables;
+  each_table = stands.each_table;
+  publications = stands.publications;
+  each_publication = stands.each_publication;
+  triggers = stands.triggers;
+  each_trigger = stands.each_trigger;
+  subscriptions = stands.subscriptions;
+  each_subscription = stands.each_subscription;
+  starts = stands.starts;
+}
+
 -- ---- each statement
 
 pub stands_next : (c : Lists) (s : Stmt) → Stands c → refusal c s ≡ None → Stands (next c s)
@@ -313,6 +331,7 @@ stands_next c (stmt.StopSubscription r) stands h = stop_subscription c r stands
 stands_next c (stmt.DropSubscription r) stands h = drop_subscription c r stands
 stands_next c (stmt.CreateTrigger g) stands h = create_trigger c g stands h
 stands_next c (stmt.DropTrigger n) stands h = drop_trigger c n stands
+stands_next c (stmt.SetOption o) stands h = with_options c (options_set o c.options) stands
 stands_next c _ stands h = stands
 
 pub publisher_next : (c : Lists) (s : Stmt) → (next c s).publisher ≡ c.publisher

@@ -8,10 +8,11 @@ use Rattle.std.proofs.lemmas.Option.{same_Some}
 use Rattle.sr_ast.specs.declared.create.SubscriptionRule.{SubscriptionRule}
 use Rattle.sr_ast.specs.declared.stmt.Stmt.{Stmt}
 use Rattle.sr_ast.specs.declared.stmt.Stmt.TheVariants as stmt
-use Rattle.sr_catalog_schema.specs.Catalogs.{Lists, nothing_but}
+use Rattle.sr_catalog_schema.specs.Catalogs.{Lists, nothing_but, unset}
 use Rattle.sr_catalog_schema.specs.Causes.{first_fault}
 use Rattle.sr_catalog_change.specs.Changes.{refusal, next}
-use Rattle.sr_catalog_script_laws.specs.Inner.Scripts.{grant_of, create_table_of, create_publication_of, trigger_stmt, create_subscription_of, start_of, subscription_rule, statements, unless_refused, replayed}
+use Rattle.sr_catalog_script_laws.specs.Inner.Scripts.{grant_of, create_table_of, create_publication_of, trigger_stmt, create_subscription_of, start_of, subscription_rule, verifies_rule, statements, unless_refused, replayed}
+use Rattle.sr_catalog_ddl.specs.Options.{set_option_causes}
 use Rattle.sr_catalog_ddl.specs.Subscriptions.{is_of, is_there, twice_subscribed, start_causes, marked, subscription_of}
 use Rattle.sr_catalog_schema.specs.declared.fault.DdlFault.{DdlFault}
 use Rattle.sr_catalog_schema.specs.declared.user.User.{User}
@@ -66,13 +67,17 @@ abbrev with_publications : Lists → List Publication → Lists
 with_publications c publications = record (nothing_but c.publisher) { users = c.users; tables = c.tables; publications = publications }
 
 abbrev with_triggers : Lists → List Trigger → Lists
-with_triggers c triggers = record c { triggers = triggers; subscriptions = [] }
+with_triggers c triggers = record c { triggers = triggers; subscriptions = []; options = unset }
 
 abbrev with_subscriptions : Lists → List Subscription → Lists
-with_subscriptions c subscriptions = record c { subscriptions = subscriptions }
+with_subscriptions c subscriptions = record c { subscriptions = subscriptions; options = unset }
 
 abbrev with_rules : Lists → List SubscriptionRule → Lists
-with_rules c rules = record c { subscriptions = map subscription_of rules }
+with_rules c rules = record c { subscriptions = map subscription_of rules; options = unset }
+
+-- all but the options
+abbrev without_options : Lists → Lists
+without_options c = record c { options = unset }
 
 replay_users : (c : Lists) → Stands c → replayed (nothing_but c.publisher) (map grant_of c.users) ≡ Some (with_users c c.users)
 replay_users c stands =
@@ -177,8 +182,8 @@ started_or_not : (c : Lists) (b : Bool) (s : Subscription) (before rest : List S
     → InOrder IsOneMore (map subscription_rule before) (map subscription_rule (s ∷ rest))
     → SubscriptionStands c.users c.tables c.publications (subscription_rule s)
     → (s.started ≡ true → IsFree c.publications (subscription_rule s) c.subscriptions)
-    → replayed (with_subscriptions c ((before ++ s ∷ []) ++ map stopped rest)) (map start_of (filter (λ t. t.started) rest)) ≡ Some c
-    → replayed (with_subscriptions c (before ++ map stopped (s ∷ rest))) (map start_of (cond b (s ∷ filter (λ t. t.started) rest) (filter (λ t. t.started) rest))) ≡ Some c
+    → replayed (with_subscriptions c ((before ++ s ∷ []) ++ map stopped rest)) (map start_of (filter (λ t. t.started) rest)) ≡ Some (without_options c)
+    → replayed (with_subscriptions c (before ++ map stopped (s ∷ rest))) (map start_of (cond b (s ∷ filter (λ t. t.started) rest) (filter (λ t. t.started) rest))) ≡ Some (without_options c)
 unfolding start_of next
 started_or_not c true s before rest started are (first, others) stands alone goes_on =
     let r = subscription_rule s in
@@ -204,7 +209,7 @@ replay_starts_behind : (c : Lists) (before rest : List Subscription) → c.subsc
     → InOrder IsOneMore (map subscription_rule before) (map subscription_rule rest)
     → AllByRecursion (SubscriptionStands c.users c.tables c.publications) (map subscription_rule rest)
     → AllByRecursion (λ s. s.started ≡ true → IsFree c.publications (subscription_rule s) c.subscriptions) rest
-    → replayed (with_subscriptions c (before ++ map stopped rest)) (map start_of (filter (λ s. s.started) rest)) ≡ Some c
+    → replayed (with_subscriptions c (before ++ map stopped rest)) (map start_of (filter (λ s. s.started) rest)) ≡ Some (without_options c)
 replay_starts_behind c before [] are order each alone = ap (λ (ss : List Subscription). Some (with_subscriptions c ss)) (sym are)
 replay_starts_behind c before (s ∷ rest) are (first, others) (one, each) (apart, alone) =
     started_or_not c s.started s before rest refl are (first, others) one apart
@@ -215,10 +220,26 @@ all_stopped : (ss : List Subscription) → map subscription_of (map subscription
 all_stopped [] = refl
 all_stopped (s ∷ ss) = ap (λ (rest : List Subscription). stopped s ∷ rest) (all_stopped ss)
 
-replay_starts : (c : Lists) → Stands c → replayed (with_rules c (map subscription_rule c.subscriptions)) (map start_of (filter (λ s. s.started) c.subscriptions)) ≡ Some c
+replay_starts : (c : Lists) → Stands c → replayed (with_rules c (map subscription_rule c.subscriptions)) (map start_of (filter (λ s. s.started) c.subscriptions)) ≡ Some (without_options c)
 replay_starts c stands =
     ap (λ (ss : List Subscription). replayed (with_subscriptions c ss) (map start_of (filter (λ s. s.started) c.subscriptions))) (all_stopped c.subscriptions)
     ∙ replay_starts_behind c [] c.subscriptions refl stands.subscriptions stands.each_subscription stands.starts
+
+-- ---- the options
+
+verifies_accepted : (c : Lists) → refusal c (stmt.SetOption verifies_rule) ≡ None
+unfolding refusal first_fault set_option_causes
+verifies_accepted c = refl
+
+abbrev with_verifies : Lists → Bool → Lists
+with_verifies c verifies = record c { options = record { verifies = verifies } }
+
+replay_options : (c : Lists) (verifies : Bool) → c.options.verifies ≡ verifies → replayed (without_options c) (cond verifies (stmt.SetOption verifies_rule ∷ []) []) ≡ Some c
+unfolding next
+replay_options c true e =
+    replayed-cons (without_options c) (with_verifies c true) (stmt.SetOption verifies_rule) [] (verifies_accepted (without_options c)) refl
+    ∙ ap (λ (b : Bool). Some (with_verifies c b)) (sym e)
+replay_options c false e = ap (λ (b : Bool). Some (with_verifies c b)) (sym e)
 
 -- ---- all of them
 
@@ -230,4 +251,5 @@ made_again c stands =
     ∙ (replayed-append (with_tables c c.tables) (with_publications c c.publications) (map create_publication_of c.publications) _ (replay_publications c stands)
     ∙ (replayed-append (with_publications c c.publications) (with_triggers c c.triggers) (map trigger_stmt c.triggers) _ (replay_triggers c stands)
     ∙ (replayed-append (with_triggers c c.triggers) (with_rules c (map subscription_rule c.subscriptions)) (map create_subscription_of c.subscriptions) _ (replay_rules c stands)
-    ∙ replay_starts c stands))))
+    ∙ (replayed-append (with_rules c (map subscription_rule c.subscriptions)) (without_options c) (map start_of (filter (λ s. s.started) c.subscriptions)) _ (replay_starts c stands)
+    ∙ replay_options c c.options.verifies refl)))))

@@ -1,16 +1,22 @@
 -- Catalogs that accepted statements in normal form have made: the statements of their scripts are in normal form.
-use Rattle.std.proofs.Common.{◌≡◌, ℕ, true, false, cond, List, [], ◌∷◌, ◌++◌, filter, map, Option, Some, None, refl, sym, subst}
+use Rattle.std.proofs.Common.{◌≡◌, ℕ, Bool, true, false, codes, cond, List, [], ◌∷◌, ◌++◌, filter, map, Option, Some, None, refl, sym, subst}
 use Rattle.std.specs.List.{AllByRecursion}
+use lib.Utf8.{encode}
+use Rattle.sr_ast.specs.Keywords.{named, IsKeyword}
+use Rattle.sr_ast.specs.declared.keyword.Keyword.{Keyword}
+use Rattle.sr_ast.specs.declared.keyword.Keyword.TheVariants as key
 use Rattle.sr_ast.specs.declared.stmt.Stmt.{Stmt}
 use Rattle.sr_ast.specs.declared.stmt.Stmt.TheVariants as stmt
+use Rattle.sr_catalog_ddl.specs.Options.{verify_all_columns}
 use Rattle.sr_catalog_change.specs.Changes.{refusal, next}
-use Rattle.sr_ast.specs.NormalForms.{IsNormal, IsNormalGrant, IsNormalPublication, IsNormalSubscription, IsNormalTable}
-use Rattle.sr_catalog_script_laws.specs.Inner.Scripts.{create_publication_of, create_subscription_of, create_table_of, grant_of, grant_rule, replayed, start_of, statements, subscription_rule, trigger_stmt, unless_refused, IsSpelled}
+use Rattle.sr_ast.specs.NormalForms.{IsNormal, IsNormalGrant, IsNormalOption, IsNormalPublication, IsNormalSubscription, IsNormalTable}
+use Rattle.sr_catalog_script_laws.specs.Inner.Scripts.{create_publication_of, create_subscription_of, create_table_of, grant_of, grant_rule, replayed, set_options_of, start_of, statements, subscription_rule, trigger_stmt, unless_refused, verifies_rule, IsSpelled}
 use Rattle.sr_catalog_script_laws.proofs.Made.{again, makes_next}
 use Rattle.sr_catalog_script_laws.proofs.ReplayLists.{AllByRecursion-append, AllByRecursion-filter, AllByRecursion-map, AllByRecursion-step}
 use Rattle.sr_catalog_script_laws.proofs.Standing.{publication_rule, table_rule}
 use Rattle.sr_catalog_schema.specs.Catalogs.{Lists, nothing_but}
 use Rattle.sr_catalog_schema.specs.declared.fault.DdlFault.{DdlFault}
+use Rattle.sr_catalog_schema.specs.declared.options.Options.{Options}
 use Rattle.sr_catalog_schema.specs.declared.publication.Publication.{Publication}
 use Rattle.sr_catalog_schema.specs.declared.subscription.Subscription.{Subscription}
 use Rattle.sr_catalog_schema.specs.declared.table.Table.{Table}
@@ -63,6 +69,20 @@ start_normal : (s : Subscription) → IsNormalSubscription (subscription_rule s)
 unfolding start_of
 start_normal s normal = normal
 
+option_free : (k : Keyword) → IsKeyword verify_all_columns k → named k ≡ Some verify_all_columns
+option_free key.Create e = absurd cc
+option_free _ e = absurd cc
+
+verifies_normal : IsNormalOption verifies_rule
+unfolding encode
+verifies_normal = (record { written = refl; free = option_free }, ((codes "On", (refl, refl)), refl))
+
+options_normal : (o : Options) → AllByRecursion IsNormal (set_options_of o)
+options_normal o = elim o.verifies as (λ (b : Bool). AllByRecursion IsNormal (cond b (stmt.SetOption verifies_rule ∷ []) [])) [
+  | true ↦ (verifies_normal, tt)
+  | false ↦ tt
+]
+
 pub script_normal : (c : Lists) → IsSpelled c → AllByRecursion IsNormal (statements c)
 script_normal c spelled =
     let each = each_of c spelled in
@@ -74,7 +94,9 @@ script_normal c spelled =
     (joined IsNormal (map trigger_stmt c.triggers) _ (AllByRecursion-map IsNormal trigger_stmt c.triggers each.triggers)
     (joined IsNormal (map create_subscription_of c.subscriptions) _
     (AllByRecursion-map IsNormal create_subscription_of c.subscriptions (AllByRecursion-step _ _ subscription_normal c.subscriptions each.subscriptions))
-    (AllByRecursion-map IsNormal start_of (filter (λ s. s.started) c.subscriptions) (AllByRecursion-step _ _ start_normal (filter (λ s. s.started) c.subscriptions) started))))))
+    (joined IsNormal (map start_of (filter (λ s. s.started) c.subscriptions)) _
+    (AllByRecursion-map IsNormal start_of (filter (λ s. s.started) c.subscriptions) (AllByRecursion-step _ _ start_normal (filter (λ s. s.started) c.subscriptions) started))
+    (options_normal c.options))))))
 
 -- they make it again
 pub script_again : (c : Lists) → IsSpelled c → replayed (nothing_but c.publisher) (statements c) ≡ Some c

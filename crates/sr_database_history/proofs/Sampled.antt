@@ -24,7 +24,7 @@ use Rattle.sr_catalog_ddl.specs.Tables.{table_of, create_table_causes, column_of
 use Rattle.sr_catalog_ddl.specs.Users.{user_of, grant_causes}
 use Rattle.sr_catalog_script_laws.specs.Inner.Scripts.{user_at}
 use Rattle.sr_catalog_schema.specs.Causes.{first_fault}
-use Rattle.sr_catalog_schema.specs.Catalogs.{Lists}
+use Rattle.sr_catalog_schema.specs.Catalogs.{Lists, unset}
 use Rattle.sr_catalog_schema.specs.Members.{table_name}
 use Rattle.sr_catalog_schema.specs.declared.table.Table.{Table}
 use Rattle.sr_catalog_schema.specs.declared.user.User.{User}
@@ -267,7 +267,7 @@ abbrev the_user : User
 the_user = user_at r1 false r1
 
 abbrev catalog_with : List User → List Table → Lists
-catalog_with users tables = record { publisher = cons; users = users; tables = tables; publications = []; triggers = []; subscriptions = [] }
+catalog_with users tables = record { publisher = cons; users = users; tables = tables; publications = []; triggers = []; subscriptions = []; options = unset }
 
 abbrev place : ℕ → Place
 place k = (table_t, Int (pos k) ∷ [])

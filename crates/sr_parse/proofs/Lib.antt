@@ -10,6 +10,7 @@ pub mod Keying
 pub mod Keyings
 pub mod Kinded
 pub mod Normals
+pub mod Optioning
 pub mod Pieces
 pub mod Prints
 pub mod Ruling

@@ -101,7 +101,8 @@ fn given_value(reader: &mut Reader) -> Result<Option<Value>, Broken>
     Ok(Some(value))
 }
 
-fn signed_literal(reader: &mut Reader) -> Result<Value, Broken>
+/// A literal, or a negative number.
+pub fn signed_literal(reader: &mut Reader) -> Result<Value, Broken>
     ensures reads { Reading IsSigned Anywhere reader.old reader.new result }
     ensures shorter { length reader.new ≤ length reader.old }
 {

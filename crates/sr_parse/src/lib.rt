@@ -10,6 +10,7 @@
 mod acting;
 mod creating;
 mod normal;
+mod options;
 mod parsing;
 mod printed;
 

@@ -16,6 +16,7 @@ ghost use Rattle.sr_parse_grammar.specs.Inner.Forms.{form_at, past};
 use crate::creating::{
     consolidated, create_publication, create_table, create_trigger, granted, subscription,
 };
+use crate::options::option_rule;
 use sr_ast::{Dml, Form, Keyword, Script, Stmt};
 use sr_base::{Seq, Text};
 use sr_lex::LexFault;
@@ -139,6 +140,7 @@ fn rest(reader: &mut Reader, form: Form) -> Result<Stmt, Broken>
         Form::DropSubscription => Ok(Stmt::DropSubscription(subscription(reader)?)),
         Form::CreateTrigger => Ok(Stmt::CreateTrigger(create_trigger(reader)?)),
         Form::DropTrigger => Ok(Stmt::DropTrigger(reader.name()?)),
+        Form::SetOption => Ok(Stmt::SetOption(option_rule(reader)?)),
         Form::Insert => Ok(Stmt::Dml(Dml::Insert(insert(reader)?))),
         Form::Update => Ok(Stmt::Dml(Dml::Update(update(reader)?))),
         Form::Delete => Ok(Stmt::Dml(Dml::Delete(delete(reader)?))),

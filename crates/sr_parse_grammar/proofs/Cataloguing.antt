@@ -106,7 +106,7 @@ literal_no_minus before here after next v e (inl l) o =
     let m : literal_meant (symbol.Sign mark.Minus) ≡ Some v = subst (λ (s : Symbol). literal_meant s ≡ Some v) f l.means in cc
 literal_no_minus before here after next v e (inr l) o = let d = l.date in cc
 
-signed_once : (before here : Symbols) (x : Value) (after : Symbols) (y : Value) (rest : Symbols) → before ≡ here → IsSigned before x after → IsSigned here y rest → (x ≡ y) × (after ≡ rest)
+pub signed_once : (before here : Symbols) (x : Value) (after : Symbols) (y : Value) (rest : Symbols) → before ≡ here → IsSigned before x after → IsSigned here y rest → (x ≡ y) × (after ≡ rest)
 signed_once before here x after y rest e (inl h) (inl k) = literal_once before x after y rest h (subst (λ (s : Symbols). IsLiteral s y rest) (sym e) k)
 signed_once before here x after y rest e (inl h) (inr (next, m, k)) = absurd (literal_no_minus before here after next x e h m)
 signed_once before here x after y rest e (inr (next, m, h)) (inl k) = absurd (literal_no_minus here before rest next y (sym e) k m)

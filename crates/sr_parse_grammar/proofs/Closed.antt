@@ -25,6 +25,7 @@ use Rattle.sr_parse_grammar.proofs.Sound.{AreSound, Gives, past, moved, name_giv
 use Rattle.sr_parse_grammar.proofs.Settled.{past_two, column_gives, expr_gives, row_of_gives, insert_gives, update_gives, delete_gives, select_gives}
 use Rattle.sr_parse_grammar.proofs.Ended.{kind_gives, table_gives, publication_gives, subscription_gives, passthrough_gives, past_work}
 use Rattle.sr_parse_grammar.proofs.Granted.{grant_proper}
+use Rattle.sr_parse_grammar.proofs.Optioned.{option_proper}
 use Rattle.sr_parse_grammar.proofs.Stated.{printed-is_written}
 
 -- ---- actions
@@ -144,6 +145,7 @@ statement_gives before after s (forms.Synchronize, (next, w, (c, e, x))) h = as_
 statement_gives before after s (forms.DropSubscription, (next, w, (c, e, x))) h = as_normal e (subscription_gives next after c x (past w h).1)
 statement_gives before after s (forms.CreateTrigger, (next, w, (c, e, x))) h = as_normal e (trigger_gives next after c x (past_two w h))
 statement_gives before after s (forms.DropTrigger, (next, w, (c, e, x))) h = as_normal e (name_gives next after c x (past_two w h))
+statement_gives before after s (forms.SetOption, (next, w, (c, e, x))) h = as_normal e (option_proper.gives next after c x (past w h).1)
 statement_gives before after s (forms.Insert, (next, w, (c, e, x))) h = as_normal e (insert_gives next after c x (past w h).1)
 statement_gives before after s (forms.Update, (next, w, (c, e, x))) h = as_normal e (update_gives next after c x (past w h).1)
 statement_gives before after s (forms.Delete, (next, w, (c, e, x))) h = as_normal e (delete_gives next after c x (past w h).1)

@@ -13,6 +13,7 @@ pub mod Listed
 pub mod Lists
 pub mod Meaning
 pub mod Naming
+pub mod Optioned
 pub mod Parts
 pub mod Rowed
 pub mod Saying

@@ -25,6 +25,7 @@ use Rattle.sr_parse_grammar.proofs.Rowed.{ahead, insert_spelt, update_spelt, del
 use Rattle.sr_parse_grammar.proofs.Cataloged.{table_spelt, publication_spelt, subscription_spelt}
 use Rattle.sr_parse_grammar.proofs.Granted.{grant_spelt}
 use Rattle.sr_parse_grammar.proofs.Triggered.{trigger_spelt}
+use Rattle.sr_parse_grammar.proofs.Optioned.{option_spelt}
 
 only_spelt : (o : Bool) → Spelt IsOnly o (words_if o (codes "ONLY"))
 only_spelt true ps after h = (key_symbol key.Only ∷ after, phrase_says (codes "ONLY") key.Only [] refl h, refl)
@@ -68,6 +69,7 @@ statement_spelt (stmt.CreateTrigger c) p ps after h = let t = trigger_spelt c p 
 statement_spelt (stmt.DropTrigger n) p ps after h =
     let x = name_spelt n p ps after h in
     (key_symbol key.Drop ∷ key_symbol key.Trigger ∷ x.0, phrase_says (codes "DROP TRIGGER") key.Drop (key.Trigger ∷ []) refl x.1, (forms.DropTrigger, (x.0, refl, (n, refl, x.2))))
+statement_spelt (stmt.SetOption o) p ps after h = let t = option_spelt o p ps after h in (t.0, t.1, (forms.SetOption, (t.2.0, t.2.1, (o, refl, t.2.2))))
 statement_spelt (stmt.Dml d) p ps after h = dml_spelt d p ps after h
 statement_spelt (stmt.Select s) p ps after h = let t = select_spelt s p ps after h in (t.0, t.1, (forms.Select, (t.2.0, t.2.1, (s, refl, t.2.2))))
 statement_spelt stmt.Commit p ps after h = (key_symbol key.Commit ∷ after, phrase_says (codes "COMMIT") key.Commit [] refl h, (forms.Commit, (after, refl, (tt, refl, inl refl))))

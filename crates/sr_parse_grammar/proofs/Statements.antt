@@ -25,6 +25,7 @@ use Rattle.sr_parse_grammar.proofs.Selecting.{insert_once, update_once, delete_o
 use Rattle.sr_parse_grammar.proofs.Cataloguing.{publication_once, grant_once, subscription_once}
 use Rattle.sr_parse_grammar.proofs.Columns.{table_once}
 use Rattle.sr_parse_grammar.proofs.Triggering.{trigger_once}
+use Rattle.sr_parse_grammar.proofs.Optioned.{option_proper}
 
 abbrev pub is_work : Symbol → Bool
 is_work (symbol.Keyword key.Work) = true
@@ -70,6 +71,7 @@ rest_once forms.Synchronize b s a t r (x, d, h) (y, e, k) p q = made_once stmt.S
 rest_once forms.DropSubscription b s a t r (x, d, h) (y, e, k) p q = made_once stmt.DropSubscription d e (subscription_once refl h k)
 rest_once forms.CreateTrigger b s a t r (x, d, h) (y, e, k) p q = made_once stmt.CreateTrigger d e (trigger_once refl h k)
 rest_once forms.DropTrigger b s a t r (x, d, h) (y, e, k) p q = made_once stmt.DropTrigger d e (IsName-once refl h k)
+rest_once forms.SetOption b s a t r (x, d, h) (y, e, k) p q = made_once stmt.SetOption d e (option_proper.once b x a y r h k tt tt)
 rest_once forms.Insert b s a t r (x, d, h) (y, e, k) p q = made_once (λ i. stmt.Dml (dml.Insert i)) d e (insert_once refl h k p q)
 rest_once forms.Update b s a t r (x, d, h) (y, e, k) p q = made_once (λ u. stmt.Dml (dml.Update u)) d e (update_once refl h k p q)
 rest_once forms.Delete b s a t r (x, d, h) (y, e, k) p q = made_once (λ o. stmt.Dml (dml.Delete o)) d e (delete_once refl h k p q)

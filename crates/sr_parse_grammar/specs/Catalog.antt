@@ -1,4 +1,4 @@
--- Statements on tables, publications, users and subscriptions, as they are written.
+-- Statements on tables, publications, users, subscriptions and options, as they are written.
 use Rattle.std.specs.Prelude.{◌≡◌, ℕ, ◌≤◌, pos, List, ◌∷◌, Option, Some, None, ◌⊎◌}
 use Rattle.sr_base.specs.declared.value.Value.{Value}
 use Rattle.sr_base.specs.declared.value.Kind.{Kind}
@@ -8,6 +8,8 @@ use Rattle.sr_ast.specs.declared.create.CreatePublication.{CreatePublication}
 use Rattle.sr_ast.specs.declared.create.ArticleRule.{ArticleRule}
 use Rattle.sr_ast.specs.declared.create.Grant.{Grant}
 use Rattle.sr_ast.specs.declared.create.SubscriptionRule.{SubscriptionRule}
+use Rattle.sr_ast.specs.declared.options.OptionRule.{OptionRule}
+use Rattle.sr_ast.specs.Options.{settled}
 use Rattle.sr_ast.specs.declared.keyword.Keyword.TheVariants as key
 use Rattle.sr_parse_grammar.specs.declared.symbol.Sign.TheVariants as mark
 use Rattle.sr_parse_grammar.specs.declared.symbol.Symbol.TheVariants as symbol
@@ -16,7 +18,7 @@ use Rattle.sr_parse_grammar.specs.Listing.{Listed, IsNames}
 use Rattle.sr_parse_grammar.specs.Literals.{IsLiteral, IsNegative}
 use Rattle.sr_parse_grammar.specs.Expressions.{IsExpr}
 use Rattle.sr_parse_grammar.specs.Writing.{IsCondition, IsLed}
-use Rattle.sr_parse_grammar.specs.Parts.{IsBehind, Of, Seq}
+use Rattle.sr_parse_grammar.specs.Parts.{IsBehind, IsBehindSign, Of, Seq}
 
 -- the number of a VARCHAR: from 1 to 32767
 pub record IsLength (before : Symbols) (n : ℕ) (after : Symbols) : Type 0 where
@@ -94,3 +96,11 @@ pub record IsSubscription (before : Symbols) (s : SubscriptionRule) (after : Sym
   pub value : IsGiven given s.value for
   pub behind : IsWord for key.For user_
   pub user : IsName user_ s.user after
+
+-- a literal or a negative number, as an option keeps it
+abbrev pub IsKeptValue : Production Value
+IsKeptValue before v after = (written : Value) × IsSigned before written after × (v ≡ settled written)
+
+-- OPTION n = literal
+abbrev pub IsOptionRule : Production OptionRule
+IsOptionRule = Of (λ o. (o.name, o.value)) (IsBehind key.Option (Seq IsName (IsBehindSign mark.Equal IsKeptValue)))

@@ -13,7 +13,7 @@ pub use Rattle.sr_parse_grammar.specs.Parts.{IsBehind}
 use Rattle.sr_parse_grammar.specs.Forms.{words, led}
 use Rattle.sr_parse_grammar.specs.Listing.{Listed}
 use Rattle.sr_parse_grammar.specs.Writing.{IsInsert, IsUpdate, IsDelete, IsSelect}
-use Rattle.sr_parse_grammar.specs.Catalog.{IsPublication, IsGrant, IsSubscription}
+use Rattle.sr_parse_grammar.specs.Catalog.{IsPublication, IsGrant, IsSubscription, IsOptionRule}
 use Rattle.sr_parse_grammar.specs.Tables.{IsTable}
 use Rattle.sr_parse_grammar.specs.Triggers.{IsTrigger}
 
@@ -53,6 +53,7 @@ IsRest form.Synchronize = Made stmt.Synchronize IsSubscription
 IsRest form.DropSubscription = Made stmt.DropSubscription IsSubscription
 IsRest form.CreateTrigger = Made stmt.CreateTrigger IsTrigger
 IsRest form.DropTrigger = Made stmt.DropTrigger IsName
+IsRest form.SetOption = Made stmt.SetOption IsOptionRule
 IsRest form.Insert = Made (λ i. stmt.Dml (dml.Insert i)) IsInsert
 IsRest form.Update = Made (λ u. stmt.Dml (dml.Update u)) IsUpdate
 IsRest form.Delete = Made (λ d. stmt.Dml (dml.Delete d)) IsDelete

@@ -36,6 +36,7 @@ fn form_behind(word: Keyword, next: Option<Keyword>) -> Option<Form>
         Keyword::Start => Some(Form::StartSubscription),
         Keyword::Stop => Some(Form::StopSubscription),
         Keyword::Synchronize => Some(Form::Synchronize),
+        Keyword::Set => Some(Form::SetOption),
         Keyword::Insert => Some(Form::Insert),
         Keyword::Update => Some(Form::Update),
         Keyword::Delete => Some(Form::Delete),

@@ -1,20 +1,21 @@
--- What a user has of a table: the article, and the values of his subscriptions.
+-- What a user has of a table: the article, the values of his subscriptions, and whether he verifies.
 use Rattle.std.specs.Prelude.{ℕ, Bool, ◌&&◌, cond, List, filter_map, find, Option, Some, None, option_map, bytes_eq}
 use Rattle.sr_base.specs.declared.value.Value.{Value as Cell}
 use Rattle.sr_ast.specs.declared.expr.Expr.{Expr}
 use Rattle.sr_catalog_ddl.specs.Subscriptions.{articles_of}
+use Rattle.sr_catalog_ddl.specs.Users.{stands_above}
 use Rattle.sr_exec_dml.specs.Statements.{table_named}
 use Rattle.sr_catalog_schema.specs.Catalogs.{Lists}
 use Rattle.sr_catalog_schema.specs.Firsts.{first_among}
-use Rattle.sr_catalog_schema.specs.Members.{column_name, publication_name}
+use Rattle.sr_catalog_schema.specs.Members.{column_name, publication_name, user_name}
 use Rattle.sr_catalog_schema.specs.Names.{named, place_of}
 use Rattle.sr_catalog_schema.specs.declared.publication.Article.{Article}
 use Rattle.sr_catalog_schema.specs.declared.subscription.Subscription.{Subscription}
 use Rattle.sr_catalog_schema.specs.declared.table.Column.{Column}
 use Rattle.sr_catalog_schema.specs.declared.table.Table.{Table}
 
--- the table, the article's columns and their places in the table, its WHERE and its SUBSCRIBE BY, and the values of the user's started
--- subscriptions to the article's publication
+-- the table, the article's columns and their places in the table, its WHERE and its SUBSCRIBE BY, the values of the user's started
+-- subscriptions to the article's publication, and whether an update lists all columns for him to verify
 pub record SubscribedTable : Type 0 where
   pub table : Table
   pub columns : List Column
@@ -22,6 +23,7 @@ pub record SubscribedTable : Type 0 where
   pub condition : Option Expr
   pub by : Option Expr
   pub values : List Cell
+  pub verifies : Bool
 
 -- a started subscription of the user
 abbrev pub is_live : List ℕ → Subscription → Bool
@@ -44,6 +46,10 @@ source_of c user table = first_among (source_in c user table) c.subscriptions
 abbrev pub value_in : List ℕ → List ℕ → Subscription → Option Cell
 value_in user publication s = cond (is_live user s && bytes_eq publication s.publication) s.value None
 
+-- whether a user verifies the old values of all columns: he is above, and the option is On
+abbrev pub verifies : Lists → List ℕ → Bool
+verifies c user = c.options.verifies && stands_above (named user_name user c.users)
+
 -- the subscribed table of a table by an article, which its publication comes with
 abbrev pub subscribed_table_by : Lists → List ℕ → Table → List ℕ × Article → SubscribedTable
 subscribed_table_by c user t source = record {
@@ -53,6 +59,7 @@ subscribed_table_by c user t source = record {
   condition = source.1.condition;
   by = source.1.by;
   values = filter_map (value_in user source.0) c.subscriptions;
+  verifies = verifies c user;
 }
 
 abbrev pub subscribed_table_in : Lists → List ℕ → Option Table → Option (List ℕ × Article) → Option SubscribedTable

@@ -5,7 +5,7 @@ ghost use Rattle.std.specs.Option.{option_copied};
 ghost use Rattle.sr_ast.specs.Exprs.{term_of};
 ghost use Rattle.sr_eval.specs.Meanings.{found_at};
 ghost use Rattle.sr_exec_fits.specs.Rows.{IsRow, is_row};
-ghost use Rattle.sr_publish.specs.SubscribedTables.{subscribed_table_of, subscribed_table_by};
+ghost use Rattle.sr_publish.specs.SubscribedTables.{subscribed_table_of, subscribed_table_by, verifies};
 ghost use Rattle.sr_publish.specs.Views.{meets, by_value, goes_to, is_in, shown_in};
 ghost use Rattle.sr_catalog_schema.specs.Members.{column_name, scope_of};
 ghost use Rattle.sr_catalog_schema.specs.Names.{named, place_of};
@@ -16,14 +16,15 @@ use crate::values::values_at;
 use sr_ast::{Expr, Scope, is_meant};
 use sr_base::{Copied, Name, NoMemory, Row, Seq, Value};
 use sr_catalog::Catalog;
+use sr_catalog_ddl::stands_above;
 use sr_catalog_schema::{Article, Column, Table, scope_of};
 use sr_eval::{Bound, holds_plain};
 use sr_exec_fits::is_row;
 use std::alloc::Global;
 use std::marker::Model;
 
-/// What a user has of a table: the article of the publication that he subscribes to, and the values of his subscriptions. Contracts
-/// see it as a subscribed table.
+/// What a user has of a table: the article of the publication that he subscribes to, the values of his subscriptions, and whether he
+/// verifies. Contracts see it as a subscribed table.
 ///
 /// It is made for a catalog, and serves as long as that stays. What it tells of a row costs by the row, and not by the subscriptions.
 #[derive(Drop)]
@@ -34,6 +35,7 @@ pub struct TableView {
     condition: Option<Expr>,
     by: Option<Expr>,
     values: Subscribed,
+    verifies: bool,
     scope: Scope,
 }
 
@@ -53,6 +55,7 @@ impl Model for TableView {
       condition = v.condition;
       by = v.by;
       values = v.values;
+      verifies = v.verifies;
     } };
 
     ghost use Rattle.std.specs.Prelude.{◌≡◌};
@@ -96,6 +99,7 @@ impl TableView {
     ) -> Result<TableView, NoMemory>
         ensures subscribed_table { IfOk result (λ view. view ≡ subscribed_table_by catalog.now user.now table.now (publication.now, article.now)) }
     {
+        let verifies = verifies(catalog, user);
         let values = Subscribed::of(alloc, user, publication, catalog.subscriptions())?;
         match parts_of(alloc, table, article) {
             Ok(((table, scope), (columns, places), (condition, by))) => Ok(TableView {
@@ -105,6 +109,7 @@ impl TableView {
                 condition,
                 by,
                 values,
+                verifies,
                 scope,
             }),
             Err(lack) => {
@@ -133,6 +138,13 @@ impl TableView {
         ensures places { result.now ≡ self.now.places }
     {
         self.places.as_slice()
+    }
+
+    /// Whether an update of a row is told with the old value of every column outside the key, so that he verifies them all.
+    pub fn verifies(&self) -> bool
+        ensures verifies { result ≡ self.now.verifies }
+    {
+        self.verifies
     }
 
     /// Whether a row of the table is one of those that the user has: it fits the table, WHERE is true, and one of his subscriptions has
@@ -198,6 +210,13 @@ impl TableView {
             Expr::Unary(_, _) | Expr::Binary(_, _, _) => None,
         }
     }
+}
+
+/// Whether a user verifies the old values of all columns: he is above, and the option is On.
+fn verifies(catalog: &Catalog, user: &Name) -> bool
+    ensures verifies { result ≡ verifies catalog.now user.now }
+{
+    catalog.verifies() && stands_above(catalog.user(user))
 }
 
 type Parts = (

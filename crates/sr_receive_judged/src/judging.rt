@@ -16,7 +16,8 @@ ghost use Rattle.sr_logform.specs.Inner.Ops.{IsShortTransaction};
 ghost use Rattle.sr_logform.specs.Outcomes.{IsShortChange, IsShortOutcome};
 ghost use Rattle.sr_logform.specs.declared.entry.Entry.TheVariants.{From};
 ghost use Rattle.sr_resolve.specs.Judging.{IsJudged};
-ghost use Rattle.sr_resolve.specs.Taking.{is_above, place_of};
+ghost use Rattle.sr_catalog_ddl.specs.Users.{stands_above};
+ghost use Rattle.sr_resolve.specs.Taking.{is_above};
 ghost use Rattle.sr_catalog_schema.specs.Members.{user_name};
 ghost use Rattle.sr_catalog_schema.specs.Names.{named};
 ghost use Rattle.sr_receive_judged.specs.Judged.{AreJudgedAs, IsEntryOf};
@@ -35,7 +36,7 @@ use std::alloc::{AllocError, Global};
 
 /// Whether what a user sends comes from above.
 pub(crate) fn is_above(catalog: &Catalog, user: &Name) -> bool
-    ensures above { result ≡ place_of (named user_name user.now catalog.now.users) }
+    ensures above { result ≡ stands_above (named user_name user.now catalog.now.users) }
 {
     match catalog.user(user) {
         Some(partner) => partner.above,

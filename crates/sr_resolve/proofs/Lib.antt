@@ -1,3 +1,4 @@
+pub mod AllSet
 pub mod Once
 pub mod Cases
 pub mod Differing

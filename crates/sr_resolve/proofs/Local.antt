@@ -171,7 +171,7 @@ remove_leaves s name named t own fits key =
 
 module _ (s : State) (name : Name) (named : Values) (updates : Updates) (t : Table) (own : table_named s.catalog t.name
     ≡ Some t) (fits : TableFits t s.rows) (key place : List Cell)
-    (news : List (Option Cell)) (targets : list_any (is_no_target t) updates ≡ false) (news_are : new_values updates t.columns ≡ Some news) where
+    (news : List (Option Cell)) (targets : list_any (is_no_target t) updates ≡ false) (news_are : new_values true updates t.columns ≡ Some news) where
   abbrev S : Op
   S = op.Set name named updates
 
@@ -199,7 +199,7 @@ module _ (s : State) (name : Name) (named : Values) (updates : Updates) (t : Tab
     row_leaves true e = same_left (is_eq (key_cmp key place)) refl e
     row_leaves false e =
         one_change s t own (Some stored) (Some new) place key e (λ x h. let is : stored ≡ x = cc in ap (key_of t.key) (sym is) ∙ (fits place stored held).1)
-        (λ x h. let is : new ≡ x = cc in ap (key_of t.key) (sym is) ∙ key_stays t updates news stored targets news_are ∙ (fits place stored held).1)
+        (λ x h. let is : new ≡ x = cc in ap (key_of t.key) (sym is) ∙ key_stays true t updates news stored targets news_are ∙ (fits place stored held).1)
         ∙ new_left (is_eq (key_cmp key place)) refl
 
   update_leaves : (o : Row) → rows_of_table s.rows t.name place ≡ o
@@ -221,7 +221,7 @@ set_leaves s name named updates t own fits key =
     at_if to here clashes (not (names_key t named)) NoColumn _ _ (λ names.
     at_if to here clashes (list_any (is_no_target t) updates) NoColumn _ _ (λ targets.
     at_unless to here clashes (fitted_key t named) BadValue _ _ (λ place fitted.
-    at_unless to here clashes (new_values updates t.columns) BadValue _ _ (λ news news_are.
+    at_unless to here clashes (new_values true updates t.columns) BadValue _ _ (λ news news_are.
     at_if to here clashes (list_any is_null place) Null _ _ (λ nulls.
     at_if to here clashes (sets_null t.columns news) Null _ _ (λ none.
     update_leaves s name named updates t own fits key place news targets news_are (rows_of_table s.rows t.name place) refl))))))
@@ -329,7 +329,7 @@ module _ (s : State) (t : Table) (own : table_named s.catalog t.name ≡ Some t)
       of_if P clashes (not (names_key t named)) NoColumn _ (λ names.
       of_if P clashes (list_any (is_no_target t) updates) NoColumn _ (λ targets.
       of_unless P clashes (fitted_key t named) BadValue _ (λ place fitted.
-      of_unless P clashes (new_values updates t.columns) BadValue _ (λ news news_are.
+      of_unless P clashes (new_values true updates t.columns) BadValue _ (λ news news_are.
       of_if P clashes (list_any is_null place) Null _ (λ nulls.
       of_if P clashes (sets_null t.columns news) Null _ (λ none.
       of_unless P clashes (rows_of_table s.rows t.name place) NoRow _ (λ stored held.

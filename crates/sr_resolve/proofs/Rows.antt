@@ -21,50 +21,53 @@ use Rattle.sr_catalog_schema.specs.Members.{column_name, key_names, has_column, 
 use Rattle.sr_catalog_schema.specs.Names.{named}
 use Rattle.sr_catalog_schema.specs.declared.table.Column.{Column}
 use Rattle.sr_catalog_schema.specs.declared.table.Table.{Table}
-use Rattle.sr_resolve.specs.Named.{Values, Updates, fitted_at, filled, filled_row, has_null, is_no_target, update_of, new_value, new_values, is_new_null, sets_null, with_news, old_value, old_row}
+use Rattle.sr_resolve.specs.Named.{Values, Updates, fitted_at, filled, filled_row, has_null, is_no_target, update_of, is_column_set, new_value, new_values, is_new_null, sets_null, with_news, old_value, old_row}
 use Rattle.sr_resolve.specs.Inner.Named.{CanTake}
 
 -- ---- new values
 
 -- a new value that is there fits its column
-new_fits : (c : Column) (o : Option (Name × Cell × Cell)) (w : Cell) → new_value c o ≡ Some (Some w) → fitted w c.kind ≡ Some w
-new_fits c None w h = cc
-new_fits c (Some u) w h =
-    let found = map_some (λ v. Some v) (fitted u.2 c.kind) (Some w) h in
-    let is : found.0 ≡ w = cc in
-    fitted_again u.2 c.kind w (found.1 ∙ ap (λ v. Some v) is)
+new_fits : (above : Bool) (c : Column) (o : Option (Name × Cell × Cell)) (w : Cell) → new_value above c o ≡ Some (Some w) → fitted w c.kind ≡ Some w
+new_fits above c None w h = cc
+new_fits above c (Some u) w h = go (is_column_set above u) h where
+  go : (b : Bool) → cond b (option_map (λ v. Some v) (fitted u.2 c.kind)) (Some None) ≡ Some (Some w) → fitted w c.kind ≡ Some w
+  go true h =
+      let found = map_some (λ v. Some v) (fitted u.2 c.kind) (Some w) h in
+      let is : found.0 ≡ w = cc in
+      fitted_again u.2 c.kind w (found.1 ∙ ap (λ v. Some v) is)
+  go false h = cc
 
 -- one column
-one_new : (c : Column) (o : Option (Name × Cell × Cell)) (v : Cell) (new : Option Cell)
-    → (fitted v c.kind ≡ Some v) × IsTrue (not (c.not_null && is_null v)) → new_value c o ≡ Some new
+one_new : (above : Bool) (c : Column) (o : Option (Name × Cell × Cell)) (v : Cell) (new : Option Cell)
+    → (fitted v c.kind ≡ Some v) × IsTrue (not (c.not_null && is_null v)) → new_value above c o ≡ Some new
     → (c.not_null && is_new_null new) ≡ false
     → (fitted (unwrap_or new v) c.kind ≡ Some (unwrap_or new v)) × IsTrue (not (c.not_null && is_null (unwrap_or new v)))
-one_new c o v None fits h n = fits
-one_new c o v (Some w) fits h n = (new_fits c o w h, ap not n)
+one_new above c o v None fits h n = fits
+one_new above c o v (Some w) fits h n = (new_fits above c o w h, ap not n)
 
-pub news_fit : (updates : Updates) (columns : List Column) (row : List Cell) (news : List (Option Cell)) → IsRow columns row
-    → new_values updates columns ≡ Some news
+pub news_fit : (above : Bool) (updates : Updates) (columns : List Column) (row : List Cell) (news : List (Option Cell)) → IsRow columns row
+    → new_values above updates columns ≡ Some news
     → sets_null columns news ≡ false → IsRow columns (with_news news row)
-news_fit updates [] [] news fits h n = refl
-news_fit updates [] (v ∷ row) news fits h n = cc
-news_fit updates (c ∷ columns) [] news fits h n = cc
-news_fit updates (c ∷ columns) (v ∷ row) [] fits h n =
-    let found = in_front_some (new_value c (update_of updates c)) (new_values updates columns) [] h in
+news_fit above updates [] [] news fits h n = refl
+news_fit above updates [] (v ∷ row) news fits h n = cc
+news_fit above updates (c ∷ columns) [] news fits h n = cc
+news_fit above updates (c ∷ columns) (v ∷ row) [] fits h n =
+    let found = in_front_some (new_value above c (update_of updates c)) (new_values above updates columns) [] h in
     let gone = found.4 in
     cc
-news_fit updates (c ∷ columns) (v ∷ row) (new ∷ news) fits h n =
-    let found = in_front_some (new_value c (update_of updates c)) (new_values updates columns) (new ∷ news) h in
+news_fit above updates (c ∷ columns) (v ∷ row) (new ∷ news) fits h n =
+    let found = in_front_some (new_value above c (update_of updates c)) (new_values above updates columns) (new ∷ news) h in
     let same = found.4 in
     let head : found.0 ≡ new = cc in
     let tail : found.1 ≡ news = cc in
     let split = or_fails (c.not_null && is_new_null new) (sets_null columns news) n in
     let parts = row_parts c columns v row fits in
-    let one = one_new c (update_of updates c) v new (parts.0, parts.1) (found.2 ∙ ap (λ x. Some x) head) split.0 in
-    row_made c columns (unwrap_or new v) (with_news news row) one.0 one.1 (news_fit updates columns row news parts.2 (found.3 ∙ ap (λ xs. Some xs) tail) split.1)
+    let one = one_new above c (update_of updates c) v new (parts.0, parts.1) (found.2 ∙ ap (λ x. Some x) head) split.0 in
+    row_made c columns (unwrap_or new v) (with_news news row) one.0 one.1 (news_fit above updates columns row news parts.2 (found.3 ∙ ap (λ xs. Some xs) tail) split.1)
 
 pub taken_fit : (columns : List Column) (updates : Updates) (stored : List Cell) (news : List (Option Cell)) → CanTake columns updates stored news
     → IsRow columns (with_news news stored)
-taken_fit columns updates stored news t = news_fit updates columns stored news t.stored_fits t.fit t.nulls
+taken_fit columns updates stored news t = news_fit t.above updates columns stored news t.stored_fits t.fit t.nulls
 
 -- ---- old values
 
@@ -145,28 +148,28 @@ no_news [] = refl
 no_news (v ∷ row) = ap (λ xs. v ∷ xs) (no_news row)
 
 -- at the place of a column that is not updated the value stays
-value_stays : (updates : Updates) (columns : List Column) (news : List (Option Cell)) (row : List Cell) (p : ℕ) → new_values updates columns ≡ Some news
+value_stays : (above : Bool) (updates : Updates) (columns : List Column) (news : List (Option Cell)) (row : List Cell) (p : ℕ) → new_values above updates columns ≡ Some news
     → ((c : Column) → slice_get columns p ≡ Some c → update_of updates c ≡ None) → slice_get (with_news news row) p ≡ slice_get row p
-value_stays updates [] news row p h none =
+value_stays above updates [] news row p h none =
     let is : [] ≡ news = cc in
     ap (λ xs. slice_get xs p) (ap (λ ns. with_news ns row) (sym is) ∙ no_news row)
-value_stays updates (c ∷ columns) news [] p h none = refl
-value_stays updates (c ∷ columns) [] (v ∷ row) p h none =
-    let found = in_front_some (new_value c (update_of updates c)) (new_values updates columns) [] h in
+value_stays above updates (c ∷ columns) news [] p h none = refl
+value_stays above updates (c ∷ columns) [] (v ∷ row) p h none =
+    let found = in_front_some (new_value above c (update_of updates c)) (new_values above updates columns) [] h in
     let gone = found.4 in
     cc
-value_stays updates (c ∷ columns) (new ∷ news) (v ∷ row) zero h none =
-    let found = in_front_some (new_value c (update_of updates c)) (new_values updates columns) (new ∷ news) h in
+value_stays above updates (c ∷ columns) (new ∷ news) (v ∷ row) zero h none =
+    let found = in_front_some (new_value above c (update_of updates c)) (new_values above updates columns) (new ∷ news) h in
     let same = found.4 in
     let head : found.0 ≡ new = cc in
-    let is : Some None ≡ Some new = ap (new_value c) (sym (none c refl)) ∙ found.2 ∙ ap (λ x. Some x) head in
+    let is : Some None ≡ Some new = ap (new_value above c) (sym (none c refl)) ∙ found.2 ∙ ap (λ x. Some x) head in
     let no_new : None ≡ new = cc in
     ap (λ (o : Option Cell). Some (unwrap_or o v)) (sym no_new)
-value_stays updates (c ∷ columns) (new ∷ news) (v ∷ row) (suc p) h none =
-    let found = in_front_some (new_value c (update_of updates c)) (new_values updates columns) (new ∷ news) h in
+value_stays above updates (c ∷ columns) (new ∷ news) (v ∷ row) (suc p) h none =
+    let found = in_front_some (new_value above c (update_of updates c)) (new_values above updates columns) (new ∷ news) h in
     let same = found.4 in
     let tail : found.1 ≡ news = cc in
-    value_stays updates columns news row p (found.3 ∙ ap (λ xs. Some xs) tail) none
+    value_stays above updates columns news row p (found.3 ∙ ap (λ xs. Some xs) tail) none
 
 -- the columns at some places are named
 abbrev NamesAll : Table → List ℕ → List (List ℕ) → Type 0
@@ -196,15 +199,15 @@ names_there table (p ∷ places) = go (slice_get table.columns p) refl (names_th
     one_more_name table places d.name (filter_map (λ i. option_map column_name (slice_get table.columns i)) places) rest,
   )
 
-key_stays_at : (table : Table) (updates : Updates) (news : List (Option Cell)) (row : List Cell) (places : List ℕ)
+key_stays_at : (above : Bool) (table : Table) (updates : Updates) (news : List (Option Cell)) (row : List Cell) (places : List ℕ)
     → list_any (is_no_target table) updates ≡ false
-    → new_values updates table.columns ≡ Some news → NamesAll table places (key_names table) → key_of places (with_news news row) ≡ key_of places row
-key_stays_at table updates news row [] targets h names = refl
-key_stays_at table updates news row (p ∷ places) targets h names =
-    let head = value_stays updates table.columns news row p h (λ c is. not_named table updates c.name targets (names.0 c is)) in
-    let rest = key_stays_at table updates news row places targets h names.1 in
+    → new_values above updates table.columns ≡ Some news → NamesAll table places (key_names table) → key_of places (with_news news row) ≡ key_of places row
+key_stays_at above table updates news row [] targets h names = refl
+key_stays_at above table updates news row (p ∷ places) targets h names =
+    let head = value_stays above updates table.columns news row p h (λ c is. not_named table updates c.name targets (names.0 c is)) in
+    let rest = key_stays_at above table updates news row places targets h names.1 in
     λ i. unwrap_or (head i) Null ∷ rest i
 
-pub key_stays : (table : Table) (updates : Updates) (news : List (Option Cell)) (row : List Cell) → list_any (is_no_target table) updates ≡ false
-    → new_values updates table.columns ≡ Some news → key_of table.key (with_news news row) ≡ key_of table.key row
-key_stays table updates news row targets h = key_stays_at table updates news row table.key targets h (names_there table table.key)
+pub key_stays : (above : Bool) (table : Table) (updates : Updates) (news : List (Option Cell)) (row : List Cell) → list_any (is_no_target table) updates ≡ false
+    → new_values above updates table.columns ≡ Some news → key_of table.key (with_news news row) ≡ key_of table.key row
+key_stays above table updates news row targets h = key_stays_at above table updates news row table.key targets h (names_there table table.key)

@@ -250,12 +250,12 @@ set_sound s above name key updates =
     of_if P clashes (not (names_key t key)) NoColumn _ (λ names.
     of_if P clashes (list_any (is_no_target t) updates) NoColumn _ (λ targets.
     of_unless P clashes (fitted_key t key) BadValue _ (λ place fitted.
-    of_unless P clashes (new_values updates t.columns) BadValue _ (λ news news_are.
+    of_unless P clashes (new_values above updates t.columns) BadValue _ (λ news news_are.
     of_if P clashes (list_any is_null place) Null _ (λ nulls.
     of_if P clashes (sets_null t.columns news) Null _ (λ none.
     of_unless P clashes (rows_of_table s.rows t.name place) NoRow _ (λ stored held.
-    update_sound s name key updates t named place stored (with_news news stored) held (λ fits. news_fit updates t.columns stored news fits news_are none)
-    (key_stays t updates news stored targets news_are) (key_meant t key place names fitted) above))))))))
+    update_sound s name key updates t named place stored (with_news news stored) held (λ fits. news_fit above updates t.columns stored news fits news_are none)
+    (key_stays above t updates news stored targets news_are) (key_meant t key place names fitted) above))))))))
 
 -- ---- Clear
 

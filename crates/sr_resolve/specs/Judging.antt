@@ -119,7 +119,7 @@ updated_at catalog rows above updates table place news =
 -- with new values that may not fit
 abbrev pub set_at : Lists → RowMap → Bool → Updates → Table → List Cell → Outcome
 set_at catalog rows above updates table place =
-    clash_unless (new_values updates table.columns) BadValue (updated_at catalog rows above updates table place)
+    clash_unless (new_values above updates table.columns) BadValue (updated_at catalog rows above updates table place)
 
 unfoldable pub judged_set : Lists → RowMap → Bool → Values → Updates → Table → Outcome
 judged_set catalog rows above key updates table =

@@ -77,15 +77,19 @@ is_no_target table u = not (has_column table u.0) || has (key_names table) u.0
 abbrev pub update_of : Updates → Column → Option (Name × Cell × Cell)
 update_of updates c = named (λ u. u.0) c.name updates
 
--- the new value of a column, fitted: none where the column is not named, nothing where the value does not fit
-abbrev pub new_value : Column → Option (Name × Cell × Cell) → Option (Option Cell)
-new_value c None = Some None
-new_value c (Some u) = option_map (λ v. Some v) (fitted u.2 c.kind)
+-- whether the update of a column sets it: it came from above, or its old value and its new one differ. One that does not is there to be verified
+abbrev pub is_column_set : Bool → Name × Cell × Cell → Bool
+is_column_set above u = above || not (is_eq (value_cmp u.1 u.2))
+
+-- the new value of a column, fitted: none where the column is not named or not set, nothing where the value does not fit
+abbrev pub new_value : Bool → Column → Option (Name × Cell × Cell) → Option (Option Cell)
+new_value above c None = Some None
+new_value above c (Some u) = cond (is_column_set above u) (option_map (λ v. Some v) (fitted u.2 c.kind)) (Some None)
 
 -- the new values of the columns: nothing where one does not fit
-abbrev pub new_values : Updates → List Column → Option (List (Option Cell))
-new_values updates [] = Some []
-new_values updates (c ∷ columns) = in_front (new_value c (update_of updates c)) (new_values updates columns)
+abbrev pub new_values : Bool → Updates → List Column → Option (List (Option Cell))
+new_values above updates [] = Some []
+new_values above updates (c ∷ columns) = in_front (new_value above c (update_of updates c)) (new_values above updates columns)
 
 -- whether a new value is NULL
 abbrev pub is_new_null : Option Cell → Bool

@@ -1,5 +1,5 @@
 -- The ops of a transaction, judged one after the other, each on the state that the one before has left.
-use Rattle.std.specs.Prelude.{◌≡◌, ⊤, Bool, false, List, [], ◌∷◌, Option, Some, None}
+use Rattle.std.specs.Prelude.{◌≡◌, ⊤, Bool, List, [], ◌∷◌, Option, Some, None}
 use Rattle.sr_ast.specs.declared.stmt.Stmt.{Stmt}
 use Rattle.sr_book.specs.Entries.{Name}
 use Rattle.sr_database_history.specs.Folds.{State, after_done}
@@ -10,7 +10,7 @@ use Rattle.sr_logform.specs.declared.outcome.Outcome.{Outcome}
 use Rattle.sr_logform.specs.declared.outcome.Outcome.TheVariants.{Plain, Conflict, Clash}
 use Rattle.sr_catalog_schema.specs.Members.{user_name}
 use Rattle.sr_catalog_schema.specs.Names.{named}
-use Rattle.sr_catalog_schema.specs.declared.user.User.{User}
+use Rattle.sr_catalog_ddl.specs.Users.{stands_above}
 use Rattle.sr_resolve.specs.Judging.{judged, IsStatementOf}
 
 -- ---- one op
@@ -49,11 +49,6 @@ AreJudged s above (d ∷ dones) = IsDoneJudged s above d × AreJudged (after_don
 
 -- ---- who sent it
 
--- whether a user is above
-abbrev pub place_of : Option User → Bool
-place_of None = false
-place_of (Some u) = u.above
-
 -- whether what a user sends came from above
 abbrev pub is_above : State → Name → Bool
-is_above s user = place_of (named user_name user s.catalog.users)
+is_above s user = stands_above (named user_name user s.catalog.users)

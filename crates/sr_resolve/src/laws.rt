@@ -1,6 +1,6 @@
 //! What judging keeps. Each function does nothing: it carries a law as its clauses.
 
-ghost use Rattle.std.specs.Prelude.{◌≡◌, ◌↔◌, Bool, true, List, [], ◌∷◌, ◌++◌, Option, None, map};
+ghost use Rattle.std.specs.Prelude.{◌≡◌, ◌↔◌, Bool, true, false, List, [], ◌∷◌, ◌++◌, Option, None, map};
 ghost use Rattle.std.specs.List.{AllByRecursion};
 ghost use Rattle.sr_base.specs.declared.offset.Offset.{Offset as Place};
 ghost use Rattle.sr_base.specs.declared.value.Value.{Value as Cell};
@@ -13,11 +13,13 @@ ghost use Rattle.sr_database_history.specs.Recorded.{Done, taken, done_of, IsLaw
 ghost use Rattle.sr_logform.specs.declared.op.Op.{Op as AnOp};
 ghost use Rattle.sr_logform.specs.declared.outcome.Outcome.{Outcome as AnOutcome};
 ghost use Rattle.sr_resolve.specs.Judging.{judged, IsStatementOf, IsJudged};
-ghost use Rattle.sr_resolve.specs.Inner.Laws.{ChangesDiffer, AreAlikeAt};
+ghost use Rattle.sr_resolve.specs.Inner.Laws.{ChangesDiffer, AreAlikeAt, IsOfTwoValues};
+ghost use Rattle.sr_resolve.specs.Named.{Updates, new_values};
 ghost use Rattle.sr_resolve.specs.Taking.{op_of, done_by, done_judged, IsDoneJudged, AreJudged, is_above};
 ghost use Rattle.sr_resolve.specs.Inner.Taking.{Asked, IsAsked, judged_all, after_judged};
 ghost use Rattle.sr_rows.specs.Marks.{RowMap, rows_of_table};
 ghost use Rattle.sr_catalog_schema.specs.Catalogs.{Lists};
+ghost use Rattle.sr_catalog_schema.specs.declared.table.Column.{Column as AColumn};
 
 /// An op has one outcome, in every state and whoever sent it, and carries one statement at most.
 pub fn judging_has_one_answer()
@@ -74,4 +76,11 @@ pub fn judging_from_above_is_local()
     ensures alike { (s q : State) (o : AnOp) (table : Name) (key : List Cell) → RowsFit s.catalog s.rows → RowsFit q.catalog q.rows → IsNoExec o
         → AreAlikeAt s q table key
         → rows_of_table (after_done (done_judged s true o None) s).rows table key ≡ rows_of_table (after_done (done_judged q true o None) q).rows table key }
+{}
+
+/// Where the two values of each update differ, as they do in what is given to one who does not verify, all columns are set, from below as from
+/// above.
+pub fn what_differs_is_set()
+    ensures set { (updates : Updates) (columns : List AColumn) → AllByRecursion IsOfTwoValues updates
+        → new_values false updates columns ≡ new_values true updates columns }
 {}

@@ -20,5 +20,5 @@ mod updates;
 pub use judging::{Judgement, judge, judge_op};
 pub use laws::{
     judged_outcomes_fit, judging_from_above_is_local, judging_has_one_answer,
-    stored_outcomes_agree, transactions_fit,
+    stored_outcomes_agree, transactions_fit, what_differs_is_set,
 };

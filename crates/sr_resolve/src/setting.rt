@@ -79,7 +79,7 @@ fn set_at(
     requires rows { TableFits table.now rows.now.rows }
     ensures set { IfOk result (λ o. o ≡ set_at catalog.now rows.now.rows above updates.now table.now place.now) }
 {
-    match new_values(alloc, updates, table.columns.as_slice())? {
+    match new_values(alloc, above, updates, table.columns.as_slice())? {
         None => Ok(Outcome::Clash(Clash::BadValue)),
         Some(news) => update_at(
             alloc,
@@ -106,7 +106,7 @@ fn update_at(
     news: &[Option<Value>],
 ) -> Result<Outcome, NoMemory>
     requires rows { TableFits table.now rows.now.rows }
-    requires fit { new_values updates.now table.now.columns ≡ Some news.now }
+    requires fit { new_values above updates.now table.now.columns ≡ Some news.now }
     ensures updated { IfOk result (λ o. o ≡ updated_at catalog.now rows.now.rows above updates.now table.now place.now news.now) }
 {
     if has_any_null(place.values()) {

@@ -4,7 +4,7 @@ ghost use Rattle.std.specs.Prelude.{◌≡◌, ◌++◌, ◌∷◌, cond, unwrap
 ghost use Rattle.std.specs.List.{list_any};
 ghost use Rattle.std.specs.Option.{option_copied};
 ghost use Rattle.sr_base.specs.declared.value.Value.{Value as Cell};
-ghost use Rattle.sr_resolve.specs.Named.{is_no_target, update_of, new_value, new_values, is_new_null, sets_null};
+ghost use Rattle.sr_resolve.specs.Named.{is_no_target, update_of, is_column_set, new_value, new_values, is_new_null, sets_null};
 ghost use Rattle.sr_resolve.specs.Named.{with_news, is_value, differs, differing, old_value, old_row};
 
 use sr_base::{Copied, Name, NoMemory, Row, Seq, Value};
@@ -45,18 +45,19 @@ fn update_of<'a>(
     None
 }
 
-/// The new value of each column, fitted, where one is named. None where one does not fit. Each column looks through the updates.
+/// The new value of each column, fitted, where one is named and set. None where one does not fit. Each column looks through the updates.
 pub(crate) fn new_values(
     alloc: Global,
+    above: bool,
     updates: &[(Name, Value, Value)],
     columns: &[Column],
 ) -> Result<Option<Seq<Option<Value>>>, NoMemory>
-    ensures news { IfOk result (λ news. news ≡ new_values updates.now columns.now) }
+    ensures news { IfOk result (λ news. news ≡ new_values above updates.now columns.now) }
 {
     let mut news = Vec::new(alloc);
     let mut left = columns;
     'columns: while let Some((column, rest)) = left.split_first() {
-        let Some(new) = new_value(alloc, column, update_of(updates, column))? else {
+        let Some(new) = new_value(alloc, above, column, update_of(updates, column))? else {
             return Ok(None);
         };
         news.push(new)?;
@@ -65,21 +66,32 @@ pub(crate) fn new_values(
     Ok(Some(Seq::from_vec(news)))
 }
 
-/// The new value of a column, fitted, if it is named. None where it does not fit.
+/// The new value of a column, fitted, if it is named and set. None where it does not fit.
 fn new_value(
     alloc: Global,
+    above: bool,
     column: &Column,
     update: Option<&(Name, Value, Value)>,
 ) -> Result<Option<Option<Value>>, NoMemory>
-    ensures new { IfOk result (λ v. v ≡ new_value column.now (option_copied update.entry)) }
+    ensures new { IfOk result (λ v. v ≡ new_value above column.now (option_copied update.entry)) }
 {
     let Some(update) = update else {
         return Ok(Some(None));
     };
+    if !is_column_set(above, update) {
+        return Ok(Some(None));
+    }
     match fitted(update.2.copy(alloc)?, column.kind) {
         None => Ok(None),
         Some(held) => Ok(Some(Some(held))),
     }
+}
+
+/// Whether the update of a column sets it: it came from above, or its old value and its new one differ.
+fn is_column_set(above: bool, update: &(Name, Value, Value)) -> bool
+    ensures { result ≡ is_column_set above update.now }
+{
+    above || !update.1.cmp(&update.2).is_eq()
 }
 
 /// Whether a column that is NOT NULL gets NULL.

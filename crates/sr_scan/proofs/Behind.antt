@@ -50,6 +50,7 @@ kept c (stmt.StopSubscription r) e = cc
 kept c (stmt.DropSubscription r) e = cc
 kept c (stmt.CreateTrigger g) e = cc
 kept c (stmt.DropTrigger name) e = cc
+kept c (stmt.SetOption o) e = cc
 kept c _ e = refl
 
 pub rows_only : (c : Lists) (x : Stmt) → is_ddl x ≡ false → c ≡ catalog_behind c (Some x)

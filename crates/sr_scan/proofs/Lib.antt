@@ -14,3 +14,4 @@ pub mod Spelling
 pub mod Strict
 pub mod Taking
 pub mod Telling
+pub mod TwoValues

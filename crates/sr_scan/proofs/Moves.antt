@@ -21,7 +21,7 @@ use Rattle.sr_catalog_schema.specs.Catalogs.{Lists}
 use Rattle.sr_catalog_schema.specs.declared.publication.Article.{Article}
 use Rattle.sr_catalog_schema.specs.declared.table.Column.{Column}
 use Rattle.sr_catalog_schema.specs.declared.table.Table.{Table}
-use Rattle.sr_scan.specs.Ops.{differing, update_of, told_of, key_of_rows, key_changed}
+use Rattle.sr_scan.specs.Ops.{differing, listed_in, update_of, told_of, key_of_rows, key_changed}
 use Rattle.sr_scan.specs.Given.{view_in, change_given, changes_given}
 use Rattle.sr_scan.specs.Inner.Images.{fits_if, images_told, change_told, changes_told}
 use Rattle.sr_scan.proofs.Applying.{before_fits, after_fits, holds_after}
@@ -48,7 +48,7 @@ differs_not (c ∷ columns) (v ∷ row) =
 
 told_nothing : (s : SubscribedTable) (key : List Cell) (o : Option (List Cell)) → told_of s key o o ≡ []
 told_nothing s key None = refl
-told_nothing s key (Some row) = ap (update_of s.table key) (differs_not s.columns row)
+told_nothing s key (Some row) = ap (λ updates. update_of s.table key (listed_in s row row updates)) (differs_not s.columns row)
 
 -- a row that is there and fits passes the test
 pub fits_there : (t : Table) (o : Option (List Cell)) → ((row : List Cell) → o ≡ Some row → IsRow t.columns row) → fits_if t o ≡ true

@@ -7,9 +7,10 @@ use Rattle.sr_base.specs.Order.{value_cmp}
 use Rattle.sr_base.specs.declared.value.Value.{Value as Cell}
 use Rattle.sr_logform.specs.Rules.{is_present, AreDistinct}
 use Rattle.sr_catalog_schema.specs.Firsts.{has}
-use Rattle.sr_catalog_schema.specs.Members.{column_name}
+use Rattle.sr_catalog_schema.specs.Members.{column_name, key_names}
 use Rattle.sr_catalog_schema.specs.declared.table.Column.{Column}
-use Rattle.sr_scan.specs.Ops.{present_columns, differing, outside_key}
+use Rattle.sr_publish.specs.SubscribedTables.{SubscribedTable}
+use Rattle.sr_scan.specs.Ops.{present_columns, differing, outside_key, listed_in, columns_told}
 
 -- some of the names, in their order
 abbrev pub Part : List (List ℕ) → List (List ℕ) → Type 0
@@ -71,6 +72,15 @@ outside_part key (c ∷ columns) (v ∷ before) (w ∷ after) = go (has key c.na
       → Part (map (λ u. u.0) (cond b (outside_key key columns before after) ((c.name, v, w) ∷ outside_key key columns before after))) (map column_name (c ∷ columns))
   go true rest = skip (map (λ u. u.0) (outside_key key columns before after)) (map column_name columns) c.name rest
   go false rest = keep (map (λ u. u.0) (outside_key key columns before after)) (map column_name columns) c.name rest
+
+pub told_part : (s : SubscribedTable) (before after : List Cell) → Part (map (λ u. u.0) (columns_told s before after)) (map column_name s.columns)
+told_part s before after = of (differing s.columns before after) (differing_part s.columns before after) where
+  of : (updates : List (List ℕ × Cell × Cell)) → Part (map (λ u. u.0) updates) (map column_name s.columns) → Part (map (λ u. u.0) (listed_in s before after updates)) (map column_name s.columns)
+  of [] rest = tt
+  of (u ∷ updates) rest = elim s.verifies as (λ (b : Bool). Part (map (λ x. x.0) (cond b (outside_key (key_names s.table) s.columns before after) (u ∷ updates))) (map column_name s.columns)) [
+    | true ↦ outside_part (key_names s.table) s.columns before after
+    | false ↦ rest
+  ]
 
 pub zip_part : (names : List (List ℕ)) (row : List Cell) → Part (map (λ p. p.0) (zip names row)) names
 zip_part [] row = tt

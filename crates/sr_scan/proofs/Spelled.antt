@@ -26,8 +26,8 @@ use Rattle.sr_catalog_schema.specs.Members.{column_name, column_names, has_colum
 use Rattle.sr_catalog_schema.specs.declared.table.Column.{Column}
 use Rattle.sr_catalog_schema.specs.declared.table.Table.{Table}
 use Rattle.sr_scan.specs.Inner.Images.{images_told}
-use Rattle.sr_scan.specs.Ops.{key_columns, present_columns, differing, outside_key, update_of, told_of, told_back}
-use Rattle.sr_scan.proofs.Parts.{Part, part_distinct, part_length, present_part, differing_part, outside_part, zip_part}
+use Rattle.sr_scan.specs.Ops.{key_columns, present_columns, differing, outside_key, listed_in, columns_told, update_of, told_of, told_back}
+use Rattle.sr_scan.proofs.Parts.{Part, part_distinct, part_length, present_part, outside_part, told_part, zip_part}
 
 -- ---- values
 
@@ -300,6 +300,17 @@ outside_fit key (c ∷ columns) (v ∷ before) (w ∷ after) ns bs vs = go (has 
   go true rest = rest
   go false rest = ((ns.0, bs.0, vs.0), rest)
 
+told_fit : (s : SubscribedTable) (before after : List Cell) → AllByRecursion (λ c. IsName c.name) s.columns → Values before → Values after
+    → AllByRecursion (λ u. IsName u.0 × IsValue u.1 × IsValue u.2) (columns_told s before after)
+told_fit s before after ns bs vs = of (differing s.columns before after) (differing_fit s.columns before after ns bs vs) where
+  of : (updates : List (List ℕ × Cell × Cell)) → AllByRecursion (λ u. IsName u.0 × IsValue u.1 × IsValue u.2) updates
+      → AllByRecursion (λ u. IsName u.0 × IsValue u.1 × IsValue u.2) (listed_in s before after updates)
+  of [] rest = tt
+  of (u ∷ updates) rest = elim s.verifies as (λ (b : Bool). AllByRecursion (λ x. IsName x.0 × IsValue x.1 × IsValue x.2) (cond b (outside_key (key_names s.table) s.columns before after) (u ∷ updates))) [
+    | true ↦ outside_fit (key_names s.table) s.columns before after ns bs vs
+    | false ↦ rest
+  ]
+
 key_length : (places : List ℕ) (row : List Cell) → length (key_of places row) ≡ length places
 key_length [] row = refl
 key_length (i ∷ places) row = ap suc (key_length places row)
@@ -318,10 +329,10 @@ module _ (s : SubscribedTable) (proper : IsProper s) (named : IsName s.table.nam
   )
 
   updates : (key before after : List Cell) → Values key → length key ≡ length s.table.key → Values before → Values after
-      → AllByRecursion IsOp (update_of s.table key (differing s.columns (shown s before) (shown s after)))
-  updates key before after ks l bs vs = update_fits s.table proper.strict proper.key key (differing s.columns (shown s before) (shown s after)) (map column_name s.columns)
-      named ks l (differing_part s.columns (shown s before) (shown s after)) proper.order.distinct (few_columns s proper)
-      (differing_fit s.columns (shown s before) (shown s after) (names s proper) (values_fit s.places before bs) (values_fit s.places after vs))
+      → AllByRecursion IsOp (update_of s.table key (columns_told s (shown s before) (shown s after)))
+  updates key before after ks l bs vs = update_fits s.table proper.strict proper.key key (columns_told s (shown s before) (shown s after)) (map column_name s.columns)
+      named ks l (told_part s (shown s before) (shown s after)) proper.order.distinct (few_columns s proper)
+      (told_fit s (shown s before) (shown s after) (names s proper) (values_fit s.places before bs) (values_fit s.places after vs))
 
   pub images_fit : (before after : Option (List Cell)) → IfSome before Values → IfSome after Values → AllByRecursion IsOp (images_told s before after)
   images_fit None None b a = tt

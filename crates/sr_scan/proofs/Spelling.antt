@@ -39,7 +39,7 @@ use Rattle.sr_scan.specs.Given.{row_synced, table_synced, gives}
 use Rattle.sr_scan.specs.Inner.Images.{SubscribedTables, fits_if, change_told, changes_told, are_rows_of, row_changed, rows_told, conflict_told, met_told, op_told, catalog_behind, ops_told, told}
 use Rattle.sr_scan.specs.Inner.Laws.{HaveSpellings}
 use Rattle.sr_scan.specs.Inner.Meanings.{meant_done, meant_by}
-use Rattle.sr_scan.specs.Ops.{present_columns, differing, outside_key, update_of, told_of, told_back, key_of_rows}
+use Rattle.sr_scan.specs.Ops.{present_columns, columns_told, outside_key, update_of, told_of, told_back, key_of_rows}
 use Rattle.sr_scan.proofs.Applying.{name_of_table}
 use Rattle.sr_scan.proofs.Agreeing.{done_behind, told_same}
 use Rattle.sr_scan.proofs.Sames.{changes_told-append}
@@ -168,7 +168,7 @@ told_one : (s : SubscribedTable) (key : List Cell) (before after : Option (List 
 told_one s key None None = omega arith
 told_one s key None (Some row) = omega arith
 told_one s key (Some row) None = omega arith
-told_one s key (Some before) (Some after) = update_one s.table key (differing s.columns before after)
+told_one s key (Some before) (Some after) = update_one s.table key (columns_told s before after)
 
 cond_one : (b : Bool) (xs : List Op) (n : ℕ) → length xs ≤ n → length (cond b xs []) ≤ n
 cond_one true xs n h = h

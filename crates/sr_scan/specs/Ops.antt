@@ -43,13 +43,21 @@ abbrev pub update_of : Table → List Cell → List (List ℕ × Cell × Cell) �
 update_of t key [] = []
 update_of t key (u ∷ updates) = Set t.name (key_columns t key) (u ∷ updates) ∷ []
 
+-- the columns that an update lists, which there is where columns differ: those alone, or all outside the key for one who verifies
+abbrev pub listed_in : SubscribedTable → List Cell → List Cell → List (List ℕ × Cell × Cell) → List (List ℕ × Cell × Cell)
+listed_in s before after [] = []
+listed_in s before after (u ∷ updates) = cond s.verifies (outside_key (key_names s.table) s.columns before after) (u ∷ updates)
+
+abbrev pub columns_told : SubscribedTable → List Cell → List Cell → List (List ℕ × Cell × Cell)
+columns_told s before after = listed_in s before after (differing s.columns before after)
+
 -- what tells a partner how his view of the row under a key went on: a row that came into it is an insert, one that left it a delete, also
--- where the row itself was updated; of a row that stays in it the columns that changed
+-- where the row itself was updated; of a row that stays in it, where columns changed, the columns that are listed
 abbrev pub told_of : SubscribedTable → List Cell → Option (List Cell) → Option (List Cell) → List Op
 told_of s key None None = []
 told_of s key None (Some row) = Insert s.table.name (present_columns s.columns row) ∷ []
 told_of s key (Some row) None = Remove s.table.name (key_columns s.table key) ∷ []
-told_of s key (Some before) (Some after) = update_of s.table key (differing s.columns before after)
+told_of s key (Some before) (Some after) = update_of s.table key (columns_told s before after)
 
 -- what tells the origin of an op that met another value how his view of the row under its key is now: that it has none, or all its columns
 -- outside the key, with their values before. `before` is the whole row

@@ -8,13 +8,14 @@ ghost use Rattle.sr_exec_where.specs.Keys.{key_of};
 ghost use Rattle.sr_logform.specs.declared.op.Op.TheVariants.{Insert, Remove};
 ghost use Rattle.sr_publish.specs.Views.{shown};
 ghost use Rattle.sr_scan.specs.Inner.Images.{images_told, change_told, changes_told};
-ghost use Rattle.sr_scan.specs.Ops.{differing, key_columns, present_columns, update_of};
+ghost use Rattle.sr_catalog_schema.specs.Members.{key_names};
+ghost use Rattle.sr_scan.specs.Ops.{columns_told, key_columns, outside_key, present_columns, update_of};
 
-use crate::columns::{differing_at, present_at};
+use crate::columns::{differing_at, outside_key_at, present_at};
 use crate::keys::key_of_row;
 use crate::views::Views;
 use sr_base::{Copied, Name, NoMemory, Row, Seq, Value};
-use sr_catalog_schema::Table;
+use sr_catalog_schema::{Table, key_names};
 use sr_exec_fits::is_row;
 use sr_logform::{Change, Op};
 use sr_publish::TableView;
@@ -117,7 +118,7 @@ pub(crate) fn tell_update(
     }
 }
 
-/// Adds the Set of the columns in which two rows differ, where there are any.
+/// Adds the Set of two rows, where they differ, with the columns that it lists.
 fn tell_differing(
     alloc: Global,
     view: &TableView,
@@ -126,16 +127,50 @@ fn tell_differing(
     ops: &mut Vec<Op>,
 ) -> Result<(), NoMemory>
     ensures told { OnOk result (ops.new.items ≡ ops.old.items ++ update_of view.now.table (key_of view.now.table.key before.now)
-        (differing view.now.columns (shown view.now before.now) (shown view.now after.now))) }
+        (columns_told view.now (shown view.now before.now) (shown view.now after.now))) }
 {
-    let columns = differing_at(
+    let columns = columns_told(alloc, view, before.values(), after.values())?;
+    tell_columns(alloc, view.table(), before, columns, ops)
+}
+
+/// The columns that the Set of two rows lists, where they differ: those that do, or all outside the key for one who verifies them.
+fn columns_told(
+    alloc: Global,
+    view: &TableView,
+    before: &[Value],
+    after: &[Value],
+) -> Result<Vec<(Name, Value, Value)>, NoMemory>
+    ensures told { IfOk result (λ found. found.items ≡ columns_told view.now (shown view.now before.now) (shown view.now after.now)) }
+{
+    let differing = differing_at(alloc, view.columns(), view.places(), before, after)?;
+    if differing.is_empty() || !view.verifies() {
+        return Ok(differing);
+    }
+    drop(differing);
+    outside_columns(alloc, view.table(), view, before, after)
+}
+
+/// The columns of two rows of a table outside its key, each with both values, as a user has them.
+pub(crate) fn outside_columns(
+    alloc: Global,
+    table: &Table,
+    view: &TableView,
+    before: &[Value],
+    after: &[Value],
+) -> Result<Vec<(Name, Value, Value)>, NoMemory>
+    ensures outside { IfOk result (λ found. found.items ≡ outside_key (key_names table.now) view.now.columns (shown view.now before.now) (shown view.now after.now)) }
+{
+    let key = key_names(alloc, table)?;
+    let found = outside_key_at(
         alloc,
+        key.as_slice(),
         view.columns(),
         view.places(),
-        before.values(),
-        after.values(),
-    )?;
-    tell_columns(alloc, view.table(), before, columns, ops)
+        before,
+        after,
+    );
+    drop(key);
+    found
 }
 
 /// Adds the Insert of a row.

@@ -1,6 +1,7 @@
 //! What holds of what a log gives. Each function does nothing: it carries a law as its clauses.
 
 ghost use Rattle.std.specs.Prelude.{◌≡◌, ◌++◌, ◌∷◌, [], ℕ, ◌+◌, List, Option, None};
+ghost use Rattle.std.specs.List.{AllByRecursion};
 ghost use Rattle.sr_ast.specs.declared.stmt.Stmt.{Stmt as Statement};
 ghost use Rattle.sr_ast.specs.declared.stmt.Stmt.TheVariants.{DropTable};
 ghost use Rattle.sr_base.specs.declared.offset.Offset.{Offset as Place};
@@ -14,9 +15,11 @@ ghost use Rattle.sr_logform.specs.declared.entry.Entry.{Entry as LogEntry};
 ghost use Rattle.sr_logform.specs.declared.op.Op.{Op as AnOp};
 ghost use Rattle.sr_logform.specs.declared.op.Transaction.{Transaction as ATransaction};
 ghost use Rattle.sr_catalog_schema.specs.Catalogs.{Lists};
+ghost use Rattle.sr_catalog_schema.specs.declared.table.Column.{Column as AColumn};
 ghost use Rattle.sr_scan.specs.Given.{view_in, gives, with_transaction, given_from, given_of};
 ghost use Rattle.sr_scan.specs.Inner.Images.{told, catalog_after};
-ghost use Rattle.sr_scan.specs.Inner.Laws.{AnswersAsGiven, HaveSpellings};
+ghost use Rattle.sr_scan.specs.Inner.Laws.{AnswersAsGiven, HaveSpellings, IsOfTwoValues};
+ghost use Rattle.sr_scan.specs.Ops.{differing};
 ghost use Rattle.sr_scan.specs.Inner.Meanings.{texts_of, meant_by, AreMeant, IsGiven};
 ghost use Rattle.sr_scan.specs.Inner.Scanners.{Scan, IsFed};
 
@@ -62,4 +65,10 @@ pub fn what_is_given_has_a_spelling()
 pub fn a_dropped_table_is_not_seen()
     ensures before { (s : State) (table user : Bytes) (key : List Cell) → Holds s → IsAccepted s (DropTable table) → view_in s user table key ≡ None }
     ensures after { (s : State) (table user : Bytes) (key : List Cell) → view_in (with_statement (DropTable table) s) user table key ≡ None }
+{}
+
+/// The columns in which two rows differ, with their values before and after, have two values each. So whoever is given a row that changed, and does
+/// not verify, is given what is set.
+pub fn what_differs_has_two_values()
+    ensures differ { (columns : List AColumn) (before after : List Cell) → AllByRecursion IsOfTwoValues (differing columns before after) }
 {}

@@ -18,8 +18,8 @@ mod synchronized;
 mod views;
 
 pub use laws::{
-    a_dropped_table_is_not_seen, given_grows, images_are_views, what_is_given_has_a_spelling,
-    what_is_given_is_one,
+    a_dropped_table_is_not_seen, given_grows, images_are_views, what_differs_has_two_values,
+    what_is_given_has_a_spelling, what_is_given_is_one,
 };
 pub use scanner::{Scanner, given, given_by};
 pub use views::{Views, views_of};

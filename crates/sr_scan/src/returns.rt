@@ -7,10 +7,9 @@ ghost use Rattle.sr_publish.specs.Views.{shown, shown_row};
 ghost use Rattle.sr_catalog_schema.specs.Members.{key_names};
 ghost use Rattle.sr_scan.specs.Ops.{outside_key, told_back, update_of};
 
-use crate::changes::{add_removal, tell_columns};
-use crate::columns::outside_key_at;
+use crate::changes::{add_removal, outside_columns, tell_columns};
 use sr_base::{NoMemory, Row};
-use sr_catalog_schema::{Table, key_names};
+use sr_catalog_schema::Table;
 use sr_logform::Op;
 use sr_publish::TableView;
 use std::alloc::Global;
@@ -49,15 +48,6 @@ fn tell_outside_key(
     ensures told { OnOk result (ops.new.items ≡ ops.old.items ++ update_of table.now (key_of table.now.key before.now)
         (outside_key (key_names table.now) view.now.columns (shown view.now before.now) (shown view.now after.now))) }
 {
-    let key = key_names(alloc, table)?;
-    let columns = outside_key_at(
-        alloc,
-        key.as_slice(),
-        view.columns(),
-        view.places(),
-        before.values(),
-        after.values(),
-    );
-    drop(key);
-    tell_columns(alloc, table, before, columns?, ops)
+    let columns = outside_columns(alloc, table, view, before.values(), after.values())?;
+    tell_columns(alloc, table, before, columns, ops)
 }

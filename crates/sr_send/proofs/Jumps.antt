@@ -1,21 +1,28 @@
 -- Entries that a survey does not list for a user are passed over, and what is listed is told by the catalog of now.
 use Rattle.std.proofs.Common.{◌≡◌, ◌⊎◌, inl, inr, ℕ, ◌+◌, ◌≤◌, ◌<◌, Bool, true, false, List, [], ◌∷◌, ◌++◌, Option, Some, None, refl, sym, ap, subst, ◌∙◌, arith, append_assoc, ltb-true}
 use Rattle.std.specs.Prelude.{nat_lt}
+use Rattle.std.specs.List.{Contains}
 use Rattle.std.proofs.lemmas.List.{append-nil}
+use Rattle.sr_ast.specs.declared.stmt.Stmt.{Stmt}
 use Rattle.sr_base.specs.Values.{offset_from}
 use Rattle.sr_book.specs.Entries.{Name}
 use Rattle.sr_database_history.specs.Fitting.{Stored}
 use Rattle.sr_database_history.specs.Folds.{end_of, state_of}
-use Rattle.sr_database_history.specs.Recorded.{Recorded}
+use Rattle.sr_database_history.specs.Recorded.{Recorded, entry_of}
 use Rattle.sr_logform.specs.declared.op.Op.{Op}
 use Rattle.sr_logform.specs.declared.op.Transaction.{Transaction}
 use Rattle.sr_scan.specs.Given.{gives}
+use Rattle.sr_scan.specs.Inner.Images.{told}
+use Rattle.sr_scan.specs.Inner.Meanings.{texts_of, AreMeant}
 use Rattle.sr_scan.specs.Inner.Scanners.{transaction_of}
-use Rattle.sr_survey.proofs.Jumping.{jumped, told_now}
+use Rattle.sr_survey.proofs.Jumping.{jumped, told_named, told_now}
 use Rattle.sr_survey.proofs.Splits.{past_end, end_before, entry_ends_before}
 use Rattle.sr_survey.specs.Inner.Following.{since_of}
-use Rattle.sr_survey.specs.Inner.Surveyed.{HasSurveyed, IsBefore, IsListed, IsNext, IsPlace}
+use Rattle.sr_survey.specs.Inner.Surveyed.{HasSurveyed, IsBefore, IsHis, IsListed, IsNext, IsNextShown, IsPlace, IsShown}
 use Rattle.sr_survey.specs.declared.survey.Survey.{Survey}
+use Rattle.sr_survey_places.specs.Inner.Listed.{under}
+use Rattle.sr_survey_places.specs.declared.key.Key.{Key}
+use Rattle.sr_survey_places.specs.declared.key.Key.TheVariants as keyed
 use Rattle.sr_survey_places.specs.declared.place.Place.{Place}
 use Rattle.sr_send.specs.Inner.Places.{HasReached, IsToldAt}
 use Rattle.sr_send.specs.Inner.Steps.{newer, IsBehind}
@@ -78,15 +85,15 @@ module _ (publisher user : Name) (es : List Recorded) (s : Survey) (sent : ℕ) 
 
 -- ---- what is told
 
--- no place of a user past what he was sent begins before the catalog shows him what it showed him then
-pub shown_there : (publisher user : Name) (es : List Recorded) (s : Survey) (sent : ℕ) (place : Place) → HasSurveyed publisher es s → CanTell s user sent → IsListed s user place → sent < place.end → (there : IsPlace es place)
+-- no place of a user past what he was sent that hangs on the catalog begins before that shows him what it showed him then
+shown_there : (publisher user : Name) (es : List Recorded) (s : Survey) (sent : ℕ) (place : Place) → HasSurveyed publisher es s → CanTell s user sent → IsShown s user place → sent < place.end → (there : IsPlace es place)
     → since_of s user ≤ end_of there.first
 shown_there publisher user es s sent place has can listed late there = go can.found can.next can.shown
   where
     ends : place.end ≡ end_of (there.first ++ there.entry ∷ [])
     ends = ap (λ (p : Place). p.end) there.is
 
-    go : (o : Option Place) → IsNext s user sent o → IsShownNow s user o → since_of s user ≤ end_of there.first
+    go : (o : Option Place) → IsNextShown s user sent o → IsShownNow s user o → since_of s user ≤ end_of there.first
     go None next shown = let early : place.end ≤ sent = next place listed in absurd (omega arith)
     go (Some first) next shown = sooner (split_two before.first (before.entry ∷ before.rest) there.first there.rest there.entry (sym before.parts ∙ there.parts))
       where
@@ -113,6 +120,27 @@ shown_there publisher user es s sent place has can listed late there = go can.fo
             let early : end_of (there.first ++ there.entry ∷ []) ≤ end_of before.first = entry_ends_before before.first there.first h.0 there.entry h.1 in
             let past : end_of before.first < end_of (before.first ++ before.entry ∷ []) = past_end before.first before.entry in
             absurd (omega (arith, ends, no_later, first_ends, early, past))
+
+-- a place that is listed for a user is shown to him, or stands under his key of statements that are passed on
+shown_or_text : (s : Survey) (user : Name) (place : Place) → IsListed s user place → IsShown s user place ⊎ Contains (under s.places.lists (keyed.Text user)) place
+shown_or_text s user place listed = go listed.his
+  where
+    go : IsHis s user listed.key → IsShown s user place ⊎ Contains (under s.places.lists (keyed.Text user)) place
+    go (inl e) = inl (record { key = listed.key; his = inl e; there = listed.there; other = listed.other })
+    go (inr (inl e)) = inr (subst (λ (k : Key). Contains (under s.places.lists k) place) e listed.there)
+    go (inr (inr (inl e))) = inl (record { key = listed.key; his = inr (inl e); there = listed.there; other = listed.other })
+    go (inr (inr (inr h))) = inl (record { key = listed.key; his = inr (inr h); there = listed.there; other = listed.other })
+
+-- what its entry gives him is told by the catalog of now
+told_there : (publisher user : Name) (es : List Recorded) (s : Survey) (sent : ℕ) (place : Place) (meant : List (Option Stmt)) → Stored publisher es → HasSurveyed publisher es s → CanTell s user sent → IsListed s user place → sent < place.end
+    → (there : IsPlace es place) → s.begin ≤ end_of there.first → AreMeant (texts_of (entry_of there.entry)) meant → told s.catalog (entry_of there.entry) meant user ≡ gives (state_of publisher there.first) there.entry user
+told_there publisher user es s sent place meant stored has can listed late there begun are = go (shown_or_text s user place listed)
+  where
+    go : IsShown s user place ⊎ Contains (under s.places.lists (keyed.Text user)) place → told s.catalog (entry_of there.entry) meant user ≡ gives (state_of publisher there.first) there.entry user
+    go (inl shown) = told_now publisher user es there.first there.rest there.entry s meant stored has there.parts begun (shown_there publisher user es s sent place has can shown late there) are
+    go (inr text) =
+        told_named publisher user es there.first there.rest there.entry s.catalog meant stored there.parts
+        (has.texts user there.first there.rest there.entry there.parts (subst (λ (p : Place). Contains (under s.places.lists (keyed.Text user)) p) there.is text)) are
 
 -- a place behind the offset that was reached stands behind the entries that were
 pub placed_behind : (publisher user : Name) (es : List Recorded) (begin sent at : ℕ) (pushed : List Transaction) (place : Place) → (reached : HasReached publisher es user begin sent at pushed) → at < place.end → (there : IsPlace es place)
@@ -171,8 +199,7 @@ module _ (publisher user : Name) (es : List Recorded) (s : Survey) (sent : ℕ) 
     found_is =
         what.by.gives
         ∙ ap (λ (ops : List Op). transaction_of (offset_from place.end) ops)
-        (told_now publisher user es there.first there.rest r s what.by.meant stored has there.parts begun
-        (shown_there publisher user es s sent place has can next.0 (omega (arith, past, late)) there) what.by.are)
+        (told_there publisher user es s sent place what.by.meant stored has can next.0 (omega (arith, past, late)) there begun what.by.are)
 
     past_there : end_of there.first < place.end
     past_there = let further : end_of there.first < end_of (there.first ++ r ∷ []) = past_end there.first r in omega (arith, further, ends)

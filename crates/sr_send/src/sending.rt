@@ -43,8 +43,8 @@ pub struct Sent {
 /// be read again. Where none is due nothing is done. Of the mail nothing is listed, fetched or removed.
 /// The passes of a run share a survey of the log, so that each entry is read once for all of them: here it is read on, and of the log only the entries
 /// that it lists for him are read again. Where it can not tell what they give, for there is none, it was given up, it begins behind what he was sent, or a
-/// statement changed behind the first of them what he is shown, the log is read from what he was sent on, where no statement ran there, which the kinds of
-/// its entries tell; else from its base.
+/// statement changed what he is shown behind the first of them that is more than a statement passed on to him, the log is read from what he was sent on,
+/// where no statement ran there, which the kinds of its entries tell; else from its base.
 ///
 /// `Disk` and `Mail` come only where that device's count of faults rose, and else no count rises; `Full` exactly where the note has no room in the
 /// log; `Long` where the encoding of a transaction is longer than 64 MiB, with that of the first such. After a fault the messages that were put are the

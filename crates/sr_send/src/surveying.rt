@@ -182,7 +182,7 @@ fn may_tell(survey: &Survey, sent: Offset) -> bool
     !is_given_up(survey) && survey.begin().0 <= sent.0
 }
 
-/// How what the log gives a user past an offset is found. It takes the time of one look-up.
+/// How what the log gives a user past an offset is found. It takes the time of two look-ups.
 pub(crate) fn way_to(
     alloc: Global,
     survey: &Survey,
@@ -196,6 +196,19 @@ pub(crate) fn way_to(
     }
     match survey.next(alloc, user, sent)? {
         None => Ok(Way::Nothing),
+        Some(_) => way_there(alloc, survey, user, sent),
+    }
+}
+
+/// The same of a user for whom something is listed past the offset: whether the catalog shows him at each of his places what it showed him then. What a
+/// statement that is passed on to him gives does not hang on the catalog.
+fn way_there(alloc: Global, survey: &Survey, user: &Name, sent: Offset) -> Result<Way, NoMemory>
+    requires kept { survey.now.given_up ≡ None }
+    requires begun { survey.now.begin ≤ sent.0 }
+    ensures way { IfOk result (IsWay survey.now user.now sent.0) }
+{
+    match survey.next_shown(alloc, user, sent)? {
+        None => Ok(Way::Places),
         Some(first) => {
             if first.start < survey.since(user).0 {
                 return Ok(Way::Log);

@@ -6,7 +6,7 @@ ghost use Rattle.sr_ast.specs.declared.stmt.Stmt.TheVariants.{Dml as DmlStmt, Pa
 ghost use Rattle.sr_ast.specs.NormalForms.{IsNormal};
 ghost use Rattle.sr_database_history.specs.Recorded.{IsCarried, IsDdl};
 ghost use Rattle.sr_database.specs.Views.{committed};
-ghost use Rattle.sr_session_script.specs.Meaning.{done_by, once_closed, on_catalog, on_rows, on_users, on_views, began, ended};
+ghost use Rattle.sr_session_script.specs.Meaning.{done_by, once_closed, on_catalog, on_rows, on_uncarried, on_views, began, ended};
 ghost use Rattle.sr_session.specs.Inner.Ready.{IsReady, AreUsers, work_of};
 ghost use Rattle.sr_session.specs.Inner.Steps.{Took};
 
@@ -45,8 +45,9 @@ pub(crate) fn step<S: Site>(
         Stmt::Select(query) => select(alloc, db, &mut session.lines, query),
         Stmt::Passthrough(passthrough) => begin_closed(alloc, db, site, session, stmt, passthrough),
         Stmt::PassthroughStop => end_closed(alloc, db, site, session),
-        Stmt::GrantRemote(grant) => on_users(alloc, db, site, session, &grant.user, stmt),
-        Stmt::GrantConsolidate(grant) => on_users(alloc, db, site, session, &grant.user, stmt),
+        Stmt::GrantRemote(grant) => on_uncarried(alloc, db, site, session, &grant.user, stmt),
+        Stmt::GrantConsolidate(grant) => on_uncarried(alloc, db, site, session, &grant.user, stmt),
+        Stmt::SetOption(rule) => on_uncarried(alloc, db, site, session, &rule.name, stmt),
         Stmt::CreateTable(_)
         | Stmt::DropTable(_)
         | Stmt::CreatePublication(_)
@@ -108,8 +109,8 @@ fn on_catalog<S: Site>(
     }
 }
 
-/// A GRANT: it commits the open transaction first, and in a region it is refused.
-fn on_users<S: Site>(
+/// A GRANT or SET OPTION: it commits the open transaction first, and in a region it is refused.
+fn on_uncarried<S: Site>(
     alloc: Global,
     db: &mut Database,
     site: &mut S,
@@ -120,7 +121,7 @@ fn on_users<S: Site>(
     requires ready { IsReady db.old (S.seen site.old) }
     requires users { AreUsers (committed db.old) session.old.region }
     requires ddl { IsDdl stmt.now }
-    ensures took { let w = work_of db.old session.old.region in Took (once_closed w (on_users w.region name.now stmt.now)) db.old db.new (S.seen site.old) (S.seen site.new) session.old.lines.items session.new.lines.items session.new.region result }
+    ensures took { let w = work_of db.old session.old.region in Took (once_closed w (on_uncarried w.region name.now stmt.now)) db.old db.new (S.seen site.old) (S.seen site.new) session.old.lines.items session.new.lines.items session.new.region result }
     ensures users { OnOk result (AreUsers (committed db.new) session.new.region) }
 {
     close(alloc, db, site, &mut session.lines)?;

@@ -191,9 +191,9 @@ on_catalog (Some p) s w = passed p s (catalog_changes p.only w.state s) w
 abbrev pub refused_in : Passthrough → Name → Stmt → Work → Stepped
 refused_in p name s w = stops [] (Ddl (uncarried p.only name w.state.catalog s))
 
-abbrev pub on_users : Option Passthrough → Name → Stmt → Work → Stepped
-on_users None name s w = changed s w
-on_users (Some p) name s w = refused_in p name s w
+abbrev pub on_uncarried : Option Passthrough → Name → Stmt → Work → Stepped
+on_uncarried None name s w = changed s w
+on_uncarried (Some p) name s w = refused_in p name s w
 
 -- SYNCHRONIZE is one entry: what the subscription's user sees of the tables of its publication
 abbrev pub synchronized : SubscriptionRule → Work → Stepped
@@ -210,8 +210,9 @@ on_rows None d w = executed w d
 on_rows (Some p) d w = once_closed w (λ v. passed p (stmt.Dml d) (row_changes p.only v.state d) v)
 
 unfoldable pub done_by : Work → Stmt → Stepped
-done_by w (stmt.GrantRemote g) = once_closed w (on_users w.region g.user (stmt.GrantRemote g))
-done_by w (stmt.GrantConsolidate g) = once_closed w (on_users w.region g.user (stmt.GrantConsolidate g))
+done_by w (stmt.GrantRemote g) = once_closed w (on_uncarried w.region g.user (stmt.GrantRemote g))
+done_by w (stmt.GrantConsolidate g) = once_closed w (on_uncarried w.region g.user (stmt.GrantConsolidate g))
+done_by w (stmt.SetOption o) = once_closed w (on_uncarried w.region o.name (stmt.SetOption o))
 done_by w (stmt.Synchronize r) = once_closed w (on_views w.region r)
 done_by w (stmt.Dml d) = on_rows w.region d w
 done_by w (stmt.Select q) = answered w q

@@ -14,9 +14,9 @@ use Rattle.sr_ast.proofs.Utf8.{name_utf8, quoted_utf8, date_quoted_utf8}
 use Rattle.sr_ast.specs.Chains.{Chain}
 use Rattle.sr_ast.specs.Chains.Chain.{done, set, insert, when, choose}
 use Rattle.sr_ast.specs.Exprs.{term_of}
-use Rattle.sr_ast.specs.Layout.{words_if, column_rule_pieces, key_pieces, create_table_pieces, article_pieces, create_publication_pieces, text_pieces, grant_pieces, given_value_pieces, subscription_pieces, image_word, alias_pieces, variable_pieces, of_pieces, body_pieces, on_pieces, fired_pieces, create_trigger_pieces, row_of_exprs_pieces, insert_pieces, set_pieces, update_pieces, delete_pieces, dml_pieces, aggregate_pieces, item_pieces, items_pieces, source_pieces, join_pieces, order_pieces, ordered_pieces, select_pieces, passthrough_pieces, stmt_pieces, printed}
+use Rattle.sr_ast.specs.Layout.{words_if, column_rule_pieces, key_pieces, create_table_pieces, article_pieces, create_publication_pieces, text_pieces, grant_pieces, given_value_pieces, subscription_pieces, image_word, alias_pieces, variable_pieces, of_pieces, body_pieces, on_pieces, fired_pieces, create_trigger_pieces, set_option_pieces, row_of_exprs_pieces, insert_pieces, set_pieces, update_pieces, delete_pieces, dml_pieces, aggregate_pieces, item_pieces, items_pieces, source_pieces, join_pieces, order_pieces, ordered_pieces, select_pieces, passthrough_pieces, stmt_pieces, printed}
 use Rattle.sr_ast.specs.Normal.{IsPlain, IsNoneOr, IsSomeOf, IsNormalValue, IsNormalKind, IsPlainColumn, IsNormalTerm, IsNormalDeep, IsNormalExpr}
-use Rattle.sr_ast.specs.NormalForms.{IsNormalInsert, IsNormalSet, IsNormalUpdate, IsNormalDelete, IsNormalDml, IsNormalItem, AreNormalItems, IsNormalSource, IsNormalJoin, IsNormalOrder, IsNormalSelect, IsNormalRule, IsNormalTable, IsNormalArticle, IsNormalPublication, IsNormalGrant, IsNormalSubscription, IsNormalAlias, IsNormalVariable, IsNormalChain, IsNormalTrigger, IsNormal}
+use Rattle.sr_ast.specs.NormalForms.{IsNormalInsert, IsNormalSet, IsNormalUpdate, IsNormalDelete, IsNormalDml, IsNormalItem, AreNormalItems, IsNormalSource, IsNormalJoin, IsNormalOrder, IsNormalSelect, IsNormalRule, IsNormalTable, IsNormalArticle, IsNormalPublication, IsNormalGrant, IsNormalSubscription, IsNormalOption, IsNormalAlias, IsNormalVariable, IsNormalChain, IsNormalTrigger, IsNormal}
 use Rattle.sr_ast.specs.Pages.{Piece, Print, blank, space, put, put_all, word, call_parenthesis, close_parenthesis, semicolon, comma, dash, listed, more_listed, in_row, in_parentheses, led}
 use Rattle.sr_ast.specs.Printing.{name_pieces, value_pieces, kind_pieces, column_pieces, sign, is_operator, operand, unary_pieces, term_pieces, expr_pieces, names_pieces, row_pieces, chain_pieces}
 use Rattle.sr_ast.specs.Terms.{Term}
@@ -262,6 +262,10 @@ subscription_all r is = (
   both (given_value_pieces r.value) (word (codes "FOR") ∷ word r.user ∷ []) (given_all r.value is.value) (letters (codes "FOR") refl, (plain r.user is.user, tt)),
 )
 
+option_all : Prints set_option_pieces IsNormalOption
+unfolding set_option_pieces
+option_all o is = (letters (codes "SET") refl, (letters (codes "OPTION") refl, (plain o.name is.0, (letters (codes "=") refl, value_all o.value is.1.0))))
+
 -- ---- triggers
 
 image_utf8 : (image : Image) → IsUtf8 (image_word image)
@@ -457,6 +461,7 @@ stmt_all (stmt.Synchronize r) is = (letters (codes "SYNCHRONIZE SUBSCRIPTION TO"
 stmt_all (stmt.DropSubscription r) is = (letters (codes "DROP SUBSCRIPTION TO") refl, subscription_all r is)
 stmt_all (stmt.CreateTrigger c) is = trigger_all c is
 stmt_all (stmt.DropTrigger n) is = (letters (codes "DROP TRIGGER") refl, (plain n is, tt))
+stmt_all (stmt.SetOption o) is = option_all o is
 stmt_all (stmt.Dml d) is = dml_all d is
 stmt_all (stmt.Select s) is = select_all s is
 stmt_all stmt.Commit is = (letters (codes "COMMIT") refl, tt)

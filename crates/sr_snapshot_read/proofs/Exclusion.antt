@@ -1,5 +1,5 @@
 -- Bytes that break are no snapshot.
-use Rattle.std.proofs.Common.{◌≡◌, ◌≤◌, ◌<◌, ◌^◌, ◌⊎◌, inl, inr, ℕ, suc, true, false, cond, List, [], ◌∷◌, ◌++◌, length, map, Option, Some, None, filter, refl, sym, ap, subst, ◌∙◌, append_assoc, arith}
+use Rattle.std.proofs.Common.{◌≡◌, ◌≤◌, ◌<◌, ◌^◌, ◌⊎◌, inl, inr, ℕ, suc, Bool, true, false, cond, List, [], ◌∷◌, ◌++◌, length, map, Option, Some, None, filter, refl, sym, ap, subst, ◌∙◌, append_assoc, arith}
 use Rattle.std.proofs.lemmas.List.{append-nil, length-map}
 use Rattle.std.specs.Int.{w32, w64, to_be_bytes}
 use Rattle.std.specs.List.{flat_map, AllByRecursion}
@@ -26,12 +26,13 @@ use Rattle.sr_catalog_schema.specs.Members.{table_name, user_name}
 use Rattle.sr_catalog_schema.specs.Names.{named}
 use Rattle.sr_catalog_schema.specs.declared.fault.DdlFault.{DdlFault}
 use Rattle.sr_catalog_schema.specs.declared.publication.Publication.{Publication}
+use Rattle.sr_catalog_schema.specs.declared.options.Options.{Options}
 use Rattle.sr_catalog_schema.specs.declared.subscription.Subscription.{Subscription}
 use Rattle.sr_catalog_schema.specs.declared.table.Table.{Table}
 use Rattle.sr_catalog_schema.specs.declared.trigger.Trigger.{Trigger}
 use Rattle.sr_catalog_schema.specs.declared.user.User.{User}
 use Rattle.sr_catalog_script_laws.proofs.Spelled.{script_again, script_normal}
-use Rattle.sr_catalog_script_laws.specs.Inner.Scripts.{IsMade, create_publication_of, create_subscription_of, create_table_of, grant_of, grant_rule, replayed, start_of, statements, trigger_stmt, unless_refused}
+use Rattle.sr_catalog_script_laws.specs.Inner.Scripts.{IsMade, create_publication_of, create_subscription_of, create_table_of, grant_of, grant_rule, replayed, set_options_of, start_of, statements, trigger_stmt, unless_refused, verifies_rule}
 use Rattle.sr_exec_dml.specs.Inner.Conditions.{TableFits}
 use Rattle.sr_exec_where.specs.Keys.{key_of}
 use Rattle.sr_logform.specs.Entries.{table_spelling}
@@ -376,6 +377,12 @@ start_ddl : (s : Subscription) → IsTrue (is_ddl (start_of s))
 unfolding start_of
 start_ddl s = refl
 
+options_ddl : (o : Options) → AllByRecursion (λ s. IsTrue (is_ddl s)) (set_options_of o)
+options_ddl o = elim o.verifies as (λ (b : Bool). AllByRecursion (λ s. IsTrue (is_ddl s)) (cond b (stmt.SetOption verifies_rule ∷ []) [])) [
+  | true ↦ (refl, tt)
+  | false ↦ tt
+]
+
 triggers_ddl : (tables : List Table) (ts : List Trigger) → AllByRecursion (TriggerStands tables) ts → AllByRecursion (λ s. IsTrue (is_ddl s)) (map trigger_stmt ts)
 triggers_ddl tables [] all = tt
 triggers_ddl tables (t ∷ ts) all = (subst (λ (x : Trigger). IsTrue (is_ddl (trigger_stmt x))) (sym all.0.is) refl, triggers_ddl tables ts all.1)
@@ -387,7 +394,8 @@ statements_ddl c made =
     (ddl_joined (map create_publication_of c.publications) _ (ddl_map create_publication_of publication_ddl c.publications)
     (ddl_joined (map trigger_stmt c.triggers) _ (triggers_ddl c.tables c.triggers (triggers_stand c made))
     (ddl_joined (map create_subscription_of c.subscriptions) _ (ddl_map create_subscription_of subscription_ddl c.subscriptions)
-    (ddl_map start_of start_ddl (filter (λ s. s.started) c.subscriptions))))))
+    (ddl_joined (map start_of (filter (λ s. s.started) c.subscriptions)) _ (ddl_map start_of start_ddl (filter (λ s. s.started) c.subscriptions))
+    (options_ddl c.options))))))
 
 rows_placed : (rows : RowMap) (t : Table) → TableFits t rows → (after : Option (List Value)) (es : List Entry) → AreHeld rows t.name es → Rises key_cmp es → AllByRecursion (λ (e : Entry). IsPast after e.0) es → ArePlaced t after (rows_of es)
 rows_placed rows t fit after [] held rise past = tt

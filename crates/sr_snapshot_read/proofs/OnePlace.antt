@@ -23,7 +23,7 @@ use Rattle.sr_catalog_schema.specs.Catalogs.{Lists, nothing_but}
 use Rattle.sr_catalog_schema.specs.declared.table.Table.{Table}
 use Rattle.sr_catalog_schema.specs.declared.user.User.{User}
 use Rattle.sr_catalog_script_laws.proofs.Spelled.{new_spelled, script_normal, still_spelled}
-use Rattle.sr_catalog_script_laws.specs.Inner.Scripts.{IsSpelled, create_publication_of, create_subscription_of, create_table_of, grant_of, grant_rule, start_of, statements, trigger_stmt}
+use Rattle.sr_catalog_script_laws.specs.Inner.Scripts.{IsSpelled, create_publication_of, create_subscription_of, create_table_of, grant_of, grant_rule, set_options_of, start_of, statements, trigger_stmt}
 use Rattle.sr_exec_where.specs.Keys.{key_of}
 use Rattle.sr_parse.proofs.Prints.{prints_once}
 use Rattle.sr_parse.specs.Prints.{Prints}
@@ -281,7 +281,9 @@ all_created [] all = tt
 all_created (t ∷ ts) all = (created t all.0, all_created ts all.1)
 
 abbrev others_of : Lists → List Stmt
-others_of c = map create_publication_of c.publications ++ (map trigger_stmt c.triggers ++ (map create_subscription_of c.subscriptions ++ map start_of (filter (λ s. s.started) c.subscriptions)))
+others_of c =
+    map create_publication_of c.publications ++ (map trigger_stmt c.triggers ++ (map create_subscription_of c.subscriptions
+    ++ (map start_of (filter (λ s. s.started) c.subscriptions) ++ set_options_of c.options)))
 
 are_listed : (c : Lists) → IsSpelled c → length (statements c) < 2 ^ 32 → AreListed c
 are_listed c spelled few =

@@ -21,6 +21,10 @@ use Rattle.sr_base.specs.declared.value.Value.{Value as Cell}
 use Rattle.sr_book.specs.Entries.{Name}
 use Rattle.sr_catalog_change.specs.Changes.{next}
 use Rattle.sr_catalog_ddl.specs.Subscriptions.{is_of, marked, subscription_of}
+use Rattle.sr_catalog_ddl.specs.Users.{stands_above, user_of}
+use Rattle.sr_catalog_schema.specs.Members.{user_name}
+use Rattle.sr_catalog_schema.specs.Names.{named}
+use Rattle.sr_catalog_schema.specs.declared.user.User.{User}
 use Rattle.sr_exec_dml.specs.Statements.{table_named}
 use Rattle.sr_publish.specs.SubscribedTables.{SubscribedTable, article_in, source_in, source_of, value_in, subscribed_table_by, subscribed_table_in, subscribed_table_of}
 use Rattle.sr_catalog_schema.specs.Catalogs.{Lists}
@@ -66,9 +70,37 @@ created c r user = alike c user (c.subscriptions ++ subscription_of r ∷ []) (r
   values = λ p. none_more (value_in user p) c.subscriptions (subscription_of r) refl;
 })
 
-pub granted : (c : Lists) (g : Grant) (user : Name) → ShowsAlike c (next c (stmt.GrantRemote g)) user
-unfolding next subscribed_table_of
-granted c g user = record { shares = λ table. refl; tables = λ table. refl }
+-- ---- one more user
+
+one_below : (name : Name) (us : List User) (u : User) → u.above ≡ false → stands_above (named user_name name (us ++ u ∷ [])) ≡ stands_above (named user_name name us)
+one_below name [] u e = elim (bytes_eq name u.name) as (λ (b : Bool). stands_above (cond b (Some u) None) ≡ false) [
+  | true ↦ e
+  | false ↦ refl
+]
+one_below name (x ∷ us) u e = elim (bytes_eq name x.name) as (λ (b : Bool). stands_above (cond b (Some x) (named user_name name (us ++ u ∷ []))) ≡ stands_above (cond b (Some x) (named user_name name us))) [
+  | true ↦ refl
+  | false ↦ one_below name us u e
+]
+
+one_other : (name : Name) (us : List User) (u : User) → bytes_eq name u.name ≡ false → named user_name name (us ++ u ∷ []) ≡ named user_name name us
+one_other name [] u e = ap (λ (b : Bool). cond b (Some u) None) e
+one_other name (x ∷ us) u e = ap (λ (o : Option User). cond (bytes_eq name x.name) (Some x) o) (one_other name us u e)
+
+-- other users among whom he stands where he stood
+stands_alike : (c : Lists) (us : List User) (user : Name) → stands_above (named user_name user us) ≡ stands_above (named user_name user c.users) → ShowsAlike c (record c { users = us }) user
+unfolding subscribed_table_of
+stands_alike c us user same = record { shares = λ table. go (table_named c table) (source_of c user table); tables = λ table. refl } where
+  go : (o : Option Table) (q : Option (Name × Article)) → subscribed_table_in (record c { users = us }) user o q ≡ subscribed_table_in c user o q
+  go None q = refl
+  go (Some t) q = ap (λ (f : (Name × Article) → SubscribedTable). option_map f q) (λ i. λ (source : Name × Article). record (subscribed_table_by c user t source) { verifies = c.options.verifies && same i })
+
+pub granted_below : (c : Lists) (g : Grant) (user : Name) → ShowsAlike c (next c (stmt.GrantRemote g)) user
+unfolding next user_of
+granted_below c g user = stands_alike c (c.users ++ user_of false g ∷ []) user (one_below user c.users (user_of false g) refl)
+
+pub granted_above : (c : Lists) (g : Grant) (user : Name) → bytes_eq user g.user ≡ false → ShowsAlike c (next c (stmt.GrantConsolidate g)) user
+unfolding next user_of
+granted_above c g user other = stands_alike c (c.users ++ user_of true g ∷ []) user (ap stands_above (one_other user c.users (user_of true g) other))
 
 -- ---- of another user
 

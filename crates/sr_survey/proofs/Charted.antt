@@ -64,6 +64,7 @@ held_next c m (stmt.Synchronize r) e held = held
 held_next c m (stmt.DropSubscription r) e held = moved c (next c (stmt.DropSubscription r)) m refl refl held
 held_next c m (stmt.CreateTrigger t) e held = moved c (next c (stmt.CreateTrigger t)) m refl refl held
 held_next c m (stmt.DropTrigger name) e held = moved c (next c (stmt.DropTrigger name)) m refl refl held
+held_next c m (stmt.SetOption o) e held = cc
 held_next c m (stmt.Dml d) e held = held
 held_next c m (stmt.Select q) e held = held
 held_next c m stmt.Commit e held = held

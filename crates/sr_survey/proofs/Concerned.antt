@@ -33,7 +33,7 @@ use Rattle.sr_scan.specs.Inner.Meanings.{text_done, texts_of, IsMeant, AreMeant}
 use Rattle.sr_survey.proofs.Members.{In, contains_from_in, in_from_contains, in_left, in_right, in_either, in_map, all_made, all_flat, all_mapped_to}
 use Rattle.sr_survey.proofs.Having.{HasLive, change_may, changes_may}
 use Rattle.sr_survey.proofs.Unheld.{nothing_both}
-use Rattle.sr_survey.specs.Inner.Concerning.{has_run, is_conflict, met_keys, outcome_keys, op_keys, ops_keys, back_key, taken_keys, pass_keys, entry_keys, IsHisBy, MayConcern}
+use Rattle.sr_survey.specs.Inner.Concerning.{has_run, is_conflict, met_keys, outcome_keys, op_keys, ops_keys, back_key, taken_keys, pass_keys, entry_keys, names_user, IsHisBy, MayConcern}
 use Rattle.sr_survey.specs.Inner.Keyed.{key_of_value, key_of_some, key_by, article_key, routes_of, row_keys, keys_if, change_keys_in, change_keys, changes_keys}
 use Rattle.sr_survey_places.specs.Inner.Keys.{is_shared}
 use Rattle.sr_survey_places.specs.declared.key.Key.{Key}
@@ -334,3 +334,41 @@ module _ (c : Lists) (user : Name) (made : IsMade c) where
   entry_may (entry.Sync to tables) meant are = sync_may to tables _
   entry_may (entry.Pass users only text changes) meant are = pass_may users only text changes
   entry_may (entry.Note about what) meant are = inr refl
+
+-- ---- statements that are passed on
+
+or_true : (b : Bool) → (b || true) ≡ true
+or_true true = refl
+or_true false = refl
+
+named_in : (users : List Name) (user : Name) → In (map keyed.Text users) (keyed.Text user) → has users user ≡ true
+named_in [] user i = absurd i
+named_in (u ∷ users) user (inl e) = let same : user ≡ u = cc in ap (λ (b : Bool). b || has users user) ((bytes_eq-Decides user u).1 same)
+named_in (u ∷ users) user (inr i) = ap (λ (b : Bool). bytes_eq user u || b) (named_in users user i) ∙ or_true (bytes_eq user u)
+
+-- what is listed for a user under the key of these is one
+pub named_by_text : (c : Lists) (e : Entry) (user : Name) → Contains (entry_keys c e) (keyed.Text user) → names_user user e ≡ true
+unfolding entry_keys
+named_by_text c (entry.Own changes) user h = absurd (false≢true (changes_shared c changes (keyed.Text user) (in_from_contains (changes_keys c changes) (keyed.Text user) h)))
+named_by_text c (entry.From from at ops) user h = absurd (no (list_any has_run ops) (list_any (λ p. is_conflict p.1) ops) (in_from_contains (taken_keys c from ops) (keyed.Text user) h)) where
+  no : (b d : Bool) → In (cond b (keyed.Each ∷ []) (cond d (keyed.To from) (keyed.From from) ∷ ops_keys c ops)) (keyed.Text user) → ⊥
+  no true d (inl e) = cc
+  no true d (inr i) = i
+  no false true (inl e) = cc
+  no false false (inl e) = cc
+  no false true (inr i) = false≢true (ops_shared c ops (keyed.Text user) i)
+  no false false (inr i) = false≢true (ops_shared c ops (keyed.Text user) i)
+named_by_text c (entry.Ddl text) user h = absurd (in_from_contains [] (keyed.Text user) h)
+named_by_text c (entry.Sync to tables) user h = absurd (no (in_from_contains (keyed.To to ∷ []) (keyed.Text user) h)) where
+  no : In (keyed.To to ∷ []) (keyed.Text user) → ⊥
+  no (inl e) = cc
+  no (inr i) = i
+named_by_text c (entry.Pass users only text changes) user h = go (in_either (map keyed.Text users) (pass_keys c only changes) (keyed.Text user) (in_from_contains (map keyed.Text users ++ pass_keys c only changes) (keyed.Text user) h)) where
+  shared : (b : Bool) → In (pass_keys c b changes) (keyed.Text user) → ⊥
+  shared true i = i
+  shared false i = false≢true (changes_shared c changes (keyed.Text user) i)
+
+  go : In (map keyed.Text users) (keyed.Text user) ⊎ In (pass_keys c only changes) (keyed.Text user) → has users user ≡ true
+  go (inl i) = named_in users user i
+  go (inr i) = absurd (shared only i)
+named_by_text c (entry.Note about what) user h = absurd (in_from_contains [] (keyed.Text user) h)

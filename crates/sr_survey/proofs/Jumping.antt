@@ -1,5 +1,5 @@
 -- Who has a survey goes on to the next place, and tells it by the catalog of now.
-use Rattle.std.proofs.Common.{◌≡◌, ◌⊎◌, ℕ, ◌<◌, ◌≤◌, Bool, true, false, List, [], ◌∷◌, ◌++◌, Option, Some, None, refl, ap, subst, arith, ⊎_elim, ◌∙◌}
+use Rattle.std.proofs.Common.{◌≡◌, ◌⊎◌, ℕ, ◌<◌, ◌≤◌, Bool, true, false, cond, sym, List, [], ◌∷◌, ◌++◌, Option, Some, None, refl, ap, subst, arith, ⊎_elim, ◌∙◌}
 use Rattle.sr_ast.specs.declared.stmt.Stmt.{Stmt}
 use Rattle.sr_book.specs.Entries.{Name}
 use Rattle.sr_catalog_schema.specs.Catalogs.{Lists}
@@ -10,16 +10,18 @@ use Rattle.sr_database_history.specs.Folds.{fresh, state_of, end_of}
 use Rattle.sr_database_history.specs.Recorded.{Recorded, entry_of}
 use Rattle.sr_logform.specs.declared.entry.Entry.{Entry}
 use Rattle.sr_logform.specs.declared.entry.Entry.TheVariants.{Own, From, Ddl, Sync, Pass, Note}
+use Rattle.sr_logform.specs.declared.op.Op.TheVariants.{Exec}
+use Rattle.sr_publish.specs.SubscribedTables.{subscribed_table_of}
 use Rattle.sr_scan.proofs.Agreeing.{told_same}
 use Rattle.sr_scan.proofs.Meant.{meant_is}
 use Rattle.sr_scan.specs.Given.{gives}
-use Rattle.sr_scan.specs.Inner.Images.{told}
+use Rattle.sr_scan.specs.Inner.Images.{changes_told, told}
 use Rattle.sr_scan.specs.Inner.Meanings.{texts_of, AreMeant}
 use Rattle.sr_survey.proofs.Alike.{told_own, told_view, told_pass, told_taken}
 use Rattle.sr_survey.proofs.Concerned.{none_meant}
 use Rattle.sr_survey.proofs.Splits.{past_end}
 use Rattle.sr_survey.specs.Inner.Alike.{ShowsAlike}
-use Rattle.sr_survey.specs.Inner.Concerning.{runs}
+use Rattle.sr_survey.specs.Inner.Concerning.{names_user, runs}
 use Rattle.sr_survey.specs.Inner.Following.{since_of}
 use Rattle.sr_survey.specs.Inner.Surveyed.{IsListed, IsNext, IsBefore, HasSurveyed, place_of}
 use Rattle.sr_survey.specs.declared.survey.Survey.{Survey}
@@ -55,6 +57,18 @@ entry_alike c d user (Sync to tables) (m ∷ meant) alike still are = absurd are
 entry_alike c d user (Pass users only text changes) meant alike still are = told_pass c d user text users only changes meant alike
 entry_alike c d user (Note about what) meant alike still are = refl
 
+-- by any two catalogs the same is told of a statement that is passed on to the user
+named_alike : (c d : Lists) (user : Name) (e : Entry) (meant : List (Option Stmt)) → names_user user e ≡ true → told d e meant user ≡ told c e meant user
+unfolding told
+named_alike c d user (Own changes) meant named = cc
+named_alike c d user (From from at ops) meant named = cc
+named_alike c d user (Ddl text) meant named = refl
+named_alike c d user (Sync to tables) meant named = cc
+named_alike c d user (Pass users only text changes) meant named =
+    ap (λ (b : Bool). cond b (Exec text ∷ []) (cond only [] (changes_told (subscribed_table_of d user) changes))) named
+    ∙ sym (ap (λ (b : Bool). cond b (Exec text ∷ []) (cond only [] (changes_told (subscribed_table_of c user) changes))) named)
+named_alike c d user (Note about what) meant named = refl
+
 -- an entry of a history fits after those before it
 fits_there : (publisher : Name) (es first rest : List Recorded) (r : Recorded) → Stored publisher es → es ≡ first ++ r ∷ rest → Stored publisher first × Fits (state_of publisher first) (end_of first) r
 fits_there publisher es first rest r stored e =
@@ -79,4 +93,13 @@ told_now publisher user es first rest r s meant stored has e begun since are =
     let still = still_there publisher user es first rest r s has e begun since (runs (entry_of r)) refl in
     entry_alike c s.catalog user (entry_of r) meant (has.shows user first (r ∷ rest) e since) still are
     ∙ ap (λ m. told c (entry_of r) m user) (meant_is r meant before.1.meant are)
+    ∙ told_same (state_of publisher first) (end_of first) r user (stored_holds publisher first before.0) before.1
+
+pub told_named : (publisher user : Name) (es first rest : List Recorded) (r : Recorded) (c : Lists) (meant : List (Option Stmt)) → Stored publisher es → es ≡ first ++ r ∷ rest → names_user user (entry_of r) ≡ true
+    → AreMeant (texts_of (entry_of r)) meant → told c (entry_of r) meant user ≡ gives (state_of publisher first) r user
+told_named publisher user es first rest r c meant stored e named are =
+    let before = fits_there publisher es first rest r stored e in
+    let there = (state_of publisher first).catalog in
+    named_alike there c user (entry_of r) meant named
+    ∙ ap (λ m. told there (entry_of r) m user) (meant_is r meant before.1.meant are)
     ∙ told_same (state_of publisher first) (end_of first) r user (stored_holds publisher first before.0) before.1

@@ -19,12 +19,12 @@ use Rattle.sr_scan.proofs.Meant.{meant_is}
 use Rattle.sr_scan.specs.Given.{gives}
 use Rattle.sr_scan.specs.Inner.Images.{catalog_after, told}
 use Rattle.sr_scan.specs.Inner.Meanings.{texts_of, AreMeant}
-use Rattle.sr_survey.proofs.Concerned.{entry_may}
+use Rattle.sr_survey.proofs.Concerned.{entry_may, named_by_text}
 use Rattle.sr_survey.proofs.Moving.{alike_itself, alike_on, after_alike}
 use Rattle.sr_survey.proofs.Served.{still_served, after_served}
 use Rattle.sr_survey.proofs.Splits.{EndsIn, split_end, split_entry, past_end, end_before, entry_ends_before}
 use Rattle.sr_survey.specs.Inner.Alike.{ShowsAlike, touched}
-use Rattle.sr_survey.specs.Inner.Concerning.{entry_keys, runs, IsLiveKey, IsHisBy, MayConcern}
+use Rattle.sr_survey.specs.Inner.Concerning.{entry_keys, names_user, runs, IsLiveKey, IsHisBy, MayConcern}
 use Rattle.sr_survey.specs.Inner.Following.{since_of, IsKeyOf}
 use Rattle.sr_survey.specs.Inner.Keyed.{keys_of}
 use Rattle.sr_survey.specs.Inner.Surveyed.{IsHis, IsListed, IsPlace, IsServed, HasSurveyed, Begins, Takes, place_of}
@@ -174,11 +174,28 @@ module _ (publisher : Name) (done : List Recorded) (r : Recorded) (old new : Sur
     places = λ k x h. ⊎_elim
         (λ i. more_place x (has.places k x i))
         (λ i. record { first = done; rest = []; entry = r; parts = refl; is = i.1 ∙ place_is }) (was_under k x h);
+    texts = λ user first rest q e h. named user first rest q (split_entry done r first q rest e) (was_under (keyed.Text user) (place_of first q) h);
     covers = λ user first rest q e begun. covered user first rest q begun (split_entry done r first q rest e);
     shows = λ user first rest e since. shown user first rest since (split_end done r first rest e);
     each = λ user first rest q e begun run. each_past user first rest q begun run (split_entry done r first q rest e);
     served = subst (λ c. AllByRecursion (IsServed new) c.subscriptions) (sym takes.catalog) (after_served new old.catalog takes.meant takes.noted (still_served old new old.catalog.subscriptions takes.keys has.served));
   } where
+    named : (user : Name) (first rest : List Recorded) (q : Recorded) → ((first ≡ done) × (q ≡ r)) ⊎ ((before : List Recorded) × (done ≡ first ++ q ∷ before))
+        → Contains (under old.places.lists (keyed.Text user)) (place_of first q) ⊎ (Contains (entry_keys old.catalog (entry_of r)) (keyed.Text user) × (place_of first q ≡ record { start = old.end; end = end_of (done ++ r ∷ []) }))
+        → names_user user (entry_of q) ≡ true
+    named user first rest q (inl a) (inl h) =
+        let early : end_of (first ++ q ∷ []) ≤ end_of done = ends_by (place_of first q) (has.places (keyed.Text user) (place_of first q) h) in
+        let same : end_of (first ++ q ∷ []) ≡ end_of (done ++ r ∷ []) = ap₂ (λ (es : List Recorded) (x : Recorded). end_of (es ++ x ∷ [])) a.0 a.1 in
+        let later : end_of done < end_of (done ++ r ∷ []) = past in
+        absurd (omega arith)
+    named user first rest q (inl a) (inr h) = subst (λ (x : Recorded). names_user user (entry_of x) ≡ true) (sym a.1) (named_by_text old.catalog (entry_of r) user h.0)
+    named user first rest q (inr b) (inl h) = has.texts user first b.0 q b.1 h
+    named user first rest q (inr b) (inr h) =
+        let early : end_of (first ++ q ∷ []) ≤ end_of done = entry_ends_before done first b.0 q b.1 in
+        let same : end_of (first ++ q ∷ []) ≡ end_of (done ++ r ∷ []) = ap (λ (p : Place). p.end) h.1 in
+        let later : end_of done < end_of (done ++ r ∷ []) = past in
+        absurd (omega arith)
+
     more_place : (x : Place) → IsPlace done x → IsPlace (done ++ r ∷ []) x
     more_place x p = record { first = p.first; rest = p.rest ++ r ∷ []; entry = p.entry; parts = ap (λ es. es ++ r ∷ []) p.parts ∙ append_assoc p.first (p.entry ∷ p.rest) (r ∷ []); is = p.is }
 
@@ -223,6 +240,7 @@ begun_surveyed publisher done base s b is = record {
   end_is = b.end;
   catalog = b.catalog ∙ is;
   places = λ k x h. absurd (b.none k x h);
+  texts = λ user first rest r e h. absurd (b.none (keyed.Text user) (place_of first r) h);
   covers = λ user first rest q e begun. absurd (none_behind first rest q e (subst (λ n. n ≤ end_of first) b.begin begun));
   shows = λ user first rest e since. same user first rest e since (ends_there first rest e (le_on (end_of done) (since_of s user) (end_of first) (let now : since_of s user ≡ end_of done = b.since user in omega arith) since));
   each = λ user first rest q e begun run. absurd (none_behind first rest q e (subst (λ n. n ≤ end_of first) b.begin begun));

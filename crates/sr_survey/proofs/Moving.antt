@@ -8,7 +8,7 @@ use Rattle.sr_catalog_schema.specs.Catalogs.{Lists}
 use Rattle.sr_catalog_schema.specs.declared.fault.DdlFault.{DdlFault}
 use Rattle.sr_publish.specs.SubscribedTables.{subscribed_table_of}
 use Rattle.sr_scan.specs.Inner.Images.{unless_refused, catalog_behind, catalog_after}
-use Rattle.sr_survey.proofs.Alike.{created, started, stopped, dropped}
+use Rattle.sr_survey.proofs.Alike.{created, granted_below, granted_above, started, stopped, dropped}
 use Rattle.sr_survey.specs.Inner.Alike.{ShowsAlike, touches, touched}
 
 pub alike_itself : (c : Lists) (user : Name) → ShowsAlike c c user
@@ -23,8 +23,8 @@ untouched c (stmt.CreateTable t) user e = cc
 untouched c (stmt.DropTable name) user e = cc
 untouched c (stmt.CreatePublication p) user e = cc
 untouched c (stmt.DropPublication name) user e = cc
-untouched c (stmt.GrantRemote g) user e = record { shares = λ table. refl; tables = λ table. refl }
-untouched c (stmt.GrantConsolidate g) user e = record { shares = λ table. refl; tables = λ table. refl }
+untouched c (stmt.GrantRemote g) user e = granted_below c g user
+untouched c (stmt.GrantConsolidate g) user e = granted_above c g user e
 untouched c (stmt.CreateSubscription r) user e = created c r user
 untouched c (stmt.StartSubscription r) user e = started c r user e
 untouched c (stmt.StopSubscription r) user e = stopped c r user e
@@ -32,6 +32,7 @@ untouched c (stmt.Synchronize r) user e = alike_itself c user
 untouched c (stmt.DropSubscription r) user e = dropped c r user e
 untouched c (stmt.CreateTrigger t) user e = record { shares = λ table. refl; tables = λ table. refl }
 untouched c (stmt.DropTrigger name) user e = record { shares = λ table. refl; tables = λ table. refl }
+untouched c (stmt.SetOption o) user e = cc
 untouched c (stmt.Dml d) user e = alike_itself c user
 untouched c (stmt.Select q) user e = alike_itself c user
 untouched c stmt.Commit user e = alike_itself c user

@@ -3,6 +3,7 @@ use Rattle.std.proofs.Common.{◌≡◌, ◌⊎◌, ℕ, ◌≤◌, max, true, L
 use Rattle.std.proofs.lemmas.Slice.Eq.{bytes_eq-Decides}
 use Rattle.std.proofs.lemmas.List.Elements.{All-append, Contains-append_left, Contains-append_right}
 use Rattle.std.specs.List.{Contains}
+use Rattle.sr_ast.specs.declared.create.Grant.{Grant}
 use Rattle.sr_ast.specs.declared.create.SubscriptionRule.{SubscriptionRule}
 use Rattle.sr_ast.specs.declared.stmt.Stmt.{Stmt}
 use Rattle.sr_ast.specs.declared.stmt.Stmt.TheVariants as stmt
@@ -96,6 +97,17 @@ dropped a b r at moved = record {
   catalog = moved.catalog;
 }
 
+granted : (a b : Survey) (g : Grant) (at : ℕ) → Touches a g.user at b → Notes a (stmt.GrantConsolidate g) at b
+granted a b g at moved = record {
+  touched = λ user e. subst (λ (u : Name). at ≤ since_of b u) (sym ((bytes_eq-Decides user g.user).0 e)) moved.since;
+  bound = moved.bound;
+  others = moved.others;
+  noted = tt;
+  only = λ u k h. inl (moved.only u k h);
+  knows = moved.knows;
+  catalog = moved.catalog;
+}
+
 -- the same of a call's answer
 pub stopped_so : {A E : Type 0} (a b : Survey) (s : Stmt) (r : SubscriptionRule) (at : ℕ) (result : Result A E) → s ≡ stmt.StopSubscription r → OnOk result (Touches a r.user at b) → OnOk result (Notes a s at b)
 stopped_so a b s r at (Ok done) is moved = subst (λ x. Notes a x at b) (sym is) (stopped a b r at moved)
@@ -105,6 +117,10 @@ pub dropped_so : {A E : Type 0} (a b : Survey) (s : Stmt) (r : SubscriptionRule)
 dropped_so a b s r at (Ok done) is moved = subst (λ x. Notes a x at b) (sym is) (dropped a b r at moved)
 dropped_so a b s r at (Err e) is moved = tt
 
+pub granted_so : {A E : Type 0} (a b : Survey) (s : Stmt) (g : Grant) (at : ℕ) (result : Result A E) → s ≡ stmt.GrantConsolidate g → OnOk result (Touches a g.user at b) → OnOk result (Notes a s at b)
+granted_so a b s g at (Ok done) is moved = subst (λ x. Notes a x at b) (sym is) (granted a b g at moved)
+granted_so a b s g at (Err e) is moved = tt
+
 -- a statement that touches nobody
 pub quiet_noted : (a : Survey) (s : Stmt) (at : ℕ) → is_quiet s ≡ true → Notes a s at a
 quiet_noted a (stmt.CreateTable t) at e = cc
@@ -112,7 +128,7 @@ quiet_noted a (stmt.DropTable name) at e = cc
 quiet_noted a (stmt.CreatePublication p) at e = cc
 quiet_noted a (stmt.DropPublication name) at e = cc
 quiet_noted a (stmt.GrantRemote g) at e = record { touched = λ user t. cc; bound = λ user. max_itself (since_of a user) at; others = λ user t. refl; noted = tt; only = λ u k h. inl h; knows = knows_itself a; catalog = refl }
-quiet_noted a (stmt.GrantConsolidate g) at e = record { touched = λ user t. cc; bound = λ user. max_itself (since_of a user) at; others = λ user t. refl; noted = tt; only = λ u k h. inl h; knows = knows_itself a; catalog = refl }
+quiet_noted a (stmt.GrantConsolidate g) at e = cc
 quiet_noted a (stmt.CreateSubscription r) at e = record { touched = λ user t. cc; bound = λ user. max_itself (since_of a user) at; others = λ user t. refl; noted = tt; only = λ u k h. inl h; knows = knows_itself a; catalog = refl }
 quiet_noted a (stmt.StartSubscription r) at e = cc
 quiet_noted a (stmt.StopSubscription r) at e = cc
@@ -120,6 +136,7 @@ quiet_noted a (stmt.Synchronize r) at e = record { touched = λ user t. cc; boun
 quiet_noted a (stmt.DropSubscription r) at e = cc
 quiet_noted a (stmt.CreateTrigger t) at e = record { touched = λ user t. cc; bound = λ user. max_itself (since_of a user) at; others = λ user t. refl; noted = tt; only = λ u k h. inl h; knows = knows_itself a; catalog = refl }
 quiet_noted a (stmt.DropTrigger name) at e = record { touched = λ user t. cc; bound = λ user. max_itself (since_of a user) at; others = λ user t. refl; noted = tt; only = λ u k h. inl h; knows = knows_itself a; catalog = refl }
+quiet_noted a (stmt.SetOption o) at e = cc
 quiet_noted a (stmt.Dml d) at e = record { touched = λ user t. cc; bound = λ user. max_itself (since_of a user) at; others = λ user t. refl; noted = tt; only = λ u k h. inl h; knows = knows_itself a; catalog = refl }
 quiet_noted a (stmt.Select q) at e = record { touched = λ user t. cc; bound = λ user. max_itself (since_of a user) at; others = λ user t. refl; noted = tt; only = λ u k h. inl h; knows = knows_itself a; catalog = refl }
 quiet_noted a stmt.Commit at e = record { touched = λ user t. cc; bound = λ user. max_itself (since_of a user) at; others = λ user t. refl; noted = tt; only = λ u k h. inl h; knows = knows_itself a; catalog = refl }
@@ -142,6 +159,7 @@ all_noted a b (stmt.Synchronize r) at e moved = cc
 all_noted a b (stmt.DropSubscription r) at e moved = cc
 all_noted a b (stmt.CreateTrigger t) at e moved = cc
 all_noted a b (stmt.DropTrigger name) at e moved = cc
+all_noted a b (stmt.SetOption o) at e moved = record { touched = λ user t. moved.since user; bound = moved.bound; others = λ user t. cc; noted = tt; only = λ u k h. inl (moved.only u k h); knows = moved.knows; catalog = moved.catalog }
 all_noted a b (stmt.Dml d) at e moved = cc
 all_noted a b (stmt.Select q) at e moved = cc
 all_noted a b stmt.Commit at e moved = cc

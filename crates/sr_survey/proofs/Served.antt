@@ -106,6 +106,7 @@ module _ (s : Survey) where
   next_served c (stmt.DropSubscription r) noted all = dropped_served (λ x. not (is_of r x)) c.subscriptions all
   next_served c (stmt.CreateTrigger t) noted all = all
   next_served c (stmt.DropTrigger name) noted all = all
+  next_served c (stmt.SetOption o) noted all = all
   next_served c (stmt.Dml d) noted all = all
   next_served c (stmt.Select q) noted all = all
   next_served c stmt.Commit noted all = all

@@ -120,7 +120,7 @@ fn put(
     }
 }
 
-/// Whether a statement is one on tables or publications.
+/// Whether a statement is one on tables, publications or options.
 fn is_for_all(statement: &Stmt) -> bool
     ensures for_all { result ≡ is_for_all statement.now }
 {
@@ -128,7 +128,8 @@ fn is_for_all(statement: &Stmt) -> bool
         Stmt::CreateTable(_)
         | Stmt::DropTable(_)
         | Stmt::CreatePublication(_)
-        | Stmt::DropPublication(_) => true,
+        | Stmt::DropPublication(_)
+        | Stmt::SetOption(_) => true,
         Stmt::GrantRemote(_)
         | Stmt::GrantConsolidate(_)
         | Stmt::CreateSubscription(_)

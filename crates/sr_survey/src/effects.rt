@@ -30,11 +30,12 @@ impl Survey {
             Stmt::DropTable(_) => self.note_for_all(statement, at),
             Stmt::CreatePublication(_) => self.note_for_all(statement, at),
             Stmt::DropPublication(_) => self.note_for_all(statement, at),
+            Stmt::SetOption(_) => self.note_for_all(statement, at),
             Stmt::StartSubscription(rule) => self.start(alloc, rule, at),
             Stmt::StopSubscription(rule) => self.touch(alloc, &rule.user, at),
             Stmt::DropSubscription(rule) => self.touch(alloc, &rule.user, at),
+            Stmt::GrantConsolidate(grant) => self.touch(alloc, &grant.user, at),
             Stmt::GrantRemote(_)
-            | Stmt::GrantConsolidate(_)
             | Stmt::CreateSubscription(_)
             | Stmt::Synchronize(_)
             | Stmt::CreateTrigger(_)
@@ -48,7 +49,7 @@ impl Survey {
         }
     }
 
-    /// Notes that a statement on tables or publications may show everybody another catalog.
+    /// Notes that a statement on tables, publications or options may show everybody another catalog.
     fn note_for_all(&mut self, statement: &Stmt, at: u64) -> Result<(), NoMemory>
         requires for_all { is_for_all statement.now ≡ true }
         ensures noted { OnOk result (Notes self.old statement.now at self.new) }

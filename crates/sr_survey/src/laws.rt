@@ -1,9 +1,7 @@
 //! What holds of surveys. Each function does nothing: it carries a law as its clauses.
 
-ghost use Rattle.std.specs.Prelude.{◌≡◌, ◌⊎◌, ◌++◌, ◌∷◌, ◌≤◌, ◌<◌, ℕ, Bool, List, bytes_eq, true, false, [], Option, Some, None};
-ghost use Rattle.std.specs.List.{AllByRecursion};
-ghost use Rattle.sr_ast.specs.declared.create.Grant.{Grant as Granting};
-ghost use Rattle.sr_ast.specs.declared.create.SubscriptionRule.{SubscriptionRule as Rule};
+ghost use Rattle.std.specs.Prelude.{◌≡◌, ◌⊎◌, ◌++◌, ◌∷◌, ◌≤◌, ◌<◌, ℕ, Bool, List, true, false, [], Option, Some, None};
+ghost use Rattle.std.specs.List.{AllByRecursion, Contains};
 ghost use Rattle.sr_ast.specs.declared.stmt.Stmt.{Stmt as Statement};
 ghost use Rattle.sr_ast.specs.declared.stmt.Stmt.TheVariants as stmt;
 ghost use Rattle.sr_base.specs.declared.offset.Offset.{Offset as Place};
@@ -33,8 +31,10 @@ ghost use Rattle.sr_survey.specs.Inner.Concerning.{MayConcern};
 ghost use Rattle.sr_survey.specs.Inner.Keyed.{article_key, keys_of, IsSharedKey};
 ghost use Rattle.sr_survey.specs.Inner.Quiet.{GiveNothing, IsUnheld};
 ghost use Rattle.sr_survey.specs.Inner.Following.{since_of};
-ghost use Rattle.sr_survey.specs.Inner.Surveyed.{HasSurveyed, IsNext, IsBefore, IsToldNow, Begins, OfEach, Takes};
+ghost use Rattle.sr_survey.specs.Inner.Surveyed.{HasSurveyed, IsNext, IsBefore, IsToldNow, Begins, OfEach, Takes, place_of};
 ghost use Rattle.sr_survey.specs.declared.survey.Survey.{Survey as ASurvey};
+ghost use Rattle.sr_survey_places.specs.Inner.Listed.{under};
+ghost use Rattle.sr_survey_places.specs.declared.key.Key.TheVariants as keyed;
 ghost use Rattle.sr_survey_places.specs.declared.place.Place.{Place as Listed};
 
 /// A survey that begins behind a history with its catalog knows of it what there is to know: nothing is listed, for nothing stands behind it.
@@ -55,10 +55,13 @@ pub fn nothing_is_due_before_the_next()
         → OfEach es s (λ first r. sent < end_of (first ++ r ∷ []) → IsBefore (end_of (first ++ r ∷ [])) next → gives (state_of publisher first) r user ≡ []) }
 {}
 
-/// What an entry gives a user is told by the catalog of now, where it begins no sooner than that shows him what he was shown then.
+/// What an entry gives a user is told by the catalog of now, where it begins no sooner than that shows him what he was shown then; and of a statement that
+/// is passed on to him by any catalog, which is all that stands under his key of these.
 pub fn what_is_given_is_told_by_the_catalog_of_now()
     ensures told { (publisher user : Bytes) (es : List Recorded) (s : ASurvey) (meant : List (Option Statement)) → Stored publisher es → HasSurveyed publisher es s
         → OfEach es s (λ first r. since_of s user ≤ end_of first → AreMeant (texts_of (entry_of r)) meant → IsToldNow publisher user s meant first r) }
+    ensures named { (publisher user : Bytes) (es : List Recorded) (s : ASurvey) (meant : List (Option Statement)) → Stored publisher es → HasSurveyed publisher es s
+        → OfEach es s (λ first r. Contains (under s.places.lists (keyed.Text user)) (place_of first r) → AreMeant (texts_of (entry_of r)) meant → IsToldNow publisher user s meant first r) }
 {}
 
 /// An entry that fits the state before it and is listed under no key of a user, or as taken from him, gives him nothing.

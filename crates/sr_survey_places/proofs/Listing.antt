@@ -230,6 +230,10 @@ pub on_err : {X E A B : Type 0} (r : Result X E) → OnErr r A → (A → B) →
 on_err (Ok x) a f = tt
 on_err (Err e) a f = f a
 
+pub err_too : {X E A : Type 0} (r : Result X E) → A → OnErr r A
+err_too (Ok x) a = tt
+err_too (Err e) a = a
+
 same_get : (m n : ByKey) → n.entries ≡ m.entries → (q : Key) → tree.get key_cmp n q ≡ tree.get key_cmp m q
 same_get m n same q = ap (λ es. lookup (is_at (key_cmp q)) es) same
 

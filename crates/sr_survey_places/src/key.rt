@@ -1,11 +1,11 @@
 //! What an entry of a log is listed under.
 
 ghost use Rattle.std.specs.Prelude.{◌≡◌, refl, IfOk};
-ghost use Rattle.std.specs.Ordering.{eq_by_cmp, as_partial_cmp};
+ghost use Rattle.std.specs.Ordering.{eq_by_cmp, as_partial_cmp, ordering_then};
 ghost use Rattle.std.specs.Cmp.{partial_equiv_from_equiv, eq_by_cmp_equiv, po};
 ghost use Rattle.std.proofs.Common.{rules};
 ghost use Rattle.std.specs.Cmp.Rules.{comparing};
-ghost use Rattle.sr_base.specs.Order.{value_cmp};
+ghost use Rattle.sr_base.specs.Order.{name_cmp, value_cmp};
 
 use sr_base::{Copied, Name, NoMemory, Value};
 use std::alloc::Global;
@@ -90,13 +90,24 @@ impl Key {
     }
 }
 
-ghost use Rattle.sr_survey_places.specs.Inner.Keys.{value_of};
+ghost use Rattle.sr_survey_places.specs.Inner.Keys.{name_of, value_of};
 
-/// The order of two keys by their values; NULL stands for one that has none.
+/// The order of two keys by their names, and by their values where these are equal.
+fn order_of_kind(key: &Key, other: &Key) -> Ordering
+    ensures order { result ≡ ordering_then (name_cmp (name_of key.now) (name_of other.now)) (value_cmp (value_of key.now) (value_of other.now)) }
+{
+    match key.name().cmp(other.name()) {
+        Ordering::Equal => value_order(key, other),
+        order => order,
+    }
+}
+
+/// The order of two keys by their values; NULL stands for one that has none. Two numbers are compared as such.
 fn value_order(key: &Key, other: &Key) -> Ordering
     ensures order { result ≡ value_cmp (value_of key.now) (value_of other.now) }
 {
     match (key, other) {
+        (Key::Part(_, Value::Big(number)), Key::Part(_, Value::Big(other))) => number.cmp(other),
         (Key::Part(_, value), Key::Part(_, other)) => value.cmp(other),
         (Key::Part(_, value), _) => value.cmp(&Value::Null),
         (_, Key::Part(_, value)) => Value::Null.cmp(value),
@@ -149,8 +160,9 @@ impl Ord for Key {
     ghost matches_eq = { Prim.search (comparing, rules) };
 
     fn cmp(&self, other: &Key) -> Ordering {
-        self.rank().cmp(&other.rank()).then(
-            self.name().cmp(other.name()).then(value_order(self, other)),
-        )
+        match self.rank().cmp(&other.rank()) {
+            Ordering::Equal => order_of_kind(self, other),
+            order => order,
+        }
     }
 }

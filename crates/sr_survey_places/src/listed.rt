@@ -3,16 +3,14 @@
 ghost use Rattle.std.specs.Prelude.{◌≡◌, ◌⊎◌, ◌++◌, ◌∷◌, [], ℕ, ◌≤◌, ◌<◌, ◌+◌, ◌-◌, ◌^◌, min, length, true, false, Some, IfOk, OnOk, OnErr, IsTrue};
 ghost use Rattle.std.specs.BTreeMap.{IsUnchanged};
 ghost use Rattle.std.specs.List.{Contains, insert};
-ghost use Rattle.sr_survey_places.specs.Inner.Ready.{IsReady};
-ghost use Rattle.sr_survey_places.specs.Inner.Search.{InOrder, IsFirstPast};
+ghost use Rattle.sr_survey_places.specs.Inner.Search.{InOrder, IsFirstOther};
 ghost use Rattle.sr_survey_places.specs.declared.place.Place.{Place as APlace};
-ghost use Rattle.sr_survey_places.specs.Inner.Keys.{is_shared};
-ghost use Rattle.sr_survey_places.specs.Inner.Listed.{under, has_list, count_of, IsEmpty, IsBegun, IsListedUnder, IsLeft, IsFirstUnder, IsFirstAmong};
+ghost use Rattle.sr_survey_places.specs.Inner.Listed.{under, has_list, count_of, IsEmpty, IsBegun, IsListedUnder, IsLeft, IsUnder, IsFirstAmong};
 
 use crate::key::Key;
 use crate::listings::Listings;
 use crate::place::Place;
-use crate::search::{count_passed, earlier, first_past, is_own};
+use crate::search::{count_passed, earlier, end_of_some, first_other};
 use sr_base::{Copied, NoMemory, Seq};
 use std::alloc::{AllocError, Global};
 use std::collections::BTreeMap;
@@ -52,87 +50,115 @@ impl Listings {
     }
 
     /// Lists a place under a key, where it is begun, in the order of the ends. The last one there is not listed again. Where memory lacks all
-    /// places, and what is begun, are as they were. It takes logarithmic time, and a pass over the places that end past it.
-    #[tactic(auto, using(crate::proofs::Listing::ready_listed, crate::proofs::Leaving::ready_left))]
+    /// places, and what is begun, are as they were. It takes one look-up, and a pass over the places that end past it; and two look-ups more where an own
+    /// key has no list yet.
     pub fn add(&mut self, alloc: Global, key: &Key, place: Place) -> Result<(), NoMemory>
         ensures listed { OnOk result (IsListedUnder self.old.lists (key.now ∷ []) place self.new.lists) }
         ensures left { OnErr result (IsLeft self.old.lists self.new.lists) }
     {
-        self.make_ready(alloc, key)?;
-        self.put(alloc, key, place)
+        if self.put(alloc, key, place)? {
+            return Ok(());
+        }
+        self.add_anew(alloc, key, place)
     }
 
-    /// Makes a key ready for a place: one of rows has a list only where it is begun.
-    #[tactic(auto, using(crate::proofs::Listing::ready_already, crate::proofs::Listing::ready_begun, crate::proofs::Leaving::unchanged_left))]
-    fn make_ready(&mut self, alloc: Global, key: &Key) -> Result<(), NoMemory>
-        ensures ready { OnOk result (IsReady self.old.lists key.now self.new.lists) }
+    /// Lists a place under a key that has no list: one of rows has one only where it is begun.
+    fn add_anew(&mut self, alloc: Global, key: &Key, place: Place) -> Result<(), NoMemory>
+        requires none { has_list self.old.lists key.now ≡ false }
+        ensures listed { OnOk result (IsListedUnder self.old.lists (key.now ∷ []) place self.new.lists) }
         ensures left { OnErr result (IsLeft self.old.lists self.new.lists) }
     {
         if key.is_shared() {
             return Ok(());
         }
-        self.begin(alloc, key)
+        self.begin(alloc, key)?;
+        self.put(alloc, key, place)?;
+        Ok(())
     }
 
-    /// Lists a place among those of a key that has some.
-    fn put(&mut self, alloc: Global, key: &Key, place: Place) -> Result<(), NoMemory>
-        requires there { is_shared key.now ≡ false → has_list self.old.lists key.now ≡ true }
-        ensures listed { OnOk result (IsListedUnder self.old.lists (key.now ∷ []) place self.new.lists) }
+    /// Lists a place among those of a key, if it has a list, and answers whether it has one.
+    fn put(&mut self, alloc: Global, key: &Key, place: Place) -> Result<bool, NoMemory>
+        ensures there { IfOk result (λ there. there ≡ has_list self.old.lists key.now) }
+        ensures listed { IfOk result (λ there. there ≡ true → IsListedUnder self.old.lists (key.now ∷ []) place self.new.lists) }
+        ensures none { IfOk result (λ there. there ≡ false → self.new.lists ≡ self.old.lists) }
         ensures left { OnErr result (IsLeft self.old.lists self.new.lists) }
     {
         match self.lists.get_mut(key) {
-            Some(places) => put(alloc, places, &mut self.count, place),
-            None => Ok(()),
+            Some(places) => {
+                put(alloc, places, &mut self.count, place)?;
+                Ok(true)
+            }
+            None => Ok(false),
         }
     }
 
     /// The first place under one of some keys, in two parts, that ends past an offset and is none that was taken from a user, who is named by the key
     /// `from`; `None` only where there is none.
     ///
-    /// It takes logarithmic time for each key, and as much again for each place that it leaves out. Who goes on behind what it answers has each place left
-    /// out once, under however many keys it stands.
+    /// It takes logarithmic time for each key. Where it leaves out places it takes that again as often as their number can be halved, and logarithmic time
+    /// for each of them under each key, and for no more than about as many behind what it answers.
     pub fn first_among(&self, keys: &[Key], others: &[Key], from: &Key, sent: u64) -> Option<Place>
         ensures first { IsFirstAmong self.now.lists (keys.now ++ others.now) from.now sent result }
     {
         let own = self.places(from);
         let mut passed = sent;
-        'places: while let Some(place) = self.first_of_both(keys, others, passed) {
-            if !is_own(own, place) {
+        let mut many = 1;
+        'spans: while let Some(end) = end_of_some(own, passed, many) {
+            if let Some(place) = self.first_of_both(keys, others, own, passed, Some(end)) {
                 return Some(place);
             }
-            passed = place.end;
+            passed = end;
+            many = many.saturating_mul(2);
         }
-        None
+        self.first_of_both(keys, others, own, passed, None)
     }
 
-    /// The first place under one of some keys, in two parts, that ends past an offset. It takes the time of `first_past` for each key.
+    /// The first place under one of some keys, in two parts, that ends past an offset, within a limit where there is one, and is none of others. It takes
+    /// the time of `first_under` for the keys of both.
     #[tactic(auto, using(crate::proofs::First::first_both))]
-    fn first_of_both(&self, keys: &[Key], others: &[Key], sent: u64) -> Option<Place>
-        ensures first { IsFirstUnder self.now.lists (keys.now ++ others.now) sent result }
+    fn first_of_both(
+        &self,
+        keys: &[Key],
+        others: &[Key],
+        own: &[Place],
+        passed: u64,
+        limit: Option<u64>,
+    ) -> Option<Place>
+        requires own { InOrder own.now }
+        ensures first { IsFirstOther (IsUnder self.now.lists (keys.now ++ others.now)) own.now passed limit result }
     {
-        let first = self.first_under(keys, sent);
-        let other = self.first_under(others, sent);
+        let first = self.first_under(keys, own, passed, limit);
+        let other = self.first_under(others, own, passed, limit);
         earlier(first, other)
     }
 
-    /// The first place under one of some keys that ends past an offset. It takes the time of `first_past` for each key.
-    fn first_under(&self, keys: &[Key], sent: u64) -> Option<Place>
-        ensures first { IsFirstUnder self.now.lists keys.now sent result }
+    /// The first place under one of some keys that ends past an offset, within a limit where there is one, and is none of others. It takes the time of
+    /// `first_other` for each key.
+    fn first_under(
+        &self,
+        keys: &[Key],
+        own: &[Place],
+        passed: u64,
+        limit: Option<u64>,
+    ) -> Option<Place>
+        requires own { InOrder own.now }
+        ensures first { IsFirstOther (IsUnder self.now.lists keys.now) own.now passed limit result }
     {
         let mut first = None;
         let mut left = keys;
         'keys: while let Some((key, rest)) = left.split_first() {
-            first = earlier(first, self.first_past(key, sent));
+            first = earlier(first, self.first_in(key, own, passed, limit));
             left = rest;
         }
         first
     }
 
-    /// The first place under a key that ends past an offset. It takes logarithmic time.
-    fn first_past(&self, key: &Key, sent: u64) -> Option<Place>
-        ensures first { IsFirstPast (under self.now.lists key.now) sent result }
+    /// The same under one key. It takes one look-up, and the time of `first_other`.
+    fn first_in(&self, key: &Key, own: &[Place], passed: u64, limit: Option<u64>) -> Option<Place>
+        requires own { InOrder own.now }
+        ensures first { IsFirstOther (Contains (under self.now.lists key.now)) own.now passed limit result }
     {
-        first_past(self.places(key), sent)
+        first_other(self.places(key), own, passed, limit)
     }
 
     /// The places under a key.

@@ -1,8 +1,8 @@
 //! The first place past an offset.
 
-ghost use Rattle.std.specs.Prelude.{◌≡◌, ◌≤◌, ◌<◌, ℕ, List, length, IsTrue, false};
-ghost use Rattle.std.specs.List.{AllWithin};
-ghost use Rattle.sr_survey_places.specs.Inner.Search.{InOrder, IsOwn, IsFirstPast, earlier};
+ghost use Rattle.std.specs.Prelude.{◌≡◌, ◌≤◌, ◌<◌, ℕ, List, length, min, IsTrue, IfSome, false};
+ghost use Rattle.std.specs.List.{AllWithin, Contains};
+ghost use Rattle.sr_survey_places.specs.Inner.Search.{InOrder, IsOwn, IsWithin, IsFirstOther, earlier};
 
 use crate::place::Place;
 
@@ -36,17 +36,62 @@ pub(crate) fn is_own(own: &[Place], place: Place) -> bool
     at < own.len() && own[at].end == place.end
 }
 
-/// The first of the places that ends past an offset. It takes logarithmic time.
-pub(crate) fn first_past(places: &[Place], sent: u64) -> Option<Place>
-    requires { InOrder places.now }
-    ensures first { IsFirstPast places.now sent result }
+/// The first of the places that ends past an offset, within a limit where there is one, and is none of others. It takes logarithmic time, and as much again
+/// for each place that it leaves out.
+pub(crate) fn first_other(
+    places: &[Place],
+    own: &[Place],
+    passed: u64,
+    limit: Option<u64>,
+) -> Option<Place>
+    requires order { InOrder places.now }
+    requires own { InOrder own.now }
+    ensures first { IsFirstOther (Contains places.now) own.now passed limit result }
 {
-    let at = count_passed(places, sent);
-    if at < places.len() {
-        Some(places[at])
-    } else {
-        None
+    let mut at = count_passed(places, passed);
+    'places: while at < places.len() {
+        let place = places[at];
+        if !lies_within(limit, place.end) {
+            return None;
+        }
+        if !is_own(own, place) {
+            return Some(place);
+        }
+        at += 1;
     }
+    None
+}
+
+/// Whether an offset lies within a limit, where there is one.
+fn lies_within(limit: Option<u64>, at: u64) -> bool
+    ensures within { IsTrue result → IsWithin limit at }
+    ensures behind { result ≡ false → ¬ (IsWithin limit at) }
+{
+    match limit {
+        None => true,
+        Some(limit) => at <= limit,
+    }
+}
+
+/// Where the last of the next places ends, of those that end past an offset: so many and one, or as many as there are; nothing where there is none. It takes
+/// logarithmic time.
+pub(crate) fn end_of_some(places: &[Place], passed: u64, many: usize) -> Option<u64>
+    requires { InOrder places.now }
+    ensures further { IfSome result (λ end. passed < end) }
+{
+    let at = count_passed(places, passed);
+    if places.len() <= at {
+        return None;
+    }
+    let last = lesser(at.saturating_add(many), places.len() - 1);
+    Some(places[last].end)
+}
+
+/// The lesser of two numbers.
+fn lesser(number: usize, other: usize) -> usize
+    ensures lesser { result ≡ min number other }
+{
+    if number <= other { number } else { other }
 }
 
 /// The one of two places that ends first, where there are two.

@@ -45,7 +45,7 @@ use Rattle.sr_database_history.specs.Recorded.{IsNoExec}
 use Rattle.sr_logform.specs.Outcomes.{IsChange}
 use Rattle.sr_resolve.specs.Judging.{IsStatementOf}
 use Rattle.sr_resolve.specs.Taking.{is_above}
-use Rattle.sr_catalog_schema.specs.Catalogs.{Lists}
+use Rattle.sr_catalog_schema.specs.Catalogs.{Lists, unset}
 use Rattle.sr_world.proofs.Named.{text_u, int_ok, row_ok, slim_ok, new_ok, update_ok}
 use Rattle.sr_catalog_ddl.specs.Tables.{column_of}
 
@@ -138,6 +138,7 @@ state_at publisher users tables publications subscriptions rows = record {
     publications = publications;
     triggers = [];
     subscriptions = subscriptions;
+    options = unset;
   };
   rows = rows;
 }

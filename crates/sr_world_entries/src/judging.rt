@@ -2,6 +2,7 @@
 
 ghost use Rattle.std.specs.Prelude.{◌≡◌, ◌∷◌, ◌++◌, [], true, is_ok, IfOk, IsSome, OnOk};
 ghost use Rattle.sr_base.specs.Values.{offset_from};
+ghost use Rattle.sr_catalog_ddl.specs.Users.{stands_above};
 ghost use Rattle.sr_catalog_schema.specs.Members.{user_name};
 ghost use Rattle.sr_catalog_schema.specs.Names.{named};
 ghost use Rattle.sr_database_fold.specs.Inner.Readings.{state_in};
@@ -10,7 +11,7 @@ ghost use Rattle.sr_database_history.specs.Folds.{after_done};
 ghost use Rattle.sr_database_history.specs.Recorded.{Done, done_of, IsLawfulDone};
 ghost use Rattle.sr_exec_dml.specs.Inner.Conditions.{RowsFit};
 ghost use Rattle.sr_logform.specs.declared.entry.Entry.TheVariants.{From};
-ghost use Rattle.sr_resolve.specs.Taking.{is_above, place_of};
+ghost use Rattle.sr_resolve.specs.Taking.{is_above};
 ghost use Rattle.sr_rows.specs.Inner.Steps.{at_mark};
 ghost use Rattle.sr_world_entries.specs.Inner.Judging.{AreJudgedAs, IsOneMore, IsPairOf};
 
@@ -41,7 +42,7 @@ pub(crate) fn judge_ops(
 
 /// Whether what a user sends comes from above.
 fn is_above(catalog: &Catalog, user: &Name) -> bool
-    ensures above { result ≡ place_of (named user_name user.now catalog.now.users) }
+    ensures above { result ≡ stands_above (named user_name user.now catalog.now.users) }
 {
     match catalog.user(user) {
         Some(partner) => partner.above,

@@ -215,6 +215,7 @@ fn makes(
         | Stmt::DropSubscription(_)
         | Stmt::CreateTrigger(_)
         | Stmt::DropTrigger(_)
+        | Stmt::SetOption(_)
         | Stmt::Select(_)
         | Stmt::Commit
         | Stmt::Rollback

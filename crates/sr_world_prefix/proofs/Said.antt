@@ -20,7 +20,7 @@ use Rattle.sr_logform.specs.declared.change.Change.{Change}
 use Rattle.sr_catalog_schema.specs.declared.fault.DmlFault.{DmlFault}
 use Rattle.sr_catalog_schema.specs.declared.publication.Article.{Article}
 use Rattle.sr_session_script.specs.Acts.{ScriptAct, commits, row, rows, region_begins, entries_of}
-use Rattle.sr_session_script.specs.Meaning.{Stepped, goes, stops, accepted, after, began, catalog_changes, changed, changes_by, closing, committing, done_by, ended, enters, is_done_already, list_of, listing, on_catalog, on_rows, on_users, on_views, once_closed, passed, recorded, row_changes, rows_by, then_step, unless_dml, with_pending, without_changes}
+use Rattle.sr_session_script.specs.Meaning.{Stepped, goes, stops, accepted, after, began, catalog_changes, changed, changes_by, closing, committing, done_by, ended, enters, is_done_already, list_of, listing, on_catalog, on_rows, on_uncarried, on_views, once_closed, passed, recorded, row_changes, rows_by, then_step, unless_dml, with_pending, without_changes}
 use Rattle.sr_session_script.specs.Scripts.{ScriptRun, going_on, last_acts, ran as script_of, ran_from}
 use Rattle.sr_session_script.specs.Synced.{view_of, views_of}
 use Rattle.sr_session_script.specs.Works.{Work, at_beginning, closed, region_of, visible}
@@ -144,9 +144,9 @@ said_catalog (Some p) s none w = said_passed p s (catalog_changes p.only w.state
 once_catalog : (w : Work) (s : Stmt) → ((x : State) → AreChangesOf x s []) → IsSaidStep w.state (once_closed w (on_catalog w.region s))
 once_catalog w s none = said_once w (on_catalog w.region s) (said_catalog w.region s none)
 
-said_users : (region : Option Passthrough) (name : Name) (s : Stmt) (w : Work) → IsSaidStep w.state (on_users region name s w)
-said_users None name s w = said_changed s w
-said_users (Some p) name s w = tt
+said_uncarried : (region : Option Passthrough) (name : Name) (s : Stmt) (w : Work) → IsSaidStep w.state (on_uncarried region name s w)
+said_uncarried None name s w = said_changed s w
+said_uncarried (Some p) name s w = tt
 
 all_viewed : (s : State) (user : Name) (articles : List Article) → AllByRecursion (IsViewed s user) (map (λ (a : Article). view_of s user a.table) articles)
 unfolding view_of
@@ -169,8 +169,9 @@ said_rows (Some p) d w =
 
 said_done : (w : Work) (s : Stmt) → IsSaidStep w.state (done_by w s)
 unfolding done_by
-said_done w (stmt.GrantRemote g) = said_once w (on_users w.region g.user (stmt.GrantRemote g)) (said_users w.region g.user (stmt.GrantRemote g))
-said_done w (stmt.GrantConsolidate g) = said_once w (on_users w.region g.user (stmt.GrantConsolidate g)) (said_users w.region g.user (stmt.GrantConsolidate g))
+said_done w (stmt.GrantRemote g) = said_once w (on_uncarried w.region g.user (stmt.GrantRemote g)) (said_uncarried w.region g.user (stmt.GrantRemote g))
+said_done w (stmt.GrantConsolidate g) = said_once w (on_uncarried w.region g.user (stmt.GrantConsolidate g)) (said_uncarried w.region g.user (stmt.GrantConsolidate g))
+said_done w (stmt.SetOption o) = said_once w (on_uncarried w.region o.name (stmt.SetOption o)) (said_uncarried w.region o.name (stmt.SetOption o))
 said_done w (stmt.Synchronize r) = said_once w (on_views w.region r) (said_views w.region r)
 said_done w (stmt.Dml d) = said_rows w.region d w
 said_done w (stmt.Select q) = said_then w.state (rows_by (visible w) q) (λ (found : List (List Cell)). goes (listing found) w) (λ found. said_listing w.state found (length found))

@@ -172,7 +172,7 @@ module _ (user : Name) (sh : SubscribedTable) (t : Table) (key : List Cell) (m :
         of_if P no (not (names_key x named)) NoColumn _ (λ a.
         of_if P no (list_any (is_no_target x) updates) NoColumn _ (λ b.
         of_unless P no (fitted_key x named) BadValue _ (λ place fitted.
-        of_unless P no (new_values updates x.columns) BadValue _ (λ news are.
+        of_unless P no (new_values above updates x.columns) BadValue _ (λ news are.
         of_if P no (list_any is_null place) Null _ (λ d.
         of_if P no (sets_null x.columns news) Null _ (λ e.
         of_unless P no (rows_of_table s.rows x.name place) NoRow _ (λ stored held.

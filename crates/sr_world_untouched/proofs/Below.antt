@@ -7,7 +7,7 @@ use Rattle.sr_base.specs.declared.value.Value.{Value as Cell}
 use Rattle.sr_book.specs.Entries.{Name, takes}
 use Rattle.sr_book.specs.Histories.{taken as taken_from}
 use Rattle.sr_catalog_change.specs.Changes.{next as catalog_after}
-use Rattle.sr_catalog_ddl.specs.Users.{user_of}
+use Rattle.sr_catalog_ddl.specs.Users.{stands_above, user_of}
 use Rattle.sr_exec_where.proofs.Fixed.{same_name, bytes_itself}
 use Rattle.sr_exec_dml.specs.Inner.Conditions.{RowsFit}
 use Rattle.sr_exec_dml.specs.Statements.{table_named}
@@ -25,7 +25,7 @@ use Rattle.sr_logform.specs.declared.outcome.Clash.TheVariants.{NoTable}
 use Rattle.sr_logform.specs.declared.outcome.Outcome.{Outcome}
 use Rattle.sr_world_model.specs.Machines.{lawful_from}
 use Rattle.sr_resolve.specs.Judging.{clash_unless, IsStatementOf, judged_insert, judged_remove, judged_set, judged_clear}
-use Rattle.sr_resolve.specs.Taking.{done_judged, is_above, op_of, place_of, IsDoneJudged, AreJudged}
+use Rattle.sr_resolve.specs.Taking.{done_judged, is_above, op_of, IsDoneJudged, AreJudged}
 use Rattle.sr_rows.specs.Marks.{rows_of_table}
 use Rattle.sr_scan.proofs.Agreeing.{done_fits}
 use Rattle.sr_catalog_schema.specs.Catalogs.{Lists}
@@ -44,11 +44,11 @@ use Rattle.sr_world.specs.Real.{machine}
 
 -- ---- who is above stays so
 
-place_still : (name : Name) (users more : List User) (o : Option User) → named user_name name users ≡ o → IsSome o → place_of (named user_name name (users ++ more)) ≡ place_of o
+place_still : (name : Name) (users more : List User) (o : Option User) → named user_name name users ≡ o → IsSome o → stands_above (named user_name name (users ++ more)) ≡ stands_above o
 place_still name users more None e some = cc
-place_still name users more (Some u) e some = ap place_of (find_first (λ u. bytes_eq name u.name) users more u e)
+place_still name users more (Some u) e some = ap stands_above (find_first (λ u. bytes_eq name u.name) users more u e)
 
-statement_place : (c : Lists) (s : Stmt) (name : Name) → IsSome (named user_name name c.users) → place_of (named user_name name (catalog_after c s).users) ≡ place_of (named user_name name c.users)
+statement_place : (c : Lists) (s : Stmt) (name : Name) → IsSome (named user_name name c.users) → stands_above (named user_name name (catalog_after c s).users) ≡ stands_above (named user_name name c.users)
 unfolding catalog_after
 statement_place c (stmt.GrantRemote g) name some = place_still name c.users (user_of false g ∷ []) (named user_name name c.users) refl some
 statement_place c (stmt.GrantConsolidate g) name some = place_still name c.users (user_of true g ∷ []) (named user_name name c.users) refl some

@@ -11,7 +11,7 @@ use Rattle.sr_base.specs.declared.value.Value.TheVariants.{Null}
 use Rattle.sr_exec_where.proofs.Fixed.{same_name, bytes_itself}
 use Rattle.sr_exec_where.specs.Keys.{key_of}
 use Rattle.sr_eval.specs.Comparisons.{is_null}
-use Rattle.sr_exec_fits.proofs.Rows.{row_parts, same_value, value_itself}
+use Rattle.sr_exec_fits.proofs.Rows.{row_parts, value_itself}
 use Rattle.sr_exec_fits.specs.Rows.{IsRow}
 use Rattle.sr_logform.specs.Rules.{AreDistinct, is_present}
 use Rattle.sr_publish.specs.Inner.Laws.{AreAt, HasKey}
@@ -19,7 +19,7 @@ use Rattle.sr_publish.specs.SubscribedTables.{SubscribedTable}
 use Rattle.sr_publish.specs.Views.{shown}
 use Rattle.sr_resolve.specs.Named.{Values, is_named, is_no_target, names_key, names_other}
 use Rattle.sr_scan.proofs.Spelled.{IsProper, IsStrict}
-use Rattle.sr_scan.specs.Ops.{differing, present_columns}
+use Rattle.sr_scan.specs.Ops.{present_columns}
 use Rattle.sr_catalog_schema.specs.Firsts.{has}
 use Rattle.sr_catalog_schema.specs.Members.{column_name, has_column, key_names}
 use Rattle.sr_catalog_schema.specs.Names.{taken}
@@ -29,6 +29,7 @@ use Rattle.sr_world_untouched.specs.Agreeing.{cell_in}
 use Rattle.sr_world_untouched.specs.Inner.Agreeing.{held_in}
 use Rattle.sr_world_untouched.proofs.Inserted.{IsPart, own_part, has_itself, stands_so}
 use Rattle.sr_world_untouched.proofs.Keyed.{key_is, places_there}
+use Rattle.sr_world_untouched.proofs.Updated.{SkipsSame, equal_ones, key_ones, listed_by}
 
 -- ---- a row is its values by name
 
@@ -177,55 +178,66 @@ names_its_key t values has_key same =
 
 -- ---- two rows that are shown under one key
 
--- they differ in no column of the key
-pub differs_outside : (t : Table) (columns : List Column) (before after : List Cell) → AreDistinct (map column_name columns) → AllByRecursion (λ a. taken column_name a.name t.columns ≡ true) columns
-    → IsRow columns before → IsRow columns after → map (held_in columns before) (key_names t) ≡ map (held_in columns after) (key_names t)
-    → list_any (is_no_target t) (differing columns before after) ≡ false
-differs_outside t columns before after distinct there f g keys = each columns before after there (own_part columns before distinct) (own_part columns after distinct)
+module _ (t : Table) (columns : List Column) (before after : List Cell) (distinct : AreDistinct (map column_name columns)) (keys : map (held_in columns before) (key_names t) ≡ map (held_in columns after) (key_names t)) where
+  same_at : (n : List ℕ) (names : List (List ℕ)) → has names n ≡ true → map (held_in columns before) names ≡ map (held_in columns after) names → held_in columns before n ≡ held_in columns after n
+  same_at n [] h e = cc
+  same_at n (m ∷ names) h e = go (bytes_eq n m) refl h (let rest : map (held_in columns before) names ≡ map (held_in columns after) names = cc in λ k. same_at n names k rest)
+    where
+      go : (b : Bool) → bytes_eq n m ≡ b → (b || has names n) ≡ true → (has names n ≡ true → held_in columns before n ≡ held_in columns after n) → held_in columns before n ≡ held_in columns after n
+      go true is k rest =
+          let here : held_in columns before m ≡ held_in columns after m = cc in
+          subst (λ (x : List ℕ). held_in columns before x ≡ held_in columns after x) (sym (same_name n m is)) here
+      go false is k rest = rest k
+
+  -- in a column of the key they have one value
+  in_key : (c : Column) (v w : Cell) → cell_in columns before c.name ≡ Some v → cell_in columns after c.name ≡ Some w → has (key_names t) c.name ≡ true → v ≡ w
+  in_key c v w p q e =
+      let held : held_in columns before c.name ≡ held_in columns after c.name = same_at c.name (key_names t) e keys in
+      sym (ap (λ (o : Option Cell). unwrap_or o Null) p) ∙ held ∙ ap (λ (o : Option Cell). unwrap_or o Null) q
+
+  key_same : (cs : List Column) (vs ws : List Cell) → IsPart columns before [] cs vs → IsPart columns after [] cs ws → SkipsSame (key_ones (key_names t)) cs vs ws
+  key_same [] vs ws p q = tt
+  key_same (c ∷ cs) [] ws p q = tt
+  key_same (c ∷ cs) (v ∷ vs) [] p q = tt
+  key_same (c ∷ cs) (v ∷ vs) (w ∷ ws) p q = (in_key c v w p.0 q.0, key_same cs vs ws p.1 q.1)
+
+  -- what an update of all columns leaves out is the same in both
+  pub key_is_same : SkipsSame (key_ones (key_names t)) columns before after
+  key_is_same = key_same columns before after (own_part columns before distinct) (own_part columns after distinct)
+
+  outside : (c : Column) (v w : Cell) → cell_in columns before c.name ≡ Some v → cell_in columns after c.name ≡ Some w → eq_by_cmp value_cmp v w ≡ false
+      → (b : Bool) → has (key_names t) c.name ≡ b → b ≡ false
+  outside c v w p q differ false e = refl
+  outside c v w p q differ true e =
+      let yes : eq_by_cmp value_cmp v w ≡ true = ap (λ (x : Cell). eq_by_cmp value_cmp x w) (in_key c v w p q e) ∙ value_itself w in
+      cc
+
+  each : (cs : List Column) (vs ws : List Cell) → AllByRecursion (λ a. taken column_name a.name t.columns ≡ true) cs → IsPart columns before [] cs vs → IsPart columns after [] cs ws
+      → list_any (is_no_target t) (listed_by equal_ones cs vs ws) ≡ false
+  each [] vs ws h p q = refl
+  each (c ∷ cs) [] ws h p q = refl
+  each (c ∷ cs) (v ∷ vs) [] h p q = refl
+  each (c ∷ cs) (v ∷ vs) (w ∷ ws) h p q = go (eq_by_cmp value_cmp v w) refl (each cs vs ws h.1 p.1 q.1)
+    where
+      go : (b : Bool) → eq_by_cmp value_cmp v w ≡ b → list_any (is_no_target t) (listed_by equal_ones cs vs ws) ≡ false
+          → list_any (is_no_target t) (cond b (listed_by equal_ones cs vs ws) ((c.name, v, w) ∷ listed_by equal_ones cs vs ws)) ≡ false
+      go true e rest = rest
+      go false e rest =
+          ap₂ (λ (x y : Bool). x || y) (ap₂ (λ (x y : Bool). x || y) (ap not h.0) (outside c v w p.0 q.0 e (has (key_names t) c.name) refl)) rest
+
+  -- they differ in no column of the key
+  pub differs_outside : AllByRecursion (λ a. taken column_name a.name t.columns ≡ true) columns → list_any (is_no_target t) (listed_by equal_ones columns before after) ≡ false
+  differs_outside there = each columns before after there (own_part columns before distinct) (own_part columns after distinct)
+
+-- an update of all columns has none of the key
+pub lists_outside : (t : Table) (columns : List Column) (before after : List Cell) → AllByRecursion (λ a. taken column_name a.name t.columns ≡ true) columns
+    → list_any (is_no_target t) (listed_by (key_ones (key_names t)) columns before after) ≡ false
+lists_outside t [] before after there = refl
+lists_outside t (c ∷ columns) [] after there = refl
+lists_outside t (c ∷ columns) (v ∷ before) [] there = refl
+lists_outside t (c ∷ columns) (v ∷ before) (w ∷ after) there = go (has (key_names t) c.name) refl (lists_outside t columns before after there.1)
   where
-    same_at : (n : List ℕ) (names : List (List ℕ)) → has names n ≡ true → map (held_in columns before) names ≡ map (held_in columns after) names → held_in columns before n ≡ held_in columns after n
-    same_at n [] h e = cc
-    same_at n (m ∷ names) h e = go (bytes_eq n m) refl h (let rest : map (held_in columns before) names ≡ map (held_in columns after) names = cc in λ k. same_at n names k rest)
-      where
-        go : (b : Bool) → bytes_eq n m ≡ b → (b || has names n) ≡ true → (has names n ≡ true → held_in columns before n ≡ held_in columns after n) → held_in columns before n ≡ held_in columns after n
-        go true is k rest =
-            let here : held_in columns before m ≡ held_in columns after m = cc in
-            subst (λ (x : List ℕ). held_in columns before x ≡ held_in columns after x) (sym (same_name n m is)) here
-        go false is k rest = rest k
-
-    outside : (c : Column) (v w : Cell) → cell_in columns before c.name ≡ Some v → cell_in columns after c.name ≡ Some w → eq_by_cmp value_cmp v w ≡ false
-        → (b : Bool) → has (key_names t) c.name ≡ b → b ≡ false
-    outside c v w p q differ false e = refl
-    outside c v w p q differ true e =
-        let held : held_in columns before c.name ≡ held_in columns after c.name = same_at c.name (key_names t) e keys in
-        let same : v ≡ w = sym (ap (λ (o : Option Cell). unwrap_or o Null) p) ∙ held ∙ ap (λ (o : Option Cell). unwrap_or o Null) q in
-        let yes : eq_by_cmp value_cmp v w ≡ true = ap (λ (x : Cell). eq_by_cmp value_cmp x w) same ∙ value_itself w in
-        cc
-
-    each : (cs : List Column) (vs ws : List Cell) → AllByRecursion (λ a. taken column_name a.name t.columns ≡ true) cs → IsPart columns before [] cs vs → IsPart columns after [] cs ws
-        → list_any (is_no_target t) (differing cs vs ws) ≡ false
-    each [] vs ws h p q = refl
-    each (c ∷ cs) [] ws h p q = refl
-    each (c ∷ cs) (v ∷ vs) [] h p q = refl
-    each (c ∷ cs) (v ∷ vs) (w ∷ ws) h p q = go (eq_by_cmp value_cmp v w) refl (each cs vs ws h.1 p.1 q.1)
-      where
-        go : (b : Bool) → eq_by_cmp value_cmp v w ≡ b → list_any (is_no_target t) (differing cs vs ws) ≡ false
-            → list_any (is_no_target t) (cond b (differing cs vs ws) ((c.name, v, w) ∷ differing cs vs ws)) ≡ false
-        go true e rest = rest
-        go false e rest =
-            ap₂ (λ (x y : Bool). x || y) (ap₂ (λ (x y : Bool). x || y) (ap not h.0) (outside c v w p.0 q.0 e (has (key_names t) c.name) refl)) rest
-
--- where they differ in nothing they are one
-pub same_shown : (columns : List Column) (before after : List Cell) → IsRow columns before → IsRow columns after → differing columns before after ≡ [] → before ≡ after
-same_shown [] [] [] f g e = refl
-same_shown [] [] (w ∷ after) f g e = cc
-same_shown [] (v ∷ before) after f g e = cc
-same_shown (c ∷ columns) [] after f g e = cc
-same_shown (c ∷ columns) (v ∷ before) [] f g e = cc
-same_shown (c ∷ columns) (v ∷ before) (w ∷ after) f g e =
-    go (eq_by_cmp value_cmp v w) refl e (λ k. same_shown columns before after (row_parts c columns v before f).2 (row_parts c columns w after g).2 k)
-  where
-    go : (b : Bool) → eq_by_cmp value_cmp v w ≡ b → cond b (differing columns before after) ((c.name, v, w) ∷ differing columns before after) ≡ [] → (differing columns before after ≡ [] → before ≡ after)
-        → v ∷ before ≡ w ∷ after
-    go true is k rest = ap₂ (λ (x : Cell) (xs : List Cell). x ∷ xs) (same_value v w is) (rest k)
-    go false is k rest = cc
+    go : (b : Bool) → has (key_names t) c.name ≡ b → list_any (is_no_target t) (listed_by (key_ones (key_names t)) columns before after) ≡ false
+        → list_any (is_no_target t) (cond b (listed_by (key_ones (key_names t)) columns before after) ((c.name, v, w) ∷ listed_by (key_ones (key_names t)) columns before after)) ≡ false
+    go true e rest = rest
+    go false e rest = ap₂ (λ (x y : Bool). x || y) (ap₂ (λ (x y : Bool). x || y) (ap not there.0) e) rest

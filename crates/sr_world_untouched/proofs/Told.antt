@@ -22,7 +22,7 @@ use Rattle.sr_publish.specs.Views.{shown}
 use Rattle.sr_resolve.specs.Inner.Leaving.{or_here, put_left, insert_left, remove_left, set_left}
 use Rattle.sr_resolve.specs.Named.{Values, Updates, filled_row, fitted_key, has_null, is_no_target, names_key, names_other, new_values, sets_null, with_news}
 use Rattle.sr_scan.proofs.Spelled.{IsProper, shown_fits}
-use Rattle.sr_scan.specs.Ops.{differing, key_columns, present_columns, told_of, update_of}
+use Rattle.sr_scan.specs.Ops.{columns_told, differing, key_columns, listed_in, outside_key, present_columns, told_of, update_of}
 use Rattle.sr_catalog_schema.specs.Members.{key_names}
 use Rattle.sr_catalog_schema.specs.declared.table.Table.{Table}
 use Rattle.sr_world_untouched.specs.Agreeing.{HasColumns, HasShown}
@@ -30,8 +30,8 @@ use Rattle.sr_world_untouched.specs.Inner.Agreeing.{held_in}
 use Rattle.sr_world_untouched.specs.Untouched.{Agrees}
 use Rattle.sr_world_untouched.proofs.Inserted.{inserted, key_goes}
 use Rattle.sr_world_untouched.proofs.Left.{left_by, left_all}
-use Rattle.sr_world_untouched.proofs.Shown.{differs_outside, key_not_null, key_shown, names_its_key, none_other, same_shown}
-use Rattle.sr_world_untouched.proofs.Updated.{updated}
+use Rattle.sr_world_untouched.proofs.Shown.{differs_outside, key_is_same, key_not_null, key_shown, lists_outside, names_its_key, none_other}
+use Rattle.sr_world_untouched.proofs.Updated.{Skips, SkipsSame, differing_listed, equal_ones, equal_same, key_ones, listed_by, outside_listed, same_listed, updated}
 
 abbrev pub Row : Type 0
 Row = Option (List Cell)
@@ -80,7 +80,7 @@ set_other t named updates key here other =
     stay_if here _ (not (names_key t named)) (λ a.
     stay_if here _ (list_any (is_no_target t) updates) (λ b.
     stay_or here (fitted_key t named) _ (λ place fitted.
-    stay_or here (new_values updates t.columns) _ (λ news are.
+    stay_or here (new_values true updates t.columns) _ (λ news are.
     stay_if here _ (list_any is_null place) (λ c.
     stay_if here _ (sets_null t.columns news) (λ d. ap (λ (x : Bool). cond x (option_map (with_news news) here) here) (other place fitted)))))))
 
@@ -104,7 +104,7 @@ pub told_plain : (s : SubscribedTable) (k : List Cell) (v w : Row) → AllByRecu
 told_plain s k None None = tt
 told_plain s k None (Some w) = (tt, tt)
 told_plain s k (Some v) None = (tt, tt)
-told_plain s k (Some v) (Some w) = update_plain s.table k (differing s.columns v w)
+told_plain s k (Some v) (Some w) = update_plain s.table k (columns_told s v w)
 
 -- ---- a subscribed table above, and its table below
 
@@ -188,25 +188,36 @@ module _ (s : SubscribedTable) (t : Table) (m : Mirrors s t) where
         → set_left t (key_columns s.table (key_of s.table.key row)) updates key here ≡ here
     sets_elsewhere updates key here other = set_other t (key_columns s.table (key_of s.table.key row)) updates key here (λ k e. fitted_elsewhere key k other e)
 
-  -- a Set of what differs in two rows of one key
+  -- two rows of one key
   module _ (row after : List Cell) (fits : IsRow s.table.columns row) (fits_after : IsRow s.table.columns after) (one_key : key_of s.table.key after ≡ key_of s.table.key row) where
-    abbrev change : Updates
-    change = differing s.columns (shown s row) (shown s after)
+    one_shown_key : map (held_in s.columns (shown s row)) (key_names t) ≡ map (held_in s.columns (shown s after)) (key_names t)
+    one_shown_key = key_below row fits ∙ sym one_key ∙ sym (key_below after fits_after)
 
-    no_key : list_any (is_no_target t) change ≡ false
-    no_key = differs_outside t s.columns (shown s row) (shown s after) m.proper.order.distinct m.holds.has (shows row fits) (shows after fits_after)
-        (key_below row fits ∙ sym one_key ∙ sym (key_below after fits_after))
+    pub equal_targets : list_any (is_no_target t) (listed_by equal_ones s.columns (shown s row) (shown s after)) ≡ false
+    equal_targets = differs_outside t s.columns (shown s row) (shown s after) m.proper.order.distinct one_shown_key m.holds.has
+
+    pub key_targets : list_any (is_no_target t) (listed_by (key_ones (key_names t)) s.columns (shown s row) (shown s after)) ≡ false
+    key_targets = lists_outside t s.columns (shown s row) (shown s after) m.holds.has
+
+    pub key_stays_same : SkipsSame (key_ones (key_names t)) s.columns (shown s row) (shown s after)
+    key_stays_same = key_is_same t s.columns (shown s row) (shown s after) m.proper.order.distinct one_shown_key
+
+  -- a Set of columns of two rows of one key, where those that it leaves out are the same
+  module _ (row after : List Cell) (fits : IsRow s.table.columns row) (fits_after : IsRow s.table.columns after)
+      (skips : Skips) (same : SkipsSame skips s.columns (shown s row) (shown s after)) (no_key : list_any (is_no_target t) (listed_by skips s.columns (shown s row) (shown s after)) ≡ false) where
+    abbrev change : Updates
+    change = listed_by skips s.columns (shown s row) (shown s after)
 
     pub sets : (here : List Cell) → HasShown t.columns s.columns (shown s row) here
         → (new : List Cell) × (set_left t (key_columns s.table (key_of s.table.key row)) change (key_of s.table.key row) (Some here) ≡ Some new) × HasShown t.columns s.columns (shown s after) new
     unfolding set_left
     sets here has =
-        let made = updated s.columns t (shown s row) (shown s after) here m.proper.order.distinct m.holds (shows after fits_after) has in (
+        let made = updated skips s.columns t (shown s row) (shown s after) here m.proper.order.distinct m.holds (shows after fits_after) same has in (
           with_news made.0 here,
           not_if (Some here) _ (not (names_key t (key_columns s.table (key_of s.table.key row)))) (its_key row fits)
               ∙ not_if (Some here) _ (list_any (is_no_target t) change) no_key
               ∙ found_or (Some here) (fitted_key t (key_columns s.table (key_of s.table.key row))) _ (key_of s.table.key row) (named_below row fits)
-              ∙ found_or (Some here) (new_values change t.columns) _ made.0 made.1
+              ∙ found_or (Some here) (new_values true change t.columns) _ made.0 made.1
               ∙ not_if (Some here) _ (list_any is_null (key_of s.table.key row)) (none_null row fits)
               ∙ not_if (Some here) _ (sets_null t.columns made.0) made.2
               ∙ ap (λ (b : Bool). cond b (Some (with_news made.0 here)) (Some here)) (own_key row fits),
@@ -232,19 +243,36 @@ module _ (s : SubscribedTable) (t : Table) (m : Mirrors s t) where
       ∙ at_own (bytes_eq t.name s.table.name) None (insert_left t (present_columns s.columns (shown s row)) (key_of s.table.key row) None) own_table ∙ made.1 in
       subst (λ (y : Row). Agrees t s (Some v) y) (sym leaves) (subst (λ (u : List Cell). HasShown t.columns s.columns u made.0) (sym is) made.2)
 
-  agrees_set : (v w row after : List Cell) (fits : IsRow s.table.columns row) (fits_after : IsRow s.table.columns after) → key_of s.table.key after ≡ key_of s.table.key row
-      → v ≡ shown s row → w ≡ shown s after → (x : Row) → Agrees t s (Some v) x → (updates : Updates) → differing s.columns (shown s row) (shown s after) ≡ updates
-      → Agrees t s (Some w) (left_all t (update_of s.table (key_of s.table.key row) updates) (key_of s.table.key row) x)
-  agrees_set v w row after fits fits_after one_key is is_after None a updates e = absurd a
-  agrees_set v w row after fits fits_after one_key is is_after (Some here) a [] e =
-      let same : shown s row ≡ shown s after = same_shown s.columns (shown s row) (shown s after) (shows row fits) (shows after fits_after) e in
-      subst (λ (u : List Cell). HasShown t.columns s.columns u here) (is ∙ same ∙ sym is_after) a
-  agrees_set v w row after fits fits_after one_key is is_after (Some here) a (u ∷ updates) e =
-      let made = sets row after fits fits_after one_key here (subst (λ (x : List Cell). HasShown t.columns s.columns x here) is a) in
+  agrees_listed : (v w row after : List Cell) (fits : IsRow s.table.columns row) (fits_after : IsRow s.table.columns after) (skips : Skips) → SkipsSame skips s.columns (shown s row) (shown s after)
+      → list_any (is_no_target t) (listed_by skips s.columns (shown s row) (shown s after)) ≡ false
+      → v ≡ shown s row → w ≡ shown s after → (here : List Cell) → HasShown t.columns s.columns v here → (updates : Updates) → listed_by skips s.columns (shown s row) (shown s after) ≡ updates
+      → Agrees t s (Some w) (left_all t (update_of s.table (key_of s.table.key row) updates) (key_of s.table.key row) (Some here))
+  agrees_listed v w row after fits fits_after skips same no_key is is_after here a [] e =
+      let one : shown s row ≡ shown s after = same_listed skips s.columns (shown s row) (shown s after) (shows row fits) (shows after fits_after) same e in
+      subst (λ (u : List Cell). HasShown t.columns s.columns u here) (is ∙ one ∙ sym is_after) a
+  agrees_listed v w row after fits fits_after skips same no_key is is_after here a (u ∷ updates) e =
+      let made = sets row after fits fits_after skips same no_key here (subst (λ (x : List Cell). HasShown t.columns s.columns x here) is a) in
       let leaves : left_by t (Set s.table.name (key_columns s.table (key_of s.table.key row)) (u ∷ updates)) (key_of s.table.key row) (Some here) ≡ Some made.0
       = at_own (bytes_eq t.name s.table.name) (Some here) (set_left t (key_columns s.table (key_of s.table.key row)) (u ∷ updates) (key_of s.table.key row) (Some here)) own_table
       ∙ ap (λ (us : Updates). set_left t (key_columns s.table (key_of s.table.key row)) us (key_of s.table.key row) (Some here)) (sym e) ∙ made.1 in
       subst (λ (y : Row). Agrees t s (Some w) y) (sym leaves) (subst (λ (x : List Cell). HasShown t.columns s.columns x made.0) (sym is_after) made.2)
+
+  -- what differs, or all columns outside the key
+  agrees_set : (v w row after : List Cell) (fits : IsRow s.table.columns row) (fits_after : IsRow s.table.columns after) → key_of s.table.key after ≡ key_of s.table.key row
+      → v ≡ shown s row → w ≡ shown s after → (x : Row) → Agrees t s (Some v) x → (updates : Updates) → differing s.columns (shown s row) (shown s after) ≡ updates
+      → Agrees t s (Some w) (left_all t (update_of s.table (key_of s.table.key row) (listed_in s (shown s row) (shown s after) updates)) (key_of s.table.key row) x)
+  agrees_set v w row after fits fits_after one_key is is_after None a updates e = absurd a
+  agrees_set v w row after fits fits_after one_key is is_after (Some here) a [] e =
+      agrees_listed v w row after fits fits_after equal_ones (equal_same s.columns (shown s row) (shown s after)) (equal_targets row after fits fits_after one_key) is is_after here a []
+      (sym (differing_listed s.columns (shown s row) (shown s after)) ∙ e)
+  agrees_set v w row after fits fits_after one_key is is_after (Some here) a (u ∷ updates) e =
+      elim s.verifies as (λ (b : Bool). Agrees t s (Some w) (left_all t (update_of s.table (key_of s.table.key row) (cond b (outside_key (key_names s.table) s.columns (shown s row) (shown s after)) (u ∷ updates))) (key_of s.table.key row) (Some here))) [
+        | true ↦ agrees_listed v w row after fits fits_after (key_ones (key_names t)) (key_stays_same row after fits fits_after one_key) (key_targets row after fits fits_after one_key) is is_after here a
+            (outside_key (key_names s.table) s.columns (shown s row) (shown s after))
+            (sym (outside_listed (key_names t) s.columns (shown s row) (shown s after)) ∙ ap (λ (names : List (List ℕ)). outside_key names s.columns (shown s row) (shown s after)) m.keys)
+        | false ↦ agrees_listed v w row after fits fits_after equal_ones (equal_same s.columns (shown s row) (shown s after)) (equal_targets row after fits fits_after one_key) is is_after here a (u ∷ updates)
+            (sym (differing_listed s.columns (shown s row) (shown s after)) ∙ e)
+      ]
 
   -- under its own key the row below agrees
   pub told_here : (k : List Cell) (v w : Row) → IsViewAt s k v → IsViewAt s k w → (x : Row) → Agrees t s v x → Agrees t s w (left_all t (told_of s k v w) k x)
@@ -258,9 +286,10 @@ module _ (s : SubscribedTable) (t : Table) (m : Mirrors s t) where
       ∙ subst (λ (j : List Cell). remove_left t (key_columns s.table j) j x ≡ None) p.2 (removes p.0 p.1 x) in
       subst (λ (y : Row). Agrees t s None y) (sym leaves) tt
   told_here k (Some v) (Some w) p q x a =
-      subst (λ (j : List Cell). Agrees t s (Some w) (left_all t (update_of s.table j (differing s.columns v w)) j x)) p.2
-      (agrees_set v w p.0 q.0 p.1 q.1 (q.2 ∙ sym p.2) p.3 q.3 x a (differing s.columns v w)
-      (ap₂ (λ (y z : List Cell). differing s.columns y z) (sym p.3) (sym q.3)))
+      subst (λ (j : List Cell). Agrees t s (Some w) (left_all t (update_of s.table j (columns_told s v w)) j x)) p.2
+      (subst (λ (told : Updates). Agrees t s (Some w) (left_all t (update_of s.table (key_of s.table.key p.0) told) (key_of s.table.key p.0) x))
+      (ap₂ (λ (y z : List Cell). columns_told s y z) (sym p.3) (sym q.3))
+      (agrees_set v w p.0 q.0 p.1 q.1 (q.2 ∙ sym p.2) p.3 q.3 x a (differing s.columns (shown s p.0) (shown s q.0)) refl))
 
   -- under another one nothing changes
   update_elsewhere : (row key : List Cell) (here : Row) → IsRow s.table.columns row → IsOther key (key_of s.table.key row) → (updates : Updates)
@@ -278,8 +307,8 @@ module _ (s : SubscribedTable) (t : Table) (m : Mirrors s t) where
       at_table (bytes_eq t.name s.table.name) x _
       (subst (λ (j : List Cell). IsOther key j → remove_left t (key_columns s.table j) key x ≡ x) p.2 (λ o. removes_elsewhere p.0 p.1 key x o) other)
   told_elsewhere k (Some v) (Some w) p q key other x =
-      subst (λ (j : List Cell). IsOther key j → left_all t (update_of s.table j (differing s.columns v w)) key x ≡ x) p.2
-      (λ o. update_elsewhere p.0 key x p.1 o (differing s.columns v w)) other
+      subst (λ (j : List Cell). IsOther key j → left_all t (update_of s.table j (columns_told s v w)) key x ≡ x) p.2
+      (λ o. update_elsewhere p.0 key x p.1 o (columns_told s v w)) other
 
 -- ---- another table
 
@@ -287,7 +316,7 @@ pub told_away : (s : SubscribedTable) (t : Table) (k : List Cell) (v w : Row) (k
 told_away s t k None None key x other = refl
 told_away s t k None (Some w) key x other = away (bytes_eq t.name s.table.name) x _ other
 told_away s t k (Some v) None key x other = away (bytes_eq t.name s.table.name) x _ other
-told_away s t k (Some v) (Some w) key x other = go (differing s.columns v w)
+told_away s t k (Some v) (Some w) key x other = go (columns_told s v w)
   where
     go : (updates : Updates) → left_all t (update_of s.table k updates) key x ≡ x
     go [] = refl

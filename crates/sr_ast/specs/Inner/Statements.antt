@@ -21,6 +21,7 @@ form (stmt.Synchronize x) = forms.Synchronize
 form (stmt.DropSubscription x) = forms.DropSubscription
 form (stmt.CreateTrigger x) = forms.CreateTrigger
 form (stmt.DropTrigger x) = forms.DropTrigger
+form (stmt.SetOption x) = forms.SetOption
 form (stmt.Dml (dml.Insert x)) = forms.Insert
 form (stmt.Dml (dml.Update x)) = forms.Update
 form (stmt.Dml (dml.Delete x)) = forms.Delete

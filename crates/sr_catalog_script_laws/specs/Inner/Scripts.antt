@@ -1,14 +1,17 @@
 -- The statements that make a catalog from a new one.
-use Rattle.std.specs.Prelude.{◌≡◌, ℕ, Bool, cond, List, [], ◌∷◌, ◌++◌, map, filter, Option, Some, None, bytes_eq}
+use Rattle.std.specs.Prelude.{◌≡◌, ℕ, Bool, cond, List, [], ◌∷◌, ◌++◌, map, filter, Option, Some, None, codes, bytes_eq}
 use Rattle.std.specs.List.{AllByRecursion}
 use Rattle.sr_ast.specs.NormalForms.{IsNormal}
 use Rattle.sr_ast.specs.declared.create.ColumnRule.{ColumnRule}
 use Rattle.sr_ast.specs.declared.create.ArticleRule.{ArticleRule}
 use Rattle.sr_ast.specs.declared.create.Grant.{Grant}
 use Rattle.sr_ast.specs.declared.create.SubscriptionRule.{SubscriptionRule}
+use Rattle.sr_ast.specs.declared.options.OptionRule.{OptionRule}
+use Rattle.sr_base.specs.declared.value.Value.TheVariants as value
 use Rattle.sr_ast.specs.declared.stmt.Stmt.{Stmt}
 use Rattle.sr_ast.specs.declared.stmt.Stmt.TheVariants as stmt
 use Rattle.sr_catalog_schema.specs.Catalogs.{Lists, nothing_but}
+use Rattle.sr_catalog_ddl.specs.Options.{verify_all_columns}
 use Rattle.sr_catalog_change.specs.Changes.{refusal, next}
 use Rattle.sr_catalog_schema.specs.Members.{key_names}
 use Rattle.sr_catalog_schema.specs.declared.user.User.{User}
@@ -18,6 +21,7 @@ use Rattle.sr_catalog_schema.specs.declared.publication.Publication.{Publication
 use Rattle.sr_catalog_schema.specs.declared.publication.Article.{Article}
 use Rattle.sr_catalog_schema.specs.declared.trigger.Trigger.{Trigger}
 use Rattle.sr_catalog_schema.specs.declared.subscription.Subscription.{Subscription}
+use Rattle.sr_catalog_schema.specs.declared.options.Options.{Options}
 use Rattle.sr_catalog_schema.specs.declared.fault.DdlFault.{DdlFault}
 
 -- the address of a grant: none where it is the user's name
@@ -62,11 +66,19 @@ start_of s = stmt.StartSubscription (subscription_rule s)
 abbrev pub trigger_stmt : Trigger → Stmt
 trigger_stmt t = t.stmt
 
--- grants, tables, publications, triggers, subscriptions and starts, each kind in order of creation
+-- the SET OPTION of an option that is On
+abbrev pub verifies_rule : OptionRule
+verifies_rule = record { name = verify_all_columns; value = value.Str (codes "On") }
+
+-- the options that are set
+abbrev pub set_options_of : Options → List Stmt
+set_options_of o = cond o.verifies (stmt.SetOption verifies_rule ∷ []) []
+
+-- grants, tables, publications, triggers, subscriptions and starts, each kind in order of creation, and then the options
 abbrev pub statements : Lists → List Stmt
 statements c =
     map grant_of c.users ++ (map create_table_of c.tables ++ (map create_publication_of c.publications ++ (map trigger_stmt c.triggers
-    ++ (map create_subscription_of c.subscriptions ++ map start_of (filter (λ s. s.started) c.subscriptions)))))
+    ++ (map create_subscription_of c.subscriptions ++ (map start_of (filter (λ s. s.started) c.subscriptions) ++ set_options_of c.options)))))
 
 -- ---- what statements make of a catalog
 

@@ -44,6 +44,7 @@ form_behind key.Grant next = Some (granted next)
 form_behind key.Start next = Some form.StartSubscription
 form_behind key.Stop next = Some form.StopSubscription
 form_behind key.Synchronize next = Some form.Synchronize
+form_behind key.Set next = Some form.SetOption
 form_behind key.Insert next = Some form.Insert
 form_behind key.Update next = Some form.Update
 form_behind key.Delete next = Some form.Delete

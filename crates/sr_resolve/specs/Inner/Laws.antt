@@ -1,6 +1,8 @@
 -- What judging keeps.
-use Rattle.std.specs.Prelude.{◌≡◌, ⊤, List}
+use Rattle.std.specs.Prelude.{◌≡◌, ⊤, false, List}
 use Rattle.std.specs.List.{AllByRecursion}
+use Rattle.std.specs.Ordering.{is_eq}
+use Rattle.sr_base.specs.Order.{value_cmp}
 use Rattle.sr_base.specs.declared.value.Value.{Value as Cell}
 use Rattle.sr_book.specs.Entries.{Name}
 use Rattle.sr_exec_dml.specs.Statements.{table_named}
@@ -24,3 +26,7 @@ ChangesDiffer (Clash why) = ⊤
 pub record AreAlikeAt (s q : State) (table : Name) (key : List Cell) : Type 0 where
   pub tables : table_named s.catalog table ≡ table_named q.catalog table
   pub rows : rows_of_table s.rows table key ≡ rows_of_table q.rows table key
+
+-- the old value and the new one of an update are two
+abbrev pub IsOfTwoValues : Name × Cell × Cell → Type 0
+IsOfTwoValues u = is_eq (value_cmp u.1 u.2) ≡ false

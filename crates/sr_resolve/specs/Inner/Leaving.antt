@@ -1,5 +1,5 @@
 -- What an op from above leaves under a key of its table, by the table and the row that was there alone.
-use Rattle.std.specs.Prelude.{not, cond, List, Option, Some, None}
+use Rattle.std.specs.Prelude.{true, not, cond, List, Option, Some, None}
 use Rattle.std.specs.List.{list_any}
 use Rattle.std.specs.Option.{option_map}
 use Rattle.std.specs.Ordering.{is_eq}
@@ -42,7 +42,7 @@ set_left t named updates key here =
     cond (not (names_key t named)) here
     (cond (list_any (is_no_target t) updates) here
     (or_here (fitted_key t named) here (λ place.
-    or_here (new_values updates t.columns) here (λ news.
+    or_here (new_values true updates t.columns) here (λ news.
     cond (list_any is_null place) here
     (cond (sets_null t.columns news) here
     (cond (is_eq (key_cmp key place)) (option_map (with_news news) here) here))))))

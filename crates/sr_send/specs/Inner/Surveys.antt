@@ -9,7 +9,7 @@ use Rattle.sr_database_history.specs.Folds.{end_of}
 use Rattle.sr_database_history.specs.Recorded.{Recorded}
 use Rattle.sr_site.specs.Seen.{Seen}
 use Rattle.sr_survey.specs.Inner.Following.{since_of}
-use Rattle.sr_survey.specs.Inner.Surveyed.{Begins, HasSurveyed, IsNext}
+use Rattle.sr_survey.specs.Inner.Surveyed.{Begins, HasSurveyed, IsNext, IsNextShown}
 use Rattle.sr_survey.specs.declared.survey.Survey.{Survey}
 use Rattle.sr_survey_places.specs.declared.place.Place.{Place}
 use Rattle.sr_send.specs.declared.shared.SharedSurvey.{SharedSurvey}
@@ -68,17 +68,18 @@ BeginsAt base at s = s.given_up ≡ None → Begins base at s
 
 -- ---- how what is given is found
 
--- the first of a user's places, if there is one, begins no sooner than the catalog shows him what it showed him then
+-- the first of a user's places that hang on the catalog, if there is one, begins no sooner than that shows him what it showed him then
 abbrev pub IsShownNow : Survey → Name → Option Place → Type 0
 IsShownNow s user None = ⊤
 IsShownNow s user (Some first) = since_of s user ≤ first.start
 
--- a survey tells all that the log gives a user past an offset: it begins no later, and its catalog shows him at each of his places what it showed him then
+-- a survey tells all that the log gives a user past an offset: it begins no later, and its catalog shows him at each of his places that hang on it what it
+-- showed him then
 pub record CanTell (s : Survey) (user : Name) (sent : ℕ) : Type 0 where
   pub kept : s.given_up ≡ None
   pub begun : s.begin ≤ sent
   pub found : Option Place
-  pub next : IsNext s user sent found
+  pub next : IsNextShown s user sent found
   pub shown : IsShownNow s user found
 
 -- a survey that begins no later than an offset lists nothing for a user past it

@@ -4,6 +4,7 @@ use Rattle.std.specs.List.{list_any, Contains}
 use Rattle.sr_book.specs.Entries.{Name}
 use Rattle.sr_base.specs.declared.value.Value.{Value as Cell}
 use Rattle.sr_catalog_schema.specs.Catalogs.{Lists}
+use Rattle.sr_catalog_schema.specs.Firsts.{has}
 use Rattle.sr_catalog_schema.specs.declared.subscription.Subscription.{Subscription}
 use Rattle.sr_logform.specs.declared.change.Change.{Change}
 use Rattle.sr_logform.specs.declared.entry.Entry.{Entry}
@@ -83,6 +84,15 @@ runs (Ddl text) = false
 runs (Sync to tables) = false
 runs (Pass users only text changes) = false
 runs (Note about what) = false
+
+-- an entry is a statement that is passed on to a user
+abbrev pub names_user : Name → Entry → Bool
+names_user user (Own changes) = false
+names_user user (From from at ops) = false
+names_user user (Ddl text) = false
+names_user user (Sync to tables) = false
+names_user user (Pass users only text changes) = has users user
+names_user user (Note about what) = false
 
 -- ---- whose they are
 

@@ -60,6 +60,7 @@ started_by (stmt.Synchronize r) = None
 started_by (stmt.DropSubscription r) = None
 started_by (stmt.CreateTrigger t) = None
 started_by (stmt.DropTrigger name) = None
+started_by (stmt.SetOption o) = None
 started_by (stmt.Dml d) = None
 started_by (stmt.Select q) = None
 started_by stmt.Commit = None

@@ -12,7 +12,7 @@ use Rattle.sr_scan.specs.Given.{gives}
 use Rattle.sr_scan.specs.Inner.Images.{told, catalog_after}
 use Rattle.sr_scan.specs.Inner.Meanings.{texts_of, AreMeant}
 use Rattle.sr_survey.specs.Inner.Alike.{ShowsAlike, touched}
-use Rattle.sr_survey.specs.Inner.Concerning.{entry_keys, runs}
+use Rattle.sr_survey.specs.Inner.Concerning.{entry_keys, names_user, runs}
 use Rattle.sr_survey.specs.Inner.Following.{keys_at, since_of, IsKeyOf, IsNoted, IsStarted, KeepsKeys}
 use Rattle.sr_survey.specs.Inner.Keyed.{keys_of}
 use Rattle.sr_survey.specs.declared.survey.Survey.{Survey}
@@ -84,13 +84,15 @@ abbrev pub IsOfStarted : List Subscription → Name → Key → Type 0
 IsOfStarted [] user k = ⊥
 IsOfStarted (s ∷ ss) user k = ((s.started ≡ true) × (user ≡ s.user) × Contains (keys_of s.publication s.value) k) ⊎ IsOfStarted ss user k
 
--- a survey knows the entries of a history so far: its catalog is that behind them; each place that it lists is one of theirs; an entry behind where it began
+-- a survey knows the entries of a history so far: its catalog is that behind them; each place that it lists is one of theirs, and what is listed as
+-- a statement that is passed on to a user is one; an entry behind where it began
 -- that is not listed for a user gives him nothing; what the catalog shows a user is what it showed since; an entry in which a statement
 -- ran moved the start of all past it; and each started subscription is served
 pub record HasSurveyed (publisher : Name) (done : List Recorded) (s : Survey) : Type 0 where
   pub end_is : s.end ≡ end_of done
   pub catalog : s.catalog ≡ (state_of publisher done).catalog
   pub places : (k : Key) (place : Place) → Contains (under s.places.lists k) place → IsPlace done place
+  pub texts : (user : Name) (first rest : List Recorded) (r : Recorded) → done ≡ first ++ r ∷ rest → Contains (under s.places.lists (keyed.Text user)) (place_of first r) → names_user user (entry_of r) ≡ true
   pub covers : (user : Name) (first rest : List Recorded) (r : Recorded) → done ≡ first ++ r ∷ rest → s.begin ≤ end_of first
       → IsListed s user (place_of first r) ⊎ (gives (state_of publisher first) r user ≡ [])
   pub shows : (user : Name) (first rest : List Recorded) → done ≡ first ++ rest → since_of s user ≤ end_of first → ShowsAlike (state_of publisher first).catalog s.catalog user

@@ -64,11 +64,6 @@ pub record IsUnder (lists : ByKey) (keys : List Key) (place : Place) : Type 0 wh
   pub among : Contains keys key
   pub there : Contains (under lists key) place
 
--- the first place under some keys that ends past an offset; none only where there is none
-abbrev pub IsFirstUnder : ByKey → List Key → ℕ → Option Place → Type 0
-IsFirstUnder lists keys sent None = (x : Place) → IsUnder lists keys x → x.end ≤ sent
-IsFirstUnder lists keys sent (Some p) = IsUnder lists keys p × (sent < p.end) × ((x : Place) → IsUnder lists keys x → sent < x.end → p.end ≤ x.end)
-
 -- the first place under some keys that ends past an offset and is none under another key; none only where there is none
 abbrev pub IsFirstAmong : ByKey → List Key → Key → ℕ → Option Place → Type 0
 IsFirstAmong lists keys from sent None = (x : Place) → IsUnder lists keys x → sent < x.end → IsOwn (under lists from) x

@@ -1,5 +1,5 @@
 -- A world of three databases: one that publishes a table by a column, and two below it that each have the rows with one number there.
-use Rattle.std.specs.Prelude.{◌≡◌, ℕ, List, [], ◌∷◌, take, Option, Some, None, pos}
+use Rattle.std.specs.Prelude.{◌≡◌, ℕ, false, List, [], ◌∷◌, take, Option, Some, None, pos}
 use Rattle.sr_base.specs.Values.{offset_from}
 use Rattle.sr_base.specs.declared.value.Value.{Value as Cell}
 use Rattle.sr_base.specs.declared.value.Value.TheVariants.{Int}
@@ -143,7 +143,7 @@ world_at n = after_all moving_world (take n moving_steps)
 
 -- what a user has of the table, who is given the rows with a number
 abbrev pub part_of_table : ℕ → SubscribedTable
-part_of_table n = record { table = whole_table; columns = whole_table.columns; places = 0 ∷ 1 ∷ []; condition = None; by = Some by_n; values = Int (pos n) ∷ [] }
+part_of_table n = record { table = whole_table; columns = whole_table.columns; places = 0 ∷ 1 ∷ []; condition = None; by = Some by_n; values = Int (pos n) ∷ []; verifies = false }
 
 -- the key of the row is untouched at a user who is given the rows with this number, and this is held there under it
 pub record HoldsUntouched (w : World Recorded) (user : Name) (n : ℕ) (row : Option (List Cell)) : Type 0 where

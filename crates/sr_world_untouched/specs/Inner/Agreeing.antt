@@ -1,6 +1,6 @@
 -- What a row below has of what a view shows above.
 -- Here is what no contract of the program says by itself.
-use Rattle.std.specs.Prelude.{◌≡◌, unwrap_or, ℕ, false, List, Option, Some, map}
+use Rattle.std.specs.Prelude.{◌≡◌, unwrap_or, ℕ, true, false, List, Option, Some, map}
 use Rattle.sr_base.specs.declared.value.Value.{Value as Cell}
 use Rattle.sr_base.specs.declared.value.Value.TheVariants.{Null}
 use Rattle.sr_exec_where.specs.Keys.{key_of}
@@ -25,5 +25,5 @@ InsertsShown columns t shown = (row : List Cell) × (filled_row (present_columns
 -- an update of the columns that differ, from what these columns showed before to what they show after, leaves of a row one that has what they show after,
 -- with NULL in no column where none may be
 abbrev pub UpdatesToShown : List Column → Table → List Cell → List Cell → List Cell → Type 0
-UpdatesToShown columns t before after row = (news : List (Option Cell)) × (new_values (differing columns before after) t.columns ≡ Some news)
+UpdatesToShown columns t before after row = (news : List (Option Cell)) × (new_values true (differing columns before after) t.columns ≡ Some news)
     × (sets_null t.columns news ≡ false) × HasShown t.columns columns after (with_news news row)

@@ -35,7 +35,7 @@ abbrev pub slim_table : Table
 slim_table = record { name = table_t; columns = key_column ∷ []; key = 0 ∷ [] }
 
 abbrev pub whole_subscribed_table : SubscribedTable
-whole_subscribed_table = record { table = whole_table; columns = whole_table.columns; places = 0 ∷ 1 ∷ []; condition = None; by = None; values = [] }
+whole_subscribed_table = record { table = whole_table; columns = whole_table.columns; places = 0 ∷ 1 ∷ []; condition = None; by = None; values = []; verifies = false }
 
 abbrev pub slim_subscribed_table : SubscribedTable
-slim_subscribed_table = record { table = whole_table; columns = key_column ∷ []; places = 0 ∷ []; condition = None; by = None; values = [] }
+slim_subscribed_table = record { table = whole_table; columns = key_column ∷ []; places = 0 ∷ []; condition = None; by = None; values = []; verifies = false }

@@ -19,6 +19,7 @@ returns c = record {
   drop_subscription = λ d r. refl;
   create_trigger = λ d g. refl;
   drop_trigger = λ d n. refl;
+  set_option = λ d o. refl;
   synchronize = λ d r. refl;
   passthrough = λ d p. refl;
   passthrough_stop = λ d. refl;

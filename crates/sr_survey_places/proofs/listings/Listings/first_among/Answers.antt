@@ -1,37 +1,38 @@
-use Rattle.std.proofs.Common.{◌<◌, ◌++◌, Some, arith, rules, subst}
-use Rattle.sr_survey_places.specs.Inner.Search.{IsOwn}
-use Rattle.sr_survey_places.specs.Inner.Listed.{IsFirstUnder}
-use Rattle.sr_survey_places.proofs.Among.{none_own, own_more, among_found, among_none}
+use Rattle.std.proofs.Common.{◌<◌, ◌++◌, Some, None, arith, subst}
+use Rattle.sr_survey_places.specs.Inner.Search.{IsFirstOther}
+use Rattle.sr_survey_places.specs.Inner.Listed.{IsUnder}
+use Rattle.sr_survey_places.proofs.Among.{none_own, own_more, among_found, among_last}
 use Rattle.sr_survey_places.proofs.listings.Listings.first_among.Goals as goal
 
-pub places-init : goal.places-init
-places-init c = record { from = omega arith; own = none_own c.args.self.now.lists (c.args.keys.now ++ c.args.others.now) c.args.from.now c.args.sent }
+pub spans-init : goal.spans-init
+spans-init c = record { from = omega arith; own = none_own c.args.self.now.lists (c.args.keys.now ++ c.args.others.now) c.args.from.now c.args.sent }
 
-pub returns-then-not-is_own : goal.returns-then-not-is_own
-returns-then-not-is_own c =
+pub returns-in-Some-first_of_both : goal.returns-in-Some-first_of_both
+returns-in-Some-first_of_both c =
     let lists = c.args.self.now.lists in
     let keys = c.args.keys.now ++ c.args.others.now in
-    let from = c.args.from.now in
+    let place = c.in-Some-first_of_both.place in
     record {
-      first = among_found lists keys from c.args.sent c.places.passed c.in-Some.place c.places.invariant.from c.in-Some.ensures.first
-          (subst (λ own. IsOwn own c.in-Some.place → ⊥) c.places-own.ensures.places (c.is_own.ensures.other (search rules))) c.places.invariant.own;
+      first = among_found lists keys c.args.from.now c.args.sent c.spans.passed (Some c.in-Some.end) place c.spans.invariant.from
+          (subst (λ own. IsFirstOther (IsUnder lists keys) own c.spans.passed (Some c.in-Some.end) (Some place)) c.places-own.ensures.places c.in-Some-first_of_both.ensures.first) c.spans.invariant.own;
     }
 
-pub places-preserved : goal.places-preserved
-places-preserved c =
+pub spans-preserved : goal.spans-preserved
+spans-preserved c =
     let lists = c.args.self.now.lists in
     let keys = c.args.keys.now ++ c.args.others.now in
-    let from = c.args.from.now in
-    let first : IsFirstUnder lists keys c.places.passed (Some c.in-Some.place) = c.in-Some.ensures.first in
-    let past : c.places.passed < c.in-Some.place.end = first.1 in
+    let further : c.spans.passed < c.in-Some.end = c.in-Some.ensures.further in
     record {
       from = omega arith;
-      own = own_more lists keys from c.args.sent c.places.passed c.in-Some.place first
-          (subst (λ own. IsOwn own c.in-Some.place) c.places-own.ensures.places (c.is_own.ensures.own (search rules))) c.places.invariant.own;
+      own = own_more lists keys c.args.from.now c.args.sent c.spans.passed c.in-Some.end
+          (subst (λ own. IsFirstOther (IsUnder lists keys) own c.spans.passed (Some c.in-Some.end) None) c.places-own.ensures.places c.in_default-first_of_both.ensures.first) c.spans.invariant.own;
     }
 
 pub returns : goal.returns
 returns c =
     let lists = c.args.self.now.lists in
     let keys = c.args.keys.now ++ c.args.others.now in
-    record { first = among_none lists keys c.args.from.now c.args.sent c.places.passed c.in_default.ensures.first c.places.invariant.own }
+    record {
+      first = among_last lists keys c.args.from.now c.args.sent c.spans.passed c.first_of_both-2.result c.spans.invariant.from
+          (subst (λ own. IsFirstOther (IsUnder lists keys) own c.spans.passed None c.first_of_both-2.result) c.places-own.ensures.places c.first_of_both-2.ensures.first) c.spans.invariant.own;
+    }

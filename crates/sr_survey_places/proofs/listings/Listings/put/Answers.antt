@@ -3,7 +3,7 @@ use Rattle.std.specs.BTreeMap as tree
 use Rattle.sr_survey_places.specs.Inner.Search.{InOrder, places_in}
 use Rattle.sr_survey_places.specs.Inner.Keys.{key_cmp}
 use Rattle.sr_survey_places.specs.Inner.Listed.{count_of}
-use Rattle.sr_survey_places.proofs.Listing.{stays_in_order, count_put, counted_more, counted_bound, listed_more, listed_nothing, put_back, on_ok, on_err}
+use Rattle.sr_survey_places.proofs.Listing.{stays_in_order, count_put, counted_more, counted_bound, listed_more, put_back, err_too}
 use Rattle.sr_survey_places.proofs.listings.Listings.put.Goals as goal
 
 pub put-requires : goal.put-requires
@@ -27,23 +27,27 @@ invariant_of-self-in-None c = record {
   counted = subst (λ m. c.args.self.now.count ≡ min (count_of m) (2 ^ 64 - 1)) (sym c.get_mut.follows.holds-at-none) c.args.self.now.counted;
 }
 
-pub returns-in-Some : goal.returns-in-Some
-returns-in-Some c =
+pub returns-in_ok-put-in-Some-clause-listed : goal.returns-in_ok-put-in-Some-clause-listed
+returns-in_ok-put-in-Some-clause-listed c = λ _.
     let lists = c.args.self.now.lists in
     let new = c.get_mut.follows.lender c.put.new.places in
     let holds = c.get_mut.follows.holds c.put.new.places in
     let was = sym c.in-Some.ensures.value in
-    let put = (holds.3 (search rules)).0 in
     let counts = count_put lists new c.args.key.now c.in-Some.places.now c.put.new.places was holds.0 in
-    record {
-      listed = on_ok c.put.result c.put.ensures.there
-          (λ there. listed_more lists new c.args.key.now c.args.place c.in-Some.places.now c.put.new.places was put
-          (counted_bound (count_of lists) (count_of new) (length c.in-Some.places.now) (length c.put.new.places) counts c.put.ensures.one) there c.put.ensures.stays c.put.ensures.only);
-      left = on_err c.put.result c.put.ensures.left (λ back. put_back lists new c.args.key.now c.in-Some.places.now c.put.new.places was put back holds.0);
-    }
+    listed_more lists new c.args.key.now c.args.place c.in-Some.places.now c.put.new.places was (holds.3 (search rules)).0
+    (counted_bound (count_of lists) (count_of new) (length c.in-Some.places.now) (length c.put.new.places) counts c.put.ensures.one) c.in_ok-put-in-Some.ensures.there c.put.ensures.stays c.put.ensures.only
+
+pub returns-in_err-put-in-Some-clause-left : goal.returns-in_err-put-in-Some-clause-left
+returns-in_err-put-in-Some-clause-left c =
+    let new = c.get_mut.follows.lender c.put.new.places in
+    let holds = c.get_mut.follows.holds c.put.new.places in
+    let back = put_back c.args.self.now.lists new c.args.key.now c.in-Some.places.now c.put.new.places (sym c.in-Some.ensures.value) (holds.3 (search rules)).0 c.in_err-put-in-Some.ensures.left holds.0 in
+    err_too c.from_residual.result back
 
 pub returns-in-None : goal.returns-in-None
 returns-in-None c = record {
-  listed = listed_nothing c.args.self.now.lists c.get_mut.follows.lender-at-none c.args.key.now c.args.place c.get_mut.follows.holds-at-none (ap is_some (sym c.in-None.ensures.value)) c.requires.there;
+  there = ap is_some c.in-None.ensures.value;
+  listed = λ e. cc;
+  none = λ _. c.get_mut.follows.holds-at-none;
   left = tt;
 }
