@@ -16,7 +16,7 @@ OTHERS = set(
 # begins with a folder of the top.
 FOR_USERS = {"README.md", "docs/REPLICATION.md"}
 TICKED = re.compile(r"`([^`]+)`")
-CRATE = re.compile(r"\b(?:sr|dbremote|test)_[a-z]+(?:_[a-z]+)*\b")
+CRATE = re.compile(r"\b(?:sr|dbremote|test|world)_[a-z]+(?:_[a-z]+)*\b")
 PLACE = re.compile(r"(?<![\w./-])(?:docs|cases|crates|bench|examples|release|wrong-bodies|\.ci)/[\w./-]*[\w/]")
 ENDINGS = (".rt", ".antt", ".md", ".sh", ".py", ".txt", ".edit", ".case")
 

@@ -1,4 +1,5 @@
 pub mod AgentRuns
+pub mod Cases
 mod Catching
 pub mod Caught
 pub mod Completing

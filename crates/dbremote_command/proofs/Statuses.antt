@@ -124,6 +124,17 @@ not_one f one = elim (sort f) [
   | high least ↦ omega (arith, one, least)
 ]
 
+pub not_zero : (f : Fault) → status_of f ≢ 0
+not_zero f zero_is = elim (sort f) [
+  | words is ↦ omega (arith, zero_is, status_is f Words is)
+  | disk is ↦ omega (arith, zero_is, status_is f (Database Disk) is)
+  | source is ↦ omega (arith, zero_is, status_is f Source is)
+  | sink is ↦ omega (arith, zero_is, status_is f Sink is)
+  | mail is ↦ omega (arith, zero_is, status_is f Mail is)
+  | low least most ↦ omega (arith, zero_is, least)
+  | high least ↦ omega (arith, zero_is, least)
+]
+
 pub is_mail : (f : Fault) → status_of f ≡ 6 → f ≡ Mail
 is_mail f six = elim (sort f) [
   | words is ↦ absurd (omega (arith, six, status_is f Words is))
@@ -169,6 +180,9 @@ told_mail fault between now status line six =
 
 pub told_never_one : (fault : Fault) (between now : Output) (status : ℕ) → Told fault between now status → status ≢ 1
 told_never_one fault between now status line one = not_one line.told (sym line.status_is ∙ one)
+
+pub told_never_zero : (fault : Fault) (between now : Output) (status : ℕ) → Told fault between now status → status ≢ 0
+told_never_zero fault between now status line zero_is = not_zero line.told (sym line.status_is ∙ zero_is)
 
 rose_on : (before middle after : ℕ) → Rose before middle → middle ≤ after → Rose before after
 rose_on before middle after rose later = omega (arith, rose, later)

@@ -1,7 +1,10 @@
-ghost use Rattle.std.specs.Prelude.{◌≡◌, ◌||◌, [], false, None, IfSome, IsTrue};
+ghost use Rattle.std.specs.Prelude.{◌≡◌, ◌||◌, ℕ, List, [], false, None, IfSome, IsTrue};
+ghost use Rattle.sr_database_history.specs.Recorded.{Recorded};
 ghost use Rattle.sr_mail_cut.specs.Inner.Cuts.{IsMessageLimit};
 ghost use Rattle.sr_site.specs.Causes.{DiskStays, Stays};
 ghost use Rattle.sr_site.specs.Streams.{Input};
+ghost use Rattle.sr_world_model.specs.Worlds.{World};
+ghost use Rattle.sr_world_runs.specs.Worlds.{MakesSteps};
 ghost use Rattle.dbremote_command.specs.CaughtUp.{CatchesUp};
 ghost use Rattle.dbremote_command.specs.Complete.{IsComplete};
 ghost use Rattle.dbremote_command.specs.Counts.{TellsFaults};
@@ -31,6 +34,8 @@ use std::alloc::Global;
 ///
 /// Where no device fails, and what is there is what the order asks for, it is done: the status is 0, 1 with what the agent reports, 9 at a
 /// limit, or 8. Where the disk fails the status is 5, or 7 where a stream failed too, and no other.
+///
+/// All that it does are steps that its database may make in a world of databases, by its own history and the messages that were put.
 #[tactic(auto, using(crate::proofs::Completing::is_complete, crate::proofs::Caught::catches_up, crate::proofs::Counted::tells))]
 pub fn command<S: Site, I: Source, O: Sink>(
     alloc: Global,
@@ -51,6 +56,7 @@ pub fn command<S: Site, I: Source, O: Sink>(
     ensures complete { IsComplete order.now (outside (S.seen site.old) (I.seen input.old) (O.seen output.old)) (outside (S.seen site.new) (I.seen input.new) (O.seen output.new)) result }
     ensures caught_up { CatchesUp order.now (outside (S.seen site.old) (I.seen input.old) (O.seen output.old)) (outside (S.seen site.new) (I.seen input.new) (O.seen output.new)) result }
     ensures kept { IsTrue (S.seen site.new).observable → IfSome kept.new (λ db. IsKept db (S.seen site.new)) }
+    ensures steps { (w : World Recorded) (publisher : List ℕ) → IsTrue (S.seen site.old).observable → MakesSteps w publisher (S.seen site.old) (S.seen site.new) }
 {
     ordered(alloc, order, no_mail, kept, site, input, output, now)
 }

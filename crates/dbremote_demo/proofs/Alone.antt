@@ -37,6 +37,7 @@ use Rattle.sr_world_untouched.specs.Agreeing.{HasShown}
 use Rattle.sr_world_untouched.specs.Inner.Agreeing.{held_in}
 use Rattle.sr_world_untouched.specs.Untouched.{Agrees}
 use Rattle.sr_world.specs.Real.{IsGoodWorld}
+use Rattle.dbremote_demo.proofs.Worlds.{course_good}
 use Rattle.dbremote_demo.specs.Courses.{Course}
 use Rattle.dbremote_demo.specs.Demonstrations.{CameTo}
 use Rattle.dbremote_demo.specs.LeftAlone.{AgreesWhereAlone, HasDemoHistories, IsLeftAlone, LeavesAlone, demo_history, demo_state, keys_touched}
@@ -185,6 +186,7 @@ came_so seed statements lost demo_sites summary lines course counts lines_are = 
   demo_sites = demo_sites;
   lost = lost;
   course = course;
+  good = course_good seed statements demo_sites lost course;
   summary = summary;
   counts = counts;
   agrees = agrees_where_alone statements demo_sites lost summary counts;

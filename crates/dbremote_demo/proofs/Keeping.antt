@@ -7,8 +7,11 @@ use Rattle.dbremote_demo.specs.Inner.Branches.{AreKept, IsKeptAt, kept_at}
 use Rattle.dbremote_demo.specs.declared.kept.Kept.{Kept}
 use Rattle.dbremote_demo_draws.specs.declared.demo_site.DemoSite.{DemoSite}
 use Rattle.dbremote_demo_draws.specs.declared.demo_site.DemoSite.TheVariants.{Cons, R1, R2, R3}
+use Rattle.sr_memsite_disk.proofs.Standing.{standing_handed_over}
 use Rattle.sr_memsite_disk.specs.Picks.{standing}
+use Rattle.sr_memsite_mail.specs.Folders.{Folders, files_shown}
 use Rattle.sr_memsite.specs.Disks.{Disk}
+use Rattle.sr_memsite.specs.Handing.{handed}
 use Rattle.sr_memsite.specs.Meaning.{begun}
 use Rattle.sr_site.specs.Files.{Files}
 use Rattle.sr_site.specs.Seen.{Seen}
@@ -48,3 +51,23 @@ pub kept_back : (one : Option View) (seen : Seen) (disk : Disk) → disk ≡ rec
     → IfSome one (λ view. IsKept view seen) → IsKeptAt one disk
 kept_back None seen disk same files k = tt
 kept_back (Some view) seen disk same files k = subst (λ (d : Disk). IsKept view (begun d)) (sym same) (kept_in view seen files k)
+
+-- what is open stays what the files hold where folders are handed to the site
+kept_over : (view : View) (disk : Disk) (mail : Folders) → IsKept view (begun disk) → IsKept view (begun (handed disk mail))
+kept_over view disk mail k = record {
+  usable = k.usable;
+  pending = k.pending;
+  has = record {
+    publisher = k.has.publisher;
+    es = k.has.es;
+    is = record {
+      is = k.has.is.is;
+      held = subst (λ (f : Files). IsHeld view k.has.publisher k.has.es f) (sym (standing_handed_over disk.first disk.happened (files_shown mail.files) mail.puts)) k.has.is.held;
+      settled = k.has.is.settled;
+    };
+  };
+}
+
+pub kept_handed : (one : Option View) (disk : Disk) (mail : Folders) (seen : Seen) → seen ≡ begun (handed disk mail) → IsKeptAt one disk → IfSome one (λ view. IsKept view seen)
+kept_handed None disk mail seen is k = tt
+kept_handed (Some view) disk mail seen is k = subst (λ (s : Seen). IsKept view s) (sym is) (kept_over view disk mail k)

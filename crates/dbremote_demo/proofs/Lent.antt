@@ -1,18 +1,20 @@
 -- A run on the files of one database.
 use Rattle.std.proofs.Common.{◌≡◌, ◌∙◌, ℕ, List, [], sym, ap, subst, refl}
+use Rattle.dbremote_command.specs.Counts.{TellsFaults}
 use Rattle.dbremote_command.specs.Outside.{Outside, outside}
 use Rattle.dbremote_command.specs.Runs.{RanOrder}
 use Rattle.dbremote_command.specs.declared.order.Order.{Order}
 use Rattle.dbremote_demo_draws.specs.declared.demo_site.DemoSite.{DemoSite}
 use Rattle.dbremote_demo_draws.specs.declared.demo_site.DemoSite.TheVariants.{Cons, R1, R2, R3}
 use Rattle.sr_memsite_mail.specs.Folders.{Folders}
-use Rattle.dbremote_demo.specs.Runs.{RanTask, Task, having, holding}
+use Rattle.dbremote_demo.specs.Runs.{RanTask, Task, begun_at, having, holding, outside_of}
 use Rattle.sr_memsite.specs.Disks.{Disk}
-use Rattle.sr_memsite.specs.Meaning.{begun}
+use Rattle.sr_memsite.specs.Handing.{AreAsHappened, IsTruthful}
 use Rattle.sr_site.specs.Causes.{Stays}
+use Rattle.sr_site.specs.Happenings.{Happening}
 use Rattle.sr_site.specs.Seen.{Seen}
 use Rattle.sr_site.specs.Streams.{Input, Output}
-use Rattle.dbremote_demo_draws.specs.Places.{disk_at, with_disk}
+use Rattle.dbremote_demo_draws.specs.Places.{with_disk}
 use Rattle.dbremote_demo_draws.specs.declared.demo_sites.DemoSites.{DemoSites}
 
 -- what a run began with is equal to this
@@ -44,16 +46,25 @@ files_back demo_site old one new empty disk none mail a b =
     whole ∙ ap (λ (m : Folders). with_disk demo_site disk (record old { mail = m })) (sym mails)
 
 -- what the command did on the site is what is done
-pub ran_so : (task : Task) (old one new : DemoSites) (empty : Disk) (none mail : Folders) (site site' : Seen) (input input' : Input) (output : Output)
-    → (lines : List ℕ) (faults status : ℕ) → site ≡ begun (disk_at task.demo_site old) → input ≡ holding task.script → output ≡ having [] 0
+pub ran_so : (task : Task) (old one new : DemoSites) (empty disk : Disk) (none mail : Folders) (site site' : Seen) (input input' : Input) (output : Output)
+    → (lines : List ℕ) (faults status : ℕ) → site ≡ begun_at task.demo_site old → input ≡ holding task.script → output ≡ having [] 0
     → RanOrder task.order (outside site input output) (outside site' input' (having lines faults)) status → Stays site site'
+    → TellsFaults (outside site input output) (outside site' input' (having lines faults)) status
     → one ≡ record (with_disk task.demo_site empty old) { mail = none }
-    → new ≡ record (with_disk task.demo_site (record { first = site'.first; happened = site'.happened }) one) { mail = mail } → RanTask task old new status lines
-ran_so task old one new empty none mail site site' input input' output lines faults status s i o ran stays a b = record {
-  site = site';
-  input = input';
-  faults = faults;
-  ran = begun_so task.order site (begun (disk_at task.demo_site old)) input (holding task.script) output (having [] 0) (outside site' input' (having lines faults)) status s i o ran;
-  stays = subst (λ (x : Seen). Stays x site') s stays;
-  files = files_back task.demo_site old one new empty (record { first = site'.first; happened = site'.happened }) none mail a b;
-}
+    → new ≡ record (with_disk task.demo_site disk one) { mail = mail } → disk ≡ record { first = site'.first; happened = site'.happened }
+    → AreAsHappened disk.happened mail → IsTruthful disk.happened → RanTask task old new status lines
+ran_so task old one new empty disk none mail site site' input input' output lines faults status s i o ran stays tells a b same as_happened truthful =
+    let happened : disk.happened ≡ site'.happened = ap (λ (d : Disk). d.happened) same in
+    let all : outside site input output ≡ outside_of task old = λ k. outside (s k) (i k) (o k) in
+    let mails : new.mail ≡ mail = ap (λ (o : DemoSites). o.mail) b in
+    record {
+      site = site';
+      input = input';
+      faults = faults;
+      ran = begun_so task.order site (begun_at task.demo_site old) input (holding task.script) output (having [] 0) (outside site' input' (having lines faults)) status s i o ran;
+      stays = subst (λ (x : Seen). Stays x site') s stays;
+      tells = subst (λ (x : Outside). TellsFaults x (outside site' input' (having lines faults)) status) all tells;
+      files = subst (λ (d : Disk). new ≡ with_disk task.demo_site d (record old { mail = new.mail })) same (files_back task.demo_site old one new empty disk none mail a b);
+      as_happened = subst (λ (m : Folders). AreAsHappened site'.happened m) (sym mails) (subst (λ (h : List Happening). AreAsHappened h mail) happened as_happened);
+      truthful = subst IsTruthful happened truthful;
+    }

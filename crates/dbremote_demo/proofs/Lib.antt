@@ -5,4 +5,9 @@ mod Endings
 mod Keeping
 mod Lent
 mod Lines
+pub mod Lying
+pub mod Prefixes
+pub mod Stepping
+pub mod Tasks
 mod Telling
+mod Worlds

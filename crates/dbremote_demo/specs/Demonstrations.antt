@@ -7,6 +7,7 @@ use Rattle.dbremote_command.specs.declared.fault.Fault.TheVariants.{Database, Si
 use Rattle.sr_database_files.specs.declared.fault.DatabaseFault.TheVariants.{Memory}
 use Rattle.sr_site.specs.Streams.{Output}
 use Rattle.dbremote_demo.specs.Courses.{Course, CourseStops}
+use Rattle.dbremote_demo.specs.GoodWorlds.{FormGoodWorld}
 use Rattle.dbremote_demo.specs.LeftAlone.{AgreesWhereAlone}
 use Rattle.dbremote_demo.specs.Runs.{EndsAll}
 use Rattle.dbremote_demo_draws.specs.Summaries.{IsSummary}
@@ -14,12 +15,13 @@ use Rattle.dbremote_demo_draws.specs.Lines.{summary_lines}
 use Rattle.dbremote_demo_draws.specs.declared.demo_sites.DemoSites.{DemoSites}
 use Rattle.dbremote_demo_draws.specs.declared.summary.Summary.{Summary}
 
--- all runs were made, each with status 0 or 1, and these are the lines of what they came to; a database differs nowhere where, in a good world, it left alone
--- what it did not name
+-- all runs were made, each with status 0 or 1, and these are the lines of what they came to. The histories and the messages that are left form a good world; and
+-- a database differs nowhere where, in a good world, it left alone what it did not name
 pub record CameTo (seed statements : ℕ) (lines : List ℕ) : Type 0 where
   pub demo_sites : DemoSites
   pub lost : ℕ
   pub course : Course seed statements demo_sites lost
+  pub good : FormGoodWorld demo_sites
   pub summary : Summary
   pub counts : IsSummary statements demo_sites lost summary
   pub agrees : AgreesWhereAlone demo_sites summary

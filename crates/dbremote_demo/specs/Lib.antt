@@ -1,5 +1,6 @@
 pub mod Courses
 pub mod LeftAlone
+pub mod GoodWorlds
 pub mod Demonstrations
 pub mod Runs
 pub mod Scripts

@@ -1,10 +1,12 @@
 -- The runs inside the demonstration.
 use Rattle.std.specs.Prelude.{◌≡◌, ◌≢◌, ◌⊎◌, ℕ, Bool, true, false, ◌==◌, List, [], ◌∷◌, ◌++◌, codes, if◌then◌else◌}
 use Rattle.sr_agent.specs.declared.options.Options.{Options}
-use Rattle.dbremote_command.specs.Outside.{outside}
+use Rattle.dbremote_command.specs.Counts.{TellsFaults}
+use Rattle.dbremote_command.specs.Outside.{Outside, outside}
 use Rattle.dbremote_command.specs.Runs.{RanOrder}
 use Rattle.dbremote_command.specs.declared.order.Order.{Order}
 use Rattle.dbremote_command.specs.declared.order.Order.TheVariants.{Init, Sql, Agent}
+use Rattle.sr_memsite.specs.Handing.{AreAsHappened, IsTruthful, handed}
 use Rattle.sr_memsite.specs.Meaning.{begun}
 use Rattle.sr_site.specs.Causes.{Stays}
 use Rattle.sr_site.specs.Seen.{Seen}
@@ -45,15 +47,26 @@ holding script = record { observable = true; left = script; faults = 0 }
 abbrev pub having : List ℕ → ℕ → Output
 having lines faults = record { observable = true; taken = lines; faults = faults }
 
--- it is done, by the command of the program, on the files of the database as they stand: it answers a status and writes lines. What had happened
--- stays, and the files of the others
+-- the site of a database, handed its files and the mail, as a task begins on it
+abbrev pub begun_at : DemoSite → DemoSites → Seen
+begun_at demo_site demo_sites = begun (handed (disk_at demo_site demo_sites) demo_sites.mail)
+
+-- all that a task begins with
+abbrev pub outside_of : Task → DemoSites → Outside
+outside_of task old = outside (begun_at task.demo_site old) (holding task.script) (having [] 0)
+
+-- it is done, by the command of the program, on the files of the database as they stand and on the mail: it answers a status and writes lines. What had
+-- happened stays, and the files of the others; in the folders lies what happened to them, and what was fetched lay there
 pub record RanTask (task : Task) (old new : DemoSites) (status : ℕ) (lines : List ℕ) : Type 0 where
   pub site : Seen
   pub input : Input
   pub faults : ℕ
-  pub ran : RanOrder task.order (outside (begun (disk_at task.demo_site old)) (holding task.script) (having [] 0)) (outside site input (having lines faults)) status
-  pub stays : Stays (begun (disk_at task.demo_site old)) site
+  pub ran : RanOrder task.order (outside_of task old) (outside site input (having lines faults)) status
+  pub stays : Stays (begun_at task.demo_site old) site
+  pub tells : TellsFaults (outside_of task old) (outside site input (having lines faults)) status
   pub files : new ≡ with_disk task.demo_site (record { first = site.first; happened = site.happened }) (record old { mail = new.mail })
+  pub as_happened : AreAsHappened site.happened new.mail
+  pub truthful : IsTruthful site.happened
 
 -- it is done: the status is 0 or 1
 pub record RanWell (task : Task) (old new : DemoSites) : Type 0 where

@@ -13,7 +13,7 @@ use dbremote_command::{Order, command};
 use dbremote_demo_draws::DemoSite;
 use sr_agent::Options;
 use sr_base::Text;
-use sr_memsite::{MemorySink, MemorySite, MemorySource};
+use sr_memsite::{HandedSite, MemorySink, MemorySource};
 use std::alloc::Global;
 
 /// The longest message file, in bytes.
@@ -45,7 +45,7 @@ fn do_order(
         mail,
         mut kept,
     } = demo_sites.lend(alloc, demo_site);
-    let mut site = MemorySite::with(disk, mail);
+    let mut site = HandedSite::with(disk, mail);
     let mut input = MemorySource::new(script);
     let mut output = MemorySink::new(alloc);
     let status = command(

@@ -3,6 +3,7 @@ use Rattle.std.proofs.Common.{◌≡◌, ◌≤◌, ◌<◌, ◌∙◌, ℕ, Lis
 use Rattle.std.proofs.lemmas.List.{append-nil, map-append}
 use Rattle.sr_base.specs.declared.offset.Offset.{Offset}
 use Rattle.sr_book.specs.Entries.{Name}
+use Rattle.sr_database.proofs.Based.{base_is_first, base_within}
 use Rattle.sr_database.specs.Databases.{IsDatabase, IsOfSome}
 use Rattle.sr_database.specs.Inner.Entries.{IsEntryAfter, IsNext}
 use Rattle.sr_database.specs.Views.{View}
@@ -25,13 +26,12 @@ pub record AreRead (view : View) (entries : List Entry) (after : Offset) (before
   pub stands : (publisher : Name) (es : List Recorded) → IsDatabase view publisher es before → IsDatabase view publisher es now
   pub halves : (publisher : Name) (es : List Recorded) → IsDatabase view publisher es before → Halves es entries after
 
-pub none_read : (view : View) (after : Offset) (first : Seen) → after.0 ≡ view.log.base → view.log.base ≤ view.log.end → ((publisher : Name) (es : List Recorded) → IsDatabase view publisher es first → view.log.base ≡ 0)
-    → AreRead view [] after first first
-none_read view after first at order base = record {
+pub none_read : (view : View) (after : Offset) (first : Seen) → after.0 ≡ view.log.base → view.log.base ≤ view.log.end → AreRead view [] after first first
+none_read view after first at order = record {
   from_base = omega (arith, at);
   within = subst (λ (n : ℕ). n ≤ view.log.end) (sym at) order;
   stands = λ publisher es is. is;
-  halves = λ publisher es is. record { done = []; left = es; all = refl; read = refl; at = at ∙ base publisher es is };
+  halves = λ publisher es is. record { done = []; left = es; all = refl; read = refl; at = at ∙ base_is_first view.log.base view.base_catalog publisher es is.is.based };
 }
 
 next_half : (es : List Recorded) (entries : List Entry) (after end : Offset) (entry : Entry) (half : Halves es entries after) → IsNext half.done half.left end entry
@@ -69,4 +69,4 @@ all_read view entries after first before way read publisher es is =
     half.read ∙ ap (λ (rs : List Recorded). map entry_of rs) (sym (half.all ∙ (ap (λ (rs : List Recorded). half.done ++ rs) none ∙ append-nil half.done)))
 
 pub order : (view : View) → IsOfSome view → view.log.base ≤ view.log.end
-order view some = omega (arith, some.is.base)
+order view some = omega (arith, base_within view.log.base view.base_catalog some.publisher some.es some.is.based, some.is.end)

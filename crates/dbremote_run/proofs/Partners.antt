@@ -1,5 +1,5 @@
 -- What a run keeps of the partners of a database, of what it puts, of what is decided, of what its history says, and of the steps that it makes.
-use Rattle.std.proofs.Common.{ℕ, List, [], ◌∷◌, ◌++◌, Option, inl, inr}
+use Rattle.std.proofs.Common.{ℕ, List, Option}
 use Rattle.std.specs.Prelude.{IsTrue}
 use Rattle.sr_book.specs.Entries.{Name}
 use Rattle.sr_database_files.specs.Fresh.{IsThere}
@@ -9,11 +9,8 @@ use Rattle.sr_world_model.specs.Truth.{IsTrueOf}
 use Rattle.sr_world_model.specs.Worlds.{World, history}
 use Rattle.sr_msgform.specs.declared.message.Message.{Message}
 use Rattle.sr_site.specs.Causes.{Stays}
-use Rattle.sr_site.specs.Files.{Files}
-use Rattle.sr_site.specs.Images.{IsImage, IsSettled, RestsThroughout}
+use Rattle.sr_site.specs.Images.{IsSettled, RestsThroughout}
 use Rattle.sr_site.specs.Seen.{Seen}
-use Rattle.sr_database_meaning.specs.Standing.{StandsAs}
-use Rattle.sr_database_meaning.proofs.Standing.{missing_is_none}
 use Rattle.sr_world.specs.Real.{layers}
 use Rattle.sr_world_prefix.specs.Decided.{KeepsDecided, StandDecided}
 use Rattle.sr_world_prefix.specs.Forging.{NoneForged}
@@ -22,7 +19,7 @@ use Rattle.sr_world_prefix.specs.Keeping.{KeepsPartner}
 use Rattle.sr_world_prefix.specs.Partners.{StandInStep}
 use Rattle.sr_world_prefix.specs.Puts.{BacksPuts, PutsTrue}
 use Rattle.sr_world_prefix.specs.Truths.{IsTrueInPart}
-use Rattle.sr_world_runs.specs.Worlds.{AllKnown, IsFaithfulThroughout, MakesSteps, Rests, on_one, on_two}
+use Rattle.sr_world_runs.specs.Worlds.{AllKnown, IsFaithfulThroughout, MakesSteps}
 use Rattle.sr_world_runs.proofs.AgentSteps.{agent_steps}
 use Rattle.sr_world_prefix.proofs.Deciders.{agent_decided, script_decided, untouched_decided}
 use Rattle.sr_world_prefix.proofs.Goodness.{agent_good, script_good, untouched_good}
@@ -30,13 +27,10 @@ use Rattle.sr_world_prefix.proofs.Opened.{agent_kept, script_run_kept, untouched
 use Rattle.sr_world_prefix.proofs.Silent.{agent_true, script_true, untouched_true}
 use Rattle.sr_world_runs.proofs.WorldSteps.{script_steps, untouched_steps}
 use Rattle.dbremote_command.specs.Outside.{Outside}
+use Rattle.dbremote_command.proofs.Cases.{rested_there, some_there}
 use Rattle.dbremote_run.specs.Runs.{RanProgram}
 use Rattle.dbremote_run.proofs.Cases.{run_holds}
 use Rattle.dbremote_words.specs.declared.asked.Asked.{Asked}
-
--- files that stand for a history are there
-some_there : (publisher : Name) (es : List Recorded) (files : Files) → StandsAs publisher es files → IsThere files
-some_there publisher es files stands = missing_is_none publisher es stands.base files stands.stands
 
 pub partners_kept : (wanted : Option Asked) (old new : Outside) (status : ℕ) → RanProgram wanted old new status → Stays old.site new.site → (publisher user : Name) (us : List Recorded)
     → IsTrue old.site.observable → Stored user us → KeepsPartner publisher user us old.site new.site
@@ -96,13 +90,6 @@ good_kept wanted old new status ran stays publisher told settled =
       script = λ owner es view view' opened now written written' statements result on still quiet database did.
           script_good publisher owner es view view' old.site opened now written written' statements result told on still database did settled;
     }) wanted status ran
-
-rested_there : (messages : List Message) (publisher : Name) (es : List Recorded) (seen : Seen) → Rests messages publisher es (IsImage seen) → (image : Files) → IsImage seen image → IsThere image
-rested_there messages publisher es seen (on_one all) image there = some_there publisher es image (all image there)
-rested_there messages publisher es seen (on_two r each) image there = elim (each image there) [
-  | inl short ↦ some_there publisher es image short
-  | inr long ↦ some_there publisher (es ++ r ∷ []) image long.stands
-]
 
 pub steps_made : (wanted : Option Asked) (old new : Outside) (status : ℕ) → RanProgram wanted old new status → Stays old.site new.site → (w : World Recorded) (publisher : Name) → IsTrue old.site.observable
     → MakesSteps w publisher old.site new.site

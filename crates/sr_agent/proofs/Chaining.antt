@@ -1,5 +1,5 @@
 -- One turn, and one delivery, after those before it.
-use Rattle.std.proofs.Common.{◌≡◌, Bool, true, ℕ, List, [], ◌∷◌, ◌++◌, refl, sym, ap, subst, ◌∙◌, append_assoc}
+use Rattle.std.proofs.Common.{◌≡◌, Bool, true, ℕ, List, [], ◌∷◌, ◌++◌, map, refl, sym, ap, subst, ◌∙◌, append_assoc}
 use Rattle.sr_book.specs.Entries.{Name}
 use Rattle.sr_database.specs.Databases.{IsDatabase}
 use Rattle.sr_database.specs.Views.{View}
@@ -14,6 +14,7 @@ use Rattle.sr_agent.specs.Lines.{Line}
 use Rattle.sr_agent.specs.Inner.Steps.{TookDelivery, TookDeliveries, TookPartnerPass, TookPartnerPasses}
 use Rattle.sr_agent.specs.PartnerPasses.{after_partner_passes, partners_in, partner_pass_entries, partner_pass_mail, partner_passes_entries, partner_passes_lines}
 use Rattle.sr_agent.specs.declared.partner.Partner.{Partner}
+use Rattle.sr_agent.proofs.DoneWith.{removes_then}
 use Rattle.sr_agent.proofs.Joints.{commits-append, steady_on, went_more}
 
 -- ---- partners' passes
@@ -36,6 +37,7 @@ partner_passes_more middle new before seen now publisher es fetched_files purge 
       steady = steady_on before seen now took.steady one.steady;
       went = went_more before seen now publisher es added more took.went one.went;
       mail = one.mail ∙ ap (λ (l : List Happening). partner_pass_mail publisher (es ++ added) fetched_files purge one.partner_pass l) took.mail;
+      removals = removes_then before seen now publisher es (map commit added) fetched_files took.went took.removals one.removals;
       asks_are =
           ap (λ (ps : List Partner). ps ++ partner_of user ask ∷ []) took.asks_are
           ∙ ap (λ (name : Name). partners_in publisher es fetched_files took.partner_passes ++ partner_of name ask ∷ []) (sym one.user_is)

@@ -1,6 +1,7 @@
 -- What was gathered, said of the history.
 use Rattle.std.proofs.Common.{◌≡◌, ℕ, Bool, true, List, [], ◌∷◌, ◌++◌, Result, Ok, Err, IfErr, IfOk, refl, sym, ap, subst, inl, inr, ◌∙◌, append_assoc}
 use Rattle.std.specs.Prelude.{IsTrue}
+use Rattle.std.specs.List.{AllByRecursion}
 use Rattle.sr_book.specs.Entries.{Name}
 use Rattle.sr_database.specs.Databases.{IsDatabase}
 use Rattle.sr_database.specs.Views.{View}
@@ -9,7 +10,7 @@ use Rattle.sr_database_history.specs.Recorded.{Recorded}
 use Rattle.sr_receive.specs.Entering.{IsReady}
 use Rattle.sr_receive_gather.specs.Gathers.{GatherCause, HappenedInPart, IsLastFetch, IsMailFault, fetches}
 use Rattle.sr_receive_gather.specs.Inner.Gathers.{HasGathered}
-use Rattle.sr_receive_gather.specs.MessageFiles.{FetchedFile, fetch_of}
+use Rattle.sr_receive_gather.specs.MessageFiles.{FetchedFile, IsFetchedFile, fetch_of, gone, junk, stranger, message_file}
 use Rattle.sr_receive.specs.Inner.Passes.{IsDeviceFault}
 use Rattle.sr_receive.proofs.Acted.{quiet_both}
 use Rattle.sr_receive_gather.specs.declared.bag.PartnerMail.{PartnerMail}
@@ -26,6 +27,7 @@ use Rattle.sr_database_meaning.specs.Traces.{Went}
 use Rattle.sr_agent.specs.Ends.{IsUsableEnd}
 use Rattle.sr_agent.specs.Faults.{fault_of_receive}
 use Rattle.sr_agent.specs.Lines.{alarms, lines_text, report_lines}
+use Rattle.sr_agent.specs.Inner.Coming.{HaveCome}
 use Rattle.sr_agent.specs.Inner.Steps.{told_in_part, gathered_in_part, GatheringBroken, GatheringCause, GatheringDone, HasGatheredAll, TellEnd, Told, ToldGathering}
 use Rattle.sr_agent.specs.declared.fault.AgentFault.{AgentFault}
 use Rattle.sr_agent.specs.declared.fault.AgentFault.TheVariants.{Memory}
@@ -76,6 +78,29 @@ mail_fetches : (address : List ℕ) (fetched_files : List FetchedFile) (before :
 mail_fetches address [] before = refl
 mail_fetches address (came ∷ fetched_files) before = mail_fetches address fetched_files (fetch_of address came ∷ before)
 
+-- each message file among them came, after what happened since a run began
+have_come : (catalog : Lists) (end : ℕ) (begun earlier middle : List Happening) (fetched_files : List FetchedFile) → middle ≡ earlier ++ begun → AllByRecursion (IsFetchedFile catalog end) fetched_files
+    → HaveCome catalog.publisher begun (fetches catalog.publisher fetched_files middle) fetched_files
+have_come catalog end begun earlier middle [] is are = tt
+have_come catalog end begun earlier middle (came ∷ fetched_files) is are = with_first came are.0
+    (have_come catalog end begun (fetch_of catalog.publisher came ∷ earlier) (fetch_of catalog.publisher came ∷ middle) fetched_files (ap (λ (l : List Happening). fetch_of catalog.publisher came ∷ l) is) are.1)
+  where
+    with_first : (came : FetchedFile) → IsFetchedFile catalog end came → HaveCome catalog.publisher begun (fetches catalog.publisher fetched_files (fetch_of catalog.publisher came ∷ middle)) fetched_files
+        → HaveCome catalog.publisher begun (fetches catalog.publisher fetched_files (fetch_of catalog.publisher came ∷ middle)) (came ∷ fetched_files)
+    with_first (gone name) fits come = come
+    with_first (junk name bytes) fits come = come
+    with_first (stranger name m) fits come = come
+    with_first (message_file name m) fits come =
+        let step = fetch_of catalog.publisher (message_file name m) in
+        let later = fetches_quietly catalog.publisher fetched_files (step ∷ middle) in (
+          record {
+            spelled = fits.0;
+            to = fits.1.to;
+            there = record { later = later.more; earlier = earlier; is = later.is ∙ ap (λ (l : List Happening). later.more ++ step ∷ l) is };
+          },
+          come,
+        )
+
 -- ---- all of it
 
 same_publisher : (view : View) (publisher : Name) (es : List Recorded) (seen : Seen) → IsDatabase view publisher es seen → (state_of publisher es).catalog.publisher ≡ publisher
@@ -105,6 +130,10 @@ with_history view before now publisher es reports bag told database gathered =
           ap (λ (l : List Happening). mail_in l) all.happened
           ∙ mail_fetches address gathered.fetched_files (first ∷ before.happened)
           ∙ ap (λ (a : Name). fetches a gathered.fetched_files (listed a all.folder (Ok gathered.listing) ∷ mail_in before.happened)) (same_publisher view publisher es before database);
+      came =
+          subst (λ (a : Name). HaveCome a before.happened now.happened gathered.fetched_files) (same_publisher view publisher es before database)
+          (subst (λ (l : List Happening). HaveCome address before.happened l gathered.fetched_files) (sym all.happened)
+          (have_come (state_of publisher es).catalog (end_of es) before.happened (first ∷ []) (first ∷ before.happened) gathered.fetched_files refl gathered.are));
       bag_is = gathered.bag_is;
       lines_are = ap (λ (rs : List Report). report_lines rs) gathered.reports_are;
     }

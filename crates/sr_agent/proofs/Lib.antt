@@ -2,6 +2,9 @@ pub mod Values
 pub mod Once
 pub mod Joints
 pub mod Removing
+pub mod Unremoved
+pub mod DoneWith
+pub mod PutsAlone
 pub mod Turning
 pub mod Chaining
 pub mod Wholes

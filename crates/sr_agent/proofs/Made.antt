@@ -85,6 +85,7 @@ received_off view seen publisher es options users asks off database users_are as
       went = reaches.went;
       mail = reaches.mail;
       steady = reaches.steady;
+      removals = reaches.removals;
       asks_are = asks_are ∙ ap (λ (l : List Name). map quiet l) users_are ∙ sym (ap (λ (b : Bool). asked b publisher es nothing_done) off);
       lines_are = refl;
     }
@@ -120,6 +121,7 @@ received_on new before now publisher es options users asks lines on users_are al
       went = reaches.went;
       mail = reaches.mail;
       steady = reaches.steady;
+      removals = reaches.removals;
       asks_are = all.took.asks_are ∙ sym (ap (λ (b : Bool). asked b publisher es run) on);
       lines_are =
           all.lines_are ∙ ap (λ (ls : List Line). ls ++ all.behind) all.gathered.lines_are

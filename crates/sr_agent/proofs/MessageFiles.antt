@@ -40,7 +40,8 @@ use Rattle.sr_agent.specs.declared.fault.AgentFault.{AgentFault}
 use Rattle.sr_agent.specs.declared.fault.AgentFault.TheVariants.{Memory}
 use Rattle.sr_agent.proofs.Ending.{ended_by, untold_is}
 use Rattle.sr_agent.proofs.Removing.{files_are}
-use Rattle.sr_agent.proofs.Turning.{ask_is, behind_partner_pass, said_is, partner_pass_of}
+use Rattle.sr_agent.proofs.Turning.{behind_removes, ask_is, behind_partner_pass, said_is, partner_pass_of}
+use Rattle.sr_agent.proofs.Unremoved.{none_removed, passed_same}
 use Rattle.sr_agent.proofs.Values.{keeps_partners}
 
 -- ---- reports in two parts
@@ -180,6 +181,7 @@ turned_untold old new before middle user bag bag' ask lines fault took why purge
         lines_are = turned.lines_are;
       });
       went = turned.behind.went;
+      removals = λ begun come. behind_removes new before middle publisher es fetched_files turned.partner_pass turned.behind begun;
     }
 
 pub record ReachedInPart (old new : View) (before middle : Seen) (why : ReceiveFault) : Type 0 where
@@ -230,6 +232,8 @@ broken_in old new before middle user bag bag' written written' reports why fault
               lines_are = refl;
             });
             went = now.reached.went told publisher es database;
+            removals = λ begun come. none_removed before.first begun before middle publisher es (map commit (now.entries ++ begun_by why now.refused)) (now.reached.went told publisher es database)
+                (passed_same old new before middle user (message_files_from user fetched_files) [] there.0 [] reports why told there.2);
           };
     }
 

@@ -20,6 +20,7 @@ use Rattle.sr_agent.specs.Inner.Steps.{IsUser, KeepsPartners, TookPartnerPasses,
 use Rattle.sr_agent.specs.declared.partner.Partner.{Partner}
 use Rattle.sr_agent.specs.declared.progress.Progress.{Progress}
 use Rattle.sr_agent.proofs.Chaining.{partner_passes_more}
+use Rattle.sr_agent.proofs.DoneWith.{removes_none}
 use Rattle.sr_agent.proofs.Joints.{steady_on, went_quiet}
 use Rattle.sr_agent.proofs.Ordering.{IsTurning, all_may, all_users, may_more, others_hold, still_holds, told_on}
 use Rattle.sr_agent.proofs.Purged.{stays_same}
@@ -37,6 +38,7 @@ none_took db seen publisher es fetched_files purge database = record {
   steady = record { disk = refl; mail = refl };
   went = went_quiet db publisher es seen seen [] (record { observable = refl; first = refl; files = refl; grows = λ moment there. there; disk_faults = refl; later = omega arith }) refl tt database;
   mail = refl;
+  removals = λ begun come. removes_none seen.first publisher begun seen.happened;
   asks_are = refl;
   lines_are = refl;
 }

@@ -15,6 +15,7 @@ use Rattle.sr_agent.specs.Inner.Steps.{PartnerPassBroken, PartnerPassesBroken}
 use Rattle.sr_agent.specs.PartnerPasses.{partner_passes_entries}
 use Rattle.sr_agent.specs.declared.fault.AgentFault.{AgentFault}
 use Rattle.sr_agent.specs.declared.progress.Progress.{Progress}
+use Rattle.sr_agent.proofs.DoneWith.{removes_then}
 use Rattle.sr_agent.proofs.Ending.{partner_pass_stopped}
 use Rattle.sr_agent.proofs.Joints.{commits_of}
 use Rattle.sr_agent.proofs.Ordering.{IsTurning}
@@ -45,6 +46,7 @@ turning_stop old db new before seen now users user rest bag bag' purge progress 
         stop = partner_pass_stopped publisher (es ++ entries) fetched_files user db new seen now next.events one.lines fault purge (HasTold one.lines written' written'') (HasTold (so.lines ++ one.lines) written written'')
             (told_behind so.lines one.lines written written' written'' so.told) next.stop;
         went = joined before seen now publisher es (map commit entries) next.events first.took.went (subst (λ (rs : List Recorded). Went seen now publisher (es ++ rs) next.events) (sym (commits_of entries)) next.went);
+        removals = removes_then before seen now publisher es (map commit entries) fetched_files first.took.went first.took.removals next.removals;
         lines_are = refl;
         earlier_told = told_before so.lines one.lines written written' written'' fault so.told one.ended.wrote;
       };

@@ -1,6 +1,7 @@
 -- A partner's pass with the removal of his dead files.
 use Rattle.std.proofs.Common.{◌≡◌, ◌+◌, ℕ, Bool, true, false, List, [], ◌∷◌, ◌++◌, map, Result, Ok, Err, IfErr, OnOk, refl, sym, ap, subst, inl, inr, ◌∙◌, arith}
 use Rattle.std.specs.Prelude.{IsErrAnd, IsTrue}
+use Rattle.std.specs.List.{AllByRecursion}
 use Rattle.sr_book.specs.Entries.{Name}
 use Rattle.sr_book.specs.declared.book.Book.{Book}
 use Rattle.sr_database.specs.Books.{book_in}
@@ -36,11 +37,12 @@ use Rattle.sr_agent.specs.declared.fault.AgentFault.{AgentFault}
 use Rattle.sr_agent.specs.declared.fault.AgentFault.TheVariants.{Memory}
 use Rattle.sr_agent.specs.declared.progress.Progress.{Progress}
 use Rattle.sr_agent.proofs.Ending.{ended_told}
+use Rattle.sr_agent.proofs.DoneWith.{IsDone, some_removed}
 use Rattle.sr_agent.proofs.Gathered.{IsQuietly}
 use Rattle.sr_agent.proofs.Joints.{of_mail, steady_on, still_there, told_then, went_quiet, went_still}
 use Rattle.sr_agent.proofs.MessageFiles.{turned_untold}
 use Rattle.sr_agent.proofs.Removing.{are_removed}
-use Rattle.sr_agent.proofs.Turning.{took_and_purged, took_quietly}
+use Rattle.sr_agent.proofs.Turning.{purge_removes, took_and_purged, took_quietly}
 use Rattle.sr_agent.proofs.Values.{publisher_is}
 use Rattle.sr_agent.proofs.Written.{has_told}
 
@@ -178,8 +180,11 @@ broken_partner_pass : (new : View) (before middle now : Seen) (publisher : Name)
     → BrokeInPartnerPass old new before now publisher es fetched_files purge user lines fault whole
 broken_partner_pass new before middle now publisher es fetched_files user bag' ask lines old why fault purge whole on all told turned cause is =
     let entries = partner_pass_entries publisher es fetched_files turned.partner_pass in
-    let part = part_of new.catalog.publisher (book_in new.books user) (files_in (partner_mail_of bag' user)) middle now why cause in
-    let quietly = removed_some new.catalog.publisher part.done part.left middle.happened now.happened (part.happened told) in
+    let address = new.catalog.publisher in
+    let book = book_in new.books user in
+    let files = files_in (partner_mail_of bag' user) in
+    let part = part_of address book files middle now why cause in
+    let quietly = removed_some address part.done part.left middle.happened now.happened (part.happened told) in
     record {
       events = map commit entries;
       stop = behind_message_files (record {
@@ -194,6 +199,10 @@ broken_partner_pass new before middle now publisher es fetched_files user bag' a
         lines_are = turned.lines_are;
       });
       went = went_still before middle now publisher es entries turned.behind.went (went_quiet new publisher (es ++ entries) middle now quietly.more part.stays quietly.is quietly.quiet turned.behind.database);
+      removals = purge_removes new before middle now.happened publisher es fetched_files turned.partner_pass address book files turned.behind (publisher_is new publisher (es ++ entries) turned.behind.database.is)
+          (turned.behind.database.is.books user ∙ ap (λ (n : Name). books_of n (es ++ entries)) (sym turned.user_is)) turned.files_are
+          (λ begun done. some_removed middle.first publisher address begun part.done part.left middle.happened now.happened (part.happened told)
+          (subst (λ (fs : List Filed). AllByRecursion (IsDone middle.first publisher address begun middle.happened) fs) part.parts done));
     }
 
 broken_end : (old new : View) (before middle now : Seen) (user : Name) (bag bag' : List PartnerMail) (purge : Bool) (answer : Received) (count : ℕ) (written written' : Output) (fault : AgentFault)

@@ -1,10 +1,11 @@
 -- What a run promises, from what its passes do.
-use Rattle.std.proofs.Common.{◌≡◌, ◌+◌, Bool, true, false, ℕ, List, [], ◌∷◌, ◌++◌, map, refl, sym, ap, subst, inl, inr, ◌∙◌, append_assoc, arith}
+use Rattle.std.proofs.Common.{◌≡◌, Bool, true, false, ℕ, List, [], ◌∷◌, ◌++◌, map, refl, sym, ap, subst, inl, inr, ◌∙◌, append_assoc, arith}
 use Rattle.std.specs.Prelude.{IsTrue, Ok, Err}
 use Rattle.std.proofs.lemmas.List.{append-nil}
 use Rattle.sr_book.specs.Entries.{Name}
 use Rattle.sr_database.specs.Databases.{IsDatabase}
 use Rattle.sr_database.specs.Views.{View}
+use Rattle.sr_database_history.specs.Folds.{state_of}
 use Rattle.sr_database_history.specs.Recorded.{Recorded}
 use Rattle.sr_receive.specs.Entering.{IsReady}
 use Rattle.sr_receive.specs.Passes.{AreSteady as IsSteady}
@@ -12,16 +13,19 @@ use Rattle.sr_site.specs.Causes.{Stays}
 use Rattle.sr_receive_gather.specs.declared.bag.PartnerMail.{PartnerMail}
 use Rattle.sr_catalog_schema.specs.Members.{user_name}
 use Rattle.sr_site.specs.Inner.Growing.{stays_on}
+use Rattle.sr_site.specs.Happenings.{mail_in}
 use Rattle.sr_site.specs.Seen.{Seen}
 use Rattle.sr_site.specs.Streams.{Output}
-use Rattle.sr_database_meaning.specs.Events.{Event, commit}
+use Rattle.sr_database_meaning.specs.Events.{Event, commit, commits}
 use Rattle.sr_database_meaning.specs.Traces.{Went}
+use Rattle.sr_database_meaning.proofs.Going.{told_same}
 use Rattle.sr_database_meaning.proofs.Joining.{joined}
 use Rattle.sr_session.specs.Reports.{Endures}
 use Rattle.sr_agent.specs.Agents.{AreTold, RanAgent, RanInPart, RanWhole}
 use Rattle.sr_agent.specs.Deliveries.{Delivery, deliveries_events, deliveries_lines}
 use Rattle.sr_agent.specs.Ends.{Ended, HasTold}
 use Rattle.sr_agent.specs.Lines.{Line, alarms, lines_text}
+use Rattle.sr_agent.specs.Removals.{RemovesInRun}
 use Rattle.sr_agent.specs.Runs.{IsSending, Receives, Run, Sends, after_receiving, after_run, asked, fetched_files_of, lines_of, nothing_done, received_lines, run_lines, taken_entries, trace_of}
 use Rattle.sr_agent.specs.Inner.Steps.{BrokeInDeliveries, BrokeInReceiving, BrokeInPartnerPasses, BrokenWhere, HasGatheredAll, IsUntoldThere, MadePass, PassBroken, SendingBroken, SendingDone, SentPartWhere, SentWhere, TookDeliveries, Told, told_in_part, gathered_in_part, in_mail, in_partner_passes}
 use Rattle.sr_agent.specs.Stops.{DeliveryStop, GatheringStop, IsSendingUpTo, IsUntold, StopsAt, at_first, gathering, behind_gathering, in_partner_pass, sending, in_delivery}
@@ -31,9 +35,12 @@ use Rattle.sr_agent.specs.declared.fault.AgentFault.TheVariants.{Memory}
 use Rattle.sr_agent.specs.declared.options.Options.{Options}
 use Rattle.sr_agent.specs.declared.partner.Partner.{Partner}
 use Rattle.sr_agent.specs.declared.progress.Progress.{Progress}
+use Rattle.sr_agent.proofs.DoneWith.{removes_on}
 use Rattle.sr_agent.proofs.Made.{HasMade, are_users, made_where, names_of_history, names_once}
+use Rattle.sr_agent.proofs.PutsAlone.{cause_alone}
 use Rattle.sr_agent.proofs.Reaching.{Reaches, came_alone, came_behind, gathered_run, reaches_mail, reaches_none, reaches_partner_passes, took_none, went_behind_mail, with_deliveries}
 use Rattle.sr_agent.proofs.Reported.{StopEndures, database_endures, nothing_told, observable_then, stop_endures, went_endures}
+use Rattle.sr_agent.proofs.Unremoved.{alone_same, gathered_same, mail_same, none_removed}
 use Rattle.sr_agent.proofs.Wholes.{Received, history_is}
 use Rattle.sr_agent.proofs.Written.{alarms_on, ended_at_once, ended_behind, still_site, still_steady, still_told, told_before, told_behind, told_on}
 
@@ -53,6 +60,7 @@ in_part_at_once view seen written publisher es options fault database want =
       told = [];
       stops = at_first refl refl refl refl refl want;
       went = came.went;
+      removals = came.removals;
       lines_are = refl;
       reported = nothing_told publisher (after_run publisher es nothing_done) seen (database_endures view publisher (after_run publisher es nothing_done) seen came.database);
       partner_passes_told = tt;
@@ -75,15 +83,16 @@ in_part_untold view before now written written' publisher es options bag lines f
           (record { asked_for = on; done = []; parts = refl; receiving = record { gathering = gathered.gathering; gathered_is = refl; is = gathered.is; are = tt; whose = refl }; none = refl })
           refl refl refl refl refl untold;
       went = came.went;
+      removals = came.removals;
       lines_are = gathered.lines_are ∙ sym (append-nil (gathering_lines gathered.gathering)) ∙ sym (append-nil (gathering_lines gathered.gathering ++ []));
       reported = nothing_told publisher (after_run publisher es run) now (database_endures view publisher (after_run publisher es run) now came.database);
       partner_passes_told = tt;
     }
 
 -- it was gathered in part
-in_part_gathering : (view : View) (before now : Seen) (written written' : Output) (publisher : Name) (es : List Recorded) (options : Options) (lines : List Line) (fault : AgentFault) → options.receive ≡ true → IsDatabase view publisher es before
+in_part_gathering : (view : View) (before now : Seen) (written written' : Output) (publisher : Name) (es : List Recorded) (options : Options) (lines : List Line) (fault : AgentFault) → options.receive ≡ true → IsTrue before.observable → IsDatabase view publisher es before
     → GatheringStop publisher es before now lines fault → Went before now publisher es [] → RanInPart view before now written written' publisher es options lines fault
-in_part_gathering view before now written written' publisher es options lines fault on database stop went = record {
+in_part_gathering view before now written written' publisher es options lines fault on told database stop went = record {
   run = nothing_done;
   db = view;
   seen = before;
@@ -92,6 +101,8 @@ in_part_gathering view before now written written' publisher es options lines fa
   told = lines;
   stops = gathering on refl refl refl stop;
   went = went;
+  removals = none_removed before.first before.happened before now publisher es [] went
+      (mail_same before.happened now.happened (gathered_same (state_of publisher es).catalog.publisher before.happened now.happened stop.part.more stop.part.fetched_files (stop.part.happened told)));
   lines_are = refl;
   reported = nothing_told publisher (after_run publisher es nothing_done) now (nothing_told publisher es now (went_endures before now publisher es [] went));
   partner_passes_told = tt;
@@ -137,6 +148,8 @@ in_part_partner_pass old new before seen now written between written' publisher 
       reported = moved.1;
       went = subst (λ (events : List Event). Went before now publisher es (events ++ broke.events)) (sym (append-nil (map commit added)))
           (went_behind_mail before seen now publisher es (map commit added ++ broke.events) gathered.went broke.went);
+      removals = removes_on before.first seen.first publisher before.happened before.happened seen.happened now.happened (told_same before seen publisher es [] gathered.went).1
+          (reaches_mail old before seen publisher es options bag first gathered).removals (broke.removals before.happened gathered.came);
       lines_are =
           ap (λ (ls : List Line). ls ++ behind) gathered.lines_are
           ∙ ap (λ (ls : List Line). gathering_lines g ++ ls) (broke.lines_are ∙ ap (λ (ls : List Line). ls ++ broke.told) (broke.took.lines_are ∙ sym (append-nil (partner_passes_lines publisher es g.fetched_files broke.took.partner_passes))))
@@ -152,7 +165,7 @@ in_part_received : (old new : View) (before now : Seen) (written written' : Outp
 in_part_received old new before now written written' publisher es options users lines fault on observable users_are database (in_mail same (told_in_part bag gathered untold)) =
     subst (λ (v : View). RanInPart v before now written written' publisher es options lines fault) (sym same) (in_part_untold old before now written written' publisher es options bag lines fault on gathered untold)
 in_part_received old new before now written written' publisher es options users lines fault on observable users_are database (in_mail same (gathered_in_part stop went)) =
-    subst (λ (v : View). RanInPart v before now written written' publisher es options lines fault) (sym same) (in_part_gathering old before now written written' publisher es options lines fault on database stop went)
+    subst (λ (v : View). RanInPart v before now written written' publisher es options lines fault) (sym same) (in_part_gathering old before now written written' publisher es options lines fault on observable database stop went)
 in_part_received old new before now written written' publisher es options users lines fault on observable users_are database (in_partner_passes bag seen first behind between gathered told broke lines_are) =
     subst (λ (ls : List Line). RanInPart new before now written written' publisher es options ls fault) (sym lines_are)
     (in_part_partner_pass old new before seen now written between written' publisher es options bag users first behind fault on observable users_are gathered told broke)
@@ -198,7 +211,7 @@ asked_with false publisher es run deliveries = refl
 
 reaches_of : (new : View) (before now : Seen) (publisher : Name) (es : List Recorded) (options : Options) (asks : List Partner) (lines : List Line)
     (received : Received new before now publisher es options asks lines) → Reaches new before now publisher es options received.run
-reaches_of new before now publisher es options asks lines received = record { database = received.database; went = received.went; mail = received.mail; steady = received.steady }
+reaches_of new before now publisher es options asks lines received = record { database = received.database; went = received.went; mail = received.mail; steady = received.steady; removals = received.removals }
 
 -- lines of both passes
 lines_on : (publisher : Name) (es : List Recorded) (run : Run) (deliveries : List Delivery) (earlier lines : List Line) → earlier ≡ lines_of run.gathered ++ partner_passes_lines publisher es (fetched_files_of run.gathered) run.partner_passes
@@ -227,10 +240,10 @@ abbrev pub stops_there : (publisher : Name) (es : List Recorded) (options : Opti
 stops_there publisher es options run deliveries left db new seen now told fault whole up_to there = sending left up_to there.last there.earlier there.put there.same there.still refl there.none there.why
 
 in_part_sent : (middle new : View) (before seen now : Seen) (written written' : Output) (publisher : Name) (es : List Recorded) (options : Options) (asks : List Partner) (earlier lines : List Line) (fault : AgentFault)
-    → options.send ≡ true → HasTold earlier written written'
+    → options.send ≡ true → IsTrue before.observable → HasTold earlier written written'
     → (received : Received middle before seen publisher es options asks earlier) → BrokeInDeliveries middle new seen now publisher (after_receiving publisher es received.run) options.length asks lines fault
     → RanInPart new before now written written' publisher es options (earlier ++ lines) fault
-in_part_sent middle new before seen now written written' publisher es options asks earlier lines fault on told received broke =
+in_part_sent middle new before seen now written written' publisher es options asks earlier lines fault on observable told received broke =
     let run = received.run in
     let ds = broke.took.deliveries in
     let whole = with_deliveries run ds in
@@ -252,6 +265,7 @@ in_part_sent middle new before seen now written written' publisher es options as
         stops = stops_there publisher es options run ds broke.left broke.db new broke.seen now broke.told fault (HasTold (earlier ++ lines) written written') up_to there;
         went = subst (λ (s : Seen). Went before s publisher es (trace_of publisher es whole ++ [])) (sym there.still)
             (subst (λ (events : List Event). Went before broke.seen publisher es events) (sym (append-nil (trace_of publisher es whole))) came.went);
+        removals = subst (λ (s : Seen). RemovesInRun publisher before s) (sym there.still) came.removals;
         lines_are = lines_are;
         reported = subst (λ (s : Seen). Endures publisher (after_run publisher es whole ++ []) s) (sym there.still)
             (nothing_told publisher (after_run publisher es whole) broke.seen (database_endures broke.db publisher (after_run publisher es whole) broke.seen came.database));
@@ -269,6 +283,13 @@ in_part_sent middle new before seen now written written' publisher es options as
             (subst (λ (rs : List Recorded). DeliveryStop publisher rs options.length next.partner broke.db new broke.seen now next.broke.events fault) (history_is es added put) next.broke.stop);
         went = joined before broke.seen now publisher es (trace_of publisher es whole) next.broke.events came.went
             (subst (λ (rs : List Recorded). Went broke.seen now publisher rs next.broke.events) (history_is es added put) next.broke.went);
+        removals =
+            let same = told_same before broke.seen publisher es (trace_of publisher es whole) came.went in
+            let alone = cause_alone publisher ((es ++ added) ++ commits put) broke.db new broke.seen now next.partner.user options.length next.partner.ask (subst (λ (b : Bool). IsTrue b) (sym same.0) observable) broke.took.database
+            next.broke.stop.why next.broke.stop.cause in
+            removes_on before.first broke.seen.first publisher before.happened before.happened broke.seen.happened now.happened same.1 came.removals
+            (none_removed broke.seen.first before.happened broke.seen now publisher ((es ++ added) ++ commits put) next.broke.events next.broke.went
+            (alone_same alone.events (mail_in broke.seen.happened) (mail_in now.happened) alone.alone));
         lines_are = lines_are;
         reported = nothing_told publisher (after_run publisher es whole) now
             (went_endures broke.seen now publisher (after_run publisher es whole) next.broke.events
@@ -287,7 +308,7 @@ sent_part_where true old middle new before seen now options users asks count wri
   count = tt;
   did = λ told publisher es database.
       let received = made.did told publisher es database (names_of_history old publisher es users database.is users_are) (names_once old publisher es users database.is users_are) in
-      in_part_sent middle new before seen now written written' publisher es options asks made.lines broken.lines fault on
+      in_part_sent middle new before seen now written written' publisher es options asks made.lines broken.lines fault on told
       (told_before made.lines broken.lines written between written' fault made.told broken.ended.wrote) received
       (broken.did (subst (λ (b : Bool). IsTrue b) (sym made.stays.observable) told) publisher (after_receiving publisher es received.run) received.database);
 }

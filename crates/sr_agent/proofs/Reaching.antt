@@ -1,6 +1,6 @@
 -- How far a run came, from what its passes say.
-use Rattle.std.proofs.Common.{◌≡◌, ℕ, List, [], ◌++◌, map, refl, sym, ap, subst, ◌∙◌}
-use Rattle.std.specs.Prelude.{Some}
+use Rattle.std.proofs.Common.{◌≡◌, ℕ, List, [], ◌∷◌, ◌++◌, map, refl, sym, ap, subst, ◌∙◌}
+use Rattle.std.specs.Prelude.{Some, Ok}
 use Rattle.std.proofs.lemmas.List.{append-nil}
 use Rattle.sr_book.specs.Entries.{Name}
 use Rattle.sr_database.specs.Databases.{IsDatabase}
@@ -8,21 +8,24 @@ use Rattle.sr_database.specs.Views.{View}
 use Rattle.sr_database_history.specs.Recorded.{Recorded}
 use Rattle.sr_receive.specs.Passes.{AreSteady as IsSteady}
 use Rattle.sr_receive_gather.specs.declared.bag.PartnerMail.{PartnerMail}
-use Rattle.sr_site.specs.Happenings.{Happening, mail_in}
+use Rattle.sr_site.specs.Happenings.{Happening, listed, mail_in}
 use Rattle.sr_site.specs.Seen.{Seen}
 use Rattle.sr_database_meaning.specs.Events.{Event, commit}
 use Rattle.sr_database_meaning.specs.Traces.{Went}
-use Rattle.sr_database_meaning.proofs.Going.{nothing}
+use Rattle.sr_database_meaning.proofs.Going.{nothing, told_same}
 use Rattle.sr_database_meaning.proofs.Joining.{joined}
 use Rattle.sr_agent.specs.Agents.{CameSoFar}
 use Rattle.sr_agent.specs.Deliveries.{Delivery, deliveries_events, with_puts}
 use Rattle.sr_agent.specs.Lines.{Line}
+use Rattle.sr_agent.specs.Removals.{RemovesInRun}
 use Rattle.sr_agent.specs.Runs.{Run, after_receiving, nothing_done, received_mail, taken_entries}
 use Rattle.sr_agent.specs.Inner.Steps.{HasGatheredAll, TookDeliveries, TookPartnerPasses}
 use Rattle.sr_agent.specs.PartnerPasses.{Gathering, PartnerPass, partner_passes_entries, partner_passes_mail}
 use Rattle.sr_agent.specs.declared.options.Options.{Options}
 use Rattle.sr_agent.specs.declared.partner.Partner.{Partner}
+use Rattle.sr_agent.proofs.DoneWith.{removes_none, removes_on}
 use Rattle.sr_agent.proofs.Joints.{commits_of, settled_as, steady_on}
+use Rattle.sr_agent.proofs.Unremoved.{fetches_same, none_removed, puts_same, removals_in}
 use Rattle.sr_agent.proofs.Wholes.{history_is}
 
 -- what a receive pass comes to, up to where it came
@@ -31,6 +34,7 @@ pub record Reaches (new : View) (before now : Seen) (publisher : Name) (es : Lis
   pub went : Went before now publisher es (map commit (taken_entries publisher es run))
   pub mail : mail_in now.happened ≡ received_mail publisher es options.purge run (mail_in before.happened)
   pub steady : IsSteady before now
+  pub removals : RemovesInRun publisher before now
 
 -- a run with these deliveries, and with none
 abbrev pub with_deliveries : Run → List Delivery → Run
@@ -47,6 +51,7 @@ reaches_none view seen publisher es options database = record {
   went = nothing seen publisher es (settled_as view publisher es seen database);
   mail = refl;
   steady = record { disk = refl; mail = refl };
+  removals = removes_none seen.first publisher seen.happened seen.happened;
 }
 
 -- the mail was gathered
@@ -60,6 +65,8 @@ reaches_mail view before now publisher es options bag lines gathered = record {
   went = gathered.went;
   mail = gathered.mail;
   steady = gathered.steady;
+  removals = none_removed before.first before.happened before now publisher es [] gathered.went
+      (ap removals_in gathered.mail ∙ fetches_same publisher gathered.gathering.fetched_files (listed publisher gathered.gathering.folder (Ok gathered.gathering.listing) ∷ mail_in before.happened));
 }
 
 pub went_behind_mail : (before seen now : Seen) (publisher : Name) (es : List Recorded) (events : List Event) → Went before seen publisher es [] → Went seen now publisher es events → Went before now publisher es events
@@ -75,6 +82,8 @@ reaches_partner_passes old new before seen now publisher es options bag first us
   went = went_behind_mail before seen now publisher es (map commit (partner_passes_entries publisher es gathered.gathering.fetched_files took.partner_passes)) gathered.went took.went;
   mail = took.mail ∙ ap (λ (l : List Happening). partner_passes_mail publisher es gathered.gathering.fetched_files options.purge took.partner_passes l) gathered.mail;
   steady = steady_on before seen now gathered.steady took.steady;
+  removals = removes_on before.first seen.first publisher before.happened before.happened seen.happened now.happened (told_same before seen publisher es [] gathered.went).1
+      (reaches_mail old before seen publisher es options bag first gathered).removals (took.removals before.happened gathered.came);
 }
 
 -- ---- and the send pass
@@ -103,6 +112,8 @@ came_behind middle new before seen now publisher es options run limit to lines r
           (subst (λ (rs : List Recorded). Went seen now publisher (es ++ rs) events) (sym (commits_of added)) took.went);
       mail = took.mail ∙ ap (λ (l : List Happening). with_puts events l) reaches.mail;
       steady = steady_on before seen now reaches.steady took.steady;
+      removals = removes_on before.first seen.first publisher before.happened before.happened seen.happened now.happened (told_same before seen publisher es (map commit added) reaches.went).1 reaches.removals
+          (none_removed seen.first before.happened seen now publisher (es ++ added) events took.went (ap removals_in took.mail ∙ puts_same events (mail_in seen.happened)));
     }
 
 -- nothing was sent

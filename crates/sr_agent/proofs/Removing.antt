@@ -8,7 +8,7 @@ use Rattle.sr_receive_gather.specs.Purges.{removals}
 use Rattle.sr_receive_gather.specs.Inner.Purges.{files_in}
 use Rattle.sr_receive_gather.specs.declared.bag.Filed.{Filed}
 use Rattle.sr_receive_gather.specs.declared.bag.PartnerMail.{PartnerMail}
-use Rattle.sr_site.specs.Happenings.{Happening, attached, wrote, cut_to, synced, listed, fetched, sent, removed, mail_in}
+use Rattle.sr_site.specs.Happenings.{Happening, attached, wrote, cut_to, synced, listed, fetched, sent, removed, handed_over, mail_in}
 use Rattle.sr_database_meaning.specs.Inner.Events.{AreQuiet}
 
 -- the files of a partner mail are those of the message files
@@ -35,6 +35,7 @@ quiet_with address name (listed other folder listing ∷ more) are = quiet_with 
 quiet_with address name (fetched other n limit found ∷ more) are = quiet_with address name more are
 quiet_with address name (sent other n bytes done ∷ more) are = absurd are
 quiet_with address name (removed other n done ∷ more) are = quiet_with address name more are
+quiet_with address name (handed_over folders noted ∷ more) are = absurd are
 
 -- what removals add to what happened
 pub record AreRemoved (address : List ℕ) (files : List Filed) (before : List Happening) : Type 0 where

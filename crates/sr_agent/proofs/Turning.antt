@@ -1,6 +1,7 @@
 -- A partner's pass, from what its passes say.
 use Rattle.std.proofs.Common.{◌≡◌, Bool, true, false, ℕ, List, [], ◌∷◌, ◌++◌, map, ap, subst, ◌∙◌}
 use Rattle.std.specs.Prelude.{IsTrue}
+use Rattle.std.specs.List.{AllByRecursion}
 use Rattle.std.proofs.lemmas.List.{append-nil}
 use Rattle.sr_book.specs.Entries.{Name}
 use Rattle.sr_book.specs.declared.book.Book.{Book}
@@ -25,12 +26,17 @@ use Rattle.sr_site.specs.Happenings.{Happening, mail_in}
 use Rattle.sr_site.specs.Seen.{Seen}
 use Rattle.sr_database_meaning.specs.Events.{commit}
 use Rattle.sr_database_meaning.specs.Traces.{Went}
+use Rattle.sr_database_meaning.proofs.Going.{told_same}
 use Rattle.sr_agent.specs.Lines.{Line, received, report_lines}
 use Rattle.sr_agent.specs.Inner.PartnerMails.{Behind}
 use Rattle.sr_agent.specs.Inner.Steps.{TookPartnerPass, partner_pass_said}
+use Rattle.sr_agent.specs.Inner.Coming.{HaveCome}
+use Rattle.sr_agent.specs.Removals.{RemovesBehind}
 use Rattle.sr_agent.specs.PartnerPasses.{PartnerPass, IsPartnerPass, asks_in, beginning, ending, files_of, partner_pass_entries, partner_pass_lines}
-use Rattle.sr_agent.proofs.Joints.{steady_on, still_there, went_quiet, went_still}
+use Rattle.sr_agent.proofs.DoneWith.{IsDone, all_removed, come_then, dead_are_done, removes_on}
+use Rattle.sr_agent.proofs.Joints.{settled_as, steady_on, still_there, went_quiet, went_still}
 use Rattle.sr_agent.proofs.Removing.{are_removed, mail_removed}
+use Rattle.sr_agent.proofs.Unremoved.{after_same, none_removed, removals_in}
 use Rattle.sr_agent.proofs.Values.{beginning_is, publisher_is}
 
 -- the entries of a pass
@@ -86,6 +92,26 @@ behind_partner_pass old new before middle publisher es fetched_files user droppe
       steady = record { disk = passed.reached.state.1; mail = passed.steady };
     }
 
+-- nothing was removed before
+pub behind_removes : (new : View) (before middle : Seen) (publisher : Name) (es : List Recorded) (fetched_files : List FetchedFile) (t : PartnerPass) → Behind new before middle publisher es fetched_files t → (begun : List Happening)
+    → RemovesBehind before.first publisher begun before.happened middle.happened
+behind_removes new before middle publisher es fetched_files t behind begun =
+    none_removed before.first begun before middle publisher es (map commit (partner_pass_entries publisher es fetched_files t)) behind.went (ap removals_in behind.mail ∙ after_same publisher t.acts (mail_in before.happened))
+
+-- dead files may be removed: they are done with
+pub purge_removes : (new : View) (before middle : Seen) (now : List Happening) (publisher : Name) (es : List Recorded) (fetched_files : List FetchedFile) (t : PartnerPass) (address : Name) (book : Book) (files : List Filed)
+    → Behind new before middle publisher es fetched_files t → address ≡ publisher → book ≡ books_of t.user (es ++ partner_pass_entries publisher es fetched_files t) → files ≡ files_of fetched_files t
+    → ((begun : List Happening) → AllByRecursion (IsDone middle.first publisher address begun middle.happened) (dead book files) → RemovesBehind middle.first publisher begun middle.happened now) → (begun : List Happening)
+    → HaveCome publisher begun before.happened fetched_files → RemovesBehind before.first publisher begun before.happened now
+purge_removes new before middle now publisher es fetched_files t address book files behind address_is book_is files_are purged begun come =
+    let there = es ++ partner_pass_entries publisher es fetched_files t in
+    let first = behind_removes new before middle publisher es fetched_files t behind begun in
+    let done = dead_are_done middle.first publisher address begun t.user middle.happened there address_is (settled_as new publisher there middle behind.database) fetched_files
+    (come_then before.first publisher begun before.happened middle.happened fetched_files first come) in
+    removes_on before.first middle.first publisher begun before.happened middle.happened now
+    (told_same before middle publisher es (map commit (partner_pass_entries publisher es fetched_files t)) behind.went).1 first
+    (purged begun (rw (book_is, files_are) done))
+
 -- nothing was removed
 pub took_quietly : (new : View) (before now : Seen) (publisher : Name) (es : List Recorded) (fetched_files : List FetchedFile) (user : Name) (t : PartnerPass) (ask : Bool) (lines : List Line) → t.user ≡ user
     → Behind new before now publisher es fetched_files t → ask ≡ asks_in publisher es fetched_files t → lines ≡ partner_pass_lines publisher es fetched_files t → TookPartnerPass new before now publisher es fetched_files false user ask lines
@@ -97,6 +123,7 @@ took_quietly new before now publisher es fetched_files user t ask lines whose be
   steady = behind.steady;
   went = behind.went;
   mail = behind.mail;
+  removals = λ begun come. behind_removes new before now publisher es fetched_files t behind begun;
   ask_is = ask_is;
   lines_are = lines_are;
 }
@@ -124,6 +151,8 @@ took_and_purged new before middle now publisher es fetched_files user t ask line
           ∙ ap (λ (a : Name). removals a (dead book files) (mail_after publisher t.acts (mail_in before.happened))) address_is
           ∙ ap (λ (b : Book). removals publisher (dead b files) (mail_after publisher t.acts (mail_in before.happened))) book_is
           ∙ ap (λ (fs : List Filed). removals publisher (dead (books_of t.user (es ++ added)) fs) (mail_after publisher t.acts (mail_in before.happened))) files_are;
+      removals = purge_removes new before middle now.happened publisher es fetched_files t address book files behind address_is book_is files_are
+          (λ begun done. all_removed middle.first publisher address begun (dead book files) middle.happened now.happened (purged.removed_are told) done);
       ask_is = ask_is;
       lines_are = lines_are;
     }

@@ -14,6 +14,7 @@ use Rattle.sr_database_meaning.specs.Traces.{Went}
 use Rattle.sr_agent.specs.Deliveries.{with_puts}
 use Rattle.sr_agent.specs.Ends.{Ended, HasTold}
 use Rattle.sr_agent.specs.Lines.{Line, alarms}
+use Rattle.sr_agent.specs.Removals.{RemovesInRun}
 use Rattle.sr_agent.specs.Runs.{Run, IsRun, after_run, received_lines, received_mail, run_lines, sent_events, trace_of}
 use Rattle.sr_agent.specs.Stops.{StopsAt, told_entries}
 use Rattle.sr_agent.specs.PartnerPasses.{PartnerPass}
@@ -33,6 +34,8 @@ pub record CameSoFar (new : View) (before now : Seen) (publisher : Name) (es : L
   pub mail : MailDone publisher es options run before now
   -- no device failed on the way: the first fault ends a run
   pub steady : IsSteady before now
+  -- each message file that was removed was done with, durably
+  pub removals : RemovesInRun publisher before now
 
 -- ---- to the end, and not
 
@@ -58,6 +61,7 @@ pub record RanInPart (new : View) (before now : Seen) (written written' : Output
   pub told : List Line
   pub stops : StopsAt publisher es options run db new seen now events told fault (HasTold lines written written')
   pub went : Went before now publisher es (trace_of publisher es run ++ events)
+  pub removals : RemovesInRun publisher before now
   pub lines_are : lines ≡ run_lines publisher es run ++ told
   -- whatever a crash leaves stands for a history that begins with the entries that the lines tell of
   pub reported : Endures publisher (after_run publisher es run ++ told_entries stops) now

@@ -1,3 +1,4 @@
 pub mod Steps
 pub mod PartnerMails
 pub mod Sharing
+pub mod Coming

@@ -4,6 +4,7 @@ pub mod PartnerPasses
 pub mod Deliveries
 pub mod Runs
 pub mod Ends
+pub mod Removals
 pub mod Stops
 pub mod Agents
 pub mod Inner

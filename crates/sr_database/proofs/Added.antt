@@ -31,7 +31,7 @@ use Rattle.sr_database.specs.Databases.{IsOf, IsOfSome, IsDatabase}
 use Rattle.sr_database.specs.Inner.Taking.{Takes}
 use Rattle.sr_database.specs.Views.{View}
 use Rattle.sr_database_files.proofs.Beside.{made_on, something}
-use Rattle.sr_database.proofs.Commits.{may_stand, one_more, log_of_held, went, database_after}
+use Rattle.sr_database.proofs.Commits.{may_stand, one_more, log_of_held, log_settled, went, database_after}
 use Rattle.sr_database.proofs.Values.{stored_more}
 
 -- ---- bodies
@@ -85,7 +85,7 @@ module _ (old new : View) (entry : Entry) (framed : List ℕ) (added : Added old
     database_added before now publisher es r done database can made others log read stays =
         database_after old new publisher es r framed before now database (ap (λ (l : Log). l.file) log_is) (ap (λ (l : Log). l.base) log_is)
         (stored_more publisher es r database.is.stored (fits publisher es r database.is can)) (body_is r can)
-        (value_added publisher es r database.is can) others (log (bodies es) (log_of_held old publisher es before.files database.is database.held)) read stays.first
+        (value_added publisher es r database.is can) others (log (bodies database.held.stands.left) (log_of_held old publisher es before.files database.is database.held)) read stays.first
         (made_on old.log.file (commit_calls old.log.file (gate_of old.log) framed) before.happened now.happened done (refl, (refl, (refl, (refl, tt)))) made)
 
   -- whether it stands or not
@@ -95,7 +95,7 @@ module _ (old new : View) (entry : Entry) (framed : List ℕ) (added : Added old
       → Went before now publisher es (commit r ∷ [])
   went_added before now publisher es r done file base database can made moments stays =
       went old new publisher es r framed before now database file base (stored_more publisher es r database.is.stored (fits publisher es r database.is can)) (body_is r can)
-      (moments (bodies es) (log_of_held old publisher es before.files database.is database.held) (λ image there. log_of_held old publisher es image database.is (database.settled image there)))
+      (moments (bodies database.held.stands.left) (log_of_held old publisher es before.files database.is database.held) (log_settled old publisher es before database))
       (made_on old.log.file (commit_calls old.log.file (gate_of old.log) framed) before.happened now.happened done (refl, (refl, (refl, (refl, tt)))) made) stays (something (write old.log.file (gate_of old.log + 1) framed) (sync old.log.file ∷ write old.log.file (gate_of old.log) (1 ∷ []) ∷ sync old.log.file ∷ []) before.happened now.happened done made)
 
   -- in both cases it is the same file

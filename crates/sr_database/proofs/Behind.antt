@@ -1,13 +1,13 @@
 -- The entry behind an offset.
-use Rattle.std.proofs.Common.{◌≡◌, ◌≢◌, ℕ, ◌+◌, List, [], ◌∷◌, ◌++◌, length, take, Option, Some, None, Result, Ok, Err, refl, sym, ◌∙◌, ap, subst, arith}
+use Rattle.std.proofs.Common.{◌≡◌, ◌≢◌, ℕ, ◌+◌, ◌≤◌, List, [], ◌∷◌, ◌++◌, length, take, Option, Some, None, Result, Ok, Err, refl, sym, ◌∙◌, ap, subst, arith}
 use Rattle.std.specs.Prelude.{IsTrue, IfErr, MatchOption}
 use Rattle.std.proofs.lemmas.List.{map-append}
 use Rattle.sr_base.specs.declared.offset.Offset.{Offset}
 use Rattle.sr_book.specs.Entries.{Name}
 use Rattle.sr_database_history.specs.Fitting.{Stored}
-use Rattle.sr_database_history.specs.Folds.{fresh, end_of, size}
+use Rattle.sr_database_history.specs.Folds.{fresh, end_from, end_of, size}
 use Rattle.sr_database_history.specs.Recorded.{Recorded, entry_of}
-use Rattle.sr_database_history.proofs.Joined.{end_from-more, stored_from-append}
+use Rattle.sr_database_history.proofs.Joined.{end_from-append, end_from-more, le-end_from, stored_from-append}
 use Rattle.sr_logfile.specs.Inner.Faults.{NextCause, RecordAfterCause}
 use Rattle.sr_logfile.specs.Log.{Log}
 use Rattle.sr_logfile.specs.Inner.Logs.{IsLog, IsAt}
@@ -39,12 +39,36 @@ use Rattle.sr_database_files.specs.declared.fault.DatabaseFault.{DatabaseFault}
 use Rattle.sr_database_files.specs.declared.fault.DatabaseFault.TheVariants.{Missing, Exists, Damaged, Disk, Full, Long, Memory}
 use Rattle.sr_database.proofs.Commits.{log_of_held}
 
+-- of one history, entries that end no later than others are the first of these
+record Middle (first others done left : List Recorded) : Type 0 where
+  more : List Recorded
+  done_is : done ≡ first ++ more
+  others_are : others ≡ more ++ left
+
+parted : (place : ℕ) (first others done left : List Recorded) → first ++ others ≡ done ++ left → end_from place first ≤ end_from place done → Middle first others done left
+parted place [] others done left same order = record { more = done; done_is = refl; others_are = same }
+parted place (x ∷ first) others [] left same order = absurd (omega (arith, order, le-end_from (place + (size x + 5)) first))
+parted place (x ∷ first) others (y ∷ done) left same order =
+    let heads : x ≡ y = cc in
+    let tails : first ++ others ≡ done ++ left = cc in
+    let rest = parted (place + (size y + 5)) first others done left tails (subst (λ (r : Recorded). end_from (place + (size r + 5)) first ≤ end_from (place + (size y + 5)) done) heads order) in
+    record { more = rest.more; done_is = λ i. sym heads i ∷ rest.done_is i; others_are = rest.others_are }
+
 -- the position parts the log as the offset parts the history
-pub is_at : (view : View) (publisher : Name) (done left : List Recorded) (seen : Seen) (after : ℕ) → IsDatabase view publisher (done ++ left) seen → after ≡ end_of done → IsAt view.log after (bodies done) (bodies left) seen.files
-is_at view publisher done left seen after database is =
+record PartsLog (log : Log) (after : ℕ) (left : List Recorded) (files : Files) : Type 0 where
+  front : List (List ℕ)
+  at : IsAt log after front (bodies left) files
+
+parts_log : (view : View) (publisher : Name) (done left : List Recorded) (seen : Seen) (after : ℕ) → IsDatabase view publisher (done ++ left) seen → after ≡ end_of done → view.log.base ≤ after → PartsLog view.log after left seen.files
+parts_log view publisher done left seen after database is from =
+    let s = database.held.stands in
+    let m = parted 0 s.done s.left done left (sym s.parts) (let le : end_of s.done ≤ end_of done = omega (arith, s.base_is, is, from) in le) in
     record {
-      is_log = subst (λ (l : List (List ℕ)). IsLog view.log l seen.files) (map-append body done left) (log_of_held view publisher (done ++ left) seen.files database.is database.held);
-      after_is = omega (arith, is, database.is.base, ends_are 0 done);
+      front = bodies m.more;
+      at = record {
+        is_log = subst (λ (l : List (List ℕ)). IsLog view.log l seen.files) (ap bodies m.others_are ∙ map-append body m.more left) (log_of_held view publisher (done ++ left) seen.files database.is database.held);
+        after_is = omega (arith, is, ap end_of m.done_is, end_from-append 0 s.done m.more, s.base_is, ends_are (end_of s.done) m.more);
+      };
     }
 
 -- nothing is left
@@ -63,7 +87,7 @@ never_empty (Pass users only text changes) is = absurd cc
 never_empty (Note user note) is = absurd cc
 
 -- the entry of the next body
-module _ (log : Log) (publisher : Name) (done : List Recorded) (after : ℕ) (at : after ≡ end_of done) where
+module _ (log : Log) (publisher : Name) (done : List Recorded) (front : List (List ℕ)) (after : ℕ) (at : after ≡ end_of done) where
   first_fits : (r : Recorded) (rs : List Recorded) → Stored publisher (done ++ r ∷ rs) → IsEntry (entry_of r)
   first_fits r rs stored = ((stored_from-append (fresh publisher) 0 done (r ∷ rs)).0 stored).1.0.spelled
 
@@ -71,7 +95,7 @@ module _ (log : Log) (publisher : Name) (done : List Recorded) (after : ℕ) (at
   one_entry r rs entry stored spelled same =
       ((spells_once entry_format).no_other entry (entry_of r) [] [] spelled (first_fits r rs stored) (ap (λ (l : List ℕ). l ++ []) same)).0
 
-  pub next_is : (left : List Recorded) (files : Files) (buffer : List ℕ) (end : Offset) (count : ℕ) (entry : Entry) → Stored publisher (done ++ left) → IsNextBody log after (bodies done) (bodies left) files buffer end.0 count
+  pub next_is : (left : List Recorded) (files : Files) (buffer : List ℕ) (end : Offset) (count : ℕ) (entry : Entry) → Stored publisher (done ++ left) → IsNextBody log after front (bodies left) files buffer end.0 count
       → IsEntry entry → take count buffer ≡ entry_spelling entry → IsNext done left end entry
   next_is [] files buffer end count entry stored n spelled read = let is = n.left_is in absurd cc
   next_is (r ∷ rs) files buffer end count entry stored n spelled read =
@@ -95,11 +119,11 @@ module _ (log : Log) (publisher : Name) (done : List Recorded) (after : ℕ) (at
   pub short_end : (left : List Recorded) (room need : ℕ) (end : Offset) → IsLonger (bodies left) room need → end.0 ≡ after + 5 + need → IsNextEnd done left end
   short_end left room need end longer ends = end_of_next left longer.body longer.rest end longer.left_is (omega (arith, ends, longer.need_is))
 
-  pub record_end : (left : List Recorded) (files : Files) (buffer : List ℕ) (end : Offset) (count : ℕ) → IsNextBody log after (bodies done) (bodies left) files buffer end.0 count → IsNextEnd done left end
+  pub record_end : (left : List Recorded) (files : Files) (buffer : List ℕ) (end : Offset) (count : ℕ) → IsNextBody log after front (bodies left) files buffer end.0 count → IsNextEnd done left end
   record_end left files buffer end count n = end_of_next left n.body n.rest end n.left_is (omega (arith, n.end_is, n.count_is))
 
   -- its kind
-  pub next_kind : (left : List Recorded) (files : Files) (buffer : List ℕ) (end : Offset) (count kind : ℕ) → IsNextBody log after (bodies done) (bodies left) files buffer end.0 count → BeginWith (take count buffer) kind
+  pub next_kind : (left : List Recorded) (files : Files) (buffer : List ℕ) (end : Offset) (count kind : ℕ) → IsNextBody log after front (bodies left) files buffer end.0 count → BeginWith (take count buffer) kind
       → IsNextKind done left end kind
   next_kind [] files buffer end count kind n begins = let is = n.left_is in absurd cc
   next_kind (r ∷ rs) files buffer end count kind n begins =
@@ -114,7 +138,7 @@ module _ (log : Log) (publisher : Name) (done : List Recorded) (after : ℕ) (at
       }
 
   -- what is read there is spelled
-  pub always_spelled : (left : List Recorded) (files : Files) (buffer : List ℕ) (end count : ℕ) → Stored publisher (done ++ left) → IsNextBody log after (bodies done) (bodies left) files buffer end count
+  pub always_spelled : (left : List Recorded) (files : Files) (buffer : List ℕ) (end count : ℕ) → Stored publisher (done ++ left) → IsNextBody log after front (bodies left) files buffer end count
       → ((entry : Entry) → IsEntry entry → take count buffer ≢ entry_spelling entry) → ⊥
   always_spelled [] files buffer end count stored n none = let left = n.left_is in cc
   always_spelled (r ∷ rs) files buffer end count stored n none =
@@ -122,7 +146,7 @@ module _ (log : Log) (publisher : Name) (done : List Recorded) (after : ℕ) (at
       none (entry_of r) (first_fits r rs stored) (n.prefix ∙ sym heads)
 
   -- no body is without a byte
-  pub always_begins : (left : List Recorded) (files : Files) (buffer : List ℕ) (end count : ℕ) → Stored publisher (done ++ left) → IsNextBody log after (bodies done) (bodies left) files buffer end count → take count buffer ≡ [] → ⊥
+  pub always_begins : (left : List Recorded) (files : Files) (buffer : List ℕ) (end count : ℕ) → Stored publisher (done ++ left) → IsNextBody log after front (bodies left) files buffer end count → take count buffer ≡ [] → ⊥
   always_begins left files buffer end count stored n none = always_spelled left files buffer end count stored n (λ entry spelled same. never_empty entry (sym same ∙ none))
 
 -- a log is never refused for want of memory
@@ -142,25 +166,25 @@ StepsTo log after before files buffer step = (done left : List (List ℕ)) → I
 module _ (log : Log) (after : ℕ) (before now : Seen) where
   pub ends_behind : (files : Files) (buffer : List ℕ) (found : Option (Offset × ℕ)) → found ≡ None → StepOf log after before files buffer found → (publisher : Name) (done left : List Recorded) → Parts log after publisher done left before → left ≡ []
   ends_behind files buffer found is step publisher done left parts =
-      none_left left (subst (λ (o : Option (Offset × ℕ)). StepOf log after before files buffer o) is step (bodies done) (bodies left) parts.at)
+      none_left left (subst (λ (o : Option (Offset × ℕ)). StepOf log after before files buffer o) is step parts.front (bodies left) parts.at)
 
   module _ (files : Files) (buffer body : List ℕ) (found : Option (Offset × ℕ)) (end : Offset) (count : ℕ) (found_is : found ≡ Some (end, count)) (body_is : body ≡ take count buffer) where
     pub read_behind : StepOf log after before files buffer found → (entry : Entry) → IsEntry entry → body ≡ entry_spelling entry → (publisher : Name) (done left : List Recorded) → Parts log after publisher done left before → IsNext done left end entry
     read_behind step entry spelled read publisher done left parts =
-        next_is log publisher done after parts.after_is left files buffer end count entry parts.stored
-        (subst (λ (o : Option (Offset × ℕ)). StepOf log after before files buffer o) found_is step (bodies done) (bodies left) parts.at) spelled (sym body_is ∙ read)
+        next_is log publisher done parts.front after parts.after_is left files buffer end count entry parts.stored
+        (subst (λ (o : Option (Offset × ℕ)). StepOf log after before files buffer o) found_is step parts.front (bodies left) parts.at) spelled (sym body_is ∙ read)
 
     pub kind_read : StepOf log after before files buffer found → (kind : ℕ) → BeginWith body kind → (publisher : Name) (done left : List Recorded) → Parts log after publisher done left before → IsNextKind done left end kind
     kind_read step kind begins publisher done left parts =
-        next_kind log publisher done after parts.after_is left files buffer end count kind
-        (subst (λ (o : Option (Offset × ℕ)). StepOf log after before files buffer o) found_is step (bodies done) (bodies left) parts.at) (begins.0, sym body_is ∙ begins.1)
+        next_kind log publisher done parts.front after parts.after_is left files buffer end count kind
+        (subst (λ (o : Option (Offset × ℕ)). StepOf log after before files buffer o) found_is step parts.front (bodies left) parts.at) (begins.0, sym body_is ∙ begins.1)
 
     pub unkind_behind : (IsTrue before.observable → StepOf log after before files buffer found) → now.disk_faults ≡ before.disk_faults → (file : File) (place : ℕ) (fault : DatabaseFault) → (fault ≡ Damaged file place) × (body ≡ []) → BehindCause log after before now fault
     unkind_behind step steady file place fault cause =
         subst (λ (f : DatabaseFault). BehindCause log after before now f) (sym cause.0) (
           λ told publisher done left parts.
-              always_begins log publisher done after parts.after_is left files buffer end.0 count parts.stored
-              (subst (λ (o : Option (Offset × ℕ)). StepOf log after before files buffer o) found_is (step told) (bodies done) (bodies left) parts.at) (sym body_is ∙ cause.1),
+              always_begins log publisher done parts.front after parts.after_is left files buffer end.0 count parts.stored
+              (subst (λ (o : Option (Offset × ℕ)). StepOf log after before files buffer o) found_is (step told) parts.front (bodies left) parts.at) (sym body_is ∙ cause.1),
           steady,
         )
 
@@ -169,8 +193,8 @@ module _ (log : Log) (after : ℕ) (before now : Seen) where
     spelling_behind step steady file place Exists cause = absurd cause
     spelling_behind step steady file place (Damaged other at) cause = (
       λ told publisher done left parts.
-          always_spelled log publisher done after parts.after_is left files buffer end.0 count parts.stored
-          (subst (λ (o : Option (Offset × ℕ)). StepOf log after before files buffer o) found_is (step told) (bodies done) (bodies left) parts.at)
+          always_spelled log publisher done parts.front after parts.after_is left files buffer end.0 count parts.stored
+          (subst (λ (o : Option (Offset × ℕ)). StepOf log after before files buffer o) found_is (step told) parts.front (bodies left) parts.at)
           (λ entry spelled same. cause.2 entry spelled (body_is ∙ same)),
       steady,
     )
@@ -181,21 +205,21 @@ module _ (log : Log) (after : ℕ) (before now : Seen) where
 
   -- an end that was read
   pub no_end : (files : Files) (buffer : List ℕ) → StepsTo log after before files buffer steps.End → (publisher : Name) (done left : List Recorded) → Parts log after publisher done left before → left ≡ []
-  no_end files buffer step publisher done left parts = none_left left (step (bodies done) (bodies left) parts.at)
+  no_end files buffer step publisher done left parts = none_left left (step parts.front (bodies left) parts.at)
 
   pub end_short : (files : Files) (buffer : List ℕ) (need : ℕ) (end : Offset) → end.0 ≡ after + 5 + need → StepsTo log after before files buffer (steps.Short need) → (publisher : Name) (done left : List Recorded) → Parts log after publisher done left before
       → IsNextEnd done left end
-  end_short files buffer need end ends step publisher done left parts = short_end log publisher done after parts.after_is left (length buffer) need end (step (bodies done) (bodies left) parts.at) ends
+  end_short files buffer need end ends step publisher done left parts = short_end log publisher done parts.front after parts.after_is left (length buffer) need end (step parts.front (bodies left) parts.at) ends
 
   pub end_whole : (files : Files) (buffer : List ℕ) (end : Offset) (count : ℕ) → StepsTo log after before files buffer (steps.Record end count) → (publisher : Name) (done left : List Recorded) → Parts log after publisher done left before → IsNextEnd done left end
-  end_whole files buffer end count step publisher done left parts = record_end log publisher done after parts.after_is left files buffer end count (step (bodies done) (bodies left) parts.at).0
+  end_whole files buffer end count step publisher done left parts = record_end log publisher done parts.front after parts.after_is left files buffer end count (step parts.front (bodies left) parts.at).0
 
   -- the log's refusal
   pub next_refused : (file : File) (fault : LogFault) (answer : DatabaseFault) → IsLogFault file fault answer → NextCause log after before now fault → BehindCause log after before now answer
   next_refused file logs.Disk answer is cause = subst (λ (a : DatabaseFault). BehindCause log after before now a) (sym is) cause
   next_refused file (logs.Full end need) answer is cause = absurd cause
   next_refused file (logs.Damaged at) answer is cause =
-      subst (λ (a : DatabaseFault). BehindCause log after before now a) (sym is) (λ told publisher done left parts. cause.0 told (bodies done) (bodies left) parts.at, cause.1)
+      subst (λ (a : DatabaseFault). BehindCause log after before now a) (sym is) (λ told publisher done left parts. cause.0 told parts.front (bodies left) parts.at, cause.1)
 
   pub refused_behind : (file : File) (fault : RecordFault) (answer : DatabaseFault) → IsRecordFault file fault answer → RecordAfterCause log after before now fault → BehindCause log after before now answer
   refused_behind file records.Memory answer is cause = subst (λ (a : DatabaseFault). BehindCause log after before now a) (sym is) cause
@@ -203,10 +227,11 @@ module _ (log : Log) (after : ℕ) (before now : Seen) where
 
 -- ---- seen from the database
 
-module _ (view : View) (log : Log) (log_is : view.log ≡ log) (after : Offset) (before now : Seen) where
+module _ (view : View) (log : Log) (log_is : view.log ≡ log) (after : Offset) (from : view.log.base ≤ after.0) (before now : Seen) where
   pub parts_of : (publisher : Name) (done left : List Recorded) → IsDatabase view publisher (done ++ left) before → after.0 ≡ end_of done → Parts log after.0 publisher done left before
   parts_of publisher done left database is =
-      record { stored = database.is.stored; at = subst (λ (l : Log). IsAt l after.0 (bodies done) (bodies left) before.files) log_is (is_at view publisher done left before after.0 database is); after_is = is }
+      let parts = parts_log view publisher done left before after.0 database is from in
+      record { stored = database.is.stored; front = parts.front; at = subst (λ (l : Log). IsAt l after.0 parts.front (bodies left) before.files) log_is parts.at; after_is = is }
 
   behind_cause : (fault : DatabaseFault) → BehindCause log after.0 before now fault → EntryCause view after before now fault
   behind_cause Missing cause = absurd cause

@@ -1,5 +1,5 @@
 -- What a commit makes of a database.
-use Rattle.std.proofs.Common.{◌≡◌, ◌≢◌, ◌⊎◌, inl, inr, ℕ, ◌+◌, ◌≤◌, ◌<◌, ◌^◌, List, [], ◌∷◌, ◌++◌, length, refl, sym, ◌∙◌, ap, subst, arith}
+use Rattle.std.proofs.Common.{◌≡◌, ◌≢◌, ◌⊎◌, inl, inr, ℕ, ◌+◌, ◌≤◌, ◌<◌, ◌^◌, List, [], ◌∷◌, ◌++◌, length, refl, sym, ◌∙◌, ap, subst, arith, append_assoc}
 use Rattle.std.proofs.lemmas.Bool.{cases_lt}
 use Rattle.std.proofs.lemmas.List.{map-append}
 use Rattle.sr_book.specs.Entries.{Name}
@@ -8,10 +8,11 @@ use Rattle.sr_database_fold.specs.Inner.Readings.{state_in}
 use Rattle.sr_database_history.specs.Fitting.{FitsState, Fits, Stored}
 use Rattle.sr_database_history.specs.Folds.{State, fresh, next, state_of, size, end_of}
 use Rattle.sr_database_history.specs.Recorded.{Recorded, own, taken, ddl, sync, pass, note, entry_of}
-use Rattle.sr_database_history.proofs.Joined.{state_from-more, end_from-more}
+use Rattle.sr_database_history.proofs.Joined.{state_from-more, end_from-append, end_from-more}
 use Rattle.sr_logfile.specs.Inner.Logs.{IsLog, HasLog}
 use Rattle.sr_logfile.specs.Inner.Moments.{HasOrLacks, IsAsRead}
-use Rattle.sr_logfile.specs.Records.{Spells, body_of}
+use Rattle.sr_logfile.specs.Records.{HasHeader, Spells, body_of}
+use Rattle.sr_logfile.proofs.Uniqueness.{has_header}
 use Rattle.sr_logform.specs.Entries.{entry_spelling, IsEntry}
 use Rattle.sr_logform.specs.Limits.{longest_body}
 use Rattle.sr_logform.specs.declared.change.Change.{Change}
@@ -26,11 +27,13 @@ use Rattle.sr_site.specs.Seen.{Seen}
 use Rattle.sr_site.specs.declared.file.File.{File}
 use Rattle.sr_site.specs.declared.file.File.TheVariants.{Root}
 use Rattle.sr_database_meaning.specs.Generations.{Generation, even, odd, snapshot_of, log_of, generation_in}
+use Rattle.sr_database_meaning.specs.Bases.{HasBase, KeepsBase}
 use Rattle.sr_database_meaning.specs.Events.{commit, puts_in}
-use Rattle.sr_database_meaning.specs.Standing.{body, bodies, StandsAs}
+use Rattle.sr_database_meaning.specs.Standing.{body, bodies, IsSnapshotAt, StandsAs}
 use Rattle.sr_database_meaning.specs.Traces.{Went}
 use Rattle.sr_database_meaning.proofs.Going.{one_commit}
-use Rattle.sr_database_meaning.proofs.Standing.{Stands, stands, size_is, ends_are}
+use Rattle.sr_database_meaning.proofs.Resting.{rests_end}
+use Rattle.sr_database_meaning.proofs.Standing.{one_generation, one_part, same_base, size_is, ends_are}
 use Rattle.sr_database.specs.Commits.{framed_size, HasRoom}
 use Rattle.sr_database.specs.Inner.Commits.{MayFollow, CanCommit}
 use Rattle.sr_database.specs.Databases.{ArePending, IsOf, IsHeld, IsDatabase, HasDatabase}
@@ -38,8 +41,9 @@ use Rattle.sr_database.specs.Inner.Taking.{at_last_commit, BooksFollow}
 use Rattle.sr_database_files.specs.Inner.Touching.{HappenedOn}
 use Rattle.sr_database.specs.Views.{View, committed}
 use Rattle.sr_database_files.proofs.Attaches.{on_attaches}
-use Rattle.sr_database_files.proofs.Beside.{IsBeside, beside, rests_each, rests_both, rests_end}
+use Rattle.sr_database_files.proofs.Beside.{IsBeside, beside, rests_each, rests_both}
 use Rattle.sr_database_files.proofs.Images.{stays}
+use Rattle.sr_database.proofs.Based.{based_more}
 use Rattle.sr_database.proofs.Values.{none_pending, stored_more, books_more}
 
 -- ---- the state
@@ -89,11 +93,10 @@ one_more old new publisher es entry r is fits same state books marked none base_
       name = is.name;
       stored = stored_more publisher es r is.stored fits;
       catalog = ap (λ (s : State). s.catalog) states;
-      base_catalog = base_catalog ∙ is.base_catalog;
       marked = ap (λ (m : Marked). m.marked) marked ∙ ap (λ (s : State). s.rows) states;
       pending = subst (λ (p : List Change). ArePending new.catalog new.rows p) (sym none) (subst (λ (m : Marked). ArePending new.catalog m []) (sym marked) (none_pending new.catalog new.rows.rows));
       books = books_more es r old.books new.books is.books books;
-      base = base ∙ is.base;
+      based = based_more old.log.base old.base_catalog publisher es is.based new.log.base new.base_catalog r base base_catalog;
       end = omega (arith, end, is.end, end_from-more 0 es r, size_is r, ap (λ (e : Entry). length (entry_spelling e)) same);
     }
   where
@@ -105,48 +108,39 @@ one_more old new publisher es entry r is fits same state books marked none base_
 pub bodies_more : (es : List Recorded) (r : Recorded) → bodies (es ++ r ∷ []) ≡ bodies es ++ body r ∷ []
 bodies_more es r = map-append body es (r ∷ [])
 
--- held files, in one generation
-pub record Held (view : View) (publisher : Name) (es : List Recorded) (files : Files) : Type 0 where
-  pub generation : Generation
-  pub stands : Stands generation publisher es files
-  pub file : view.log.file ≡ log_of generation
-  pub base : view.log.base ≡ 0
-
-pub held : (view : View) (publisher : Name) (es : List Recorded) (files : Files) → IsHeld view publisher es files → Held view publisher es files
-held view publisher es files is =
-    record {
-      generation = is.stands.generation;
-      stands = stands publisher es view.log.base files is.stands;
-      file = sym is.log_is;
-      base = is.stands.from_beginning;
-    }
-
-pub is_held : (view : View) (publisher : Name) (es : List Recorded) (files : Files) → Held view publisher es files → IsHeld view publisher es files
-is_held view publisher es files h =
-    record {
-      stands = record {
-        generation = h.generation;
-        root = h.stands.root;
-        name = h.stands.name;
-        stored = h.stands.stored;
-        from_beginning = h.base;
-        snapshot = h.stands.snapshot;
-        log = subst (λ (b : ℕ). Spells b (bodies es) (bytes_of files (log_of h.generation))) (sym h.base) h.stands.log;
-      };
-      log_is = sym h.file;
-    }
+-- the history is parted at the base in one way, in whatever files
+one_log : (view : View) (publisher : Name) (es : List Recorded) (files other : Files) → (h : IsHeld view publisher es files) → (k : IsHeld view publisher es other) → (h.stands.done ≡ k.stands.done) × (h.stands.left ≡ k.stands.left)
+one_log view publisher es files other h k =
+    one_part 0 h.stands.done h.stands.left k.stands.done k.stands.left (sym h.stands.parts ∙ k.stands.parts) (sym h.stands.base_is ∙ k.stands.base_is)
 
 -- the log of the value
-pub log_of_held : (view : View) (publisher : Name) (es : List Recorded) (files : Files) → IsOf view publisher es → IsHeld view publisher es files → IsLog view.log (bodies es) files
+pub log_of_held : (view : View) (publisher : Name) (es : List Recorded) (files : Files) → IsOf view publisher es → (h : IsHeld view publisher es files) → IsLog view.log (bodies h.stands.left) files
 log_of_held view publisher es files is h =
-    let all = held view publisher es files h in
+    let s = h.stands in
     record {
-      spells = subst (λ (b : ℕ). Spells b (bodies es) (bytes_of files view.log.file)) (sym all.base) (subst (λ (f : File). Spells 0 (bodies es) (bytes_of files f)) (sym all.file) all.stands.log);
-      end_is = omega (arith, is.end, is.base, ends_are 0 es);
+      spells = subst (λ (f : File). Spells view.log.base (bodies s.left) (bytes_of files f)) h.log_is s.log;
+      end_is = omega (arith, is.end, ap end_of s.parts, end_from-append 0 s.done s.left, s.base_is, ends_are (end_of s.done) s.left);
     }
 
+-- it is that in every image
+pub log_settled : (view : View) (publisher : Name) (es : List Recorded) (seen : Seen) → (database : IsDatabase view publisher es seen) → IsSettled (IsLog view.log (bodies database.held.stands.left)) seen
+log_settled view publisher es seen database image there =
+    let h = database.settled image there in
+    subst (λ (l : List Recorded). IsLog view.log (bodies l) image) (one_log view publisher es image seen.files h database.held).1 (log_of_held view publisher es image database.is h)
+
 pub has_log : (view : View) (seen : Seen) → HasDatabase view seen → HasLog view.log seen.files
-has_log view seen has = record { bodies = bodies has.es; is_log = log_of_held view has.publisher has.es seen.files has.is.is has.is.held }
+has_log view seen has = record { bodies = bodies has.is.held.stands.left; is_log = log_of_held view has.publisher has.es seen.files has.is.is has.is.held }
+
+-- what is spelled has a header, and the files have one base
+headed : (base : ℕ) (all : List (List ℕ)) (bytes : List ℕ) → Spells base all bytes → HasHeader base bytes
+headed base all bytes s = has_header base all s.gate bytes s.rest (let le : base ≤ 2 ^ 62 = let limit = s.limit in omega arith in le) s.bytes_are
+
+based_once : (view : View) (publisher : Name) (es : List Recorded) (files : Files) (base : ℕ) → IsHeld view publisher es files → HasBase base files → view.log.base ≡ base
+based_once view publisher es files base h has =
+    let s = h.stands in
+    let one = one_generation files has.generation s.generation has.root s.root in
+    same_base base view.log.base (bytes_of files (log_of s.generation)) (subst (λ (g : Generation). HasHeader base (bytes_of files (log_of g))) one has.header)
+    (headed view.log.base (bodies s.left) (bytes_of files (log_of s.generation)) s.log)
 
 -- a log is no root and no snapshot
 log_not_root : (g : Generation) → log_of g ≢ Root
@@ -157,49 +151,84 @@ log_not_snapshot : (g : Generation) → log_of g ≢ snapshot_of g
 log_not_snapshot even e = cc
 log_not_snapshot odd e = cc
 
--- what holds of a log's file where another history is in it
-held_log : (old new : View) (publisher : Name) (es fs : List Recorded) (was image : Files) → Held old publisher es was → OthersStay old.log.file was image → new.log.file ≡ old.log.file → new.log.base ≡ old.log.base
-    → Stored publisher fs → Spells new.log.base (bodies fs) (bytes_of image new.log.file) → IsHeld new publisher fs image
-held_log old new publisher es fs was image h others file base stored spells =
-    let its : new.log.file ≡ log_of h.generation = file ∙ h.file in
-    let zero : new.log.base ≡ 0 = base ∙ h.base in
-    let stay : OthersStay (log_of h.generation) was image = subst (λ (f : File). OthersStay f was image) h.file others in
-    is_held new publisher fs image (record {
-      generation = h.generation;
+-- what holds of a log's file where another history is in it, with the same entries before the base
+held_log : (old new : View) (publisher : Name) (es fs left : List Recorded) (was image : Files) → (h : IsHeld old publisher es was) → OthersStay old.log.file was image → new.log.file ≡ old.log.file → new.log.base ≡ old.log.base
+    → Stored publisher fs → fs ≡ h.stands.done ++ left → Spells new.log.base (bodies left) (bytes_of image new.log.file) → IsHeld new publisher fs image
+held_log old new publisher es fs left was image h others file base stored parts spells =
+    let s = h.stands in
+    let its : new.log.file ≡ log_of s.generation = file ∙ sym h.log_is in
+    let stay : OthersStay (log_of s.generation) was image = subst (λ (f : File). OthersStay f was image) (sym h.log_is) others in
+    record {
       stands = record {
-        root = ap generation_in (stays (log_of h.generation) Root was image (log_not_root h.generation) stay) ∙ h.stands.root;
-        name = h.stands.name;
+        generation = s.generation;
+        root = ap generation_in (stays (log_of s.generation) Root was image (log_not_root s.generation) stay) ∙ s.root;
+        name = s.name;
         stored = stored;
-        snapshot = stays (log_of h.generation) (snapshot_of h.generation) was image (log_not_snapshot h.generation) stay ∙ h.stands.snapshot;
-        log = subst (λ (b : ℕ). Spells b (bodies fs) (bytes_of image (log_of h.generation))) zero (subst (λ (f : File). Spells new.log.base (bodies fs) (bytes_of image f)) its spells);
+        done = s.done;
+        left = left;
+        parts = parts;
+        base_is = base ∙ s.base_is;
+        snapshot = subst (λ (l : List ℕ). IsSnapshotAt publisher s.done l) (sym (stays (log_of s.generation) (snapshot_of s.generation) was image (log_not_snapshot s.generation) stay)) s.snapshot;
+        log = subst (λ (f : File). Spells new.log.base (bodies left) (bytes_of image f)) its spells;
       };
-      file = its;
-      base = zero;
-    })
+      log_is = sym its;
+    }
 
 module _ (old new : View) (publisher : Name) (es : List Recorded) (r : Recorded) (framed : List ℕ) (before now : Seen) (database : IsDatabase old publisher es before) (file : new.log.file ≡ old.log.file) (base : new.log.base ≡ old.log.base)
     (more : Stored publisher (es ++ r ∷ [])) (framed_is : body_of framed ≡ body r) where
-  one_body : bodies es ++ body_of framed ∷ [] ≡ bodies (es ++ r ∷ [])
-  one_body = ap (λ (b : List ℕ). bodies es ++ b ∷ []) framed_is ∙ sym (bodies_more es r)
+  -- the entries in the log
+  abbrev left : List Recorded
+  left = database.held.stands.left
+
+  one_body : bodies left ++ body_of framed ∷ [] ≡ bodies (left ++ r ∷ [])
+  one_body = ap (λ (b : List ℕ). bodies left ++ b ∷ []) framed_is ∙ sym (bodies_more left r)
+
+  parts_of : (files : Files) → (h : IsHeld old publisher es files) → es ≡ h.stands.done ++ left
+  parts_of files h = h.stands.parts ∙ ap (λ (l : List Recorded). h.stands.done ++ l) (one_log old publisher es files before.files h database.held).1
+
+  longer_parts : (files : Files) → (h : IsHeld old publisher es files) → es ++ r ∷ [] ≡ h.stands.done ++ (left ++ r ∷ [])
+  longer_parts files h = ap (λ (l : List Recorded). l ++ r ∷ []) (parts_of files h) ∙ append_assoc h.stands.done left (r ∷ [])
 
   -- an image has the history before or the longer one
-  has_or_lacks : (image : Files) → HasOrLacks old.log (bodies es) framed image × IsBeside old.log.file before.first before.happened image → IsHeld new publisher es image ⊎ IsHeld new publisher (es ++ r ∷ []) image
+  has_or_lacks : (image : Files) → HasOrLacks old.log (bodies left) framed image × IsBeside old.log.file before.first before.happened image → IsHeld new publisher es image ⊎ IsHeld new publisher (es ++ r ∷ []) image
   has_or_lacks image both = by_log both.0
     where
-      was : Held old publisher es both.1.old
-      was = held old publisher es both.1.old (database.settled both.1.old both.1.there)
+      was : IsHeld old publisher es both.1.old
+      was = database.settled both.1.old both.1.there
 
-      by_log : HasOrLacks old.log (bodies es) framed image → IsHeld new publisher es image ⊎ IsHeld new publisher (es ++ r ∷ []) image
-      by_log (inl lacks) = inl (held_log old new publisher es es both.1.old image was both.1.others file base database.is.stored
-          (subst (λ (f : File). Spells new.log.base (bodies es) (bytes_of image f)) (sym file) (subst (λ (b : ℕ). Spells b (bodies es) (bytes_of image old.log.file)) (sym base) lacks.spells)))
-      by_log (inr has) = inr (held_log old new publisher es (es ++ r ∷ []) both.1.old image was both.1.others file base more
-          (subst (λ (f : File). Spells new.log.base (bodies (es ++ r ∷ [])) (bytes_of image f)) (sym file) (subst (λ (b : ℕ). Spells b (bodies (es ++ r ∷ [])) (bytes_of image old.log.file)) (sym base)
+      by_log : HasOrLacks old.log (bodies left) framed image → IsHeld new publisher es image ⊎ IsHeld new publisher (es ++ r ∷ []) image
+      by_log (inl lacks) = inl (held_log old new publisher es es left both.1.old image was both.1.others file base database.is.stored (parts_of both.1.old was)
+          (subst (λ (f : File). Spells new.log.base (bodies left) (bytes_of image f)) (sym file) (subst (λ (b : ℕ). Spells b (bodies left) (bytes_of image old.log.file)) (sym base) lacks.spells)))
+      by_log (inr has) = inr (held_log old new publisher es (es ++ r ∷ []) (left ++ r ∷ []) both.1.old image was both.1.others file base more (longer_parts both.1.old was)
+          (subst (λ (f : File). Spells new.log.base (bodies (left ++ r ∷ [])) (bytes_of image f)) (sym file) (subst (λ (b : ℕ). Spells b (bodies (left ++ r ∷ [])) (bytes_of image old.log.file)) (sym base)
           (subst (λ (l : List (List ℕ)). Spells old.log.base l (bytes_of image old.log.file)) one_body has.spells))))
 
-  pub held_moments : RestsThroughout (HasOrLacks old.log (bodies es) framed) before now → HappenedOn old.log.file before.happened now.happened → RestsThroughout (λ image. IsHeld new publisher es image ⊎ IsHeld new publisher (es ++ r ∷ []) image) before now
+  pub held_moments : RestsThroughout (HasOrLacks old.log (bodies left) framed) before now → HappenedOn old.log.file before.happened now.happened → RestsThroughout (λ image. IsHeld new publisher es image ⊎ IsHeld new publisher (es ++ r ∷ []) image) before now
   held_moments rests on =
-      rests_each (λ image. HasOrLacks old.log (bodies es) framed image × IsBeside old.log.file before.first before.happened image) (λ image. IsHeld new publisher es image ⊎ IsHeld new publisher (es ++ r ∷ []) image) before now
-      has_or_lacks (rests_both (HasOrLacks old.log (bodies es) framed) (IsBeside old.log.file before.first before.happened) before now rests (beside old.log.file before now on))
+      rests_each (λ image. HasOrLacks old.log (bodies left) framed image × IsBeside old.log.file before.first before.happened image) (λ image. IsHeld new publisher es image ⊎ IsHeld new publisher (es ++ r ∷ []) image) before now
+      has_or_lacks (rests_both (HasOrLacks old.log (bodies left) framed) (IsBeside old.log.file before.first before.happened) before now rests (beside old.log.file before now on))
+
+  -- the base: that of every file that a crash may have left before
+  keeps_base : RestsThroughout (HasOrLacks old.log (bodies left) framed) before now → HappenedOn old.log.file before.happened now.happened → KeepsBase before now
+  keeps_base rests on base stood =
+      rests_each (λ image. HasOrLacks old.log (bodies left) framed image × IsBeside old.log.file before.first before.happened image) (HasBase base) before now
+      (λ image both. by_log image both.1 both.0) (rests_both (HasOrLacks old.log (bodies left) framed) (IsBeside old.log.file before.first before.happened) before now rests (beside old.log.file before now on))
+    where
+      has_base : (all : List (List ℕ)) (image : Files) → IsBeside old.log.file before.first before.happened image → Spells old.log.base all (bytes_of image old.log.file) → HasBase base image
+      has_base all image was spells =
+          let h = database.settled was.old was.there in
+          let g : Generation = h.stands.generation in
+          let stay : OthersStay (log_of g) was.old image = subst (λ (f : File). OthersStay f was.old image) (sym h.log_is) was.others in
+          record {
+            generation = g;
+            root = ap generation_in (stays (log_of g) Root was.old image (log_not_root g) stay) ∙ h.stands.root;
+            header = subst (λ (b : ℕ). HasHeader b (bytes_of image (log_of g))) (based_once old publisher es was.old base h (stood was.old was.there))
+                (subst (λ (f : File). HasHeader old.log.base (bytes_of image f)) (sym h.log_is) (headed old.log.base all (bytes_of image old.log.file) spells));
+          }
+
+      by_log : (image : Files) → IsBeside old.log.file before.first before.happened image → HasOrLacks old.log (bodies left) framed image → HasBase base image
+      by_log image was (inl lacks) = has_base (bodies left) image was lacks.spells
+      by_log image was (inr has) = has_base (bodies left ++ body_of framed ∷ []) image was has.spells
 
   -- the trace
   stands_as : (fs : List Recorded) (image : Files) → IsHeld new publisher fs image → StandsAs publisher fs image
@@ -208,35 +237,36 @@ module _ (old new : View) (publisher : Name) (es : List Recorded) (r : Recorded)
   stands_before : (image : Files) → IsHeld old publisher es image → StandsAs publisher es image
   stands_before image h = record { base = old.log.base; stands = h.stands }
 
-  pub went : RestsThroughout (HasOrLacks old.log (bodies es) framed) before now → HappenedOn old.log.file before.happened now.happened → DiskStays before now → ¬ (now.happened ≡ before.happened) → Went before now publisher es (commit r ∷ [])
+  pub went : RestsThroughout (HasOrLacks old.log (bodies left) framed) before now → HappenedOn old.log.file before.happened now.happened → DiskStays before now → ¬ (now.happened ≡ before.happened) → Went before now publisher es (commit r ∷ [])
   went rests on stay some =
       one_commit before now publisher es r stay.observable stay.first (λ image there. stands_before image (database.settled image there))
       stay.mail (on_attaches old.log.file before.happened now.happened on) some
       (rests_each (λ image. IsHeld new publisher es image ⊎ IsHeld new publisher (es ++ r ∷ []) image) (λ image. StandsAs publisher es image ⊎ StandsAs publisher (es ++ r ∷ []) image) before now
       (λ image either. either_stands image either) (held_moments rests on))
+      (keeps_base rests on)
     where
       either_stands : (image : Files) → IsHeld new publisher es image ⊎ IsHeld new publisher (es ++ r ∷ []) image → StandsAs publisher es image ⊎ StandsAs publisher (es ++ r ∷ []) image
       either_stands image (inl h) = inl (stands_as es image h)
       either_stands image (inr h) = inr (stands_as (es ++ r ∷ []) image h)
 
   -- the database behind it: as it is read, and in every image, since the log's file is as it is read
-  pub database_after : IsOf new publisher (es ++ r ∷ []) → OthersStay old.log.file before.files now.files → IsLog new.log (bodies es ++ body_of framed ∷ []) now.files → IsSettled (IsAsRead old.log.file now) now
+  pub database_after : IsOf new publisher (es ++ r ∷ []) → OthersStay old.log.file before.files now.files → IsLog new.log (bodies left ++ body_of framed ∷ []) now.files → IsSettled (IsAsRead old.log.file now) now
       → now.first ≡ before.first → HappenedOn old.log.file before.happened now.happened → IsDatabase new publisher (es ++ r ∷ []) now
   database_after is others log read first on =
       record {
         is = is;
-        held = at_files before.files now.files (held old publisher es before.files database.held) others refl;
+        held = at_files before.files now.files database.held others refl;
         settled = λ image there. at_image image there;
       }
     where
-      at_files : (was image : Files) → Held old publisher es was → OthersStay old.log.file was image → bytes_of image old.log.file ≡ bytes_of now.files old.log.file → IsHeld new publisher (es ++ r ∷ []) image
-      at_files was image h stay same = held_log old new publisher es (es ++ r ∷ []) was image h stay file base more
-          (subst (λ (f : File). Spells new.log.base (bodies (es ++ r ∷ [])) (bytes_of image f)) (sym file)
-          (subst (λ (l : List ℕ). Spells new.log.base (bodies (es ++ r ∷ [])) l) (sym same)
-          (subst (λ (f : File). Spells new.log.base (bodies (es ++ r ∷ [])) (bytes_of now.files f)) file
+      at_files : (was image : Files) → IsHeld old publisher es was → OthersStay old.log.file was image → bytes_of image old.log.file ≡ bytes_of now.files old.log.file → IsHeld new publisher (es ++ r ∷ []) image
+      at_files was image h stay same = held_log old new publisher es (es ++ r ∷ []) (left ++ r ∷ []) was image h stay file base more (longer_parts was h)
+          (subst (λ (f : File). Spells new.log.base (bodies (left ++ r ∷ [])) (bytes_of image f)) (sym file)
+          (subst (λ (l : List ℕ). Spells new.log.base (bodies (left ++ r ∷ [])) l) (sym same)
+          (subst (λ (f : File). Spells new.log.base (bodies (left ++ r ∷ [])) (bytes_of now.files f)) file
           (subst (λ (l : List (List ℕ)). Spells new.log.base l (bytes_of now.files new.log.file)) one_body log.spells))))
 
       at_image : (image : Files) → IsImage now image → IsHeld new publisher (es ++ r ∷ []) image
       at_image image there =
           let was = rests_end (IsBeside old.log.file before.first before.happened) before now first (beside old.log.file before now on) image there in
-          at_files was.old image (held old publisher es was.old (database.settled was.old was.there)) was.others (read image there)
+          at_files was.old image (database.settled was.old was.there) was.others (read image there)

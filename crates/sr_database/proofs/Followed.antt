@@ -10,7 +10,7 @@ use Rattle.sr_database_history.specs.Recorded.{Recorded, entry_of}
 use Rattle.sr_database_history.proofs.Joined.{state_from-more, end_from-more}
 use Rattle.sr_database_history.proofs.Kept.{stored_holds}
 use Rattle.sr_logfile.specs.Inner.Heads.{HasWhole}
-use Rattle.sr_logfile.specs.Records.{record_of}
+use Rattle.sr_logfile.specs.Records.{record_of, place_in}
 use Rattle.sr_logform.specs.Entries.{entry_spelling, IsEntry}
 use Rattle.sr_logform.specs.Inner.EntryLaws.{entry_format}
 use Rattle.sr_logform.specs.Limits.{longest_body}
@@ -86,31 +86,32 @@ module _ (catalog : Lists) (rows : Marked) (books : BookMap) (position : ℕ) (p
 
 -- ---- the body of a whole record
 
-module _ (position : ℕ) (bytes : List ℕ) (end : ℕ) (whole : HasWhole position (drop (16 + position) bytes) end) where
-  pub whole_is : drop (16 + position) bytes ≡ 1 ∷ (record_of whole.body ++ whole.begins.gate ∷ whole.begins.more)
+module _ (base position : ℕ) (bytes : List ℕ) (end : ℕ) (whole : HasWhole position (drop (place_in base position) bytes) end) where
+  pub whole_is : drop (place_in base position) bytes ≡ 1 ∷ (record_of whole.body ++ whole.begins.gate ∷ whole.begins.more)
   whole_is = whole.bytes_are ∙ ap (λ (l : List ℕ). 1 ∷ l) whole.begins.rest_is
 
-  behind_length : drop (16 + position + 5) bytes ≡ whole.body ++ whole.begins.gate ∷ whole.begins.more
+  behind_length : drop (place_in base position + 5) bytes ≡ whole.body ++ whole.begins.gate ∷ whole.begins.more
   behind_length =
-      sym (drop-drop 5 (16 + position) bytes) ∙ ap (drop 5) whole_is
+      sym (drop-drop 5 (place_in base position) bytes) ∙ ap (drop 5) whole_is
 
-  pub piece_is : (count : ℕ) → count ≡ length whole.body → piece (16 + position + 5) count bytes ≡ whole.body
+  pub piece_is : (count : ℕ) → count ≡ length whole.body → piece (place_in base position + 5) count bytes ≡ whole.body
   piece_is count is = ap (take count) behind_length ∙ take_at whole.body (whole.begins.gate ∷ whole.begins.more) count (sym is)
 
-  pub body_there : (count : ℕ) → count ≡ length whole.body → 16 + position + 5 + count ≤ length bytes
+  pub body_there : (count : ℕ) → count ≡ length whole.body → place_in base position + 5 + count ≤ length bytes
   body_there count is =
-      omega (arith, length-drop (16 + position + 5) bytes, ap length behind_length, length-append whole.body (whole.begins.gate ∷ whole.begins.more))
+      omega (arith, length-drop (place_in base position + 5) bytes, ap length behind_length, length-append whole.body (whole.begins.gate ∷ whole.begins.more))
 
   -- the entry of the record
-  module _ (publisher : Name) (es : List Recorded) (count : ℕ) (sized : count ≡ length whole.body) (place : ℕ) (stored : Stored publisher es) (at : position ≡ end_of es) (place_is : place ≡ 16 + position) (read : HasRead es position bytes) where
+  module _ (publisher : Name) (done es : List Recorded) (count : ℕ) (sized : count ≡ length whole.body) (place : ℕ) (stored : Stored publisher (done ++ es)) (base_is : base ≡ end_of done) (at : position ≡ end_of (done ++ es)) (place_is : place ≡ place_in base position)
+      (read : HasRead base es position bytes) where
     -- no entry spells it
-    pub unspelled : ((e : Entry) → IsEntry e → piece (16 + position + 5) count bytes ≢ entry_spelling e) → LacksNext publisher bytes place
-    unspelled none = other_record publisher es position place end bytes stored at place_is read whole
+    pub unspelled : ((e : Entry) → IsEntry e → piece (place_in base position + 5) count bytes ≢ entry_spelling e) → LacksNext publisher done bytes place
+    unspelled none = other_record publisher done es base position place bytes stored base_is at place_is read end whole
         (λ r same fits. none (entry_of r) fits.spelled (piece_is count sized ∙ sym same))
 
     -- the entry that does may not stand there
-    pub unfitting : (entry : Entry) → IsEntry entry → piece (16 + position + 5) count bytes ≡ entry_spelling entry → IsNone publisher es entry → LacksNext publisher bytes place
-    unfitting entry spelled is none = other_record publisher es position place end bytes stored at place_is read whole
+    pub unfitting : (entry : Entry) → IsEntry entry → piece (place_in base position + 5) count bytes ≡ entry_spelling entry → IsNone publisher (done ++ es) entry → LacksNext publisher done bytes place
+    unfitting entry spelled is none = other_record publisher done es base position place bytes stored base_is at place_is read end whole
         (λ r same fits. none r (one_entry r same fits.spelled) fits)
       where
         one_entry : (r : Recorded) → body r ≡ whole.body → IsEntry (entry_of r) → entry_of r ≡ entry
@@ -118,7 +119,7 @@ module _ (position : ℕ) (bytes : List ℕ) (end : ℕ) (whole : HasWhole posit
             ((spells_once entry_format).no_other (entry_of r) entry [] [] fit spelled (ap (λ (l : List ℕ). l ++ []) (same ∙ sym (piece_is count sized) ∙ is))).0
 
   -- the entry that does begins there
-  pub begins_there : (r : Recorded) (entry : Entry) (count : ℕ) → count ≡ length whole.body → entry_of r ≡ entry → piece (16 + position + 5) count bytes ≡ entry_spelling entry → BeginsWith r (drop (16 + position) bytes)
+  pub begins_there : (r : Recorded) (entry : Entry) (count : ℕ) → count ≡ length whole.body → entry_of r ≡ entry → piece (place_in base position + 5) count bytes ≡ entry_spelling entry → BeginsWith r (drop (place_in base position) bytes)
   begins_there r entry count sized same is =
       record {
         gate = whole.begins.gate;

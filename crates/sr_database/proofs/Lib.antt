@@ -1,4 +1,5 @@
 pub mod Added
+pub mod Based
 pub mod Behind
 pub mod Booked
 pub mod Commits

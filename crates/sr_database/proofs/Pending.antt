@@ -45,11 +45,10 @@ module _ (catalog base_catalog : Lists) (rows new_rows : Marked) (pending : List
         name = is.name;
         stored = is.stored;
         catalog = is.catalog;
-        base_catalog = is.base_catalog;
         marked = marked ∙ is.marked;
         pending = are;
         books = is.books;
-        base = is.base;
+        based = is.based;
         end = is.end;
       }
 

@@ -1,5 +1,5 @@
 -- A record that is read: its bytes, its entry, and why it is refused.
-use Rattle.std.proofs.Common.{◌≡◌, ℕ, ◌+◌, ◌-◌, ◌≤◌, ◌<◌, ◌^◌, Bool, true, false, List, [], ◌∷◌, ◌++◌, length, take, drop, Result, Ok, Err, refl, sym, ◌∙◌, ap, subst, arith}
+use Rattle.std.proofs.Common.{◌≡◌, ℕ, ◌+◌, ◌≤◌, ◌<◌, ◌^◌, Bool, true, false, List, [], ◌∷◌, ◌++◌, length, take, drop, Result, Ok, Err, refl, sym, ◌∙◌, ap, subst, arith}
 use Rattle.std.specs.Prelude.{IsTrue, IfOk, IfErr}
 use Rattle.std.proofs.lemmas.List.{take_all}
 use Rattle.sr_book.specs.Entries.{Name}
@@ -7,8 +7,9 @@ use Rattle.sr_database_fold.specs.Inner.Answers.{TellsOne}
 use Rattle.sr_database_fold.specs.Inner.Readings.{state_in, FitsAs}
 use Rattle.sr_database_history.specs.Folds.{State, next}
 use Rattle.sr_database_history.specs.Recorded.{Recorded, entry_of}
-use Rattle.sr_logfile.specs.Inner.Heads.{IsClosed, HasWhole, IsBroken}
+use Rattle.sr_logfile.specs.Inner.Heads.{IsClosed, HasWhole}
 use Rattle.sr_logfile.specs.Inner.Heads.{RecordCause as GateCause}
+use Rattle.sr_logfile.specs.Records.{place_in}
 use Rattle.sr_logfile.specs.declared.fault.LogFault.{LogFault}
 use Rattle.sr_logfile.specs.declared.fault.LogFault.TheVariants as logs
 use Rattle.sr_logform.specs.Entries.{entry_spelling, IsEntry}
@@ -98,23 +99,23 @@ size_read body count (Err fault) long has = tt
 
 -- ---- a whole record
 
-module _ (log : File) (publisher : Name) (catalog : Lists) (rows : Marked) (books : BookMap) (position end : ℕ) (before now : Seen) (whole : IsTrue before.observable → HasWhole position (drop (16 + position) (bytes_of before.files log)) end) where
+module _ (log : File) (publisher : Name) (catalog : Lists) (rows : Marked) (books : BookMap) (base position end : ℕ) (before now : Seen) (whole : IsTrue before.observable → HasWhole position (drop (place_in base position) (bytes_of before.files log)) end) where
   -- the gates are far enough apart
-  pub apart_cause : end < position + 5 → now.disk_faults ≡ before.disk_faults → RecordCause log publisher catalog rows books position before now (Damaged log (16 + position))
-  apart_cause near steady = (refl, λ told es is read. let far = (whole told).end_is in absurd (omega arith), steady)
+  pub apart_cause : (place : ℕ) → end < position + 5 → now.disk_faults ≡ before.disk_faults → RecordCause log publisher catalog rows books base position before now (Damaged log place)
+  apart_cause place near steady = (refl, λ told done es at is read. let far = (whole told).end_is in absurd (omega arith), steady)
 
   module _ (count : ℕ) (apart : position + (count + 5) ≡ end) where
     sized : (told : IsTrue before.observable) → count ≡ length (whole told).body
     sized told = let far = (whole told).end_is in omega arith
 
-    pub body_cause : (fault : DatabaseFault) → BodyCause log (16 + position) count before now fault → RecordCause log publisher catalog rows books position before now fault
+    pub body_cause : (fault : DatabaseFault) → BodyCause log (place_in base position) count before now fault → RecordCause log publisher catalog rows books base position before now fault
     body_cause Missing cause = absurd cause
     body_cause Exists cause = absurd cause
     body_cause (Damaged file at) cause = (
       cause.0,
-      λ told es is read.
-          unspelled position (bytes_of before.files log) end (whole told) publisher es count (sized told) at is.stored is.position_is cause.1 read
-          (cause.2 told (body_there position (bytes_of before.files log) end (whole told) count (sized told))),
+      λ told done es first is read.
+          unspelled base position (bytes_of before.files log) end (whole told) publisher done es count (sized told) at is.stored first is.position_is cause.1 read
+          (cause.2 told (body_there base position (bytes_of before.files log) end (whole told) count (sized told))),
       cause.3,
     )
     body_cause Disk cause = cause
@@ -122,7 +123,7 @@ module _ (log : File) (publisher : Name) (catalog : Lists) (rows : Marked) (book
     body_cause (Long size limit) cause = absurd cause
     body_cause Memory cause = cause
 
-    module _ (new_catalog : Lists) (new_rows : Marked) (new_books : BookMap) (entry : Entry) (body : IsTrue before.observable → piece (16 + position + 5) count (bytes_of before.files log) ≡ entry_spelling entry) (limit : end ≤ 2 ^ 62) where
+    module _ (new_catalog : Lists) (new_rows : Marked) (new_books : BookMap) (entry : Entry) (body : IsTrue before.observable → piece (place_in base position + 5) count (bytes_of before.files log) ≡ entry_spelling entry) (limit : end ≤ 2 ^ 62) where
       room : position + (count + 5) ≤ 2 ^ 62
       room = omega arith
 
@@ -130,66 +131,61 @@ module _ (log : File) (publisher : Name) (catalog : Lists) (rows : Marked) (book
       none_of false es is follows = follows
       none_of true es is follows = absurd cc
 
-      pub unfit_cause : now.disk_faults ≡ before.disk_faults → IsEntry entry → (may : Bool) → may ≡ false → FollowsAny catalog new_catalog rows new_rows books new_books count entry may → RecordCause log publisher catalog rows books position before now (Damaged log (16 + position))
+      pub unfit_cause : now.disk_faults ≡ before.disk_faults → IsEntry entry → (may : Bool) → may ≡ false → FollowsAny catalog new_catalog rows new_rows books new_books count entry may → RecordCause log publisher catalog rows books base position before now (Damaged log (place_in base position))
       unfit_cause steady spelled may is follows = (
         refl,
-        λ told es replayed read.
-            unfitting position (bytes_of before.files log) end (whole told) publisher es count (sized told) (16 + position) replayed.stored replayed.position_is refl read entry spelled (body told)
-            (none_of may es is (follows position publisher es replayed room)),
+        λ told done es first replayed read.
+            unfitting base position (bytes_of before.files log) end (whole told) publisher done es count (sized told) (place_in base position) replayed.stored first replayed.position_is refl read entry spelled (body told)
+            (none_of may (done ++ es) is (follows position publisher (done ++ es) replayed room)),
         steady,
       )
 
-      pub record_on : (may : Bool) → may ≡ true → FollowsAny catalog new_catalog rows new_rows books new_books count entry may → IsReadOn catalog new_catalog rows new_rows books new_books position end publisher log before
+      pub record_on : (may : Bool) → may ≡ true → FollowsAny catalog new_catalog rows new_rows books new_books count entry may → IsReadOn catalog new_catalog rows new_rows books new_books base position end publisher log before
       record_on false is follows es replayed = absurd cc
       record_on true is follows es replayed =
           let more = follows position publisher es replayed room in
           record {
             r = more.r;
             is = subst (λ (n : ℕ). IsReplayed new_catalog new_rows new_books n publisher (es ++ more.r ∷ [])) apart more.is;
-            begins = λ told. begins_there position (bytes_of before.files log) end (whole told) more.r entry count (sized told) more.entry_is (body told);
+            begins = λ told. begins_there base position (bytes_of before.files log) end (whole told) more.r entry count (sized told) more.entry_is (body told);
           }
 
 -- ---- the gate at a position
 
-same_place : (position : ℕ) → position - 0 ≡ position
-same_place position = omega arith
-
-module _ (log : File) (publisher : Name) (catalog : Lists) (rows : Marked) (books : BookMap) (position : ℕ) (before now : Seen) where
-  pub closed_there : (new_catalog : Lists) (new_rows : Marked) (new_books : BookMap) → new_catalog ≡ catalog → new_rows ≡ rows → new_books ≡ books → (IsTrue before.observable → IsClosed (drop (16 + (position - 0)) (bytes_of before.files log)))
-      → EndsThere catalog new_catalog rows new_rows books new_books position log before
+module _ (log : File) (publisher : Name) (catalog : Lists) (rows : Marked) (books : BookMap) (base position : ℕ) (before now : Seen) where
+  pub closed_there : (new_catalog : Lists) (new_rows : Marked) (new_books : BookMap) → new_catalog ≡ catalog → new_rows ≡ rows → new_books ≡ books → (IsTrue before.observable → IsClosed (drop (place_in base position) (bytes_of before.files log)))
+      → EndsThere catalog new_catalog rows new_rows books new_books base position log before
   closed_there new_catalog new_rows new_books c r b closed =
-      record { catalog_is = c; rows_are = r; books_are = b; closed = λ told. subst (λ (n : ℕ). IsClosed (drop (16 + n) (bytes_of before.files log))) (same_place position) (closed told) }
+      record { catalog_is = c; rows_are = r; books_are = b; closed = closed }
 
-  pub gate_cause : (fault : LogFault) (answer : DatabaseFault) → IsLogFault log fault answer → GateCause log (16 + (position - 0)) position before now fault → RecordCause log publisher catalog rows books position before now answer
-  gate_cause logs.Disk answer is cause = subst (λ (a : DatabaseFault). RecordCause log publisher catalog rows books position before now a) (sym is) cause
+  pub gate_cause : (fault : LogFault) (answer : DatabaseFault) → IsLogFault log fault answer → GateCause log (place_in base position) position before now fault → RecordCause log publisher catalog rows books base position before now answer
+  gate_cause logs.Disk answer is cause = subst (λ (a : DatabaseFault). RecordCause log publisher catalog rows books base position before now a) (sym is) cause
   gate_cause (logs.Full end need) answer is cause = absurd cause
-  gate_cause (logs.Damaged at) answer is cause = subst (λ (a : DatabaseFault). RecordCause log publisher catalog rows books position before now a) (sym is) (
+  gate_cause (logs.Damaged at) answer is cause = subst (λ (a : DatabaseFault). RecordCause log publisher catalog rows books base position before now a) (sym is) (
     refl,
-    λ told es replayed read.
-        broken_record publisher es position at (bytes_of before.files log) replayed.stored replayed.position_is (cause.0 ∙ ap (λ (n : ℕ). 16 + n) (same_place position)) read
-        (subst (λ (n : ℕ). IsBroken position (drop (16 + n) (bytes_of before.files log))) (same_place position) (cause.1 told)),
+    λ told done es first replayed read.
+        broken_record publisher done es base position at (bytes_of before.files log) replayed.stored first replayed.position_is cause.0 read (cause.1 told),
     cause.2,
   )
 
-  pub whole_at : (end : ℕ) → ReadAlone before now → (IsTrue before.observable → HasWhole position (drop (16 + (position - 0)) (bytes_of before.files log)) end) → IsTrue now.observable → HasWhole position (drop (16 + position) (bytes_of now.files log)) end
+  pub whole_at : (end : ℕ) → ReadAlone before now → (IsTrue before.observable → HasWhole position (drop (place_in base position) (bytes_of before.files log)) end) → IsTrue now.observable → HasWhole position (drop (place_in base position) (bytes_of now.files log)) end
   whole_at end alone whole told =
       let at : IsTrue before.observable = subst IsTrue alone.stays.observable told in
-      subst (λ (f : Files). HasWhole position (drop (16 + position) (bytes_of f log)) end) (sym (alone.files at))
-      (subst (λ (n : ℕ). HasWhole position (drop (16 + n) (bytes_of before.files log)) end) (same_place position) (whole at))
+      subst (λ (f : Files). HasWhole position (drop (place_in base position) (bytes_of f log)) end) (sym (alone.files at)) (whole at)
 
-  pub read_on_before : (new_catalog : Lists) (new_rows : Marked) (new_books : BookMap) (end : ℕ) → ReadAlone before now → IsReadOn catalog new_catalog rows new_rows books new_books position end publisher log now → IsReadOn catalog new_catalog rows new_rows books new_books position end publisher log before
+  pub read_on_before : (new_catalog : Lists) (new_rows : Marked) (new_books : BookMap) (end : ℕ) → ReadAlone before now → IsReadOn catalog new_catalog rows new_rows books new_books base position end publisher log now → IsReadOn catalog new_catalog rows new_rows books new_books base position end publisher log before
   read_on_before new_catalog new_rows new_books end alone step es replayed =
       let more = step es replayed in
-      record { r = more.r; is = more.is; begins = λ told. subst (λ (f : Files). BeginsWith more.r (drop (16 + position) (bytes_of f log))) (alone.files told) (more.begins (told_then before now alone.stays told)) }
+      record { r = more.r; is = more.is; begins = λ told. subst (λ (f : Files). BeginsWith more.r (drop (place_in base position) (bytes_of f log))) (alone.files told) (more.begins (told_then before now alone.stays told)) }
 
-  pub record_cause_before : (last : Seen) → ReadAlone before now → now.disk_faults ≡ before.disk_faults → (fault : DatabaseFault) → RecordCause log publisher catalog rows books position now last fault → RecordCause log publisher catalog rows books position before last fault
+  pub record_cause_before : (last : Seen) → ReadAlone before now → now.disk_faults ≡ before.disk_faults → (fault : DatabaseFault) → RecordCause log publisher catalog rows books base position now last fault → RecordCause log publisher catalog rows books base position before last fault
   record_cause_before last alone steady Missing cause = absurd cause
   record_cause_before last alone steady Exists cause = absurd cause
   record_cause_before last alone steady (Damaged file at) cause = (
     cause.0,
-    λ told es replayed read.
-        subst (λ (f : Files). LacksNext publisher (bytes_of f log) at) (alone.files told)
-        (cause.1 (told_then before now alone.stays told) es replayed (subst (λ (f : Files). HasRead es position (bytes_of f log)) (sym (alone.files told)) read)),
+    λ told done es first replayed read.
+        subst (λ (f : Files). LacksNext publisher done (bytes_of f log) at) (alone.files told)
+        (cause.1 (told_then before now alone.stays told) done es first replayed (subst (λ (f : Files). HasRead base es position (bytes_of f log)) (sym (alone.files told)) read)),
     cause.2 ∙ steady,
   )
   record_cause_before last alone steady Disk cause = let later : before.disk_faults ≤ now.disk_faults = alone.stays.later in omega arith

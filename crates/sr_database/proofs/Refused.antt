@@ -9,9 +9,9 @@ use Rattle.sr_site.specs.declared.file.File.{File}
 use Rattle.sr_site.specs.declared.file.File.TheVariants.{Snap1}
 use Rattle.sr_database_meaning.specs.Damage.{LacksEntry, IsDamagedRoot, IsDamagedLog, HasDamagedSnapshot, HasDamagedLog, IsDamagedAt}
 use Rattle.sr_database_meaning.specs.Generations.{Generation, even, odd, snapshot_of, log_of, generation_in}
-use Rattle.sr_database_meaning.specs.Snapshots.{snapshot_at}
+use Rattle.sr_database_meaning.specs.Snapshots.{fresh_snapshot}
 use Rattle.sr_database_meaning.specs.Standing.{StandsFor}
-use Rattle.sr_database_meaning.proofs.Standing.{one_history, missing_is_none, damaged_is_none}
+use Rattle.sr_database_meaning.proofs.Standing.{fresh_there, one_history, missing_is_none, damaged_is_none}
 use Rattle.sr_database.specs.Inner.Causes.{OpenCause, IsDiskOrMemory}
 use Rattle.sr_database.specs.Databases.{IsDatabase, HasDatabase}
 use Rattle.sr_database_files.specs.Inner.Openings.{SyncedAlone, IsFreshOf, AreInForce, RootCause, BlamesRoot, BlamesSnapshot, SnapshotCause, IsWholeLog, IsDamagedShape, ShapeCause, LogCause}
@@ -87,19 +87,22 @@ module _ (start before now : Seen) (snapshot log : File) (alone : SyncedAlone st
   snapshot_cause (Long size limit) cause = absurd cause
   snapshot_cause Memory cause = cause ∙ steady
 
-  log_cause : (publisher : Name) → (IsTrue start.observable → snapshot_at (bytes_of start.files snapshot) ≡ Ok publisher) → (fault : DatabaseFault) → LogCause log publisher before now fault → OpenCause start now fault
+  log_cause : (publisher : Name) → (IsTrue start.observable → IsFreshOf (bytes_of start.files snapshot) publisher) → (fault : DatabaseFault) → LogCause log publisher before now fault → OpenCause start now fault
   log_cause publisher whole Missing cause = absurd cause
   log_cause publisher whole Exists cause = absurd cause
   log_cause publisher whole (Damaged file at) cause = (
     λ is.
         let g = named.generation in
-        let damage = subst (λ (f : Files). IsDamagedLog publisher (bytes_of f log) at) (files is) (cause.1 (at_told is)) in
+        let damage = subst (λ (f : Files). IsDamagedLog publisher [] (bytes_of f log) at) (files is) (cause.1 (at_told is)) in
+        let stood = whole is in
         subst (λ (f : File). IsDamagedAt f at start.files) (sym (cause.0 ∙ named.log_is))
         (log_at_file g at start.files (record {
           root = named.named is;
           publisher = publisher;
-          snapshot = subst (λ (s : File). snapshot_at (bytes_of start.files s) ≡ Ok publisher) named.snapshot_is (whole is);
-          damage = subst (λ (l : File). IsDamagedLog publisher (bytes_of start.files l) at) named.log_is damage;
+          name = stood.name;
+          done = [];
+          snapshot = fresh_there publisher (bytes_of start.files (snapshot_of g)) (subst (λ (s : File). bytes_of start.files s ≡ fresh_snapshot publisher) named.snapshot_is stood.bytes_are);
+          damage = subst (λ (l : File). IsDamagedLog publisher [] (bytes_of start.files l) at) named.log_is damage;
         })),
     cause.2 ∙ steady,
   )
@@ -113,16 +116,16 @@ module _ (start before now : Seen) (snapshot log : File) (alone : SyncedAlone st
   log_refused publisher middle earlier fresh (Ok db) cause = tt
   log_refused publisher middle earlier fresh (Err fault) cause = log_cause publisher whole fault cause
     where
-      whole : IsTrue start.observable → snapshot_at (bytes_of start.files snapshot) ≡ Ok publisher
-      whole is = subst (λ (f : Files). snapshot_at (bytes_of f snapshot) ≡ Ok publisher) (earlier.only is).files (fresh (subst IsTrue (sym earlier.stays.observable) is)).read
+      whole : IsTrue start.observable → IsFreshOf (bytes_of start.files snapshot) publisher
+      whole is = subst (λ (f : Files). IsFreshOf (bytes_of f snapshot) publisher) (earlier.only is).files (fresh (subst IsTrue (sym earlier.stays.observable) is))
 
 -- the refusal of header and records is the log's
-of_shape : (publisher : Name) (bytes : List ℕ) (at : ℕ) → IsDamagedShape bytes at → IsDamagedLog publisher bytes at
+of_shape : (publisher : Name) (bytes : List ℕ) (at : ℕ) → IsDamagedShape 0 bytes at → IsDamagedLog publisher [] bytes at
 of_shape publisher bytes at (inl lacks) = inl lacks
 of_shape publisher bytes at (inr (inl other)) = inr (inl other)
 of_shape publisher bytes at (inr (inr broken)) = inr (inr (inl broken))
 
-pub shape_cause : (log : File) (publisher : Name) (before now : Seen) (fault : DatabaseFault) → ShapeCause log before now fault → LogCause log publisher before now fault
+pub shape_cause : (log : File) (publisher : Name) (before now : Seen) (fault : DatabaseFault) → ShapeCause 0 log before now fault → LogCause log publisher before now fault
 shape_cause log publisher before now Missing cause = absurd cause
 shape_cause log publisher before now Exists cause = absurd cause
 shape_cause log publisher before now (Damaged file at) cause = (cause.0, λ is. of_shape publisher (bytes_of before.files log) at (cause.1 is), cause.2)
@@ -132,18 +135,18 @@ shape_cause log publisher before now (Long size limit) cause = absurd cause
 shape_cause log publisher before now Memory cause = absurd cause
 
 -- where all records are whole, the refusal of the reading is the log's
-lacks_entry : (publisher : Name) (bytes : List ℕ) (place : ℕ) → IsWholeLog bytes → LacksNext publisher bytes place → LacksEntry publisher bytes place
+lacks_entry : (publisher : Name) (bytes : List ℕ) (place : ℕ) → IsWholeLog 0 bytes → LacksNext publisher [] bytes place → LacksEntry publisher [] bytes place
 lacks_entry publisher bytes place whole d =
     record { all = whole.all; spells = whole.spells; es = d.es; rest = d.rest; bytes_are = d.bytes_are; place_is = d.place_is; stored = d.stored; broken = d.broken }
 
-module _ (log : File) (publisher : Name) (start before now : Seen) (alone : SyncedAlone start before) (whole : IsTrue start.observable → IsWholeLog (bytes_of start.files log)) (steady : before.disk_faults ≡ start.disk_faults) where
-  replay_cause : (fault : DatabaseFault) → ReplayCause log publisher before now fault → LogCause log publisher start now fault
+module _ (log : File) (publisher : Name) (start before now : Seen) (alone : SyncedAlone start before) (whole : IsTrue start.observable → IsWholeLog 0 (bytes_of start.files log)) (steady : before.disk_faults ≡ start.disk_faults) where
+  replay_cause : (fault : DatabaseFault) → ReplayCause log publisher [] before now fault → LogCause log publisher start now fault
   replay_cause Missing cause = absurd cause
   replay_cause Exists cause = absurd cause
   replay_cause (Damaged file at) cause = (
     cause.0,
     λ is.
-        let lacks : LacksNext publisher (bytes_of start.files log) at = subst (λ (f : Files). LacksNext publisher (bytes_of f log) at) (alone.only is).files (cause.1 (subst IsTrue (sym alone.stays.observable) is)) in
+        let lacks : LacksNext publisher [] (bytes_of start.files log) at = subst (λ (f : Files). LacksNext publisher [] (bytes_of f log) at) (alone.only is).files (cause.1 (subst IsTrue (sym alone.stays.observable) is)) in
         inr (inr (inr (lacks_entry publisher (bytes_of start.files log) at (whole is) lacks))),
     cause.2 ∙ steady,
   )
@@ -152,7 +155,7 @@ module _ (log : File) (publisher : Name) (start before now : Seen) (alone : Sync
   replay_cause (Long size limit) cause = absurd cause
   replay_cause Memory cause = cause ∙ steady
 
-  pub entries_refused : (result : Result View DatabaseFault) → IfErr result (ReplayCause log publisher before now) → IfErr result (LogCause log publisher start now)
+  pub entries_refused : (result : Result View DatabaseFault) → IfErr result (ReplayCause log publisher [] before now) → IfErr result (LogCause log publisher start now)
   entries_refused (Ok db) cause = tt
   entries_refused (Err fault) cause = replay_cause fault cause
 

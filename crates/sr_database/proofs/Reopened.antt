@@ -5,7 +5,7 @@ use Rattle.std.specs.FinMap as map
 use Rattle.sr_base.specs.Fields.{IsName}
 use Rattle.sr_base.specs.Order.{name_cmp}
 use Rattle.sr_book.specs.Entries.{Name}
-use Rattle.sr_database_history.specs.Folds.{state_of}
+use Rattle.sr_database_history.specs.Folds.{state_of, end_of}
 use Rattle.sr_database_history.specs.Recorded.{Recorded}
 use Rattle.sr_logfile.specs.Log.{Log}
 use Rattle.sr_logfile.specs.Inner.Moments.{IsAsRead}
@@ -17,15 +17,17 @@ use Rattle.sr_site.specs.Images.{IsSettled}
 use Rattle.sr_site.specs.Seen.{Seen}
 use Rattle.sr_site.specs.declared.file.File.{File}
 use Rattle.sr_site.specs.declared.file.File.TheVariants.{Root}
-use Rattle.sr_database_meaning.specs.Generations.{generation_in}
-use Rattle.sr_database_meaning.specs.Standing.{bodies}
-use Rattle.sr_database_meaning.proofs.Standing.{Stands}
+use Rattle.sr_database_meaning.specs.Generations.{generation_in, snapshot_of, log_of}
+use Rattle.sr_database_meaning.specs.Snapshots.{fresh_snapshot}
+use Rattle.sr_database_meaning.specs.Standing.{bodies, StandsFor}
+use Rattle.sr_database_meaning.proofs.Standing.{fresh_there}
 use Rattle.sr_database.specs.Books.{BookMap, book_in, or_new}
-use Rattle.sr_database.specs.Databases.{ArePending, IsOf, IsOfSome, HasDatabase}
+use Rattle.sr_database.specs.Databases.{ArePending, IsBased, IsOf, IsOfSome, HasDatabase}
 use Rattle.sr_database_files.specs.Inner.Openings.{SyncedAlone, IsFreshOf, AreInForce}
 use Rattle.sr_database.specs.Inner.Replays.{IsReplayed, IsReplayedBehind, HasReplayed, IsOpened}
 use Rattle.sr_database.specs.Views.{View}
 use Rattle.sr_database_files.specs.declared.fault.DatabaseFault.{DatabaseFault}
+use Rattle.sr_database.proofs.Based.{base_is_first, based_first}
 use Rattle.sr_database.proofs.Opened.{opened}
 use Rattle.sr_database_files.proofs.Quiet.{told_then, synced_then, settled_then}
 use Rattle.sr_database.proofs.Values.{none_pending}
@@ -45,49 +47,48 @@ replayed_none catalog rows books publisher name c r m t b =
 
 -- ---- the value of what was read
 
-pub replayed_is : (catalog base_catalog : Lists) (rows : Marked) (books : BookMap) (log : Log) (publisher : Name) (es : List Recorded) → IsReplayed catalog rows books log.end publisher es → base_catalog ≡ nothing_but publisher → log.base ≡ 0
+pub replayed_is : (catalog base_catalog : Lists) (rows : Marked) (books : BookMap) (log : Log) (publisher : Name) (es : List Recorded) → IsReplayed catalog rows books log.end publisher es → IsBased log.base base_catalog publisher es
     → IsOf (record { catalog = catalog; base_catalog = base_catalog; rows = rows; pending = []; books = books; log = log }) publisher es
-replayed_is catalog base_catalog rows books log publisher es is base zero =
+replayed_is catalog base_catalog rows books log publisher es is based =
     record {
       name = is.name;
       stored = is.stored;
       catalog = is.catalog_is;
-      base_catalog = base;
       marked = ap (λ (m : Marked). m.marked) is.rows_are;
       pending = subst (λ (m : Marked). ArePending catalog m []) (sym is.rows_are) (none_pending catalog (state_of publisher es).rows);
       books = is.books_are;
-      base = zero;
+      based = based;
       end = is.position_is;
     }
 
-pub replayed_some : (catalog base_catalog : Lists) (rows : Marked) (books : BookMap) (log : Log) → IsReplayedBehind catalog rows books log.end base_catalog → log.base ≡ 0
+pub replayed_some : (catalog base_catalog : Lists) (rows : Marked) (books : BookMap) (log : Log) → IsReplayedBehind catalog rows books log.end log.base base_catalog
     → IsOfSome (record { catalog = catalog; base_catalog = base_catalog; rows = rows; pending = []; books = books; log = log })
-replayed_some catalog base_catalog rows books log is zero = record { publisher = is.publisher; es = is.es; is = replayed_is catalog base_catalog rows books log is.publisher is.es is.is is.base_is zero }
+replayed_some catalog base_catalog rows books log is = record { publisher = is.publisher; es = is.es; is = replayed_is catalog base_catalog rows books log is.publisher is.es is.is is.based }
 
-pub replayed_behind : (catalog : Lists) (rows : Marked) (books : BookMap) (position : ℕ) (base_catalog : Lists) (publisher : Name) (log : File) (seen : Seen) → HasReplayed catalog rows books position publisher log seen → base_catalog ≡ nothing_but publisher → IsReplayedBehind catalog rows books position base_catalog
-replayed_behind catalog rows books position base_catalog publisher log seen has base = record { publisher = publisher; es = has.es; is = has.is; base_is = base }
+pub replayed_behind : (catalog : Lists) (rows : Marked) (books : BookMap) (position : ℕ) (base_catalog : Lists) (publisher : Name) (log : File) (seen : Seen) → HasReplayed catalog rows books position publisher [] log seen → base_catalog ≡ nothing_but publisher → IsReplayedBehind catalog rows books position 0 base_catalog
+replayed_behind catalog rows books position base_catalog publisher log seen has base = record { publisher = publisher; es = has.left; is = has.is; based = based_first 0 base_catalog publisher has.left refl base }
 
 -- it is that of the history that the log spells, which was read at a later moment
-pub opened_of : (db : View) (catalog : Lists) (rows : Marked) (books : BookMap) (position : ℕ) (publisher : Name) (log : File) (before now : Seen) → db.log.file ≡ log → HasReplayed catalog rows books position publisher log now
-    → ((es : List Recorded) → IsReplayed catalog rows books position publisher es → IsOf db publisher es) → (IsTrue before.observable → IsTrue now.observable) → (IsTrue before.observable → now.files ≡ before.files) → IsOpened db log publisher before
+pub opened_of : (db : View) (catalog : Lists) (rows : Marked) (books : BookMap) (position : ℕ) (publisher : Name) (log : File) (before now : Seen) → db.log.file ≡ log → HasReplayed catalog rows books position publisher [] log now
+    → ((es : List Recorded) → IsReplayed catalog rows books position publisher es → IsOf db publisher es) → (IsTrue before.observable → IsTrue now.observable) → (IsTrue before.observable → now.files ≡ before.files) → IsOpened db log publisher [] before
 opened_of db catalog rows books position publisher log before now file has of at files =
-    record { file_is = file; es = has.es; is = of has.es has.is; spells = λ told. subst (λ (f : Files). Spells 0 (bodies has.es) (bytes_of f log)) (files told) (has.spells (at told)) }
+    record { file_is = file; left = has.left; is = of has.left has.is; spells = λ told. subst (λ (f : Files). Spells 0 (bodies has.left) (bytes_of f log)) (files told) (has.spells (at told)) }
 
-pub opened_before : (log : File) (publisher : Name) (before now : Seen) → SyncedAlone before now → (result : Result View DatabaseFault) → IfOk result (λ db. IsOpened db log publisher now) → IfOk result (λ db. IsOpened db log publisher before)
-opened_before log publisher before now alone (Ok db) has =
+pub opened_before : (log : File) (publisher : Name) (done : List Recorded) (before now : Seen) → SyncedAlone before now → (result : Result View DatabaseFault) → IfOk result (λ db. IsOpened db log publisher done now) → IfOk result (λ db. IsOpened db log publisher done before)
+opened_before log publisher done before now alone (Ok db) has =
     record {
       file_is = has.file_is;
-      es = has.es;
+      left = has.left;
       is = has.is;
-      spells = λ told. subst (λ (f : Files). Spells 0 (bodies has.es) (bytes_of f log)) (alone.only told).files (has.spells (told_then before now alone.stays told));
+      spells = λ told. subst (λ (f : Files). Spells (end_of done) (bodies has.left) (bytes_of f log)) (alone.only told).files (has.spells (told_then before now alone.stays told));
     }
-opened_before log publisher before now alone (Err fault) has = tt
+opened_before log publisher done before now alone (Err fault) has = tt
 
 -- ---- the database
 
 module _ (start first middle end : Seen) (snapshot log : File) (one : SyncedAlone start first) (two : SyncedAlone first middle) (three : SyncedAlone middle end) (named : AreInForce snapshot log start) (publisher : Name)
     (root : IsTrue start.observable → IsSettled (IsAsRead Root first) first) (fresh : IsTrue first.observable → IsFreshOf (bytes_of first.files snapshot) publisher) (settled : IsTrue first.observable → IsSettled (IsAsRead snapshot middle) middle) where
-  has_database : (db : View) → IsTrue start.observable → IsSettled (IsAsRead log end) end → IsOpened db log publisher middle → HasDatabase db end
+  has_database : (db : View) → IsTrue start.observable → IsSettled (IsAsRead log end) end → IsOpened db log publisher [] middle → HasDatabase db end
   has_database db told logs has =
       let g = named.generation in
       let then : IsTrue first.observable = told_then start first one.stays told in
@@ -96,22 +97,31 @@ module _ (start first middle end : Seen) (snapshot log : File) (one : SyncedAlon
       let on : end.files ≡ first.files = (two_three.only then).files in
       let all : end.files ≡ start.files = on ∙ (one.only told).files in
       let last : end.files ≡ middle.files = (three.only later).files in
-      let stands : Stands g publisher has.es end.files = record {
+      let zero : db.log.base ≡ 0 = base_is_first db.log.base db.base_catalog publisher has.left has.is.based in
+      let read : bytes_of end.files (snapshot_of g) ≡ fresh_snapshot publisher =
+      ap (λ (s : File). bytes_of end.files s) (sym named.snapshot_is) ∙ ap (λ (f : Files). bytes_of f snapshot) on ∙ (fresh then).bytes_are in
+      let stands : StandsFor publisher has.left db.log.base end.files = record {
+        generation = g;
         root = ap (λ (f : Files). generation_in f.root) all ∙ named.named told;
         name = (fresh then).name;
         stored = has.is.stored;
-        snapshot = ap (λ (s : File). bytes_of end.files s) (sym named.snapshot_is) ∙ ap (λ (f : Files). bytes_of f snapshot) on ∙ (fresh then).bytes_are;
-        log = subst (λ (l : File). Spells 0 (bodies has.es) (bytes_of end.files l)) named.log_is (subst (λ (f : Files). Spells 0 (bodies has.es) (bytes_of f log)) (sym last) (has.spells later));
+        done = [];
+        left = has.left;
+        parts = refl;
+        base_is = zero;
+        snapshot = fresh_there publisher (bytes_of end.files (snapshot_of g)) read;
+        log = subst (λ (b : ℕ). Spells b (bodies has.left) (bytes_of end.files (log_of g))) (sym zero)
+            (subst (λ (l : File). Spells 0 (bodies has.left) (bytes_of end.files l)) named.log_is (subst (λ (f : Files). Spells 0 (bodies has.left) (bytes_of f log)) (sym last) (has.spells later)));
       } in
       record {
         publisher = publisher;
-        es = has.es;
-        is = opened g db publisher has.es end has.is (has.file_is ∙ named.log_is) stands
+        es = has.left;
+        is = opened db publisher has.left end has.is stands (sym (has.file_is ∙ named.log_is))
             (settled_then Root first end two_three then (root told))
             (subst (λ (s : File). IsSettled (IsAsRead s end) end) named.snapshot_is (settled_then snapshot middle end three later (settled then)))
             (subst (λ (l : File). IsSettled (IsAsRead l end) end) named.log_is logs);
       }
 
-  pub opened_database : (result : Result View DatabaseFault) → IsTrue start.observable → (IsTrue middle.observable → IfOk result (λ db. IsSettled (IsAsRead log end) end)) → IfOk result (λ db. IsOpened db log publisher middle) → IfOk result (λ db. HasDatabase db end)
+  pub opened_database : (result : Result View DatabaseFault) → IsTrue start.observable → (IsTrue middle.observable → IfOk result (λ db. IsSettled (IsAsRead log end) end)) → IfOk result (λ db. IsOpened db log publisher [] middle) → IfOk result (λ db. HasDatabase db end)
   opened_database (Ok db) told logs has = has_database db told (logs (told_then first middle two.stays (told_then start first one.stays told))) has
   opened_database (Err fault) told logs has = tt

@@ -1,9 +1,10 @@
 -- What has room behind a log, and what has it behind that.
-use Rattle.std.proofs.Common.{◌≡◌, inl, inr, ℕ, ◌+◌, ◌-◌, ◌^◌, ◌<◌, ◌≤◌, length, List, [], ◌∷◌, ◌++◌, sym, subst, arith}
+use Rattle.std.proofs.Common.{◌≡◌, inl, inr, ℕ, ◌+◌, ◌^◌, ◌<◌, ◌≤◌, length, List, [], ◌∷◌, ◌++◌, sym, subst, arith}
 use Rattle.std.proofs.lemmas.Bool.{cases_order}
 use Rattle.sr_database_history.specs.Folds.{size, end_from}
 use Rattle.sr_database_history.specs.Recorded.{Recorded, entry_of}
 use Rattle.sr_logfile.specs.Log.{Log}
+use Rattle.sr_logfile.specs.Logs.{gate_of}
 use Rattle.sr_logform.specs.Entries.{entry_spelling}
 use Rattle.sr_logform.specs.Limits.{farthest_end, longest_body}
 use Rattle.sr_logform.specs.declared.entry.Entry.{Entry}
@@ -16,7 +17,7 @@ not_more m n none = elim (cases_order m n) [ inl same ↦ omega (arith, same) | 
 room_here : (log : Log) (entry : Entry) → HasRoom log entry → HasRoomAt log.base log.end entry
 room_here log entry has = record {
   short = not_more (length (entry_spelling entry)) (longest_body entry) has.short;
-  file = not_more (17 + (log.end - log.base) + framed_size entry) (farthest_end entry) (λ more. has.room (inl (omega (arith, more))));
+  file = not_more (gate_of log + 1 + framed_size entry) (farthest_end entry) (λ more. has.room (inl more));
   offset = not_more (log.end + framed_size entry) (2 ^ 62) (λ more. has.room (inr more));
 }
 

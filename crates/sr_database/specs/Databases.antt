@@ -1,5 +1,5 @@
 -- Which history a database is of, as a value and on its site.
-use Rattle.std.specs.Prelude.{◌≡◌, List, []}
+use Rattle.std.specs.Prelude.{◌≡◌, ℕ, List, [], ◌++◌}
 use Rattle.std.specs.List.{AllByRecursion}
 use Rattle.sr_base.specs.Fields.{IsName}
 use Rattle.sr_book.specs.Entries.{Name}
@@ -11,12 +11,12 @@ use Rattle.sr_database_history.specs.Recorded.{Recorded}
 use Rattle.sr_logform.specs.Outcomes.{IsShortChange}
 use Rattle.sr_logform.specs.declared.change.Change.{Change}
 use Rattle.sr_rows.specs.Marks.{Marked}
-use Rattle.sr_catalog_schema.specs.Catalogs.{Lists, nothing_but}
+use Rattle.sr_catalog_schema.specs.Catalogs.{Lists}
 use Rattle.sr_site.specs.Files.{Files}
 use Rattle.sr_site.specs.Images.{IsSettled}
 use Rattle.sr_site.specs.Seen.{Seen}
 use Rattle.sr_database_meaning.specs.Generations.{log_of}
-use Rattle.sr_database_meaning.specs.Standing.{StandsFor}
+use Rattle.sr_database_meaning.specs.Standing.{IsSnapshotAt, StandsFor}
 use Rattle.sr_database.specs.Books.{book_in}
 use Rattle.sr_database.specs.Views.{View}
 
@@ -28,17 +28,26 @@ pub record ArePending (catalog : Lists) (rows : Marked) (pending : List Change) 
   pub rows_are : rows.rows ≡ applied catalog pending rows.marked
   pub still : pending ≡ [] → rows.trail ≡ []
 
--- the value is that of a history: catalog, rows and books are what it comes to, pending changes stand in the rows alone, and the log ends
--- where it does. At the log's base there was nothing but the publisher
+-- a log begins at this base: it is the end of the first entries of the history, of which a snapshot may be kept, and this catalog is what they come to
+pub record IsBased (base : ℕ) (catalog : Lists) (publisher : Name) (es : List Recorded) : Type 0 where
+  pub done : List Recorded
+  pub left : List Recorded
+  pub parts : es ≡ done ++ left
+  pub base_is : base ≡ end_of done
+  pub catalog_is : catalog ≡ (state_of publisher done).catalog
+  pub snapshot : List ℕ
+  pub is_snapshot : IsSnapshotAt publisher done snapshot
+
+-- the value is that of a history: catalog, rows and books are what it comes to, pending changes stand in the rows alone, and the log begins behind some
+-- of its entries and ends where it does
 pub record IsOf (view : View) (publisher : Name) (es : List Recorded) : Type 0 where
   pub name : IsName publisher
   pub stored : Stored publisher es
   pub catalog : view.catalog ≡ (state_of publisher es).catalog
-  pub base_catalog : view.base_catalog ≡ nothing_but publisher
   pub marked : view.rows.marked ≡ (state_of publisher es).rows
   pub pending : ArePending view.catalog view.rows view.pending
   pub books : (user : Name) → book_in view.books user ≡ books_of user es
-  pub base : view.log.base ≡ 0
+  pub based : IsBased view.log.base view.base_catalog publisher es
   pub end : view.log.end ≡ end_of es
 
 -- the value is that of some history

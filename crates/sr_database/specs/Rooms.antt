@@ -1,6 +1,6 @@
 -- That entries have room in a log, one behind the other.
-use Rattle.std.specs.Prelude.{⊤, ℕ, ◌+◌, ◌-◌, ◌≤◌, length, List, [], ◌∷◌}
-use Rattle.sr_logfile.specs.Records.{empty_log}
+use Rattle.std.specs.Prelude.{⊤, ℕ, ◌+◌, ◌≤◌, length, List, [], ◌∷◌}
+use Rattle.sr_logfile.specs.Records.{place_in}
 use Rattle.sr_base.specs.Values.{farthest_offset}
 use Rattle.sr_database_history.specs.Folds.{size}
 use Rattle.sr_database_history.specs.Recorded.{Recorded, entry_of}
@@ -13,7 +13,7 @@ use Rattle.sr_database.specs.Commits.{framed_size}
 -- last offset
 pub record HasRoomAt (base place : ℕ) (entry : Entry) : Type 0 where
   pub short : length (entry_spelling entry) ≤ longest_body entry
-  pub file : empty_log + (place - base) + framed_size entry ≤ farthest_end entry
+  pub file : place_in base place + 1 + framed_size entry ≤ farthest_end entry
   pub offset : place + framed_size entry ≤ farthest_offset
 
 -- entries have room, one behind the other

@@ -28,7 +28,7 @@ use crate::settling::settle;
 use sr_base::{FARTHEST_OFFSET, Offset};
 use sr_catalog::Catalog;
 use sr_database_files::DatabaseFault;
-use sr_logfile::{EMPTY_LOG, LogFile, frame};
+use sr_logfile::{LogFile, frame, place_in};
 use sr_logform::{Change, Entry, farthest_end, longest_body, write_entry};
 use sr_rows::Rows;
 use sr_site::Site;
@@ -128,7 +128,7 @@ fn no_room(log: &LogFile, length: u64, bound: u64) -> Option<(u64, u64)>
 {
     let base = log.base().0;
     let end = log.end().0;
-    let place = EMPTY_LOG + (end - base);
+    let place = place_in(base, end) + 1;
     let need = length + 5;
     if place + need > bound || end + need > FARTHEST_OFFSET {
         return Some((place, need));

@@ -3,9 +3,9 @@ ghost use Rattle.sr_book.specs.Entries.{Name as AName};
 ghost use Rattle.sr_database_history.specs.Recorded.{Recorded};
 ghost use Rattle.sr_base.specs.Fields.{IsName};
 ghost use Rattle.sr_base.specs.Values.{farthest_offset};
+ghost use Rattle.sr_logfile.specs.Inner.Log.{InOrder};
 ghost use Rattle.sr_logfile.specs.Inner.Moments.{IsAsRead};
 ghost use Rattle.sr_logfile.specs.Records.{HasHeader};
-ghost use Rattle.sr_catalog_schema.specs.Catalogs.{nothing_but};
 ghost use Rattle.sr_site.specs.Causes.{DiskStays};
 ghost use Rattle.sr_site.specs.Files.{bytes_of};
 ghost use Rattle.sr_site.specs.Images.{IsImage, IsSettled, RestsThroughout};
@@ -13,8 +13,8 @@ ghost use Rattle.sr_database_meaning.specs.Events.{attaches_in};
 ghost use Rattle.sr_database_meaning.specs.Standing.{StandsFor};
 ghost use Rattle.sr_database.specs.Inner.Causes.{OpenCause, IsDiskOrMemory};
 ghost use Rattle.sr_database_files.specs.Inner.Openings.{SyncedAlone, ReadAlone, IsWholeLog, LogCause};
-ghost use Rattle.sr_database.specs.Inner.Replays.{IsReplayed, IsReplayedBehind, HasReplayed, IsOpened, ReplayCause};
-ghost use Rattle.sr_database.specs.Databases.{IsOf, IsDatabase, HasDatabase};
+ghost use Rattle.sr_database.specs.Inner.Replays.{IsReplayed, IsReplayedOf, IsReplayedBehind, HasReplayed, IsOpened, ReplayCause};
+ghost use Rattle.sr_database.specs.Databases.{IsBased, IsOf, IsDatabase, HasDatabase};
 
 use crate::database::Database;
 use crate::replaying::{Replay, next_entry};
@@ -72,13 +72,13 @@ fn open_log<S: Site>(
 ) -> Result<Database, DatabaseFault>
     requires name { IsName publisher }
     ensures ready { IfOk result (λ db. (db.log.usable ≡ true) × (db.pending ≡ [])) }
-    ensures opened { IfOk result (λ db. IsOpened db log publisher (S.seen site.old)) }
+    ensures opened { IfOk result (λ db. IsOpened db log publisher [] (S.seen site.old)) }
     ensures settled { IsTrue (S.seen site.old).observable → OnOk result (IsSettled (IsAsRead log (S.seen site.new)) (S.seen site.new)) }
     ensures synced { SyncedAlone (S.seen site.old) (S.seen site.new) }
     ensures steady { OnOk result ((S.seen site.new).disk_faults ≡ (S.seen site.old).disk_faults) }
     ensures cause { IfErr result (LogCause log publisher (S.seen site.old) (S.seen site.new)) }
 {
-    open_records(site, log)?;
+    open_records(site, log, 0)?;
     read_entries(alloc, site, log, publisher)
 }
 
@@ -90,19 +90,19 @@ fn read_entries<S: Site>(
     publisher: Name,
 ) -> Result<Database, DatabaseFault>
     requires name { IsName publisher }
-    requires whole { IsTrue (S.seen site.old).observable → IsWholeLog (bytes_of (S.seen site.old).files log) }
+    requires whole { IsTrue (S.seen site.old).observable → IsWholeLog 0 (bytes_of (S.seen site.old).files log) }
     ensures ready { IfOk result (λ db. (db.log.usable ≡ true) × (db.pending ≡ [])) }
-    ensures opened { IfOk result (λ db. IsOpened db log publisher (S.seen site.old)) }
+    ensures opened { IfOk result (λ db. IsOpened db log publisher [] (S.seen site.old)) }
     ensures read { ReadAlone (S.seen site.old) (S.seen site.new) }
     ensures steady { OnOk result ((S.seen site.new).disk_faults ≡ (S.seen site.old).disk_faults) }
-    ensures cause { IfErr result (ReplayCause log publisher (S.seen site.old) (S.seen site.new)) }
+    ensures cause { IfErr result (ReplayCause log publisher [] (S.seen site.old) (S.seen site.new)) }
 {
     let size = site.length(log)?;
     let mut replay = Replay::new(alloc, &publisher)?;
-    match replay_all(alloc, site, log, &publisher, &mut replay, size) {
+    match replay_all(alloc, site, log, &publisher, &mut replay, 0, size) {
         Ok(end) => {
             let base_catalog = Catalog::new(alloc, publisher);
-            Ok(database_of(alloc, replay, base_catalog, log, end))
+            Ok(database_of(alloc, replay, base_catalog, log, 0, end))
         }
         Err(fault) => {
             drop(replay);
@@ -111,46 +111,51 @@ fn read_entries<S: Site>(
     }
 }
 
-/// Reads all entries, and answers the position behind the last. It reads front to back, once.
+/// Reads all entries of a log that begins at `base`, behind what was read before it, and answers the position behind the last. It reads front to
+/// back, once.
 fn replay_all<S: Site>(
     alloc: Global,
     site: &mut S,
     log: File,
     publisher: &Name,
     replay: &mut Replay,
+    base: u64,
     size: u64,
 ) -> Result<u64, DatabaseFault>
+    requires base { base ≤ farthest_offset }
     requires size { IsTrue (S.seen site.old).observable → size ≡ length (bytes_of (S.seen site.old).files log) }
-    requires header { IsTrue (S.seen site.old).observable → HasHeader 0 (bytes_of (S.seen site.old).files log) }
-    requires new { IsReplayed replay.old.catalog replay.old.rows replay.old.books 0 publisher.now [] }
-    ensures replayed { IfOk result (λ end. HasReplayed replay.new.catalog replay.new.rows replay.new.books end publisher.now log (S.seen site.old)) }
-    ensures end { IfOk result (λ end. end ≤ farthest_offset) }
+    requires header { IsTrue (S.seen site.old).observable → HasHeader base (bytes_of (S.seen site.old).files log) }
+    requires replayed { IsReplayedOf replay.old.catalog replay.old.rows replay.old.books base publisher.now }
+    ensures replayed { (done : List Recorded) → IsReplayed replay.old.catalog replay.old.rows replay.old.books base publisher.now done
+        → IfOk result (λ end. HasReplayed replay.new.catalog replay.new.rows replay.new.books end publisher.now done log (S.seen site.old)) }
+    ensures order { IfOk result (λ end. InOrder base end) }
     ensures read { ReadAlone (S.seen site.old) (S.seen site.new) }
     ensures steady { OnOk result ((S.seen site.new).disk_faults ≡ (S.seen site.old).disk_faults) }
-    ensures cause { IfErr result (ReplayCause log publisher.now (S.seen site.old) (S.seen site.new)) }
+    ensures cause { (done : List Recorded) → IsReplayed replay.old.catalog replay.old.rows replay.old.books base publisher.now done → IfErr result (ReplayCause log publisher.now done (S.seen site.old) (S.seen site.new)) }
 {
-    let mut position = 0;
+    let mut position = base;
     'entries: while let Some(end) = next_entry(
-        alloc, site, log, publisher, replay, position, size,
+        alloc, site, log, publisher, replay, base, position, size,
     )? {
         position = end;
     }
     Ok(position)
 }
 
-/// The database of what was read.
+/// The database of what was read behind the base of its log.
 fn database_of(
     alloc: Global,
     replay: Replay,
     base_catalog: Catalog,
     log: File,
+    base: u64,
     end: u64,
 ) -> Database
-    requires end { end ≤ farthest_offset }
-    requires replayed { IsReplayedBehind replay.catalog replay.rows replay.books end base_catalog }
+    requires order { InOrder base end }
+    requires replayed { IsReplayedBehind replay.catalog replay.rows replay.books end base base_catalog }
     ensures ready { (result.log.usable ≡ true) × (result.pending ≡ []) }
     ensures file { result.log.file ≡ log }
-    ensures is { (publisher : AName) (es : List Recorded) → IsReplayed replay.catalog replay.rows replay.books end publisher es → base_catalog ≡ nothing_but publisher → IsOf result publisher es }
+    ensures is { (publisher : AName) (es : List Recorded) → IsReplayed replay.catalog replay.rows replay.books end publisher es → IsBased base base_catalog publisher es → IsOf result publisher es }
 {
     let Replay {
         catalog,
@@ -164,6 +169,6 @@ fn database_of(
         rows,
         pending: Vec::new(alloc),
         books,
-        log: LogFile::at(log, 0, end),
+        log: LogFile::at(log, base, end),
     }
 }

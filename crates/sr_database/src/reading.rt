@@ -1,5 +1,5 @@
-ghost use Rattle.std.specs.Prelude.{◌≡◌, ◌≢◌, ◌+◌, ◌-◌, ◌≤◌, ◌<◌, ◌++◌, [], true, List, IsTrue, IfOk, IfErr, IfSome, OnOk};
-ghost use Rattle.sr_logfile.specs.Records.{header_size};
+ghost use Rattle.std.specs.Prelude.{◌≡◌, ◌≢◌, ◌+◌, ◌≤◌, ◌<◌, ◌++◌, [], true, List, IsTrue, IfOk, IfErr, IfSome, OnOk};
+ghost use Rattle.sr_logfile.specs.Records.{place_in};
 ghost use Rattle.sr_book.specs.Entries.{Name as AName};
 ghost use Rattle.sr_database_history.specs.Folds.{end_of};
 ghost use Rattle.sr_database_history.specs.Recorded.{Recorded};
@@ -14,7 +14,7 @@ use crate::database::Database;
 use crate::replaying::entry_in;
 use sr_base::Offset;
 use sr_database_files::{DatabaseFault, log_fault};
-use sr_logfile::{HEADER, LogFault, LogFile, RecordFault, Step};
+use sr_logfile::{LogFault, LogFile, RecordFault, Step, place_in};
 use sr_logform::Entry;
 use sr_site::{File, Site};
 use std::alloc::Global;
@@ -212,9 +212,9 @@ fn kind_in(log: File, place: u64, body: &[u8]) -> Result<u8, DatabaseFault>
 /// The place in the file of the gate at an offset of a log.
 fn place_of(log: &LogFile, after: Offset) -> u64
     requires after { (log.now.base ≤ after.0) × (after.0 ≤ log.now.end) }
-    ensures place { result ≡ header_size + (after.0 - log.now.base) }
+    ensures place { result ≡ place_in log.now.base after.0 }
 {
-    HEADER + (after.0 - log.base().0)
+    place_in(log.base().0, after.0)
 }
 
 /// The fault of a database where a record of its log is not read.

@@ -1,4 +1,4 @@
-//! The entries of a log, one after the other, from its beginning.
+//! The entries of a log, one after the other, from its base.
 
 ghost use Rattle.std.specs.Prelude.{◌≡◌, ◌<◌, ◌≤◌, ◌+◌, ◌^◌, [], length, drop, IsTrue, IfOk, IfErr, OnOk, IfSome, IfNone, vec_len};
 ghost use Rattle.std.specs.FinMap as map;
@@ -7,7 +7,8 @@ ghost use Rattle.sr_base.specs.Values.{farthest_offset};
 ghost use Rattle.sr_book.specs.Books.{with_taken, with_note};
 ghost use Rattle.sr_database_history.specs.Recorded.{Recorded, entry_of};
 ghost use Rattle.sr_logfile.specs.Inner.Heads.{HasWhole};
-ghost use Rattle.sr_logfile.specs.Records.{header_size};
+ghost use Rattle.sr_logfile.specs.Inner.Log.{InOrder};
+ghost use Rattle.sr_logfile.specs.Records.{place_in};
 ghost use Rattle.sr_logform.specs.Entries.{entry_spelling, IsEntry};
 ghost use Rattle.sr_site.specs.Files.{bytes_of};
 ghost use Rattle.sr_database.specs.Books.{book_in};
@@ -21,7 +22,7 @@ use sr_book::{Book, Note};
 use sr_catalog::Catalog;
 use sr_database_files::{DatabaseFault, log_fault};
 use sr_database_fold::go_on;
-use sr_logfile::{HEADER, record_end};
+use sr_logfile::{place_in, record_end};
 use sr_logform::{Entry, longest_body, read_entry};
 use sr_rows::Rows;
 use sr_site::{Disk, File, Site};
@@ -52,30 +53,31 @@ impl Replay {
     }
 }
 
-/// Reads the record whose gate stands at `position` of the log, and follows its entry. It answers the position behind it, or `None` where
-/// the gate is closed.
+/// Reads the record whose gate stands at `position` of the log, which begins at `base`, and follows its entry. It answers the position behind
+/// it, or `None` where the gate is closed.
 pub(crate) fn next_entry<S: Site>(
     alloc: Global,
     site: &mut S,
     log: File,
     publisher: &Name,
     replay: &mut Replay,
+    base: u64,
     position: u64,
     size: u64,
 ) -> Result<Option<u64>, DatabaseFault>
-    requires order { position ≤ farthest_offset }
+    requires order { InOrder base position }
     requires size { IsTrue (S.seen site.old).observable → size ≡ length (bytes_of (S.seen site.old).files log) }
     requires replayed { IsReplayedOf replay.old.catalog replay.old.rows replay.old.books position publisher.now }
-    ensures next { IfOk result (IsNextEntry replay.old.catalog replay.new.catalog replay.old.rows replay.new.rows replay.old.books replay.new.books position publisher.now log (S.seen site.old)) }
+    ensures next { IfOk result (IsNextEntry replay.old.catalog replay.new.catalog replay.old.rows replay.new.rows replay.old.books replay.new.books base position publisher.now log (S.seen site.old)) }
     ensures onward { IfOk result (λ found. IfSome found (λ end. (position < end) × (end ≤ farthest_offset))) }
     ensures read { ReadAlone (S.seen site.old) (S.seen site.new) }
     ensures steady { OnOk result ((S.seen site.new).disk_faults ≡ (S.seen site.old).disk_faults) }
-    ensures cause { IfErr result (RecordCause log publisher.now replay.old.catalog replay.old.rows replay.old.books position (S.seen site.old) (S.seen site.new)) }
+    ensures cause { IfErr result (RecordCause log publisher.now replay.old.catalog replay.old.rows replay.old.books base position (S.seen site.old) (S.seen site.new)) }
 {
-    match record_end(site, log, 0, position, size) {
+    match record_end(site, log, base, position, size) {
         Ok(None) => Ok(None),
         Ok(Some(end)) => {
-            read_record(alloc, site, log, publisher, replay, position, end)?;
+            read_record(alloc, site, log, publisher, replay, base, position, end)?;
             Ok(Some(end))
         }
         Err(fault) => Err(log_fault(log, fault)),
@@ -89,18 +91,20 @@ fn read_record<S: Site>(
     log: File,
     publisher: &Name,
     replay: &mut Replay,
+    base: u64,
     position: u64,
     end: u64,
 ) -> Result<(), DatabaseFault>
+    requires base { base ≤ position }
     requires order { (position < end) × (end ≤ farthest_offset) }
-    requires whole { IsTrue (S.seen site.old).observable → HasWhole position (drop (header_size + position) (bytes_of (S.seen site.old).files log)) end }
+    requires whole { IsTrue (S.seen site.old).observable → HasWhole position (drop (place_in base position) (bytes_of (S.seen site.old).files log)) end }
     requires replayed { IsReplayedOf replay.old.catalog replay.old.rows replay.old.books position publisher.now }
-    ensures on { OnOk result (IsReadOn replay.old.catalog replay.new.catalog replay.old.rows replay.new.rows replay.old.books replay.new.books position end publisher.now log (S.seen site.old)) }
+    ensures on { OnOk result (IsReadOn replay.old.catalog replay.new.catalog replay.old.rows replay.new.rows replay.old.books replay.new.books base position end publisher.now log (S.seen site.old)) }
     ensures read { ReadAlone (S.seen site.old) (S.seen site.new) }
     ensures steady { OnOk result ((S.seen site.new).disk_faults ≡ (S.seen site.old).disk_faults) }
-    ensures cause { IfErr result (RecordCause log publisher.now replay.old.catalog replay.old.rows replay.old.books position (S.seen site.old) (S.seen site.new)) }
+    ensures cause { IfErr result (RecordCause log publisher.now replay.old.catalog replay.old.rows replay.old.books base position (S.seen site.old) (S.seen site.new)) }
 {
-    let place = HEADER + position;
+    let place = place_in(base, position);
     let Some(count) = body_length(position, end) else {
         return Err(DatabaseFault::Damaged {
             file: log,

@@ -3,6 +3,7 @@ use Rattle.std.proofs.Common.{◌≡◌, ℕ, Bool, List, [], ◌∷◌, ◌++�
 use Rattle.std.specs.Prelude.{IsTrue, map}
 use Rattle.std.proofs.lemmas.List.{append-nil, map-append}
 use Rattle.sr_book.specs.Entries.{Name}
+use Rattle.sr_database.proofs.Based.{same_base}
 use Rattle.sr_database.specs.Broken.{IsBroken}
 use Rattle.sr_database.specs.Databases.{IsOf, IsDatabase}
 use Rattle.sr_database.specs.Rooms.{HaveRoom}
@@ -16,7 +17,7 @@ use Rattle.sr_database_meaning.specs.Traces.{Went}
 use Rattle.sr_database_meaning.proofs.Joining.{joined}
 use Rattle.sr_site.specs.Causes.{Stays, Rose}
 use Rattle.sr_site.specs.Inner.Growing.{stays_on}
-use Rattle.sr_site.specs.Happenings.{Happening, attached, wrote, cut_to, synced, listed, fetched, sent, removed, mail_in}
+use Rattle.sr_site.specs.Happenings.{Happening, attached, wrote, cut_to, synced, listed, fetched, sent, removed, handed_over, mail_in}
 use Rattle.sr_site.specs.Seen.{Seen}
 use Rattle.sr_database_did.specs.Inner.Did.{PlaceView, HasCause, Did}
 use Rattle.sr_database_did.specs.Inner.Effects.{Effect, entered, called, End, whole, refused, failed, full, long, short, entries, mail_behind, put_in, trace, under_way, broken, begun}
@@ -52,6 +53,7 @@ commits_put (listed address folder listing) events = refl
 commits_put (fetched address name limit found) events = refl
 commits_put (sent address name bytes done) events = refl
 commits_put (removed address name done) events = refl
+commits_put (handed_over folders noted) events = refl
 
 commits_trace : (xs : List Effect) → commits (trace xs) ≡ entries xs
 commits_trace [] = refl
@@ -97,7 +99,7 @@ did_on a b c xs ys end one two =
       room = λ publisher es is.
           let grown = one.value one.state.0 publisher es is in
           subst (λ (l : List Recorded). HaveRoom a.db.log.base (end_of es) l) (sym (entries_on xs ys))
-          (rooms_on a.db.log.base b.db.log.base (end_of es) (entries xs) (entries ys) (grown.base ∙ sym is.base) (one.room publisher es is)
+          (rooms_on a.db.log.base b.db.log.base (end_of es) (entries xs) (entries ys) (same_base a.db b.db publisher es (es ++ entries xs) is grown) (one.room publisher es is)
           (subst (λ (n : ℕ). HaveRoom b.db.log.base n (entries ys)) (end_from-append 0 es (entries xs)) (two.room publisher (es ++ entries xs) grown)));
       value = λ yes publisher es is. subst (λ (l : List Recorded). IsOf c.db publisher l) (on es) (two.value yes publisher (es ++ entries xs) (one.value one.state.0 publisher es is));
       told = λ yes publisher es is.

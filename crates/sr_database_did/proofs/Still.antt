@@ -17,7 +17,7 @@ use Rattle.sr_database_meaning.proofs.Going.{mail_more, quiet, quiet_before}
 use Rattle.sr_logfile.specs.Log.{Log}
 use Rattle.sr_site.specs.Causes.{MailStays, Rose}
 use Rattle.sr_site.specs.Files.{Files}
-use Rattle.sr_site.specs.Happenings.{Happening, attached, wrote, cut_to, synced, listed, fetched, sent, removed, mail_in}
+use Rattle.sr_site.specs.Happenings.{Happening, attached, wrote, cut_to, synced, listed, fetched, sent, removed, handed_over, mail_in}
 use Rattle.sr_site.specs.Images.{IsSettled}
 use Rattle.sr_site.specs.Seen.{Seen}
 use Rattle.sr_database_did.specs.Inner.Did.{PlaceView, HasCause, Did}
@@ -36,6 +36,7 @@ mail_quiet (listed address folder listing ∷ hs) still = ap (λ (l : List Happe
 mail_quiet (fetched address name limit found ∷ hs) still = ap (λ (l : List Happening). fetched address name limit found ∷ l) (mail_quiet hs still)
 mail_quiet (sent address name bytes done ∷ hs) still = absurd still
 mail_quiet (removed address name done ∷ hs) still = ap (λ (l : List Happening). removed address name done ∷ l) (mail_quiet hs still)
+mail_quiet (handed_over folders noted ∷ hs) still = absurd still
 
 pub puts_quiet : (hs : List Happening) → AreQuiet hs → puts_of hs ≡ []
 puts_quiet [] still = refl
@@ -47,6 +48,7 @@ puts_quiet (listed address folder listing ∷ hs) still = append-nil (puts_of hs
 puts_quiet (fetched address name limit found ∷ hs) still = append-nil (puts_of hs) ∙ puts_quiet hs still
 puts_quiet (sent address name bytes done ∷ hs) still = absurd still
 puts_quiet (removed address name done ∷ hs) still = append-nil (puts_of hs) ∙ puts_quiet hs still
+puts_quiet (handed_over folders noted ∷ hs) still = absurd still
 
 pub calls_entries : (hs : List Happening) → entries (calls hs) ≡ []
 calls_entries [] = refl

@@ -1,7 +1,7 @@
 -- Calls of the disk attach nothing.
 use Rattle.std.proofs.Common.{◌≡◌, Bool, List, [], ◌∷◌, ◌++◌, refl, ap, ◌∙◌}
 use Rattle.sr_site.specs.Files.{Files}
-use Rattle.sr_site.specs.Happenings.{Happening, attached, wrote, cut_to, synced, listed, fetched, sent, removed}
+use Rattle.sr_site.specs.Happenings.{Happening, attached, wrote, cut_to, synced, listed, fetched, sent, removed, handed_over}
 use Rattle.sr_site.specs.Seen.{Seen}
 use Rattle.sr_site.specs.declared.file.File.{File}
 use Rattle.sr_database_meaning.specs.Events.{attaches_in}
@@ -19,6 +19,7 @@ on_none file before (listed address folder listing ∷ more) all = on_none file 
 on_none file before (fetched address name limit found ∷ more) all = on_none file before more all.1
 on_none file before (sent address name bytes done ∷ more) all = on_none file before more all.1
 on_none file before (removed address name done ∷ more) all = on_none file before more all.1
+on_none file before (handed_over folders noted ∷ more) all = on_none file before more all.1
 
 off_none : (file : File) (before more : List Happening) → AreOff file more → attaches_in (more ++ before) ≡ attaches_in before
 off_none file before [] all = refl
@@ -30,6 +31,7 @@ off_none file before (listed address folder listing ∷ more) all = off_none fil
 off_none file before (fetched address name limit found ∷ more) all = off_none file before more all.1
 off_none file before (sent address name bytes done ∷ more) all = off_none file before more all.1
 off_none file before (removed address name done ∷ more) all = off_none file before more all.1
+off_none file before (handed_over folders noted ∷ more) all = off_none file before more all.1
 
 syncs_none : (files : Files) (before more : List Happening) → AreSyncs files more → attaches_in (more ++ before) ≡ attaches_in before
 syncs_none files before [] all = refl
@@ -41,6 +43,7 @@ syncs_none files before (listed address folder listing ∷ more) all = absurd al
 syncs_none files before (fetched address name limit found ∷ more) all = absurd all
 syncs_none files before (sent address name bytes done ∷ more) all = absurd all
 syncs_none files before (removed address name done ∷ more) all = absurd all
+syncs_none files before (handed_over folders noted ∷ more) all = absurd all
 
 pub on_attaches : (file : File) (before now : List Happening) → HappenedOn file before now → attaches_in now ≡ attaches_in before
 on_attaches file before now on = ap attaches_in on.is ∙ on_none file before on.more on.on

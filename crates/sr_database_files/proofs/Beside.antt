@@ -4,7 +4,7 @@ use Rattle.std.proofs.lemmas.List.{append_cancel_right}
 use Rattle.sr_site.specs.Inner.Calls.{Call, write, cut, sync}
 use Rattle.sr_site.specs.Files.{Files, bytes_of, with_bytes, OthersStay}
 use Rattle.sr_site.specs.Inner.Growing.{throughout_each}
-use Rattle.sr_site.specs.Happenings.{Happening, Throughout, attached, wrote, cut_to, synced, listed, fetched, sent, removed}
+use Rattle.sr_site.specs.Happenings.{Happening, Throughout, attached, wrote, cut_to, synced, listed, fetched, sent, removed, handed_over}
 use Rattle.sr_site.specs.Inner.Happenings.{happening, Made}
 use Rattle.sr_site.specs.Images.{MayLeave, IsSettled, RestsThroughout}
 use Rattle.sr_site.specs.Seen.{Seen}
@@ -108,6 +108,7 @@ module _ (file : File) (first : Files) (before : List Happening) where
   images_beside (fetched address name limit found ∷ more) image all there = absurd all.0
   images_beside (sent address name bytes done ∷ more) image all there = absurd all.0
   images_beside (removed address name done ∷ more) image all there = absurd all.0
+  images_beside (handed_over folders noted ∷ more) image all there = absurd all.0
 
   -- at each moment each image is one that stood before, but for this file
   moments_beside : (more : List Happening) → AreOn file more → Throughout (λ moment. (image : Files) → MayLeave first moment image → IsBeside file first before image) before more
@@ -142,29 +143,6 @@ rests_both P Q before now one other =
       moments = throughout_each (λ moment. ((image : Files) → MayLeave before.first moment image → P image) × ((image : Files) → MayLeave before.first moment image → Q image))
           (λ moment. (image : Files) → MayLeave before.first moment image → P image × Q image) (λ moment at image there. (at.0 image there, at.1 image there)) before.happened one.more
           (throughout_both (λ moment. (image : Files) → MayLeave before.first moment image → P image) (λ moment. (image : Files) → MayLeave before.first moment image → Q image) before.happened one.more one.moments theirs);
-    }
-
-throughout_last : (P : List Happening → Type 0) (before more : List Happening) → Throughout P before more → P (more ++ before)
-throughout_last P before [] holds = holds
-throughout_last P before (step ∷ more) holds = holds.0
-
-pub rests_end : (P : Files → Type 0) (before now : Seen) → now.first ≡ before.first → RestsThroughout P before now → IsSettled P now
-rests_end P before now same rests image there =
-    throughout_last (λ moment. (image : Files) → MayLeave before.first moment image → P image) before.happened rests.more rests.moments image
-    (subst (λ (h : List Happening). MayLeave before.first h image) rests.is (subst (λ (f : Files). MayLeave f now.happened image) same there))
-
-throughout_on : (P : List Happening → Type 0) (before more later : List Happening) → Throughout P before more → Throughout P (more ++ before) later → Throughout P before (later ++ more)
-throughout_on P before more [] one other = one
-throughout_on P before more (step ∷ later) one other = (subst (λ (h : List Happening). P (step ∷ h)) (sym (append_assoc later more before)) other.0, throughout_on P before more later one other.1)
-
-pub rests_on : (P : Files → Type 0) (before middle now : Seen) → middle.first ≡ before.first → RestsThroughout P before middle → RestsThroughout P middle now → RestsThroughout P before now
-rests_on P before middle now same one other =
-    let at : (Files → List Happening → Type 0) = λ f moment. (image : Files) → MayLeave f moment image → P image in
-    let turned : Throughout (at before.first) middle.happened other.more = subst (λ (f : Files). Throughout (at f) middle.happened other.more) same other.moments in
-    record {
-      more = other.more ++ one.more;
-      is = other.is ∙ ap (λ (h : List Happening). other.more ++ h) one.is ∙ sym (append_assoc other.more one.more before.happened);
-      moments = throughout_on (at before.first) before.happened one.more other.more one.moments (subst (λ (h : List Happening). Throughout (at before.first) h other.more) one.is turned);
     }
 
 -- at the beginning alone

@@ -3,7 +3,7 @@ use Rattle.std.proofs.Common.{◌≡◌, ◌≢◌, ◌⊎◌, inl, inr, ℕ, tr
 use Rattle.sr_site.specs.declared.file.File.{File}
 use Rattle.sr_site.specs.declared.file.File.TheVariants.{Root, Log0, Log1, Snap0, Snap1}
 use Rattle.sr_site.specs.Files.{Files, bytes_of, with_bytes, OthersStay, IsTorn, IsCutInPart}
-use Rattle.sr_site.specs.Happenings.{Happening, attached, wrote, cut_to, synced, listed, fetched, sent, removed}
+use Rattle.sr_site.specs.Happenings.{Happening, attached, wrote, cut_to, synced, listed, fetched, sent, removed, handed_over}
 use Rattle.sr_site.specs.Images.{MayLeave}
 
 -- ---- one file replaced
@@ -196,3 +196,4 @@ module _ (f : File) where
   mixed first a b (fetched address name limit found ∷ before) one other = mixed first a b before one other
   mixed first a b (sent address name bytes done ∷ before) one other = mixed first a b before one other
   mixed first a b (removed address name done ∷ before) one other = mixed first a b before one other
+  mixed first a b (handed_over folders noted ∷ before) one other = mixed first a b before one other

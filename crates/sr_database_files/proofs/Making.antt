@@ -7,7 +7,7 @@ use Rattle.sr_logfile.specs.Inner.Records.{fresh_bytes}
 use Rattle.sr_logfile.proofs.Records.{spells_fresh}
 use Rattle.sr_logfile.specs.Inner.Calls.{fresh_calls}
 use Rattle.sr_site.specs.Files.{Files, bytes_of, with_bytes}
-use Rattle.sr_site.specs.Happenings.{Happening, Throughout, attached, wrote, cut_to, synced, listed, fetched, sent, removed}
+use Rattle.sr_site.specs.Happenings.{Happening, Throughout, attached, wrote, cut_to, synced, listed, fetched, sent, removed, handed_over}
 use Rattle.sr_site.specs.Inner.Happenings.{Made}
 use Rattle.sr_site.specs.Images.{MayLeave, IsImage, IsSettled, RestsThroughout}
 use Rattle.sr_site.specs.Seen.{Seen}
@@ -21,7 +21,8 @@ use Rattle.sr_database_files.specs.Fresh.{IsNoneOrNew}
 use Rattle.sr_database_files.specs.Inner.Fresh.{AreNamed, AreNewOf, AreNew, IsNoneOrNewOf}
 use Rattle.sr_database_files.specs.Inner.Making.{HasSyncedRoot, HasNoRoot, IsReplaced}
 use Rattle.sr_database_files.specs.Inner.Touching.{AreOn, HappenedOn, AreOff, HappenedOff}
-use Rattle.sr_database_files.proofs.Beside.{IsBeside, made_on, beside, rests_each, rests_end, rests_on}
+use Rattle.sr_database_meaning.proofs.Resting.{rests_end, rests_on}
+use Rattle.sr_database_files.proofs.Beside.{IsBeside, made_on, beside, rests_each}
 use Rattle.sr_database_files.proofs.Images.{mixed, its_bytes, stays}
 
 -- ---- happenings to other files
@@ -48,6 +49,7 @@ module _ (file : File) (first : Files) (before : List Happening) where
   off_images (fetched address name limit found ∷ more) image off there = absurd off.0
   off_images (sent address name bytes done ∷ more) image off there = absurd off.0
   off_images (removed address name done ∷ more) image off there = absurd off.0
+  off_images (handed_over folders noted ∷ more) image off there = absurd off.0
 
   off_moments : (P : List ℕ → Type 0) (more : List Happening) → AreOff file more → ((image : Files) → MayLeave first before image → P (bytes_of image file)) → Throughout (λ moment. (image : Files) → MayLeave first moment image → P (bytes_of image file)) before more
   off_moments P [] off holds = holds
@@ -80,6 +82,7 @@ on_off f file (listed address folder listing ∷ more) n on = absurd on.0
 on_off f file (fetched address name limit found ∷ more) n on = absurd on.0
 on_off f file (sent address name bytes done ∷ more) n on = absurd on.0
 on_off f file (removed address name done ∷ more) n on = absurd on.0
+on_off f file (handed_over folders noted ∷ more) n on = absurd on.0
 
 pub off_of_on : (f file : File) (before now : List Happening) → f ≢ file → HappenedOn f before now → HappenedOff file before now
 off_of_on f file before now n on = record { more = on.more; is = on.is; off = on_off f file on.more n on.on }

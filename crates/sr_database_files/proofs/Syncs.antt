@@ -2,7 +2,7 @@
 use Rattle.std.proofs.Common.{◌≡◌, inl, inr, ℕ, ◌+◌, Bool, true, false, List, [], ◌∷◌, ◌++◌, refl, sym, ◌∙◌, ap, subst, append_assoc}
 use Rattle.sr_logfile.specs.Inner.Moments.{IsAsRead}
 use Rattle.sr_site.specs.Files.{Files, bytes_of, with_bytes}
-use Rattle.sr_site.specs.Happenings.{Happening, Throughout, attached, wrote, cut_to, synced, listed, fetched, sent, removed}
+use Rattle.sr_site.specs.Happenings.{Happening, Throughout, attached, wrote, cut_to, synced, listed, fetched, sent, removed, handed_over}
 use Rattle.sr_site.specs.Images.{MayLeave, IsImage, IsSettled, RestsThroughout}
 use Rattle.sr_site.specs.Seen.{Seen}
 use Rattle.sr_site.specs.declared.file.File.{File}
@@ -19,6 +19,7 @@ are_syncs_more files (listed address folder listing ∷ later) more one other = 
 are_syncs_more files (fetched address name limit found ∷ later) more one other = absurd one
 are_syncs_more files (sent address name bytes done ∷ later) more one other = absurd one
 are_syncs_more files (removed address name done ∷ later) more one other = absurd one
+are_syncs_more files (handed_over folders noted ∷ later) more one other = absurd one
 
 pub synced_on : (before middle now : Seen) → OnlySynced before middle → OnlySynced middle now → OnlySynced before now
 synced_on before middle now one other =
@@ -49,6 +50,7 @@ module _ (first files : Files) (before : List Happening) (read : MayLeave first 
   syncs_images (fetched address name limit found ∷ more) image syncs there = absurd syncs
   syncs_images (sent address name bytes done ∷ more) image syncs there = absurd syncs
   syncs_images (removed address name done ∷ more) image syncs there = absurd syncs
+  syncs_images (handed_over folders noted ∷ more) image syncs there = absurd syncs
 
   syncs_moments : (more : List Happening) → AreSyncs files more → Throughout (λ moment. (image : Files) → MayLeave first moment image → MayLeave first before image) before more
   syncs_moments [] syncs = λ image there. there
@@ -63,6 +65,7 @@ module _ (first files : Files) (before : List Happening) (read : MayLeave first 
       tail (fetched address name limit found) more syncs = absurd syncs
       tail (sent address name bytes done) more syncs = absurd syncs
       tail (removed address name done) more syncs = absurd syncs
+      tail (handed_over folders noted) more syncs = absurd syncs
 
 pub synced_moments : (before now : Seen) → OnlySynced before now → IsImage before before.files → RestsThroughout (IsImage before) before now
 synced_moments before now only read = record { more = only.more; is = only.is; moments = syncs_moments before.first before.files before.happened read only.more only.syncs }
@@ -83,6 +86,7 @@ module _ (file : File) (first files : Files) (before : List Happening) (read : (
   syncs_keep (fetched address name limit found ∷ more) image syncs there = absurd syncs
   syncs_keep (sent address name bytes done ∷ more) image syncs there = absurd syncs
   syncs_keep (removed address name done ∷ more) image syncs there = absurd syncs
+  syncs_keep (handed_over folders noted ∷ more) image syncs there = absurd syncs
 
 pub still_read : (file : File) (before now : Seen) → now.first ≡ before.first → OnlySynced before now → IsSettled (IsAsRead file before) before → IsSettled (IsAsRead file now) now
 still_read file before now same only settled image there =

@@ -69,33 +69,33 @@ fn in_force(byte: u8) -> InForce
     }
 }
 
-/// Syncs the log, and looks whether it has a header of the base 0 and whole records up to the first closed gate.
-pub fn open_records<S: Site>(site: &mut S, log: File) -> Result<(), DatabaseFault>
-    ensures whole { IsTrue (S.seen site.old).observable → OnOk result (IsWholeLog (bytes_of (S.seen site.old).files log)) }
+/// Syncs the log, and looks whether it has a header of this base and whole records up to the first closed gate.
+pub fn open_records<S: Site>(site: &mut S, log: File, base: u64) -> Result<(), DatabaseFault>
+    ensures whole { IsTrue (S.seen site.old).observable → OnOk result (IsWholeLog base (bytes_of (S.seen site.old).files log)) }
     ensures settled { IsTrue (S.seen site.old).observable → OnOk result (IsSettled (IsAsRead log (S.seen site.new)) (S.seen site.new)) }
     ensures synced { SyncedAlone (S.seen site.old) (S.seen site.new) }
     ensures steady { OnOk result ((S.seen site.new).disk_faults ≡ (S.seen site.old).disk_faults) }
-    ensures cause { IfErr result (ShapeCause log (S.seen site.old) (S.seen site.new)) }
+    ensures cause { IfErr result (ShapeCause base log (S.seen site.old) (S.seen site.new)) }
 {
     match open(site, log) {
         Ok(found) => {
-            if found.base().0 > 0 {
+            if found.base().0 != base {
                 return Err(DatabaseFault::Damaged { file: log, at: 8 });
             }
             Ok(())
         }
-        Err(fault) => Err(refused_shape(site, log, fault)),
+        Err(fault) => Err(refused_shape(site, log, base, fault)),
     }
 }
 
 /// Why the log's header or a record is refused, where the log's own opening is: where its header has another base, this comes first.
-fn refused_shape<S: Site>(site: &mut S, log: File, fault: LogFault) -> DatabaseFault
+fn refused_shape<S: Site>(site: &mut S, log: File, base: u64, fault: LogFault) -> DatabaseFault
     requires damaged { HasRefused fault log (S.seen site.old) }
     ensures read { ReadAlone (S.seen site.old) (S.seen site.new) }
-    ensures cause { ShapeRefusal log fault (S.seen site.old) (S.seen site.new) result }
+    ensures cause { ShapeRefusal base log fault (S.seen site.old) (S.seen site.new) result }
 {
     match fault {
-        LogFault::Damaged { at } => match check_base(site, log) {
+        LogFault::Damaged { at } => match check_base(site, log, base) {
             Ok(()) => DatabaseFault::Damaged { file: log, at },
             Err(refused) => refused,
         },
@@ -104,16 +104,16 @@ fn refused_shape<S: Site>(site: &mut S, log: File, fault: LogFault) -> DatabaseF
     }
 }
 
-/// Whether the log has a header, of the base 0.
-fn check_base<S: Site>(site: &mut S, log: File) -> Result<(), DatabaseFault>
-    ensures header { IsTrue (S.seen site.old).observable → OnOk result (HasHeader 0 (bytes_of (S.seen site.old).files log)) }
+/// Whether the log has a header, of this base.
+fn check_base<S: Site>(site: &mut S, log: File, base: u64) -> Result<(), DatabaseFault>
+    ensures header { IsTrue (S.seen site.old).observable → OnOk result (HasHeader base (bytes_of (S.seen site.old).files log)) }
     ensures read { ReadAlone (S.seen site.old) (S.seen site.new) }
     ensures steady { OnOk result ((S.seen site.new).disk_faults ≡ (S.seen site.old).disk_faults) }
-    ensures cause { IfErr result (BaseCause log (S.seen site.old) (S.seen site.new)) }
+    ensures cause { IfErr result (BaseCause base log (S.seen site.old) (S.seen site.new)) }
 {
     match base_of(site, log) {
-        Ok(base) => {
-            if base > 0 {
+        Ok(found) => {
+            if found != base {
                 return Err(DatabaseFault::Damaged { file: log, at: 8 });
             }
             Ok(())

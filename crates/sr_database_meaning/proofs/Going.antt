@@ -1,12 +1,14 @@
 -- A site goes through nothing, through one commit, through one put; and what a trace tells.
 use Rattle.std.proofs.Common.{◌≡◌, ◌⊎◌, ℕ, Bool, List, [], ◌∷◌, ◌++◌, length, refl, sym, ◌∙◌, ap, subst, inl, inr, arith, append_assoc, length-append}
 use Rattle.std.proofs.lemmas.List.{append-nil, append_cancel_left, append_cancel_right}
+use Rattle.std.specs.List.{AllByRecursion}
 use Rattle.sr_book.specs.Entries.{Name}
 use Rattle.sr_database_history.specs.Recorded.{Recorded}
 use Rattle.sr_site.specs.Files.{Files}
-use Rattle.sr_site.specs.Happenings.{Happening, Throughout, attached, wrote, cut_to, synced, listed, fetched, sent, removed, mail_in}
+use Rattle.sr_site.specs.Happenings.{Happening, Throughout, attached, wrote, cut_to, synced, listed, fetched, sent, removed, handed_over, mail_in, IsCall}
 use Rattle.sr_site.specs.Images.{MayLeave, IsImage, IsSettled, RestsThroughout}
 use Rattle.sr_site.specs.Seen.{Seen}
+use Rattle.sr_database_meaning.specs.Bases.{HasBase, KeepsBase}
 use Rattle.sr_database_meaning.specs.Events.{Event, PutFile, commit, put, commits, puts, puts_in, attaches_in, IsBetween}
 use Rattle.sr_database_meaning.specs.Inner.Events.{AreQuiet}
 use Rattle.sr_database_meaning.specs.Standing.{StandsAs}
@@ -46,6 +48,7 @@ quiet_images first image before (listed address folder listing ∷ more) quiet t
 quiet_images first image before (fetched address name limit found ∷ more) quiet there = quiet_images first image before more quiet there
 quiet_images first image before (sent address name bytes done ∷ more) quiet there = absurd quiet
 quiet_images first image before (removed address name done ∷ more) quiet there = quiet_images first image before more quiet there
+quiet_images first image before (handed_over folders noted ∷ more) quiet there = absurd quiet
 
 quiet_puts : (more : List Happening) → AreQuiet more → puts_in more ≡ []
 quiet_puts [] quiet = refl
@@ -57,6 +60,7 @@ quiet_puts (listed address folder listing ∷ more) quiet = quiet_puts more quie
 quiet_puts (fetched address name limit found ∷ more) quiet = quiet_puts more quiet
 quiet_puts (sent address name bytes done ∷ more) quiet = absurd quiet
 quiet_puts (removed address name done ∷ more) quiet = quiet_puts more quiet
+quiet_puts (handed_over folders noted ∷ more) quiet = absurd quiet
 
 quiet_tail : (step : Happening) (more : List Happening) → AreQuiet (step ∷ more) → AreQuiet more
 quiet_tail (attached name folder done) more quiet = absurd quiet
@@ -67,6 +71,7 @@ quiet_tail (listed address folder listing) more quiet = quiet
 quiet_tail (fetched address name limit found) more quiet = quiet
 quiet_tail (sent address name bytes done) more quiet = absurd quiet
 quiet_tail (removed address name done) more quiet = quiet
+quiet_tail (handed_over folders noted) more quiet = absurd quiet
 
 quiet_attaches : (before more : List Happening) → AreQuiet more → attaches_in (more ++ before) ≡ attaches_in before
 quiet_attaches before [] quiet = refl
@@ -78,6 +83,19 @@ quiet_attaches before (listed address folder listing ∷ more) quiet = quiet_att
 quiet_attaches before (fetched address name limit found ∷ more) quiet = quiet_attaches before more quiet
 quiet_attaches before (sent address name bytes done ∷ more) quiet = absurd quiet
 quiet_attaches before (removed address name done ∷ more) quiet = quiet_attaches before more quiet
+quiet_attaches before (handed_over folders noted ∷ more) quiet = absurd quiet
+
+quiet_calls : (more : List Happening) → AreQuiet more → AllByRecursion IsCall more
+quiet_calls [] quiet = tt
+quiet_calls (attached name folder done ∷ more) quiet = absurd quiet
+quiet_calls (wrote file place bytes done after ∷ more) quiet = absurd quiet
+quiet_calls (cut_to file to done after ∷ more) quiet = absurd quiet
+quiet_calls (synced file done after ∷ more) quiet = absurd quiet
+quiet_calls (listed address folder listing ∷ more) quiet = (tt, quiet_calls more quiet)
+quiet_calls (fetched address name limit found ∷ more) quiet = (tt, quiet_calls more quiet)
+quiet_calls (sent address name bytes done ∷ more) quiet = absurd quiet
+quiet_calls (removed address name done ∷ more) quiet = (tt, quiet_calls more quiet)
+quiet_calls (handed_over folders noted ∷ more) quiet = absurd quiet
 
 -- ---- nothing has begun
 
@@ -100,6 +118,12 @@ module _ (first : Files) (publisher : Name) (es : List Recorded) (before : List 
   quiet_moments [] quiet = on_none []
   quiet_moments (step ∷ more) quiet = (record { begun = []; left = []; prefix = refl; has = begun_quiet (step ∷ more) quiet }, quiet_moments more (quiet_tail step more quiet))
 
+-- what every crash leaves before these, it leaves after each of them
+quiet_rests : (holds : Files → Type 0) (first : Files) (before more : List Happening) → AreQuiet more → ((image : Files) → MayLeave first before image → holds image)
+    → Throughout (λ moment. (image : Files) → MayLeave first moment image → holds image) before more
+quiet_rests holds first before [] quiet stood = stood
+quiet_rests holds first before (step ∷ more) quiet stood = (λ image there. stood image (quiet_images first image before (step ∷ more) quiet there), quiet_rests holds first before more (quiet_tail step more quiet) stood)
+
 pub quiet : (before now : Seen) (publisher : Name) (es : List Recorded) (more : List Happening) → IsSettled (StandsAs publisher es) before → now.observable ≡ before.observable → now.first ≡ before.first → now.happened ≡ more ++ before.happened → AreQuiet more → Went before now publisher es []
 unfolding Went
 quiet before now publisher es more settled told same is still =
@@ -109,9 +133,11 @@ quiet before now publisher es more settled told same is still =
       attached = ap attaches_in is ∙ quiet_attaches before.happened more still;
       more = more;
       is = is;
+      calls = quiet_calls more still;
       moments = quiet_moments before.first publisher es before.happened settled more still;
       end = begun_quiet before.first publisher es before.happened settled more still;
       joints = λ prefix back event e. absurd (no_event prefix back event e);
+      base = λ base stood. record { more = more; is = is; moments = quiet_rests (HasBase base) before.first before.happened more still stood };
     }
 
 pub nothing : (seen : Seen) (publisher : Name) (es : List Recorded) → IsSettled (StandsAs publisher es) seen → Went seen seen publisher es []
@@ -137,9 +163,11 @@ one_put before now publisher es address name bytes done settled told same is =
       attached = ap attaches_in is;
       more = sent address name bytes done ∷ [];
       is = is;
+      calls = (tt, tt);
       moments = (record { begun = put address name bytes ∷ []; left = []; prefix = refl; has = begun_put }, on_none before.first publisher es before.happened settled (put address name bytes ∷ []));
       end = begun_put;
       joints = one_joint before.first publisher es before.happened (put address name bytes) (sent address name bytes done ∷ []) settled;
+      base = λ base stood. record { more = sent address name bytes done ∷ []; is = is; moments = (stood, stood) };
     }
   where
     stands : (image : Files) → MayLeave before.first before.happened image → StandsAs publisher (es ++ commits []) image
@@ -163,6 +191,7 @@ puts_more before (listed address folder listing ∷ more) = puts_more before mor
 puts_more before (fetched address name limit found ∷ more) = puts_more before more
 puts_more before (sent address name bytes done ∷ more) = ap (λ (l : List PutFile). l ++ (address, name, bytes) ∷ []) (puts_more before more) ∙ append_assoc (puts_in before) (puts_in more) ((address, name, bytes) ∷ [])
 puts_more before (removed address name done ∷ more) = puts_more before more
+puts_more before (handed_over folders noted ∷ more) = puts_more before more
 
 -- they are those of what happened to the mail
 pub puts_of_mail : (happened : List Happening) → puts_in (mail_in happened) ≡ puts_in happened
@@ -175,6 +204,7 @@ puts_of_mail (listed address folder listing ∷ before) = puts_of_mail before
 puts_of_mail (fetched address name limit found ∷ before) = puts_of_mail before
 puts_of_mail (sent address name bytes done ∷ before) = ap (λ (l : List PutFile). l ++ (address, name, bytes) ∷ []) (puts_of_mail before)
 puts_of_mail (removed address name done ∷ before) = puts_of_mail before
+puts_of_mail (handed_over folders noted ∷ before) = puts_of_mail before
 
 -- where nothing happened to the mail in the end, nothing did by the step before, and the last step was no call of it
 pub step_before : (step : Happening) (more : List Happening) → mail_in (step ∷ more) ≡ [] → (mail_in more ≡ []) × (IsBetween (step ∷ more) → ⊥)
@@ -186,6 +216,7 @@ step_before (listed address folder listing) more none = absurd (cc none)
 step_before (fetched address name limit found) more none = absurd (cc none)
 step_before (sent address name bytes done) more none = absurd (cc none)
 step_before (removed address name done) more none = absurd (cc none)
+step_before (handed_over folders noted) more none = absurd (cc none)
 
 pub none_put : (more : List Happening) → mail_in more ≡ [] → puts_in more ≡ []
 none_put more none = sym (puts_of_mail more) ∙ ap puts_in none
@@ -200,6 +231,24 @@ mail_more before (listed address folder listing ∷ more) = ap (λ (l : List Hap
 mail_more before (fetched address name limit found ∷ more) = ap (λ (l : List Happening). fetched address name limit found ∷ l) (mail_more before more)
 mail_more before (sent address name bytes done ∷ more) = ap (λ (l : List Happening). sent address name bytes done ∷ l) (mail_more before more)
 mail_more before (removed address name done ∷ more) = ap (λ (l : List Happening). removed address name done ∷ l) (mail_more before more)
+mail_more before (handed_over folders noted ∷ more) = ap (λ (l : List Happening). handed_over folders noted ∷ l) (mail_more before more)
+
+-- where nothing happened to the mail, all that happened are calls
+pub none_calls : (more : List Happening) → mail_in more ≡ [] → AllByRecursion IsCall more
+none_calls [] none = tt
+none_calls (attached name folder done ∷ more) none = (tt, none_calls more none)
+none_calls (wrote file place bytes done after ∷ more) none = (tt, none_calls more none)
+none_calls (cut_to file to done after ∷ more) none = (tt, none_calls more none)
+none_calls (synced file done after ∷ more) none = (tt, none_calls more none)
+none_calls (listed address folder listing ∷ more) none = absurd (cc none)
+none_calls (fetched address name limit found ∷ more) none = absurd (cc none)
+none_calls (sent address name bytes done ∷ more) none = absurd (cc none)
+none_calls (removed address name done ∷ more) none = absurd (cc none)
+none_calls (handed_over folders noted ∷ more) none = absurd (cc none)
+
+pub calls_more : (before more : List Happening) → AllByRecursion IsCall more → AllByRecursion IsCall before → AllByRecursion IsCall (more ++ before)
+calls_more before [] one other = other
+calls_more before (step ∷ more) one other = (one.0, calls_more before more one.1 other)
 
 -- ---- one commit
 
@@ -234,9 +283,9 @@ module _ (first : Files) (publisher : Name) (es : List Recorded) (r : Recorded) 
 
 pub one_commit : (before now : Seen) (publisher : Name) (es : List Recorded) (r : Recorded) → now.observable ≡ before.observable → now.first ≡ before.first → IsSettled (StandsAs publisher es) before
     → mail_in now.happened ≡ mail_in before.happened → attaches_in now.happened ≡ attaches_in before.happened → ¬ (now.happened ≡ before.happened)
-    → RestsThroughout (λ image. StandsAs publisher es image ⊎ StandsAs publisher (es ++ r ∷ []) image) before now → Went before now publisher es (commit r ∷ [])
+    → RestsThroughout (λ image. StandsAs publisher es image ⊎ StandsAs publisher (es ++ r ∷ []) image) before now → KeepsBase before now → Went before now publisher es (commit r ∷ [])
 unfolding Went
-one_commit before now publisher es r told same settled silent alone some rests =
+one_commit before now publisher es r told same settled silent alone some rests keeps =
     let none : mail_in rests.more ≡ [] = append_cancel_right (mail_in rests.more) [] (mail_in before.happened) (sym (mail_more before.happened rests.more) ∙ ap mail_in (sym rests.is) ∙ silent) in
     record {
       observable = told;
@@ -244,9 +293,11 @@ one_commit before now publisher es r told same settled silent alone some rests =
       attached = alone;
       more = rests.more;
       is = rests.is;
+      calls = none_calls rests.more none;
       moments = commit_moments before.first publisher es r before.happened settled rests.more none rests.moments;
       end = commit_end before.first publisher es r before.happened settled rests.more (λ e. some (rests.is ∙ ap (λ (l : List Happening). l ++ before.happened) e)) none rests.moments;
       joints = one_joint before.first publisher es before.happened (commit r) rests.more settled;
+      base = keeps;
     }
 
 -- ---- what is told
@@ -286,4 +337,13 @@ pub told_joints : (before now : Seen) (publisher : Name) (es : List Recorded) (t
 unfolding Went
 told_joints before now publisher es trace went prefix back event e = (went.more, went.is, went.joints prefix back event e)
 
-pub ruleset telling = (told_puts, told_images, told_moments, told_same, told_attaches, told_joints)
+pub told_calls : (before now : Seen) (publisher : Name) (es : List Recorded) (trace : List Event) → Went before now publisher es trace
+    → (more : List Happening) × (now.happened ≡ more ++ before.happened) × AllByRecursion IsCall more
+unfolding Went
+told_calls before now publisher es trace went = (went.more, went.is, went.calls)
+
+pub told_base : (before now : Seen) (publisher : Name) (es : List Recorded) (trace : List Event) → Went before now publisher es trace → KeepsBase before now
+unfolding Went
+told_base before now publisher es trace went = went.base
+
+pub ruleset telling = (told_puts, told_images, told_moments, told_same, told_attaches, told_joints, told_calls, told_base)

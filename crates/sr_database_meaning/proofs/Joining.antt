@@ -3,13 +3,15 @@ use Rattle.std.proofs.Common.{◌≡◌, List, [], ◌∷◌, ◌++◌, refl, sy
 use Rattle.sr_book.specs.Entries.{Name}
 use Rattle.sr_database_history.specs.Recorded.{Recorded}
 use Rattle.sr_site.specs.Files.{Files}
-use Rattle.sr_site.specs.Happenings.{Happening, attached, wrote, cut_to, synced, listed, fetched, sent, removed}
+use Rattle.sr_site.specs.Happenings.{Happening, attached, wrote, cut_to, synced, listed, fetched, sent, removed, handed_over}
 use Rattle.sr_site.specs.Images.{MayLeave}
 use Rattle.sr_site.specs.Seen.{Seen}
+use Rattle.sr_database_meaning.specs.Bases.{HasBase}
 use Rattle.sr_database_meaning.specs.Events.{Event, PutFile, commit, put, commits, puts, puts_in, IsBetween}
 use Rattle.sr_database_meaning.specs.Standing.{StandsAs}
 use Rattle.sr_database_meaning.specs.Traces.{HasJoints, Joint, MayStandFor, HasBegun, IsOnTrace, AtEach, Went}
-use Rattle.sr_database_meaning.proofs.Going.{puts_more}
+use Rattle.sr_database_meaning.proofs.Going.{calls_more, puts_more}
+use Rattle.sr_database_meaning.proofs.Resting.{rests_end, rests_on}
 
 commits_more : (trace more : List Event) → commits (trace ++ more) ≡ commits trace ++ commits more
 commits_more [] more = refl
@@ -31,6 +33,7 @@ between_on (listed address folder listing) since more at = at
 between_on (fetched address name limit found) since more at = at
 between_on (sent address name bytes done) since more at = at
 between_on (removed address name done) since more at = at
+between_on (handed_over folders noted) since more at = at
 
 -- behind a trace
 module _ (publisher : Name) (es : List Recorded) (trace : List Event) where
@@ -151,8 +154,12 @@ joined before middle now publisher es trace more one other =
       attached = other.attached ∙ one.attached;
       more = other.more ++ one.more;
       is = other.is ∙ ap (λ (h : List Happening). other.more ++ h) one.is ∙ sym (append_assoc other.more one.more before.happened);
+      calls = calls_more one.more other.more other.calls one.calls;
       moments = both_moments publisher es trace before.first before.happened middle.happened one.more one.is one.end.put more other.more one.moments moments;
       end = both_end publisher es trace before.first before.happened middle.happened one.more one.is one.end.put more other.more end;
       joints = both_joints before.first publisher es trace more before.happened middle.happened one.more other.more one.is one.joints
           (subst (λ (f : Files). HasJoints f publisher (es ++ commits trace) middle.happened more other.more) one.first other.joints);
+      base = λ base stood.
+          let until = one.base base stood in
+          rests_on (HasBase base) before middle now one.first until (other.base base (rests_end (HasBase base) before middle one.first until));
     }

@@ -1,4 +1,5 @@
 pub mod Going
 pub mod Joining
+pub mod Resting
 pub mod Snapshots
 pub mod Standing

@@ -7,6 +7,7 @@ use Rattle.sr_database_history.specs.Fitting.{Fits, stored_from, Stored}
 use Rattle.sr_database_history.specs.Folds.{State, fresh, next, state_from, state_of, size, end_from, end_of}
 use Rattle.sr_database_history.specs.Recorded.{Recorded, entry_of, IsRecorded}
 use Rattle.sr_database_history.proofs.Bounds.{ends_within}
+use Rattle.sr_database_history.proofs.Joined.{state_from-append, end_from-append, le-end_from, stored_from-append}
 use Rattle.sr_database_history.proofs.Once.{bytes_once}
 use Rattle.sr_logfile.specs.Records.{record_of, open_records, IsBody, HasHeader, Spells}
 use Rattle.sr_logfile.proofs.Records.{length-record}
@@ -22,7 +23,7 @@ use Rattle.sr_site.specs.declared.file.File.TheVariants.{Root, Log0, Log1, Snap0
 use Rattle.sr_database_meaning.specs.Damage.{IsMissing, BeginsEntry, LacksRecordAt, LacksEntry, IsDamagedLog, IsDamagedRoot, HasDamagedSnapshot, HasDamagedLog, IsDamagedAt}
 use Rattle.sr_database_meaning.specs.Generations.{Generation, even, odd, snapshot_of, log_of, generation_in}
 use Rattle.sr_database_meaning.specs.Snapshots.{fresh_snapshot, snapshot_at}
-use Rattle.sr_database_meaning.specs.Standing.{body, bodies, StandsFor}
+use Rattle.sr_database_meaning.specs.Standing.{body, bodies, IsSnapshotAt, StandsFor}
 use Rattle.sr_database_meaning.proofs.Snapshots.{fresh_at, fresh_once, empty_breaks}
 
 -- ---- bodies of entries
@@ -95,10 +96,38 @@ pub are_bodies : (s : State) (place : ℕ) (es : List Recorded) → stored_from 
 are_bodies s place [] stored = tt
 are_bodies s place (r ∷ rs) stored = (is_body s place r stored.0, are_bodies (next s r) (place + (size r + 5)) rs stored.1)
 
-pub within : (publisher : Name) (es : List Recorded) → Stored publisher es → 0 + length (open_records (bodies es)) ≤ 2 ^ 62
-within publisher es stored = omega (arith, ends_within publisher es stored, ends_are 0 es)
+-- entries behind others end in front of the last offset
+pub within : (publisher : Name) (done es : List Recorded) → Stored publisher (done ++ es) → end_of done + length (open_records (bodies es)) ≤ 2 ^ 62
+within publisher done es stored = omega (arith, ends_within publisher (done ++ es) stored, end_from-append 0 done es, ends_are (end_of done) es)
+
+-- entries that end at one place are parted from those behind them in one way
+pub one_part : (place : ℕ) (done left ds ls : List Recorded) → done ++ left ≡ ds ++ ls → end_from place done ≡ end_from place ds → (done ≡ ds) × (left ≡ ls)
+one_part place [] left [] ls same ends = (refl, same)
+one_part place [] left (y ∷ ds) ls same ends = absurd (omega (arith, ends, le-end_from (place + (size y + 5)) ds))
+one_part place (x ∷ done) left [] ls same ends = absurd (omega (arith, ends, le-end_from (place + (size x + 5)) done))
+one_part place (x ∷ done) left (y ∷ ds) ls same ends =
+    let heads : x ≡ y = cc in
+    let tails : done ++ left ≡ ds ++ ls = cc in
+    let both = one_part (place + (size y + 5)) done left ds ls tails (subst (λ (r : Recorded). end_from (place + (size r + 5)) done ≡ end_from (place + (size y + 5)) ds) heads ends) in
+    (λ i. heads i ∷ both.0 i, both.1)
 
 -- ---- standing, in one generation
+
+pub fresh_there : (publisher : Name) (bytes : List ℕ) → bytes ≡ fresh_snapshot publisher → IsSnapshotAt publisher [] bytes
+unfolding IsSnapshotAt
+fresh_there publisher bytes is = (refl, is)
+
+-- no log is begun anew so far
+pub from_beginning : (publisher : Name) (done : List Recorded) (bytes : List ℕ) → IsSnapshotAt publisher done bytes → (done ≡ []) × (bytes ≡ fresh_snapshot publisher)
+unfolding IsSnapshotAt
+from_beginning publisher done bytes is = is
+
+pub base_zero : (publisher : Name) (es : List Recorded) (base : ℕ) (files : Files) → StandsFor publisher es base files → base ≡ 0
+base_zero publisher es base files s = s.base_is ∙ ap end_of (from_beginning publisher s.done (bytes_of files (snapshot_of s.generation)) s.snapshot).0
+
+all_left : (publisher : Name) (es : List Recorded) (base : ℕ) (files : Files) → (s : StandsFor publisher es base files) → s.left ≡ es
+all_left publisher es base files s =
+    sym (s.parts ∙ ap (λ (l : List Recorded). l ++ s.left) (from_beginning publisher s.done (bytes_of files (snapshot_of s.generation)) s.snapshot).0)
 
 pub record Stands (generation : Generation) (publisher : Name) (es : List Recorded) (files : Files) : Type 0 where
   pub root : generation_in files.root ≡ Some generation
@@ -108,7 +137,7 @@ pub record Stands (generation : Generation) (publisher : Name) (es : List Record
   pub log : Spells 0 (bodies es) (bytes_of files (log_of generation))
 
 pub stands_for : (generation : Generation) (publisher : Name) (es : List Recorded) (files : Files) → Stands generation publisher es files → StandsFor publisher es 0 files
-stands_for generation publisher es files s = record { generation = generation; root = s.root; name = s.name; stored = s.stored; from_beginning = refl; snapshot = s.snapshot; log = s.log }
+stands_for generation publisher es files s = record { generation = generation; root = s.root; name = s.name; stored = s.stored; done = []; left = es; parts = refl; base_is = refl; snapshot = fresh_there publisher (bytes_of files (snapshot_of generation)) s.snapshot; log = s.log }
 
 pub stands : (publisher : Name) (es : List Recorded) (base : ℕ) (files : Files) → (s : StandsFor publisher es base files) → Stands s.generation publisher es files
 stands publisher es base files s =
@@ -116,12 +145,13 @@ stands publisher es base files s =
       root = s.root;
       name = s.name;
       stored = s.stored;
-      snapshot = s.snapshot;
-      log = subst (λ (b : ℕ). Spells b (bodies es) (bytes_of files (log_of s.generation))) s.from_beginning s.log;
+      snapshot = (from_beginning publisher s.done (bytes_of files (snapshot_of s.generation)) s.snapshot).1;
+      log = subst (λ (b : ℕ). Spells b (bodies es) (bytes_of files (log_of s.generation))) (base_zero publisher es base files s)
+          (subst (λ (l : List Recorded). Spells base (bodies l) (bytes_of files (log_of s.generation))) (all_left publisher es base files s) s.log);
     }
 
 -- a root names one generation
-one_generation : (files : Files) (g h : Generation) → generation_in files.root ≡ Some g → generation_in files.root ≡ Some h → g ≡ h
+pub one_generation : (files : Files) (g h : Generation) → generation_in files.root ≡ Some g → generation_in files.root ≡ Some h → g ≡ h
 one_generation files g h a b = cc
 
 -- ---- one history
@@ -132,7 +162,7 @@ one_history publisher other es others base place files s t =
     let b = subst (λ (g : Generation). Stands g other others files) (one_generation files t.generation s.generation t.root s.root) (stands other others place files t) in
     let one : publisher ≡ other = fresh_once publisher other a.name b.name (sym a.snapshot ∙ b.snapshot) in
     let same = one_spelling (bytes_of files (log_of s.generation)) 0 0 (bodies es) (bodies others) a.log b.log in
-    (one, bodies_once (fresh other) 0 es others (subst (λ (p : Name). Stored p es) one a.stored) b.stored same.1, s.from_beginning ∙ sym t.from_beginning)
+    (one, bodies_once (fresh other) 0 es others (subst (λ (p : Name). Stored p es) one a.stored) b.stored same.1, base_zero publisher es base files s ∙ sym (base_zero other others place files t))
 
 pub is_stored : (publisher : Name) (es : List Recorded) (base : ℕ) (files : Files) → StandsFor publisher es base files → Stored publisher es
 is_stored publisher es base files s = s.stored
@@ -160,62 +190,81 @@ begins publisher ds b rest tail [] r gate rest_is is fits = record { gate = gate
 begins publisher ds b rest tail (x ∷ more) r gate rest_is is fits =
     record { gate = 1; more = (record_of x ++ open_records more) ++ gate ∷ tail; rest_is = subst (λ (l : List ℕ). rest ≡ record_of l ++ 1 ∷ ((record_of x ++ open_records more) ++ gate ∷ tail)) (sym is) rest_is; fits = fits }
 
+-- what is stored behind other entries, and where these end
+behind : (publisher : Name) (done es : List Recorded) → Stored publisher (done ++ es) → stored_from (state_of publisher done) (end_of done) es
+behind publisher done es stored = ((stored_from-append (fresh publisher) 0 done es).0 stored).1
+
+first_ends : (publisher : Name) (done es : List Recorded) → Stored publisher (done ++ es) → end_of done ≤ 2 ^ 62
+first_ends publisher done es stored = ends_within publisher done ((stored_from-append (fresh publisher) 0 done es).0 stored).0
+
+pub bodies_behind : (publisher : Name) (done es : List Recorded) → Stored publisher (done ++ es) → AllByRecursion IsBody (bodies es)
+bodies_behind publisher done es stored = are_bodies (state_of publisher done) (end_of done) es (behind publisher done es stored)
+
 -- where entries go on behind the lacking one, it is not lacking
-goes_on_there : (publisher : Name) (ds es : List Recorded) (rest tail : List ℕ) (gate : ℕ) → Stored publisher ds → Stored publisher es → Extends (bodies ds) (bodies es) 1 rest gate tail → ((r : Recorded) → BeginsEntry publisher ds r rest → ⊥) → ⊥
-goes_on_there publisher ds es rest tail gate d e longer broken =
-    let on = goes_on (fresh publisher) 0 ds es longer.body longer.more d e longer.is in
-    broken on.r (begins publisher ds longer.body rest tail longer.more on.r gate longer.rest_is on.body_is on.fits)
+goes_on_there : (publisher : Name) (done ds es : List Recorded) (rest tail : List ℕ) (gate : ℕ) → Stored publisher (done ++ ds) → Stored publisher (done ++ es) → Extends (bodies ds) (bodies es) 1 rest gate tail → ((r : Recorded) → BeginsEntry publisher (done ++ ds) r rest → ⊥) → ⊥
+goes_on_there publisher done ds es rest tail gate d e longer broken =
+    let on = goes_on (state_of publisher done) (end_of done) ds es longer.body longer.more (behind publisher done ds d) (behind publisher done es e) longer.is in
+    let fits : Fits (state_of publisher (done ++ ds)) (end_of (done ++ ds)) on.r =
+    subst (λ (s : State). Fits s (end_of (done ++ ds)) on.r) (sym (state_from-append (fresh publisher) done ds))
+    (subst (λ (n : ℕ). Fits (state_from (state_of publisher done) ds) n on.r) (sym (end_from-append 0 done ds)) on.fits) in
+    broken on.r (begins publisher (done ++ ds) longer.body rest tail longer.more on.r gate longer.rest_is on.body_is fits)
 
 -- two headers in one file have one base
-same_base : (other : ℕ) (bytes : List ℕ) → HasHeader 0 bytes → HasHeader other bytes → other ≡ 0
-same_base other bytes zero has = (same_header other 0 (has.gate ∷ has.rest) (zero.gate ∷ zero.rest) has.limit (omega arith) (sym has.bytes_are ∙ zero.bytes_are)).0
+pub same_base : (base other : ℕ) (bytes : List ℕ) → HasHeader base bytes → HasHeader other bytes → other ≡ base
+same_base base other bytes first has = (same_header other base (has.gate ∷ has.rest) (first.gate ∷ first.rest) has.limit first.limit (sym has.bytes_are ∙ first.bytes_are)).0
 
-log_whole : (publisher : Name) (es : List Recorded) (bytes : List ℕ) (place : ℕ) → Stored publisher es → Spells 0 (bodies es) bytes → IsDamagedLog publisher bytes place → ⊥
-log_whole publisher es bytes place stored spells (inl lacks) = lacks.0 0 (has_header 0 (bodies es) spells.gate bytes spells.rest (omega arith) spells.bytes_are)
-log_whole publisher es bytes place stored spells (inr (inl other)) =
-    let o = other.0 in
-    o.differs (same_base o.other bytes (has_header 0 (bodies es) spells.gate bytes spells.rest (omega arith) spells.bytes_are) o.header)
-log_whole publisher es bytes place stored spells (inr (inr (inl d))) = never_both bytes 0 place (bodies es) spells (inr d.lacks)
-log_whole publisher es bytes place stored spells (inr (inr (inr d))) =
-    let both = compared 0 0 (bodies es) (bodies d.es) spells.gate 1 spells.rest d.rest bytes (are_bodies (fresh publisher) 0 es stored) (are_bodies (fresh publisher) 0 d.es d.stored) (omega arith) (omega arith) spells.bytes_are d.bytes_are in
-    elim both.1 [
-      | inl same ↦ spells.closed same.1
-      | inr (inl longer) ↦ spells.closed longer.open_gate
-      | inr (inr longer) ↦ goes_on_there publisher d.es es d.rest spells.rest spells.gate d.stored stored longer d.broken
-    ]
+module _ (publisher : Name) (done : List Recorded) (bytes : List ℕ) where
+  log_header : (es : List Recorded) → Stored publisher (done ++ es) → Spells (end_of done) (bodies es) bytes → HasHeader (end_of done) bytes
+  log_header es stored spells = has_header (end_of done) (bodies es) spells.gate bytes spells.rest (first_ends publisher done es stored) spells.bytes_are
 
-entry_header : (publisher : Name) (bytes : List ℕ) (place : ℕ) → (d : LacksEntry publisher bytes place) → HasHeader 0 bytes
-entry_header publisher bytes place d = has_header 0 (bodies d.es) 1 bytes d.rest (omega arith) d.bytes_are
+  log_whole : (es : List Recorded) (place : ℕ) → Stored publisher (done ++ es) → Spells (end_of done) (bodies es) bytes → IsDamagedLog publisher done bytes place → ⊥
+  log_whole es place stored spells (inl lacks) = lacks.0 (end_of done) (log_header es stored spells)
+  log_whole es place stored spells (inr (inl other)) =
+      let o = other.0 in
+      o.differs (same_base (end_of done) o.other bytes (log_header es stored spells) o.header)
+  log_whole es place stored spells (inr (inr (inl d))) = never_both bytes (end_of done) place (bodies es) spells (inr d.lacks)
+  log_whole es place stored spells (inr (inr (inr d))) =
+      let limit = first_ends publisher done es stored in
+      let both = compared (end_of done) (end_of done) (bodies es) (bodies d.es) spells.gate 1 spells.rest d.rest bytes (bodies_behind publisher done es stored) (bodies_behind publisher done d.es d.stored) limit limit spells.bytes_are d.bytes_are in
+      elim both.1 [
+        | inl same ↦ spells.closed same.1
+        | inr (inl longer) ↦ spells.closed longer.open_gate
+        | inr (inr longer) ↦ goes_on_there publisher done d.es es d.rest spells.rest spells.gate d.stored stored longer d.broken
+      ]
 
-record_header : (bytes : List ℕ) (place : ℕ) → (d : LacksRecordAt 0 bytes place) → HasHeader 0 bytes
-record_header bytes place d = subst (λ (base : ℕ). HasHeader base bytes) d.base_is (has_header d.lacks.base d.lacks.bodies 1 bytes d.lacks.rest (omega (arith, d.lacks.limit)) d.lacks.bytes_are)
+  entry_header : (place : ℕ) → LacksEntry publisher done bytes place → HasHeader (end_of done) bytes
+  entry_header place d = has_header (end_of done) (bodies d.es) 1 bytes d.rest (first_ends publisher done d.es d.stored) d.bytes_are
 
-one_entry_damage : (publisher : Name) (bytes : List ℕ) (place at : ℕ) → LacksEntry publisher bytes place → LacksEntry publisher bytes at → place ≡ at
-one_entry_damage publisher bytes place at p q =
-    let both = compared 0 0 (bodies p.es) (bodies q.es) 1 1 p.rest q.rest bytes (are_bodies (fresh publisher) 0 p.es p.stored) (are_bodies (fresh publisher) 0 q.es q.stored) (omega arith) (omega arith) p.bytes_are q.bytes_are in
-    elim both.1 [
-      | inl same ↦ omega (arith, p.place_is, q.place_is, length-prefix 0 (bodies p.es), length-prefix 0 (bodies q.es), ap (λ (l : List (List ℕ)). length (open_records l)) same.0)
-      | inr (inl longer) ↦ absurd (goes_on_there publisher p.es q.es p.rest q.rest 1 p.stored q.stored longer p.broken)
-      | inr (inr longer) ↦ absurd (goes_on_there publisher q.es p.es q.rest p.rest 1 q.stored p.stored longer q.broken)
-    ]
+  record_header : (place : ℕ) → LacksRecordAt (end_of done) bytes place → HasHeader (end_of done) bytes
+  record_header place d = subst (λ (base : ℕ). HasHeader base bytes) d.base_is (has_header d.lacks.base d.lacks.bodies 1 bytes d.lacks.rest (omega (arith, d.lacks.limit)) d.lacks.bytes_are)
 
-one_log_damage : (publisher : Name) (bytes : List ℕ) (place at : ℕ) → IsDamagedLog publisher bytes place → IsDamagedLog publisher bytes at → place ≡ at
-one_log_damage publisher bytes place at (inl p) (inl q) = p.1 ∙ sym q.1
-one_log_damage publisher bytes place at (inl p) (inr (inl q)) = absurd (p.0 q.0.other q.0.header)
-one_log_damage publisher bytes place at (inl p) (inr (inr (inl q))) = absurd (p.0 0 (record_header bytes at q))
-one_log_damage publisher bytes place at (inl p) (inr (inr (inr q))) = absurd (p.0 0 (entry_header publisher bytes at q))
-one_log_damage publisher bytes place at (inr (inl p)) (inl q) = absurd (q.0 p.0.other p.0.header)
-one_log_damage publisher bytes place at (inr (inl p)) (inr (inl q)) = p.1 ∙ sym q.1
-one_log_damage publisher bytes place at (inr (inl p)) (inr (inr (inl q))) = absurd (p.0.differs (same_base p.0.other bytes (record_header bytes at q) p.0.header))
-one_log_damage publisher bytes place at (inr (inl p)) (inr (inr (inr q))) = absurd (p.0.differs (same_base p.0.other bytes (entry_header publisher bytes at q) p.0.header))
-one_log_damage publisher bytes place at (inr (inr (inl p))) (inl q) = absurd (q.0 0 (record_header bytes place p))
-one_log_damage publisher bytes place at (inr (inr (inl p))) (inr (inl q)) = absurd (q.0.differs (same_base q.0.other bytes (record_header bytes place p) q.0.header))
-one_log_damage publisher bytes place at (inr (inr (inl p))) (inr (inr (inl q))) = one_record_damage bytes place at (inr p.lacks) (inr q.lacks)
-one_log_damage publisher bytes place at (inr (inr (inl p))) (inr (inr (inr q))) = absurd (never_both bytes 0 place q.all q.spells (inr p.lacks))
-one_log_damage publisher bytes place at (inr (inr (inr p))) (inl q) = absurd (q.0 0 (entry_header publisher bytes place p))
-one_log_damage publisher bytes place at (inr (inr (inr p))) (inr (inl q)) = absurd (q.0.differs (same_base q.0.other bytes (entry_header publisher bytes place p) q.0.header))
-one_log_damage publisher bytes place at (inr (inr (inr p))) (inr (inr (inl q))) = absurd (never_both bytes 0 at p.all p.spells (inr q.lacks))
-one_log_damage publisher bytes place at (inr (inr (inr p))) (inr (inr (inr q))) = one_entry_damage publisher bytes place at p q
+  one_entry_damage : (place at : ℕ) → LacksEntry publisher done bytes place → LacksEntry publisher done bytes at → place ≡ at
+  one_entry_damage place at p q =
+      let limit = first_ends publisher done p.es p.stored in
+      let both = compared (end_of done) (end_of done) (bodies p.es) (bodies q.es) 1 1 p.rest q.rest bytes (bodies_behind publisher done p.es p.stored) (bodies_behind publisher done q.es q.stored) limit limit p.bytes_are q.bytes_are in
+      elim both.1 [
+        | inl same ↦ omega (arith, p.place_is, q.place_is, length-prefix (end_of done) (bodies p.es), length-prefix (end_of done) (bodies q.es), ap (λ (l : List (List ℕ)). length (open_records l)) same.0)
+        | inr (inl longer) ↦ absurd (goes_on_there publisher done p.es q.es p.rest q.rest 1 p.stored q.stored longer p.broken)
+        | inr (inr longer) ↦ absurd (goes_on_there publisher done q.es p.es q.rest p.rest 1 q.stored p.stored longer q.broken)
+      ]
+
+  one_log_damage : (place at : ℕ) → IsDamagedLog publisher done bytes place → IsDamagedLog publisher done bytes at → place ≡ at
+  one_log_damage place at (inl p) (inl q) = p.1 ∙ sym q.1
+  one_log_damage place at (inl p) (inr (inl q)) = absurd (p.0 q.0.other q.0.header)
+  one_log_damage place at (inl p) (inr (inr (inl q))) = absurd (p.0 (end_of done) (record_header at q))
+  one_log_damage place at (inl p) (inr (inr (inr q))) = absurd (p.0 (end_of done) (entry_header at q))
+  one_log_damage place at (inr (inl p)) (inl q) = absurd (q.0 p.0.other p.0.header)
+  one_log_damage place at (inr (inl p)) (inr (inl q)) = p.1 ∙ sym q.1
+  one_log_damage place at (inr (inl p)) (inr (inr (inl q))) = absurd (p.0.differs (same_base (end_of done) p.0.other bytes (record_header at q) p.0.header))
+  one_log_damage place at (inr (inl p)) (inr (inr (inr q))) = absurd (p.0.differs (same_base (end_of done) p.0.other bytes (entry_header at q) p.0.header))
+  one_log_damage place at (inr (inr (inl p))) (inl q) = absurd (q.0 (end_of done) (record_header place p))
+  one_log_damage place at (inr (inr (inl p))) (inr (inl q)) = absurd (q.0.differs (same_base (end_of done) q.0.other bytes (record_header place p) q.0.header))
+  one_log_damage place at (inr (inr (inl p))) (inr (inr (inl q))) = one_record_damage bytes place at (inr p.lacks) (inr q.lacks)
+  one_log_damage place at (inr (inr (inl p))) (inr (inr (inr q))) = absurd (never_both bytes (end_of done) place q.all q.spells (inr p.lacks))
+  one_log_damage place at (inr (inr (inr p))) (inl q) = absurd (q.0 (end_of done) (entry_header place p))
+  one_log_damage place at (inr (inr (inr p))) (inr (inl q)) = absurd (q.0.differs (same_base (end_of done) q.0.other bytes (entry_header place p) q.0.header))
+  one_log_damage place at (inr (inr (inr p))) (inr (inr (inl q))) = absurd (never_both bytes (end_of done) at p.all p.spells (inr q.lacks))
+  one_log_damage place at (inr (inr (inr p))) (inr (inr (inr q))) = one_entry_damage place at p q
 
 pub missing_is_none : (publisher : Name) (es : List Recorded) (base : ℕ) (files : Files) → StandsFor publisher es base files → ¬ (IsMissing files)
 missing_is_none publisher es base files s missing = no_root s.generation files s.root missing
@@ -224,6 +273,10 @@ missing_is_none publisher es base files s missing = no_root s.generation files s
 whole_snapshot : (generation : Generation) (publisher : Name) (es : List Recorded) (files : Files) → Stands generation publisher es files → snapshot_at (bytes_of files (snapshot_of generation)) ≡ Ok publisher
 whole_snapshot generation publisher es files s = ap snapshot_at s.snapshot ∙ fresh_at publisher s.name
 
+-- so have those whose log is damaged
+whole_before : (g : Generation) (place : ℕ) (files : Files) → (d : HasDamagedLog g files place) → snapshot_at (bytes_of files (snapshot_of g)) ≡ Ok d.publisher
+whole_before g place files d = ap snapshot_at (from_beginning d.publisher d.done (bytes_of files (snapshot_of g)) d.snapshot).1 ∙ fresh_at d.publisher d.name
+
 no_snapshot_damage : (g h : Generation) (publisher : Name) (es : List Recorded) (place : ℕ) (files : Files) → Stands g publisher es files → HasDamagedSnapshot h files place → ⊥
 no_snapshot_damage g h publisher es place files s d =
     not_both (bytes_of files (snapshot_of h)) publisher place (whole_snapshot h publisher es files (subst (λ (x : Generation). Stands x publisher es files) (one_generation files g h s.root d.root) s)) d.broken
@@ -231,8 +284,10 @@ no_snapshot_damage g h publisher es place files s d =
 no_log_damage : (g h : Generation) (publisher : Name) (es : List Recorded) (place : ℕ) (files : Files) → Stands g publisher es files → HasDamagedLog h files place → ⊥
 no_log_damage g h publisher es place files s d =
     let t = subst (λ (x : Generation). Stands x publisher es files) (one_generation files g h s.root d.root) s in
-    let one : d.publisher ≡ publisher = one_publisher (bytes_of files (snapshot_of h)) d.publisher publisher d.snapshot (whole_snapshot h publisher es files t) in
-    log_whole publisher es (bytes_of files (log_of h)) place t.stored t.log (subst (λ (p : Name). IsDamagedLog p (bytes_of files (log_of h)) place) one d.damage)
+    let one : d.publisher ≡ publisher = one_publisher (bytes_of files (snapshot_of h)) d.publisher publisher (whole_before h place files d) (whole_snapshot h publisher es files t) in
+    let none : d.done ≡ [] = (from_beginning d.publisher d.done (bytes_of files (snapshot_of h)) d.snapshot).0 in
+    log_whole publisher [] (bytes_of files (log_of h)) es place t.stored t.log
+    (subst (λ (p : Name). IsDamagedLog p [] (bytes_of files (log_of h)) place) one (subst (λ (ds : List Recorded). IsDamagedLog d.publisher ds (bytes_of files (log_of h)) place) none d.damage))
 
 no_root_damage : (g : Generation) (publisher : Name) (es : List Recorded) (place : ℕ) (files : Files) → Stands g publisher es files → IsDamagedRoot files place → ⊥
 no_root_damage g publisher es place files s d =
@@ -263,33 +318,36 @@ no_snapshot files place publisher d ok = not_both files.snap1 publisher 0 ok (ap
 
 logs_one : (g : Generation) (place at : ℕ) (files : Files) → HasDamagedLog g files place → HasDamagedLog g files at → place ≡ at
 logs_one g place at files d e =
-    let one : d.publisher ≡ e.publisher = one_publisher (bytes_of files (snapshot_of g)) d.publisher e.publisher d.snapshot e.snapshot in
-    one_log_damage e.publisher (bytes_of files (log_of g)) place at (subst (λ (p : Name). IsDamagedLog p (bytes_of files (log_of g)) place) one d.damage) e.damage
+    let snapshot : List ℕ = bytes_of files (snapshot_of g) in
+    let one : d.publisher ≡ e.publisher = one_publisher snapshot d.publisher e.publisher (whole_before g place files d) (whole_before g at files e) in
+    let same : d.done ≡ e.done = (from_beginning d.publisher d.done snapshot d.snapshot).0 ∙ sym (from_beginning e.publisher e.done snapshot e.snapshot).0 in
+    one_log_damage e.publisher e.done (bytes_of files (log_of g)) place at
+    (subst (λ (p : Name). IsDamagedLog p e.done (bytes_of files (log_of g)) place) one (subst (λ (ds : List Recorded). IsDamagedLog d.publisher ds (bytes_of files (log_of g)) place) same d.damage)) e.damage
 
 pub one_damage : (place at : ℕ) (file other : File) (files : Files) → IsDamagedAt file place files → IsDamagedAt other at files → (file ≡ other) × (place ≡ at)
 one_damage place at Root Root files d e = (refl, d.place_is ∙ sym e.place_is)
 one_damage place at Root Snap0 files d e = absurd (even_is_not_odd files e.root d.root)
 one_damage place at Root Snap1 files d e = absurd (e.begun (blamed files place d))
 one_damage place at Root Log0 files d e = absurd (even_is_not_odd files e.root d.root)
-one_damage place at Root Log1 files d e = absurd (no_snapshot files place e.publisher d e.snapshot)
+one_damage place at Root Log1 files d e = absurd (no_snapshot files place e.publisher d (whole_before odd at files e))
 one_damage place at Snap0 Root files d e = absurd (even_is_not_odd files d.root e.root)
 one_damage place at Snap0 Snap0 files d e = (refl, one_place files.snap0 place at d.broken e.broken)
 one_damage place at Snap0 Snap1 files d e = absurd (even_is_not_odd files d.root e.root)
-one_damage place at Snap0 Log0 files d e = absurd (not_both files.snap0 e.publisher place e.snapshot d.broken)
+one_damage place at Snap0 Log0 files d e = absurd (not_both files.snap0 e.publisher place (whole_before even at files e) d.broken)
 one_damage place at Snap0 Log1 files d e = absurd (even_is_not_odd files d.root e.root)
 one_damage place at Snap1 Root files d e = absurd (d.begun (blamed files at e))
 one_damage place at Snap1 Snap0 files d e = absurd (even_is_not_odd files e.root d.root)
 one_damage place at Snap1 Snap1 files d e = (refl, one_place files.snap1 place at d.broken e.broken)
 one_damage place at Snap1 Log0 files d e = absurd (even_is_not_odd files e.root d.root)
-one_damage place at Snap1 Log1 files d e = absurd (not_both files.snap1 e.publisher place e.snapshot d.broken)
+one_damage place at Snap1 Log1 files d e = absurd (not_both files.snap1 e.publisher place (whole_before odd at files e) d.broken)
 one_damage place at Log0 Root files d e = absurd (even_is_not_odd files d.root e.root)
-one_damage place at Log0 Snap0 files d e = absurd (not_both files.snap0 d.publisher at d.snapshot e.broken)
+one_damage place at Log0 Snap0 files d e = absurd (not_both files.snap0 d.publisher at (whole_before even place files d) e.broken)
 one_damage place at Log0 Snap1 files d e = absurd (even_is_not_odd files d.root e.root)
 one_damage place at Log0 Log0 files d e = (refl, logs_one even place at files d e)
 one_damage place at Log0 Log1 files d e = absurd (even_is_not_odd files d.root e.root)
-one_damage place at Log1 Root files d e = absurd (no_snapshot files at d.publisher e d.snapshot)
+one_damage place at Log1 Root files d e = absurd (no_snapshot files at d.publisher e (whole_before odd place files d))
 one_damage place at Log1 Snap0 files d e = absurd (even_is_not_odd files e.root d.root)
-one_damage place at Log1 Snap1 files d e = absurd (not_both files.snap1 d.publisher at d.snapshot e.broken)
+one_damage place at Log1 Snap1 files d e = absurd (not_both files.snap1 d.publisher at (whole_before odd place files d) e.broken)
 one_damage place at Log1 Log0 files d e = absurd (even_is_not_odd files e.root d.root)
 one_damage place at Log1 Log1 files d e = (refl, logs_one odd place at files d e)
 

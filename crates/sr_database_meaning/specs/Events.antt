@@ -2,7 +2,7 @@
 use Rattle.std.specs.Prelude.{ℕ, List, [], ◌∷◌, ◌++◌}
 use Rattle.sr_book.specs.Entries.{Name}
 use Rattle.sr_database_history.specs.Recorded.{Recorded}
-use Rattle.sr_site.specs.Happenings.{Happening, attached, wrote, cut_to, synced, listed, fetched, sent, removed}
+use Rattle.sr_site.specs.Happenings.{Happening, attached, wrote, cut_to, synced, listed, fetched, sent, removed, handed_over}
 
 -- each counts from the moment it begins
 pub data Event : Type 0 where
@@ -37,6 +37,7 @@ puts_in (listed address folder listing ∷ before) = puts_in before
 puts_in (fetched address name limit found ∷ before) = puts_in before
 puts_in (sent address name bytes done ∷ before) = puts_in before ++ (address, name, bytes) ∷ []
 puts_in (removed address name done ∷ before) = puts_in before
+puts_in (handed_over folders noted ∷ before) = puts_in before
 
 -- the attaches that were begun at a site, the newest first
 abbrev pub attaches_in : List Happening → List Happening
@@ -49,8 +50,9 @@ attaches_in (listed address folder listing ∷ before) = attaches_in before
 attaches_in (fetched address name limit found ∷ before) = attaches_in before
 attaches_in (sent address name bytes done ∷ before) = attaches_in before
 attaches_in (removed address name done ∷ before) = attaches_in before
+attaches_in (handed_over folders noted ∷ before) = attaches_in before
 
--- no commit is under way: nothing has happened yet, or the last that did is a call of the mail
+-- no commit is under way: nothing has happened yet, or the last that did is a call of the mail, or that folders were handed over
 abbrev pub IsBetween : List Happening → Type 0
 IsBetween [] = Unit {0}
 IsBetween (attached name folder done ∷ before) = ⊥
@@ -61,3 +63,4 @@ IsBetween (listed address folder listing ∷ before) = Unit {0}
 IsBetween (fetched address name limit found ∷ before) = Unit {0}
 IsBetween (sent address name bytes done ∷ before) = Unit {0}
 IsBetween (removed address name done ∷ before) = Unit {0}
+IsBetween (handed_over folders noted ∷ before) = Unit {0}

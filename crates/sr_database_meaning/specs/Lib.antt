@@ -1,3 +1,4 @@
+pub mod Bases
 pub mod Damage
 pub mod Generations
 pub mod Events

@@ -1,8 +1,9 @@
 -- The history that five files stand for.
-use Rattle.std.specs.Prelude.{◌≡◌, ℕ, List, map, Some}
+use Rattle.std.specs.Prelude.{◌≡◌, ℕ, List, [], ◌++◌, map, Some}
 use Rattle.sr_base.specs.Fields.{IsName}
 use Rattle.sr_book.specs.Entries.{Name}
 use Rattle.sr_database_history.specs.Fitting.{Stored}
+use Rattle.sr_database_history.specs.Folds.{end_of}
 use Rattle.sr_database_history.specs.Recorded.{Recorded, entry_of}
 use Rattle.sr_logfile.specs.Records.{Spells}
 use Rattle.sr_logform.specs.Entries.{entry_spelling}
@@ -17,17 +18,24 @@ body r = entry_spelling (entry_of r)
 abbrev pub bodies : List Recorded → List (List ℕ)
 bodies es = map body es
 
--- the files stand for the history of this publisher: of the generation that the root names, the log's open records are the entries, and the
--- snapshot is that of the state at the log's base. The other generation is free, and so is what lies behind the log's closed gate. No log
--- is begun anew so far: the base is 0, and the snapshot is the fresh one
+-- the bytes are a snapshot of what these entries come to, those that lie before a log. No log is begun anew so far: none do, and the snapshot is
+-- the fresh one
+unfoldable pub IsSnapshotAt : Name → List Recorded → List ℕ → Type 0
+IsSnapshotAt publisher done bytes = (done ≡ []) × (bytes ≡ fresh_snapshot publisher)
+
+-- the files stand for the history of this publisher: of the generation that the root names, the snapshot is that of the entries up to the log's
+-- base, and the log's open records are those that are left. The other generation is free, and so is what lies behind the log's closed gate
 pub record StandsFor (publisher : Name) (es : List Recorded) (base : ℕ) (files : Files) : Type 0 where
   pub generation : Generation
   pub root : generation_in files.root ≡ Some generation
   pub name : IsName publisher
   pub stored : Stored publisher es
-  pub from_beginning : base ≡ 0
-  pub snapshot : bytes_of files (snapshot_of generation) ≡ fresh_snapshot publisher
-  pub log : Spells base (bodies es) (bytes_of files (log_of generation))
+  pub done : List Recorded
+  pub left : List Recorded
+  pub parts : es ≡ done ++ left
+  pub base_is : base ≡ end_of done
+  pub snapshot : IsSnapshotAt publisher done (bytes_of files (snapshot_of generation))
+  pub log : Spells base (bodies left) (bytes_of files (log_of generation))
 
 -- wherever the log begins
 pub record StandsAs (publisher : Name) (es : List Recorded) (files : Files) : Type 0 where

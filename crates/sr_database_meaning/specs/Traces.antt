@@ -1,11 +1,13 @@
 -- How a call went through its trace: what was put, and what the files stand for, at each of its moments.
 use Rattle.std.specs.Prelude.{◌≡◌, ◌⊎◌, List, [], ◌∷◌, ◌++◌}
+use Rattle.std.specs.List.{AllByRecursion}
 use Rattle.sr_book.specs.Entries.{Name}
 use Rattle.sr_database_history.specs.Recorded.{Recorded}
 use Rattle.sr_site.specs.Files.{Files}
-use Rattle.sr_site.specs.Happenings.{Happening}
+use Rattle.sr_site.specs.Happenings.{Happening, IsCall}
 use Rattle.sr_site.specs.Images.{MayLeave}
 use Rattle.sr_site.specs.Seen.{Seen}
+use Rattle.sr_database_meaning.specs.Bases.{KeepsBase}
 use Rattle.sr_database_meaning.specs.Events.{Event, commit, commits, puts, puts_in, attaches_in, IsBetween}
 use Rattle.sr_database_meaning.specs.Standing.{StandsAs}
 
@@ -50,16 +52,19 @@ pub record Joint (first : Files) (publisher : Name) (es : List Recorded) (before
 abbrev pub HasJoints : Files → Name → List Recorded → List Happening → List Event → List Happening → Type 0
 HasJoints first publisher es before trace more = (prefix back : List Event) (event : Event) → trace ≡ prefix ++ event ∷ back → Joint first publisher es before prefix more
 
--- at each moment from the one to the other a prefix of the trace has begun, and at the end all of it; and no other files were attached
+-- at each moment from the one to the other a prefix of the trace has begun, and at the end all of it; no other files were attached, all that happened
+-- are calls, and the log was not begun anew
 pub record GoesThrough (before now : Seen) (publisher : Name) (es : List Recorded) (trace : List Event) : Type 0 where
   pub observable : now.observable ≡ before.observable
   pub first : now.first ≡ before.first
   pub attached : attaches_in now.happened ≡ attaches_in before.happened
   pub more : List Happening
   pub is : now.happened ≡ more ++ before.happened
+  pub calls : AllByRecursion IsCall more
   pub moments : AtEach (IsOnTrace before.first publisher es before.happened trace) more
   pub end : HasBegun before.first publisher es before.happened trace more
   pub joints : HasJoints before.first publisher es before.happened trace more
+  pub base : KeepsBase before now
 
 -- between two moments of a site it went through a trace, from files that stood for this history
 unfoldable pub Went : Seen → Seen → Name → List Recorded → List Event → Type 0

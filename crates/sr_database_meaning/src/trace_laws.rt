@@ -1,12 +1,14 @@
 //! Traces of commits and puts. Each function does nothing: it carries laws as its clauses.
 
 ghost use Rattle.std.specs.Prelude.{◌≡◌, Bool, List, ℕ, [], ◌∷◌, ◌++◌};
+ghost use Rattle.std.specs.List.{AllByRecursion};
 ghost use Rattle.sr_book.specs.Entries.{Name};
 ghost use Rattle.sr_database_history.specs.Recorded.{Recorded};
 ghost use Rattle.sr_site.specs.Files.{Files};
-ghost use Rattle.sr_site.specs.Happenings.{Happening, sent};
+ghost use Rattle.sr_site.specs.Happenings.{Happening, IsCall, sent};
 ghost use Rattle.sr_site.specs.Images.{IsImage, IsSettled};
 ghost use Rattle.sr_site.specs.Seen.{Seen};
+ghost use Rattle.sr_database_meaning.specs.Bases.{KeepsBase};
 ghost use Rattle.sr_database_meaning.specs.Events.{Event, commit, put, commits, puts, puts_in, attaches_in};
 ghost use Rattle.sr_database_meaning.specs.Inner.Events.{AreQuiet};
 ghost use Rattle.sr_database_meaning.specs.Inner.Going.{HasPassedJoints, WhereOneIsCommitted, WhereOneIsPut};
@@ -25,7 +27,7 @@ pub fn nothing_is_no_event()
 {}
 
 /// Where each image at each moment stands for the history before or for it and one entry more, and something happens but no call of the mail and no attach,
-/// the site goes through that one commit.
+/// and the log keeps its base, the site goes through that one commit.
 #[tactic(auto, using(crate::proofs::Going::one_commit))]
 pub fn a_commit_is_an_event()
     ensures went_one_commit { (before now : Seen) (publisher : Name) (es : List Recorded) (r : Recorded)
@@ -50,7 +52,8 @@ pub fn traces_join()
 {}
 
 /// What one may read off: the messages that were put, in order; what a crash may leave in the end; at each moment on the way a prefix of the
-/// trace that has begun; before each item a moment at which all that a crash may leave has just the items before it; and that nothing was attached.
+/// trace that has begun; before each item a moment at which all that a crash may leave has just the items before it; that nothing was attached; that all
+/// that happened are calls; and that the log keeps its base.
 #[tactic(auto, using(crate::proofs::Going::telling))]
 pub fn traces_tell()
     ensures put { (before now : Seen) (publisher : Name) (es : List Recorded) (trace : List Event) → Went before now publisher es trace
@@ -65,4 +68,7 @@ pub fn traces_tell()
         → (now.observable ≡ before.observable) × (now.first ≡ before.first) }
     ensures attached { (before now : Seen) (publisher : Name) (es : List Recorded) (trace : List Event) → Went before now publisher es trace
         → attaches_in now.happened ≡ attaches_in before.happened }
+    ensures calls { (before now : Seen) (publisher : Name) (es : List Recorded) (trace : List Event) → Went before now publisher es trace
+        → (more : List Happening) × (now.happened ≡ more ++ before.happened) × AllByRecursion IsCall more }
+    ensures base { (before now : Seen) (publisher : Name) (es : List Recorded) (trace : List Event) → Went before now publisher es trace → KeepsBase before now }
 {}

@@ -1,5 +1,5 @@
 -- Each file is spelled or damaged.
-use Rattle.std.proofs.Common.{◌≡◌, ◌⊎◌, inl, inr, ℕ, zero, suc, ◌+◌, ◌-◌, ◌^◌, ◌<◌, ◌≤◌, List, [], ◌∷◌, ◌++◌, length, get_or, take, drop, refl, sym, ◌∙◌, ap, subst, arith, length-append, take-append-drop}
+use Rattle.std.proofs.Common.{◌≡◌, ◌⊎◌, inl, inr, ℕ, zero, suc, ◌+◌, ◌^◌, ◌<◌, ◌≤◌, List, [], ◌∷◌, ◌++◌, length, get_or, take, drop, refl, sym, ◌∙◌, ap, subst, arith, length-append, take-append-drop}
 use Rattle.std.specs.Int.{w32, w64, to_be_bytes, from_be_bytes}
 use Rattle.std.proofs.lemmas.Bool.{cases_eq, cases_lt}
 use Rattle.std.proofs.lemmas.List.{length-drop, length-take, get_or-drop, get_or-take, get_or_past, take_at, drop_more}
@@ -7,7 +7,7 @@ use Rattle.std.proofs.lemmas.Nat.{be_bytes_4, from_be_bytes-to_be_bytes_8}
 use Rattle.sr_logfile.specs.Damage.{LacksHeader, IsSpelled, IsDamagedSomewhere}
 use Rattle.sr_logfile.specs.Inner.Damage.{AreBytes}
 use Rattle.sr_logfile.specs.Inner.Heads.{IsClosed, HasLength, FitsBody, HasWhole, IsBroken, Reaches}
-use Rattle.sr_logfile.specs.Records.{header, HasHeader}
+use Rattle.sr_logfile.specs.Records.{header, HasHeader, place_in}
 use Rattle.sr_logfile.proofs.Ends.{has_whole, broken_length, broken_cut}
 use Rattle.sr_logfile.proofs.Scans.{starts, goes_on, ends, breaks}
 
@@ -78,15 +78,15 @@ at_gate position (gate ∷ rest) are some =
     ]
 
 -- from gate to gate, with so many bytes left at most
-from_gate : (fuel base position : ℕ) (bytes : List ℕ) → AreBytes bytes → Reaches base position bytes → base ≤ position → position ≤ 2 ^ 62 → length bytes ≤ 16 + (position - base) + fuel → IsSpelled bytes ⊎ IsDamagedSomewhere bytes
-from_gate zero base position bytes are reaches order limit enough = absurd (omega (arith, reaches.some, length-drop (16 + (position - base)) bytes))
+from_gate : (fuel base position : ℕ) (bytes : List ℕ) → AreBytes bytes → Reaches base position bytes → base ≤ position → position ≤ 2 ^ 62 → length bytes ≤ place_in base position + fuel → IsSpelled bytes ⊎ IsDamagedSomewhere bytes
+from_gate zero base position bytes are reaches order limit enough = absurd (omega (arith, reaches.some, length-drop (place_in base position) bytes))
 from_gate (suc fuel) base position bytes are reaches order limit enough =
-    elim (at_gate position (drop (16 + (position - base)) bytes) (AreBytes-drop (16 + (position - base)) bytes are) reaches.some) [
+    elim (at_gate position (drop (place_in base position) bytes) (AreBytes-drop (place_in base position) bytes are) reaches.some) [
       | inl closed ↦ let to = ends base position bytes reaches closed limit in inl (record { base = base; bodies = to.bodies; spells = to.spells })
       | inr (inl whole) ↦
           let past : position < whole.end = omega (arith, whole.whole.end_is) in
           from_gate fuel base whole.end bytes are (goes_on base position bytes whole.end reaches whole.whole) (omega arith) (omega (arith, whole.whole.end_is, whole.whole.begins.limit)) (omega arith)
-      | inr (inr broken) ↦ inr (record { place = 16 + (position - base); damage = inr (breaks base position bytes reaches broken limit) })
+      | inr (inr broken) ↦ inr (record { place = place_in base position; damage = inr (breaks base position bytes reaches broken limit) })
     ]
 
 -- a base that a header has

@@ -4,12 +4,13 @@ use Rattle.std.specs.Int.{w32, w64, to_be_bytes}
 use Rattle.std.specs.List.{AllByRecursion}
 use Rattle.sr_base.specs.Values.{farthest_offset}
 
--- how many bytes stand before the first gate, and how many a log without records has: those, and a closed gate
+-- how many bytes stand before the first gate
 abbrev pub header_size : ℕ
 header_size = 16
 
-abbrev pub empty_log : ℕ
-empty_log = 17
+-- the place in the file of the gate at a stream position, in a log that begins at a base
+abbrev pub place_in : ℕ → ℕ → ℕ
+place_in base position = header_size + (position - base)
 
 -- the bytes before the first gate: SRLOG001 and the base
 abbrev pub header : ℕ → List ℕ

@@ -3,15 +3,22 @@ ghost use Rattle.sr_site.specs.Causes.{DiskStays};
 ghost use Rattle.sr_site.specs.Files.{bytes_of};
 ghost use Rattle.sr_site.specs.Reads.{HasRead};
 ghost use Rattle.sr_logfile.specs.Inner.Heads.{HeadCause, IsHead};
+ghost use Rattle.sr_logfile.specs.Inner.Log.{InOrder};
+ghost use Rattle.sr_logfile.specs.Records.{place_in};
 
 use crate::fault::LogFault;
 use sr_site::{Disk, File};
 
 /// The bytes before the first gate.
-pub const HEADER: u64 = 16;
+const HEADER: u64 = 16;
 
-/// The bytes of a log without records: a header and a closed gate.
-pub const EMPTY_LOG: u64 = 17;
+/// The place in the file of the gate at a stream position, in a log that begins at `base`.
+pub fn place_in(base: u64, position: u64) -> u64
+    requires order { InOrder base position }
+    ensures place { result ≡ place_in base position }
+{
+    HEADER + (position - base)
+}
 
 /// The bytes of a gate and the length behind it.
 pub(crate) const RECORD_HEAD: u64 = 5;

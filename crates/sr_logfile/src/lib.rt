@@ -17,7 +17,7 @@ mod starting;
 
 pub use fault::{LogFault, RecordFault};
 pub use framing::frame;
-pub use head::{EMPTY_LOG, HEADER};
+pub use head::place_in;
 pub use laws::one_spelling_or_one_damage;
 pub use log::LogFile;
 pub use opening::{base_of, open, record_end};

@@ -14,7 +14,7 @@ ghost use Rattle.sr_logfile.specs.declared.fault.LogFault.TheVariants.{Full};
 
 use crate::appending::append;
 use crate::fault::LogFault;
-use crate::head::HEADER;
+use crate::head::place_in;
 use sr_base::{FARTHEST_OFFSET, Offset};
 use sr_site::{Disk, File};
 use std::marker::Model;
@@ -115,7 +115,7 @@ impl LogFile {
         ensures steady { OnOk result ((S.seen site.new).disk_faults ≡ (S.seen site.old).disk_faults) }
         ensures cause { IfErr result (CommitCause self.old self.new (length framed.now) bound (S.seen site.old) (S.seen site.new)) }
     {
-        let gate = HEADER + (self.end - self.base);
+        let gate = place_in(self.base, self.end);
         let need = framed.len() as u64;
         if need > FARTHEST_OFFSET || gate + 1 + need > bound || self.end + need > FARTHEST_OFFSET {
             return Err(LogFault::Full {

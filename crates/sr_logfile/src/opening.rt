@@ -1,4 +1,4 @@
-ghost use Rattle.std.specs.Prelude.{◌≡◌, ◌∷◌, ◌+◌, ◌-◌, ◌≤◌, ◌<◌, List, ℕ, length, take, drop, true, IsTrue, IfOk, OnOk, IfErr, IfSome, IsErr, IsNone};
+ghost use Rattle.std.specs.Prelude.{◌≡◌, ◌∷◌, ◌+◌, ◌≤◌, ◌<◌, List, ℕ, length, take, drop, true, IsTrue, IfOk, OnOk, IfErr, IfSome, IsErr, IsNone};
 ghost use Rattle.std.specs.Option.{SomeIff};
 ghost use Rattle.sr_base.specs.Values.{farthest_offset};
 ghost use Rattle.sr_site.specs.Images.{IsSettled, KeepsOthers, RestsThroughout};
@@ -11,10 +11,10 @@ ghost use Rattle.sr_logfile.specs.Inner.Faults.{HeaderCause, IsDisk, IsDiskOrDam
 ghost use Rattle.sr_logfile.specs.Inner.Heads.{FitsBody, IsRecordEnd, RecordCause, RecordsCause, SpellsTo};
 ghost use Rattle.sr_logfile.specs.Inner.Log.{InOrder};
 ghost use Rattle.sr_logfile.specs.Inner.Logs.{HasLog, IsLog};
-ghost use Rattle.sr_logfile.specs.Records.{HasHeader, Spells, header, header_size};
+ghost use Rattle.sr_logfile.specs.Records.{HasHeader, Spells, header, header_size, place_in};
 
 use crate::fault::LogFault;
-use crate::head::{HEADER, Head, LONGEST_BODY, RECORD_HEAD, head_at};
+use crate::head::{Head, LONGEST_BODY, RECORD_HEAD, head_at, place_in};
 use crate::log::LogFile;
 use sr_base::FARTHEST_OFFSET;
 use sr_site::{Disk, File};
@@ -143,15 +143,15 @@ pub fn record_end<S: Disk>(
 ) -> Result<Option<u64>, LogFault>
     requires order { InOrder base position }
     requires size { IsTrue (S.seen site.old).observable → size ≡ length (bytes_of (S.seen site.old).files file) }
-    ensures record { IsTrue (S.seen site.old).observable → IfOk result (IsRecordEnd position (drop (header_size + (position - base)) (bytes_of (S.seen site.old).files file))) }
+    ensures record { IsTrue (S.seen site.old).observable → IfOk result (IsRecordEnd position (drop (place_in base position) (bytes_of (S.seen site.old).files file))) }
     ensures onward { IfOk result (λ found. IfSome found (λ end. (position < end) × (end ≤ farthest_offset))) }
     ensures files { IsTrue (S.seen site.old).observable → (S.seen site.new).files ≡ (S.seen site.old).files }
     ensures happened { IsTrue (S.seen site.old).observable → (S.seen site.new).happened ≡ (S.seen site.old).happened }
     ensures stays { DiskStays (S.seen site.old) (S.seen site.new) }
     ensures steady { OnOk result ((S.seen site.new).disk_faults ≡ (S.seen site.old).disk_faults) }
-    ensures cause { IfErr result (RecordCause file (header_size + (position - base)) position (S.seen site.old) (S.seen site.new)) }
+    ensures cause { IfErr result (RecordCause file (place_in base position) position (S.seen site.old) (S.seen site.new)) }
 {
-    let place = HEADER + (position - base);
+    let place = place_in(base, position);
     match head_at(site, file, place)? {
         Head::Closed => Ok(None),
         Head::Cut => Err(LogFault::Damaged { at: place }),

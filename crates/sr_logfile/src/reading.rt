@@ -5,7 +5,7 @@ ghost use Rattle.sr_logfile.specs.Inner.Logs.{IsAt};
 ghost use Rattle.sr_logfile.specs.Inner.Steps.{IsNext, IsStep, StaysWithin};
 
 use crate::fault::{LogFault, RecordFault};
-use crate::head::{HEADER, Head, LONGEST_BODY, RECORD_HEAD, head_at};
+use crate::head::{Head, LONGEST_BODY, RECORD_HEAD, head_at, place_in};
 use crate::log::LogFile;
 use sr_base::Offset;
 use sr_site::Disk;
@@ -43,7 +43,7 @@ impl LogFile {
         if after.0 < base || after.0 >= end {
             return Ok(Step::End);
         }
-        let place = HEADER + (after.0 - base);
+        let place = place_in(base, after.0);
         let length = match head_at(site, self.file(), place)? {
             Head::Open { length } => length as u64,
             _ => return Err(LogFault::Damaged { at: place }),
@@ -93,7 +93,7 @@ impl LogFile {
                     Step::End => Ok(None),
                     Step::Record { end, length } => Ok(Some((end, length))),
                     Step::Short { .. } => Err(RecordFault::Log(LogFault::Damaged {
-                        at: HEADER + (after.0 - self.base().0),
+                        at: place_in(self.base().0, after.0),
                     })),
                 }
             }

@@ -7,8 +7,8 @@ ghost use Rattle.sr_logfile.specs.Inner.Moments.{IsAsRead, IsPartFresh};
 ghost use Rattle.sr_site.specs.Causes.{DiskStays};
 ghost use Rattle.sr_site.specs.Files.{bytes_of, with_bytes, OthersStay};
 ghost use Rattle.sr_logfile.specs.Inner.Faults.{FreshCause};
-ghost use Rattle.sr_logfile.specs.Records.{Spells, empty_log};
-ghost use Rattle.sr_logfile.specs.Inner.Records.{fresh_bytes};
+ghost use Rattle.sr_logfile.specs.Records.{Spells};
+ghost use Rattle.sr_logfile.specs.Inner.Records.{empty_log, fresh_bytes};
 
 use crate::fault::LogFault;
 use sr_base::Offset;

@@ -1,7 +1,7 @@
 //! Names of which none stands twice.
 
 ghost use Rattle.std.specs.Prelude.{◌≡◌, map, IfOk};
-ghost use Rattle.sr_logform.specs.Inner.Rules.{are_distinct};
+ghost use Rattle.sr_logform.specs.Inner.Rules.{are_distinct, is_absent};
 
 use sr_base::{Copied, Name, NoMemory};
 use std::alloc::Global;
@@ -41,8 +41,22 @@ impl<T, U> Named for (Name, T, U) {
     }
 }
 
-/// Whether no name stands twice. Each is looked up in a tree of those before it.
+/// How many names are compared pair by pair: a tree of them takes longer up to here.
+const FEW_NAMES: usize = 8;
+
+/// Whether no name stands twice. A few are compared pair by pair, and each of more is looked up in a tree of those before it.
 pub(crate) fn are_distinct<T: Named>(alloc: Global, items: &[T]) -> Result<bool, NoMemory>
+    ensures { IfOk result (λ told. told ≡ are_distinct (map T.name_of items.now)) }
+{
+    if items.len() <= FEW_NAMES {
+        Ok(are_few_distinct(items))
+    } else {
+        are_many_distinct(alloc, items)
+    }
+}
+
+/// Whether no name stands twice, each looked up in a tree of those before it.
+fn are_many_distinct<T: Named>(alloc: Global, items: &[T]) -> Result<bool, NoMemory>
     ensures { IfOk result (λ told. told ≡ are_distinct (map T.name_of items.now)) }
 {
     let mut seen = BTreeSet::new(alloc);
@@ -55,4 +69,32 @@ pub(crate) fn are_distinct<T: Named>(alloc: Global, items: &[T]) -> Result<bool,
         left = after;
     }
     Ok(true)
+}
+
+/// Whether no name stands twice, each compared with those behind it.
+fn are_few_distinct<T: Named>(items: &[T]) -> bool
+    ensures { result ≡ are_distinct (map T.name_of items.now) }
+{
+    let mut left = items;
+    'items: while let Some((item, after)) = left.split_first() {
+        if !is_absent(item.name(), after) {
+            return false;
+        }
+        left = after;
+    }
+    true
+}
+
+/// Whether a name is none of others.
+fn is_absent<T: Named>(name: &Name, others: &[T]) -> bool
+    ensures { result ≡ is_absent name.now (map T.name_of others.now) }
+{
+    let mut left = others;
+    'others: while let Some((other, after)) = left.split_first() {
+        if name.bytes() == other.name().bytes() {
+            return false;
+        }
+        left = after;
+    }
+    true
 }

@@ -1,4 +1,5 @@
 pub mod Disks
+pub mod HandedSites
 pub mod Meaning
 pub mod Numbering
 pub mod Steps

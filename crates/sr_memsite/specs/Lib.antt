@@ -1,3 +1,4 @@
 pub mod Disks
+pub mod Handing
 pub mod Meaning
 pub mod Inner

@@ -10,7 +10,7 @@ use std::marker::Model;
 use std::snapshot::Snapshot;
 
 /// A call of a site, as contracts see it, with its outcome: a snapshot takes no memory. A call of the disk has its file as it stood then, a
-/// listing all folders. `Began` is no call: the five files with which all begins anew.
+/// listing all folders. `Began` and `Handed` are no calls: the five files with which all begins anew, and the folders as they are handed over.
 #[derive(Drop)]
 pub enum Step {
     Began(Snapshot<FiveFiles>),
@@ -22,6 +22,7 @@ pub enum Step {
     Fetched(Snapshot<Name>, Snapshot<Text>, usize, Snapshot<Result<Option<Vec<u8>>, MailFault>>),
     Put(Snapshot<Name>, Snapshot<Text>, bool),
     Removed(Snapshot<Name>, Snapshot<Text>, bool),
+    Handed(Snapshot<SharedMail>),
 }
 
 /// The calls of a site so far, the newest first, each with the bytes that it was given. Contracts alone read it: it takes no memory, so it

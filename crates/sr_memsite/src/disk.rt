@@ -4,6 +4,7 @@ ghost use Rattle.std.specs.Result.{result_map_both};
 ghost use Rattle.sr_site.specs.Files.{bytes_of, with_bytes, overwritten};
 ghost use Rattle.sr_site.specs.Happenings.{attached, wrote, cut_to, synced, listed, fetched, sent, removed};
 ghost use Rattle.sr_memsite.specs.Disks.{begun_with, files_in};
+ghost use Rattle.sr_memsite.specs.Handing.{handed};
 ghost use Rattle.sr_memsite.specs.Inner.Disks.{with_happening, HasCrashed};
 ghost use Rattle.sr_memsite_mail.specs.Inner.Folders.{names_in};
 ghost use Rattle.sr_memsite_disk.specs.Stores.{no_bytes};
@@ -209,6 +210,16 @@ impl MemoryDisk {
         ensures files { files_in self.new ≡ files_in self.old }
     {
         let step = Step::Removed(Snapshot::of(address), Snapshot::of(name), done);
+        self.calls = Calls::with(&self.calls, &step, &[]);
+    }
+
+    /// Tells what lies in the folders as they are handed to the site, and what was put into them before.
+    #[tactic(auto, using(sr_memsite_disk::proofs::Standing::quiet))]
+    pub(crate) fn note_handed(&mut self, mail: &SharedMail)
+        ensures noted { self.new ≡ handed self.old mail.now }
+        ensures files { files_in self.new ≡ files_in self.old }
+    {
+        let step = Step::Handed(Snapshot::of(mail));
         self.calls = Calls::with(&self.calls, &step, &[]);
     }
 

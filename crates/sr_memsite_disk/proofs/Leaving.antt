@@ -2,7 +2,7 @@
 use Rattle.std.proofs.Common.{◌≡◌, ◌+◌, ◌≤◌, ℕ, Bool, true, false, cond, List, [], ◌∷◌, ◌++◌, length, take, drop, None, Some, refl, sym, ◌∙◌, ap, subst, arith}
 use Rattle.std.proofs.lemmas.List.{append-nil}
 use Rattle.sr_site.specs.Files.{Files, bytes_of, with_bytes, IsTorn, IsCutInPart}
-use Rattle.sr_site.specs.Happenings.{Happening, attached, wrote, cut_to, synced, listed, fetched, sent, removed}
+use Rattle.sr_site.specs.Happenings.{Happening, attached, wrote, cut_to, synced, listed, fetched, sent, removed, handed_over}
 use Rattle.sr_site.specs.Images.{MayLeave}
 use Rattle.sr_site.specs.declared.file.File.{File}
 use Rattle.sr_site.specs.declared.file.File.TheVariants.{Root, Log0, Log1, Snap0, Snap1}
@@ -36,6 +36,7 @@ Leaves file first (listed address folder listing ∷ before) bytes = Leaves file
 Leaves file first (fetched address name limit found ∷ before) bytes = Leaves file first before bytes
 Leaves file first (sent address name new done ∷ before) bytes = Leaves file first before bytes
 Leaves file first (removed address name done ∷ before) bytes = Leaves file first before bytes
+Leaves file first (handed_over folders noted ∷ before) bytes = Leaves file first before bytes
 
 abbrev pub LeaveEach : Files → List Happening → Files → Type 0
 LeaveEach first happened image = (file : File) → Leaves file (bytes_of first file) happened (bytes_of image file)
@@ -47,6 +48,7 @@ may_leave first image (listed address folder listing ∷ before) each = may_leav
 may_leave first image (fetched address name limit found ∷ before) each = may_leave first image before each
 may_leave first image (sent address name new done ∷ before) each = may_leave first image before each
 may_leave first image (removed address name done ∷ before) each = may_leave first image before each
+may_leave first image (handed_over folders noted ∷ before) each = may_leave first image before each
 may_leave first image (synced file false after ∷ before) each = may_leave first image before each
 may_leave first image (wrote Root place new done after ∷ before) each = (with_bytes image Root (each Root).0, may_leave first (with_bytes image Root (each Root).0) before old, refl, (each Root).2)
   where
@@ -256,6 +258,7 @@ module _ (file : File) (first : Files) where
   is_safe (fetched address name limit found ∷ before) = let safe = is_safe before in record { short = safe.short; long = safe.long }
   is_safe (sent address name new done ∷ before) = let safe = is_safe before in record { short = safe.short; long = safe.long }
   is_safe (removed address name done ∷ before) = let safe = is_safe before in record { short = safe.short; long = safe.long }
+  is_safe (handed_over folders noted ∷ before) = let safe = is_safe before in record { short = safe.short; long = safe.long }
 
 -- each file by some pick is an image
 pub picked : (first image : Files) (happened : List Happening) → ((file : File) → (pick : ℕ) × (bytes_of image file ≡ (crash_of pick (unsynced_of file first happened)).file)) → MayLeave first happened image

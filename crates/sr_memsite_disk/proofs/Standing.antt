@@ -1,7 +1,7 @@
 -- The files as they stand, by what happened: always one of the things that a crash may leave.
 use Rattle.std.proofs.Common.{◌≡◌, ◌≤◌, ℕ, Bool, true, false, Option, Result, List, [], ◌∷◌, length, take, refl, sym, ◌∙◌, ap}
 use Rattle.sr_site.specs.Files.{Files, bytes_of, with_bytes, overwritten}
-use Rattle.sr_site.specs.Happenings.{Happening, attached, wrote, cut_to, synced, listed, fetched, sent, removed}
+use Rattle.sr_site.specs.Happenings.{Happening, attached, wrote, cut_to, synced, listed, fetched, sent, removed, handed_over}
 use Rattle.sr_site.specs.Images.{MayLeave}
 use Rattle.sr_site.specs.declared.file.File.{File}
 use Rattle.sr_site.specs.declared.file.File.TheVariants.{Root, Log0, Log1, Snap0, Snap1}
@@ -59,6 +59,10 @@ module _ (first : Files) (before : List Happening) where
   unfolding standing
   standing_removed address name done = refl
 
+  pub standing_handed_over : (folders : List (List ℕ × List ℕ × List ℕ)) (noted : List (List ℕ × List ℕ)) → standing first (handed_over folders noted ∷ before) ≡ standing first before
+  unfolding standing
+  standing_handed_over folders noted = refl
+
   pub standing_write_failed : (file : File) (place : ℕ) (bytes after : List ℕ) → standing first (wrote file place bytes false after ∷ before) ≡ standing first before
   unfolding standing
   standing_write_failed file place bytes after = refl
@@ -97,4 +101,4 @@ module _ (first : Files) (before : List Happening) where
   standing_sync Snap1 after = refl
 
 -- what leaves the files as they stand
-pub ruleset quiet = (standing_attached, standing_listed, standing_fetched, standing_sent, standing_removed)
+pub ruleset quiet = (standing_attached, standing_listed, standing_fetched, standing_sent, standing_removed, standing_handed_over)

@@ -1,7 +1,7 @@
 -- Changes of a file in memory that are not synced, and what a crash may leave of them.
 use Rattle.std.specs.Prelude.{ℕ, Bool, true, false, cond, List, [], ◌∷◌, ◌++◌, Option, Some, None}
 use Rattle.sr_site.specs.Files.{Files, bytes_of}
-use Rattle.sr_site.specs.Happenings.{Happening, attached, wrote, cut_to, synced, listed, fetched, sent, removed}
+use Rattle.sr_site.specs.Happenings.{Happening, attached, wrote, cut_to, synced, listed, fetched, sent, removed, handed_over}
 use Rattle.sr_site.specs.declared.file.File.{File}
 use Rattle.sr_site.specs.declared.file.File.TheVariants.{Root, Log0, Log1, Snap0, Snap1}
 
@@ -79,3 +79,4 @@ unsynced_of file first (listed address folder listing ∷ before) = unsynced_of 
 unsynced_of file first (fetched address name limit found ∷ before) = unsynced_of file first before
 unsynced_of file first (sent address name bytes done ∷ before) = unsynced_of file first before
 unsynced_of file first (removed address name done ∷ before) = unsynced_of file first before
+unsynced_of file first (handed_over folders noted ∷ before) = unsynced_of file first before

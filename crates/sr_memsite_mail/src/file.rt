@@ -1,5 +1,6 @@
 ghost use Rattle.std.specs.Prelude.{◌≡◌, true, false};
-ghost use Rattle.sr_memsite_mail.specs.Inner.Folders.{laid, let_go, shown};
+ghost use Rattle.sr_memsite_mail.specs.Folders.{laid, shown};
+ghost use Rattle.sr_memsite_mail.specs.Inner.Folders.{let_go};
 ghost use Rattle.std.specs.Option.{option_copied};
 
 use std::marker::Model;

@@ -1,8 +1,8 @@
 ghost use Rattle.std.specs.Prelude.{◌≡◌, [], IfOk, OnOk, OnErr, length, take, nat_lt, is_some};
 ghost use Rattle.std.specs.Option.{option_map, option_copied};
 ghost use Rattle.sr_site.specs.Listings.{IsListing, Lists};
-ghost use Rattle.sr_memsite_mail.specs.Folders.{place, without_file};
-ghost use Rattle.sr_memsite_mail.specs.Inner.Folders.{stored_file_at, file_at, with_file, with_copy, after_put, after_remove, held_back, released, is_in, names_in};
+ghost use Rattle.sr_memsite_mail.specs.Folders.{place, without_file, stored_file_at, file_at, with_file, after_put, after_remove};
+ghost use Rattle.sr_memsite_mail.specs.Inner.Folders.{with_copy, held_back, released, is_in, names_in};
 
 use crate::file::MailFile;
 use crate::place::{Place, Sought};

@@ -8,7 +8,7 @@ use Rattle.sr_database_history.specs.Folds.{State, with_changes, with_statement,
 use Rattle.sr_database_history.specs.Recorded.{Recorded, Done, plain, ran, conflict, clash, taken}
 use Rattle.sr_database_history.proofs.Bounds.{ends_within}
 use Rattle.sr_catalog_script_laws.proofs.ReplayNexts.{publisher_next}
-use Rattle.sr_site.specs.Happenings.{Happening, attached, wrote, cut_to, synced, listed, fetched, sent, removed}
+use Rattle.sr_site.specs.Happenings.{Happening, attached, wrote, cut_to, synced, listed, fetched, sent, removed, handed_over}
 use Rattle.sr_database_meaning.specs.Inner.Events.{AreQuiet}
 use Rattle.sr_receive.specs.Acts.{ReceiveAct, dropped, torn, begun, took, entries_of, taken_in}
 
@@ -62,3 +62,4 @@ quiet_both (listed address folder listing ∷ more) behind one two = quiet_both 
 quiet_both (fetched address name limit found ∷ more) behind one two = quiet_both more behind one two
 quiet_both (sent address name bytes done ∷ more) behind one two = absurd one
 quiet_both (removed address name done ∷ more) behind one two = quiet_both more behind one two
+quiet_both (handed_over folders noted ∷ more) behind one two = absurd one

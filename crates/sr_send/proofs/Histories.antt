@@ -6,6 +6,7 @@ use Rattle.std.proofs.lemmas.List.Elements.{filter-append}
 use Rattle.sr_base.specs.Values.{offset_from}
 use Rattle.sr_base.specs.declared.offset.Offset.{Offset}
 use Rattle.sr_book.specs.Entries.{Name}
+use Rattle.sr_database.proofs.Based.{base_is_first, catalog_is_first}
 use Rattle.sr_database.specs.Databases.{IsOf}
 use Rattle.sr_database.specs.Inner.Entries.{IsNext}
 use Rattle.sr_database.specs.Views.{View}
@@ -68,8 +69,8 @@ read_none db publisher es user sent after scan is at catalog user_is = record {
   done = [];
   left = es;
   parts = refl;
-  after_is = at ∙ is.base;
-  catalog = catalog ∙ is.base_catalog;
+  after_is = at ∙ base_is_first db.log.base db.base_catalog publisher es is.based;
+  catalog = catalog ∙ catalog_is_first db.log.base db.base_catalog publisher es is.based;
   user_is = user_is;
   pushed_are = refl;
 }

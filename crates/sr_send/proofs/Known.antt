@@ -4,6 +4,7 @@ use Rattle.std.specs.Prelude.{IsTrue, IfErr, IfSome, OnOk}
 use Rattle.std.proofs.lemmas.List.{append-nil}
 use Rattle.sr_base.specs.declared.offset.Offset.{Offset}
 use Rattle.sr_book.specs.Entries.{Name}
+use Rattle.sr_database.proofs.Based.{base_is_first, catalog_is_first}
 use Rattle.sr_database.specs.Databases.{IsDatabase, HasDatabase}
 use Rattle.sr_database.specs.Inner.Entries.{IsNext}
 use Rattle.sr_database.specs.Views.{View}
@@ -40,7 +41,7 @@ one_database db publisher other es others seen one two =
 -- where the entries before an offset end the offset lies within the log
 pub ends_within : (db : View) (publisher : Name) (done left : List Recorded) (seen : Seen) (at : ℕ) → IsDatabase db publisher (done ++ left) seen → at ≡ end_of done → (db.log.base ≤ at) × (at ≤ db.log.end)
 ends_within db publisher done left seen at database is =
-    let base : db.log.base ≡ 0 = database.is.base in
+    let base : db.log.base ≡ 0 = base_is_first db.log.base db.base_catalog publisher (done ++ left) database.is.based in
     let end : db.log.end ≡ end_of (done ++ left) = database.is.end in
     let joined : end_of (done ++ left) ≡ end_of (done ++ left) = refl in
     let further : end_of done ≤ end_of (done ++ left) = subst (λ (n : ℕ). end_of done ≤ n) (sym (end_from-append 0 done left)) (le-end_from (end_of done) left) in
@@ -146,13 +147,13 @@ module _ (db : View) (s : Survey) (first before now : Seen) (stands : IsTrue fir
       let has = stands was in
       let here : IsDatabase db has.publisher has.es before = posted_database db has.publisher has.es first before [] walked.posted was has.is in
       let b = begins kept in
-      let start : base.0 ≡ 0 = at_base ∙ has.is.is.base in
+      let start : base.0 ≡ 0 = at_base ∙ base_is_first db.log.base db.base_catalog has.publisher has.es has.is.is.based in
       record {
         publisher = has.publisher;
         done = [];
         left = has.es;
         is = posted_database db has.publisher has.es before now [] read then_told here;
-        has = begun_surveyed has.publisher [] db.base_catalog s (subst (λ (n : ℕ). Begins db.base_catalog n s) start b) has.is.is.base_catalog;
+        has = begun_surveyed has.publisher [] db.base_catalog s (subst (λ (n : ℕ). Begins db.base_catalog n s) start b) (catalog_is_first db.log.base db.base_catalog has.publisher has.es has.is.is.based);
         before = [];
         behind = [];
         begins = refl;

@@ -6,6 +6,7 @@ use Rattle.sr_base.specs.declared.offset.Offset.{Offset}
 use Rattle.sr_book.specs.Entries.{Name}
 use Rattle.sr_mail_cut.proofs.Items.{long-behind}
 use Rattle.sr_mail_cut.proofs.Lists.{AllByRecursion-append}
+use Rattle.sr_database.proofs.Based.{base_within}
 use Rattle.sr_database.specs.Databases.{IsOfSome, IsDatabase}
 use Rattle.sr_database.specs.Inner.Entries.{IsNext}
 use Rattle.sr_database.specs.Views.{View}
@@ -236,7 +237,7 @@ stop_answer db aim scan old after end entry before middle now (Err fault) read s
 
 -- the base does not lie past the end
 pub base_first : (db : View) → IsOfSome db → db.log.base ≤ db.log.end
-base_first db some = omega (arith, some.is.base)
+base_first db some = omega (arith, base_within db.log.base db.base_catalog some.publisher some.es some.is.based, some.is.end)
 
 pub loop_end : (db : View) (aim : Aim) (user : Name) (scan scan' : Scan) (post post' : Post) (after : Offset) (first before now : Seen) (found : Option Offset) → UnderWay db aim user scan post after first before
     → ((end : Offset) → found ≡ Some end → ⊥) → DoneStep db aim scan scan' post post' after before now found → AllRead db aim user post' first now

@@ -10,6 +10,7 @@ use Rattle.sr_book.specs.declared.book.Book.{Book}
 use Rattle.sr_mail_cut.specs.Bodies.{last_at, first_long}
 use Rattle.sr_mail_cut.specs.Cuts.{AreCut}
 use Rattle.sr_mail_cut.specs.declared.head.Head.{Head}
+use Rattle.sr_database.proofs.Based.{catalog_is_first}
 use Rattle.sr_database.specs.Books.{book_in}
 use Rattle.sr_database.specs.Causes.{IsTooFar}
 use Rattle.sr_database.specs.Inner.Causes.{IsSame}
@@ -53,7 +54,7 @@ book_is (Some user) b book e = cc
 
 -- the publisher at the base is that of the history
 head_is : (db : View) (publisher : Name) (es : List Recorded) (user : Name) (book : Book) (ask : Bool) → IsOf db publisher es → head_of db.base_catalog.publisher user book ask ≡ head_of publisher user book ask
-head_is db publisher es user book ask is = ap (λ (c : Lists). head_of c.publisher user book ask) is.base_catalog
+head_is db publisher es user book ask is = ap (λ (c : Lists). head_of c.publisher user book ask) (catalog_is_first db.log.base db.base_catalog publisher es is.based)
 
 are_along : (head head' : Head) (book : Book) (ask : Bool) (limit : ℕ) (ts ts' : List Transaction) (messages : List Message) → head ≡ head' → ts ≡ ts' → AreMessages head book ask limit ts messages → AreMessages head' book ask limit ts' messages
 are_along head head' book ask limit ts ts' messages same whole are =

@@ -4,6 +4,7 @@ use Rattle.std.specs.Prelude.{IsTrue, nat_lt, false, IfErr, Result, Ok, Err}
 use Rattle.std.proofs.lemmas.List.{append-nil}
 use Rattle.sr_base.specs.declared.offset.Offset.{Offset}
 use Rattle.sr_book.specs.Entries.{Name}
+use Rattle.sr_database.proofs.Based.{base_is_first}
 use Rattle.sr_database.specs.Databases.{IsOfSome, IsDatabase}
 use Rattle.sr_database.specs.Inner.Entries.{IsNextEnd, IsNextKind}
 use Rattle.sr_database.specs.Views.{View}
@@ -65,13 +66,13 @@ read_on before middle now one two = posted_on before middle now [] [] refl one t
 
 pub walk_start : (db : View) (sent : ℕ) (at : Offset) (seen : Seen) → IsOfSome db → at.0 ≡ db.log.base → Walked db sent at seen seen
 walk_start db sent at seen some at_is =
-    let base : db.log.base ≡ 0 = some.is.base in
+    let base : db.log.base ≡ 0 = base_is_first db.log.base db.base_catalog some.publisher some.es some.is.based in
     record {
       posted = posted_none seen;
       steady = same_counts seen;
       from_base = omega (arith, at_is);
       within = omega (arith, at_is, base);
-      part = λ told publisher es database. record { done = []; left = es; parts = refl; at_is = at_is ∙ database.is.base; before = omega (arith, at_is, base) };
+      part = λ told publisher es database. record { done = []; left = es; parts = refl; at_is = at_is ∙ base; before = omega (arith, at_is, base) };
     }
 
 part_on : (es : List Recorded) (sent : ℕ) (at end : Offset) → (part : IsPartAt es sent at) → IsNextEnd part.done part.left end → end.0 ≤ sent → IsPartAt es sent end
@@ -259,7 +260,7 @@ begun_here db aim scan after first before now walked read steady still catalog =
 pub begun_base : (db : View) (aim : Aim) (scan : Scan) (sent : ℕ) (at after : Offset) (first before now : Seen) → IsOfSome db → Walked db sent at first before → Posted before now [] → IsSteady before now → after.0 ≡ db.log.base → scan.catalog ≡ db.base_catalog
     → Begun db aim scan after first now
 begun_base db aim scan sent at after first before now some walked read steady at_is catalog =
-    let base : db.log.base ≡ 0 = some.is.base in
+    let base : db.log.base ≡ 0 = base_is_first db.log.base db.base_catalog some.publisher some.es some.is.based in
     record {
       posted = read_on first before now walked.posted read;
       steady = steady_on first before now walked.steady steady;

@@ -2,7 +2,7 @@
 use Rattle.std.specs.Prelude.{◌≡◌, ◌≤◌, ⊤, Bool, true, List, [], ◌∷◌, ◌++◌, length, IsTrue}
 use Rattle.std.specs.List.{AllByRecursion}
 use Rattle.sr_site.specs.Causes.{Rose}
-use Rattle.sr_site.specs.Happenings.{Happening, attached, wrote, cut_to, synced, listed, fetched, sent, removed, mail_in}
+use Rattle.sr_site.specs.Happenings.{Happening, attached, wrote, cut_to, synced, listed, fetched, sent, removed, handed_over, mail_in}
 use Rattle.sr_site.specs.Seen.{Seen}
 use Rattle.sr_database_meaning.specs.Events.{Event, commit, put}
 use Rattle.sr_send.specs.declared.fault.SendFault.{SendFault}
@@ -24,6 +24,7 @@ PutSucceeded (listed address folder listing) = ⊤
 PutSucceeded (fetched address name limit found) = ⊤
 PutSucceeded (sent address name bytes done) = done ≡ true
 PutSucceeded (removed address name done) = ⊤
+PutSucceeded (handed_over folders noted) = ⊤
 
 -- of what happened to the mail since then no put failed
 pub record NoneFailed (before now : List Happening) : Type 0 where

@@ -18,6 +18,7 @@ use Rattle.sr_database_meaning.specs.Standing.{StandsFor, StandsAs}
 use Rattle.sr_database_meaning.specs.Traces.{Went}
 use Rattle.sr_database_meaning.proofs.Going.{nothing}
 use Rattle.sr_database_meaning.proofs.Joining.{joined}
+use Rattle.sr_database.proofs.Based.{same_base}
 use Rattle.sr_database.specs.Broken.{IsBroken}
 use Rattle.sr_database.specs.Databases.{IsOf, IsHeld, IsDatabase}
 use Rattle.sr_database.specs.Rooms.{HaveRoom}
@@ -106,7 +107,7 @@ reached_on a b c first second third acts more broken one two = record {
   room = λ publisher es is.
       let grown = one.value one.state.0 publisher es is in
       subst (λ (rs : List Recorded). HaveRoom a.log.base (end_of es) rs) (sym (entries_of-append acts more))
-      (rooms_on a.log.base b.log.base (end_of es) (entries_of acts) (entries_of more) (grown.base ∙ sym is.base) (one.room publisher es is)
+      (rooms_on a.log.base b.log.base (end_of es) (entries_of acts) (entries_of more) (same_base a b publisher es (es ++ entries_of acts) is grown) (one.room publisher es is)
       (subst (λ (n : ℕ). HaveRoom b.log.base n (entries_of more)) (end_from-append 0 es (entries_of acts)) (two.room publisher (es ++ entries_of acts) grown)));
   value = λ yes publisher es is.
       subst (λ (rs : List Recorded). IsOf c publisher rs) (entries_on es acts more) (two.value yes publisher (es ++ entries_of acts) (one.value one.state.0 publisher es is));

@@ -1,7 +1,7 @@
 -- What a crash may leave of files.
 use Rattle.std.specs.Prelude.{◌≡◌, true, false, List, [], ◌∷◌, ◌++◌, length}
 use Rattle.sr_site.specs.Files.{Files, bytes_of, with_bytes, OthersStay, IsTorn, IsCutInPart}
-use Rattle.sr_site.specs.Happenings.{Happening, Throughout, attached, wrote, cut_to, synced, listed, fetched, sent, removed}
+use Rattle.sr_site.specs.Happenings.{Happening, Throughout, attached, wrote, cut_to, synced, listed, fetched, sent, removed, handed_over}
 use Rattle.sr_site.specs.Seen.{Seen}
 use Rattle.sr_site.specs.declared.file.File.{File}
 
@@ -20,6 +20,7 @@ MayLeave first (listed address folder listing ∷ before) image = MayLeave first
 MayLeave first (fetched address name limit found ∷ before) image = MayLeave first before image
 MayLeave first (sent address name bytes done ∷ before) image = MayLeave first before image
 MayLeave first (removed address name done ∷ before) image = MayLeave first before image
+MayLeave first (handed_over folders noted ∷ before) image = MayLeave first before image
 
 -- an image of the site: what a crash may leave at this moment
 abbrev pub IsImage : Seen → Files → Type 0

@@ -19,7 +19,7 @@ use Rattle.sr_survey.specs.Inner.Following.{ByUser, keys_in, since_in, keys_at, 
 use Rattle.sr_survey.specs.Inner.Offices.{has_key, with_one, with_key, with_since}
 use Rattle.sr_survey.specs.declared.office.Office.{Office}
 use Rattle.sr_survey.specs.declared.survey.Survey.{Survey}
-use Rattle.sr_survey_places.proofs.Exact.{one_key}
+use Rattle.sr_survey_places.specs.Inner.Exact.{one_key}
 use Rattle.sr_survey_places.specs.Inner.Keys.{is_shared, key_cmp}
 use Rattle.sr_survey_places.specs.Inner.Listed.{IsBegun}
 use Rattle.sr_survey_places.specs.declared.key.Key.{Key}

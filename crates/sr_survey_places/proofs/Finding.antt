@@ -1,5 +1,5 @@
 -- What a search among places in order finds.
-use Rattle.std.proofs.Common.{◌≡◌, ℕ, ◌<◌, ◌≤◌, ◌+◌, List, length, get_or, Option, Some, None, sym, ap, subst, arith, ◌∙◌, ⊎_elim}
+use Rattle.std.proofs.Common.{◌≡◌, ℕ, ◌<◌, ◌≤◌, ◌+◌, ◌-◌, List, length, get_or, Option, Some, None, sym, ap, subst, arith, ◌∙◌, ⊎_elim}
 use Rattle.std.proofs.lemmas.List.{get_or_default}
 use Rattle.std.proofs.lemmas.List.Elements.{Contains-get_or}
 use Rattle.std.proofs.lemmas.Bool.{cases_lt}
@@ -21,6 +21,17 @@ not_own own p d at order passed left other is = ⊎_elim before behind (cases_lt
       let in_order : (get_or own at d).end ≤ (get_or own is.0 d).end = order at is.0 d le is.1 in
       let same : (get_or own is.0 d).end ≡ p.end = ap (λ (x : Place). x.end) (get_or_default own is.0 d p is.1) ∙ is.2 in
       other within (omega arith)
+
+-- where the last one ends at an offset or before it, all do
+pub all_passed : (places : List Place) (d : Place) (sent : ℕ) → InOrder places → (get_or places (length places - 1) d).end ≤ sent → AllWithin (λ p. p.end ≤ sent) places 0 (length places)
+all_passed places d sent order last = λ k e from l.
+    let in_order : (get_or places k e).end ≤ (get_or places (length places - 1) e).end = order k (length places - 1) e (omega arith) (omega arith) in
+    let same : (get_or places (length places - 1) e).end ≡ (get_or places (length places - 1) d).end = ap (λ (x : Place). x.end) (get_or_default places (length places - 1) e d (omega arith)) in
+    omega arith
+
+-- a place that ends where one of others does is among them
+pub own_here : (own : List Place) (near : ℕ) (p d : Place) → near < length own → (get_or own near d).end ≡ p.end → IsOwn own p
+own_here own near p d within same = (near, within, ap (λ (x : Place). x.end) (get_or_default own near p d within) ∙ same)
 
 -- what ends no later lies within a limit too
 nearer : (limit : Option ℕ) (at later : ℕ) → at ≤ later → IsWithin limit later → IsWithin limit at

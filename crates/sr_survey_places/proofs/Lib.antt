@@ -1,5 +1,4 @@
 pub mod Among
-pub mod Exact
 pub mod Joined
 pub mod Leaving
 pub mod Listing

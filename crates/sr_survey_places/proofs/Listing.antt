@@ -1,24 +1,20 @@
 -- What one place more under a key changes.
-use Rattle.std.proofs.Common.{◌≡◌, ◌⊎◌, ℕ, zero, suc, ◌<◌, ◌≤◌, ◌+◌, ◌-◌, min, Bool, true, false, not, ◌||◌, cond, List, [], ◌∷◌, length, get_or, take, drop, Option, Some, None, is_some, Result, Ok, Err, OnOk, OnErr, refl, sym, ap, inl, inr, subst, arith, ◌∙◌}
+use Rattle.std.proofs.Common.{◌≡◌, ◌⊎◌, ℕ, zero, suc, ◌<◌, ◌≤◌, ◌+◌, ◌-◌, min, Bool, true, false, not, ◌||◌, cond, List, [], ◌∷◌, length, get_or, take, drop, Option, Some, None, is_some, Result, Ok, Err, OnOk, OnErr, IfOk, refl, sym, ap, inl, inr, subst, arith, ◌∙◌}
 use Rattle.std.proofs.lemmas.List.Elements.{All-nil, All-cons, Contains-append_left, Contains-append_right, Contains-append_cases}
 use Rattle.std.proofs.lemmas.List.{take-append-drop}
 use Rattle.std.proofs.lemmas.List.Sorted.{IsNonDecreasingBy-insert}
-use Rattle.std.proofs.lemmas.List.Sums.{sum_by-cons}
-use Rattle.std.proofs.lemmas.Map.Entries.{sum_by-set_value}
-use Rattle.std.specs.BTreeMap as tree
-use Rattle.std.specs.BTreeMap.{is_at, insert_entry}
+use Rattle.std.proofs.lemmas.Map.Entries.{sum_by-set_value, sum_by_puts_entry}
+use Rattle.std.specs.HashMap as table
 use Rattle.std.specs.List.{Contains, AllWithin, insert, sum_by}
 use Rattle.std.specs.Map.{lookup, set_value, values_of}
-use Rattle.std.specs.Ordering.{is_eq, match_ordering}
-use Rattle.std.specs.declared.cmp.Ordering.{Ordering}
-use Rattle.std.specs.declared.cmp.Ordering.TheVariants.{Less, Equal, Greater}
+use Rattle.std.specs.Ordering.{is_eq}
 use Rattle.sr_survey_places.specs.Inner.Ready.{IsReady}
 use Rattle.sr_survey_places.specs.Inner.Search.{InOrder, places_in}
-use Rattle.sr_survey_places.specs.Inner.Keys.{is_shared, key_cmp}
+use Rattle.sr_survey_places.specs.Inner.Keys.{is_shared, key_cmp, key_eq}
 use Rattle.sr_survey_places.specs.Inner.Listed.{ByKey, under, has_list, is_begun, count_of, IsBegun, IsLeft, IsListedUnder}
 use Rattle.sr_survey_places.specs.declared.key.Key.{Key}
 use Rattle.sr_survey_places.specs.declared.place.Place.{Place}
-use Rattle.sr_survey_places.proofs.Exact.{one_key, at_itself}
+use Rattle.sr_survey_places.specs.Inner.Exact.{one_key, at_itself}
 
 -- ---- a place among others
 
@@ -67,22 +63,22 @@ one_itself k = (0, omega arith, refl)
 
 -- the lists are as others, but for the one under a key
 abbrev pub IsPut : (old new : ByKey) (k : Key) (places : List Place) → Type 0
-IsPut old new k places = (q : Key) → tree.get key_cmp new q ≡ cond (is_eq (key_cmp k q)) (Some places) (tree.get key_cmp old q)
+IsPut old new k places = (q : Key) → table.get key_eq new q ≡ cond (is_eq (key_cmp k q)) (Some places) (table.get key_eq old q)
 
 -- what holds of the list that was put, and of the others, holds of each
 each_list : (P : Key → Option (List Place) → Type 0) (old new : ByKey) (k : Key) (places : List Place) → IsPut old new k places
-    → P k (Some places) → ((q : Key) → P q (tree.get key_cmp old q)) → (q : Key) → P q (tree.get key_cmp new q)
+    → P k (Some places) → ((q : Key) → P q (table.get key_eq old q)) → (q : Key) → P q (table.get key_eq new q)
 each_list P old new k places put here others q =
-    let holds : (b : Bool) → is_eq (key_cmp k q) ≡ b → P q (cond b (Some places) (tree.get key_cmp old q)) =
-    λ b. elim b as (λ v. is_eq (key_cmp k q) ≡ v → P q (cond v (Some places) (tree.get key_cmp old q))) [ true ↦ λ e. subst (λ (x : Key). P x (Some places)) (one_key k q e) here | false ↦ λ e. others q ] in
+    let holds : (b : Bool) → is_eq (key_cmp k q) ≡ b → P q (cond b (Some places) (table.get key_eq old q)) =
+    λ b. elim b as (λ v. is_eq (key_cmp k q) ≡ v → P q (cond v (Some places) (table.get key_eq old q))) [ true ↦ λ e. subst (λ (x : Key). P x (Some places)) (one_key k q e) here | false ↦ λ e. others q ] in
     subst (P q) (sym (put q)) (holds (is_eq (key_cmp k q)) refl)
 
 pub stays_in_order : (old new : ByKey) (k : Key) (places : List Place) → IsPut old new k places → InOrder places → ((q : Key) → InOrder (under old q)) → (q : Key) → InOrder (under new q)
 stays_in_order old new k places put here others = each_list (λ q o. InOrder (places_in o)) old new k places put here others
 
 -- the list of the key
-put_there : (old new : ByKey) (k : Key) (places : List Place) → IsPut old new k places → tree.get key_cmp new k ≡ Some places
-put_there old new k places put = put k ∙ ap (λ b. cond b (Some places) (tree.get key_cmp old k)) (at_itself k)
+put_there : (old new : ByKey) (k : Key) (places : List Place) → IsPut old new k places → table.get key_eq new k ≡ Some places
+put_there old new k places put = put k ∙ ap (λ b. cond b (Some places) (table.get key_eq old k)) (at_itself k)
 
 -- no key is begun or ended where one had a list
 same_begun : (old new : ByKey) (k : Key) (places : List Place) → IsPut old new k places → has_list old k ≡ true → (q : Key) → is_begun new q ≡ is_begun old q
@@ -98,30 +94,18 @@ stays_begun old new k places put = each_list (λ q o. is_begun old q ≡ true �
 weight : List Place → ℕ
 weight places = length places
 
-pub count_put : (old new : ByKey) (k : Key) (before places : List Place) → tree.get key_cmp old k ≡ Some before → new.entries ≡ set_value (is_at (key_cmp k)) old.entries places
+pub count_put : (old new : ByKey) (k : Key) (before places : List Place) → table.get key_eq old k ≡ Some before → new.entries ≡ set_value (key_eq k) old.entries places
     → count_of new + length before ≡ count_of old + length places
 unfolding weight
 count_put old new k before places was written =
-    ap (λ es. sum_by weight (values_of es) + length before) written ∙ sum_by-set_value weight (is_at (key_cmp k)) old.entries before places was
+    ap (λ es. sum_by weight (values_of es) + length before) written ∙ sum_by-set_value weight (key_eq k) old.entries before places was
 
--- a key that was not there, with no places
-none_put : (k : Key) (es : List (Key × List Place)) → is_some (lookup (is_at (key_cmp k)) es) ≡ false → sum_by weight (values_of (insert_entry key_cmp es k [])) ≡ sum_by weight (values_of es)
+-- a key that was not there is begun, with no places
+pub count_begun : (old new : ByKey) (k : Key) (there : Option (List Place)) → there ≡ table.get key_eq old k → is_some (table.get key_eq old k) ≡ false → table.PutsEntry key_eq old new k [] there
+    → count_of new ≡ count_of old
 unfolding weight
-none_put k [] none = refl
-none_put k (e ∷ es) none = go (key_cmp k e.0) (none_put k es) none where
-  less : (a b : ℕ) → a ≡ 0 + b → a ≡ b
-  less a b h = omega arith
-
-  go : (o : Ordering) → (is_some (lookup (is_at (key_cmp k)) es) ≡ false → sum_by weight (values_of (insert_entry key_cmp es k [])) ≡ sum_by weight (values_of es))
-      → is_some (cond (is_eq o) (Some e.1) (lookup (is_at (key_cmp k)) es)) ≡ false
-      → sum_by weight (values_of (match_ordering o ((k, []) ∷ e ∷ es) ((e.0, []) ∷ es) (e ∷ insert_entry key_cmp es k []))) ≡ sum_by weight (values_of (e ∷ es))
-  go Less rest h = less (sum_by weight ([] ∷ values_of (e ∷ es))) (sum_by weight (values_of (e ∷ es))) (sum_by-cons weight [] (values_of (e ∷ es)))
-  go Equal rest h = cc
-  go Greater rest h = sum_by-cons weight e.1 (values_of (insert_entry key_cmp es k [])) ∙ ap (λ n. weight e.1 + n) (rest h) ∙ sym (sum_by-cons weight e.1 (values_of es))
-
-pub count_begun : (old new : ByKey) (k : Key) → is_some (tree.get key_cmp old k) ≡ false → new.entries ≡ insert_entry key_cmp old.entries k [] → count_of new ≡ count_of old
-unfolding weight
-count_begun old new k none written = ap (λ es. sum_by weight (values_of es)) written ∙ none_put k old.entries none
+count_begun old new k None was none put = let e = sum_by_puts_entry weight key_eq old new k [] None was put in omega (arith, e)
+count_begun old new k (Some places) was none put = let impossible : true ≡ false = ap is_some was ∙ none in cc
 
 -- what is counted, one more or none
 pub one_counted : (count after before places most : ℕ) → places ≡ before + 1 → after ≡ min (count + 1) most → after ≡ min (count + (places - before)) most
@@ -136,7 +120,7 @@ counted_more old new before places count after most e le f g = omega arith
 pub counted_bound : (old new before places : ℕ) → new + before ≡ old + places → places ≤ before + 1 → new ≤ old + 1
 counted_bound old new before places e le = omega arith
 
-pub listed_more : (old new : ByKey) (k : Key) (place : Place) (before places : List Place) → tree.get key_cmp old k ≡ Some before → IsPut old new k places
+pub listed_more : (old new : ByKey) (k : Key) (place : Place) (before places : List Place) → table.get key_eq old k ≡ Some before → IsPut old new k places
     → count_of new ≤ count_of old + 1 → Contains places place → ((x : Place) → Contains before x → Contains places x) → ((x : Place) → Contains places x → Contains before x ⊎ (x ≡ place)) → IsListedUnder old (k ∷ []) place new
 listed_more old new k place before places was put count there stays only = record {
   there = All-cons (λ key. is_begun old key ≡ true → Contains (under new key) place) k []
@@ -153,13 +137,13 @@ listed_more old new k place before places was put count there stays only = recor
   from_only x (inr e) = inr (one_itself k, e)
 
 -- a key that is not begun lists nothing more
-pub listed_nothing : (old new : ByKey) (k : Key) (place : Place) → new ≡ old → is_some (tree.get key_cmp old k) ≡ false → (is_shared k ≡ false → has_list old k ≡ true)
+pub listed_nothing : (old new : ByKey) (k : Key) (place : Place) → new ≡ old → is_some (table.get key_eq old k) ≡ false → (is_shared k ≡ false → has_list old k ≡ true)
     → IsListedUnder old (k ∷ []) place new
 listed_nothing old new k place same none needs = record {
   there = All-cons (λ key. is_begun old key ≡ true → Contains (under new key) place) k [] (λ b. absurd (not_begun (is_shared k) (has_list old k) none needs b))
       (All-nil (λ key. is_begun old key ≡ true → Contains (under new key) place));
-  stays = λ q x h. subst (λ m. Contains (places_in (tree.get key_cmp m q)) x) (sym same) h;
-  only = λ q x h. inl (subst (λ m. Contains (places_in (tree.get key_cmp m q)) x) same h);
+  stays = λ q x h. subst (λ m. Contains (places_in (table.get key_eq m q)) x) (sym same) h;
+  only = λ q x h. inl (subst (λ m. Contains (places_in (table.get key_eq m q)) x) same h);
   begun = λ q. ap (λ m. is_begun m q) same;
   count = let e : count_of new ≡ count_of old = ap count_of same in omega arith;
 } where
@@ -171,14 +155,14 @@ listed_nothing old new k place same none needs = record {
 
 -- another key has a list where it had one
 other_lists : (old new : ByKey) (k : Key) (places : List Place) → IsPut old new k places → (q : Key) → is_eq (key_cmp k q) ≡ false → has_list new q ≡ has_list old q
-other_lists old new k places put q apart = ap is_some (put q ∙ ap (λ b. cond b (Some places) (tree.get key_cmp old q)) apart)
+other_lists old new k places put q apart = ap is_some (put q ∙ ap (λ b. cond b (Some places) (table.get key_eq old q)) apart)
 
-pub begun_more : (old new : ByKey) (k : Key) → is_some (tree.get key_cmp old k) ≡ false → IsPut old new k [] → count_of new ≡ count_of old → IsBegun old k new
+pub begun_more : (old new : ByKey) (k : Key) → is_some (table.get key_eq old k) ≡ false → IsPut old new k [] → count_of new ≡ count_of old → IsBegun old k new
 begun_more old new k none put count = record {
   there = ap is_some (put_there old new k [] put);
   begun = stays_begun old new k [] put;
   others = other_lists old new k [] put;
-  same = each_list (λ q o. places_in o ≡ under old q) old new k [] put (no_places (tree.get key_cmp old k) none) (λ q. refl);
+  same = each_list (λ q o. places_in o ≡ under old q) old new k [] put (no_places (table.get key_eq old k) none) (λ q. refl);
   count = count;
 } where
   no_places : (o : Option (List Place)) → is_some o ≡ false → [] ≡ places_in o
@@ -212,8 +196,8 @@ ready_listed a b c k keys place ready listed = record {
 }
 
 -- a list that is put back changes nothing
-pub put_back : (old new : ByKey) (k : Key) (before places : List Place) → tree.get key_cmp old k ≡ Some before → IsPut old new k places → places ≡ before
-    → new.entries ≡ set_value (is_at (key_cmp k)) old.entries places → IsLeft old new
+pub put_back : (old new : ByKey) (k : Key) (before places : List Place) → table.get key_eq old k ≡ Some before → IsPut old new k places → places ≡ before
+    → new.entries ≡ set_value (key_eq k) old.entries places → IsLeft old new
 put_back old new k before places was put back written = record {
   same = each_list (λ q o. places_in o ≡ under old q) old new k places put (back ∙ sym (ap places_in was)) (λ q. refl);
   begun = same_begun old new k places put (ap is_some was);
@@ -234,8 +218,8 @@ pub err_too : {X E A : Type 0} (r : Result X E) → A → OnErr r A
 err_too (Ok x) a = tt
 err_too (Err e) a = a
 
-same_get : (m n : ByKey) → n.entries ≡ m.entries → (q : Key) → tree.get key_cmp n q ≡ tree.get key_cmp m q
-same_get m n same q = ap (λ es. lookup (is_at (key_cmp q)) es) same
+same_get : (m n : ByKey) → n.entries ≡ m.entries → (q : Key) → table.get key_eq n q ≡ table.get key_eq m q
+same_get m n same q = ap (λ es. lookup (key_eq q) es) same
 
 pub nothing_in_order : InOrder []
 nothing_in_order i j d l h = absurd (omega arith)
@@ -245,7 +229,7 @@ pub inserted_in_order : {X E : Type 0} (r : Result X E) (old new : ByKey) (k : K
 inserted_in_order (Ok x) old new k places put same here others q = stays_in_order old new k places put here others q
 inserted_in_order (Err e) old new k places put same here others q = subst (λ o. InOrder (places_in o)) (sym (same_get old new same q)) (others q)
 
-pub inserted_count : {X E : Type 0} (r : Result X E) (old new : ByKey) (k : Key) (places : List Place) → is_some (tree.get key_cmp old k) ≡ false → places ≡ []
-    → OnOk r (new.entries ≡ insert_entry key_cmp old.entries k places) → OnErr r (new.entries ≡ old.entries) → count_of new ≡ count_of old
-inserted_count (Ok x) old new k places none empty put same = count_begun old new k none (put ∙ ap (λ v. insert_entry key_cmp old.entries k v) empty)
-inserted_count (Err e) old new k places none empty put same = ap (λ es. sum_by (λ (ps : List Place). length ps) (values_of es)) same
+pub inserted_count : {E : Type 0} (r : Result (Option (List Place)) E) (old new : ByKey) (k : Key) (places : List Place) → is_some (table.get key_eq old k) ≡ false → places ≡ []
+    → IfOk r (λ there. there ≡ table.get key_eq old k) → IfOk r (table.PutsEntry key_eq old new k places) → OnErr r (new.entries ≡ old.entries) → count_of new ≡ count_of old
+inserted_count (Ok there) old new k places none empty was put same = count_begun old new k there was none (subst (λ v. table.PutsEntry key_eq old new k v there) empty put)
+inserted_count (Err e) old new k places none empty was put same = ap (λ es. sum_by (λ (ps : List Place). length ps) (values_of es)) same

@@ -1,3 +1,5 @@
+pub mod Exact
+pub mod Hashes
 pub mod KeyOrder
 pub mod Keys
 pub mod Listed

@@ -10,6 +10,7 @@ ghost use Rattle.sr_base.specs.Order.{name_cmp, value_cmp};
 use sr_base::{Copied, Name, NoMemory, Value};
 use std::alloc::Global;
 use std::cmp::Ordering;
+use std::hash::{Hash, Hasher};
 
 /// What an entry of a log is listed under. Contracts see names by their bytes.
 #[derive(Drop)]
@@ -90,28 +91,48 @@ impl Key {
     }
 }
 
-ghost use Rattle.sr_survey_places.specs.Inner.Keys.{name_of, value_of};
+ghost use Rattle.sr_survey_places.specs.Inner.Keys.{name_of, value_of, key_cmp};
 
-/// The order of two keys by their names, and by their values where these are equal.
+/// The order of two keys of one kind, by their values and then by their names.
 fn order_of_kind(key: &Key, other: &Key) -> Ordering
-    ensures order { result ≡ ordering_then (name_cmp (name_of key.now) (name_of other.now)) (value_cmp (value_of key.now) (value_of other.now)) }
+    ensures order { result ≡ ordering_then (value_cmp (value_of key.now) (value_of other.now)) (name_cmp (name_of key.now) (name_of other.now)) }
 {
-    match key.name().cmp(other.name()) {
-        Ordering::Equal => value_order(key, other),
+    match value_order(key, other) {
+        Ordering::Equal => key.name().cmp(other.name()),
         order => order,
     }
 }
 
-/// The order of two keys by their values; NULL stands for one that has none. Two numbers are compared as such.
+/// The order of two keys by their values; NULL stands for one that has none.
 fn value_order(key: &Key, other: &Key) -> Ordering
     ensures order { result ≡ value_cmp (value_of key.now) (value_of other.now) }
 {
     match (key, other) {
-        (Key::Part(_, Value::Big(number)), Key::Part(_, Value::Big(other))) => number.cmp(other),
         (Key::Part(_, value), Key::Part(_, other)) => value.cmp(other),
         (Key::Part(_, value), _) => value.cmp(&Value::Null),
         (_, Key::Part(_, value)) => Value::Null.cmp(value),
         _ => Ordering::Equal,
+    }
+}
+
+/// The order of any two keys. It stays a call beside the comparisons of those that a survey looks up most.
+#[inline(never)]
+fn any_order(key: &Key, other: &Key) -> Ordering
+    ensures order { result ≡ key_cmp key.now other.now }
+{
+    match key.rank().cmp(&other.rank()) {
+        Ordering::Equal => order_of_kind(key, other),
+        order => order,
+    }
+}
+
+/// The order of two names, where the numbers before them have this order.
+fn named_behind(numbers: Ordering, name: &Name, other: &Name) -> Ordering
+    ensures order { result ≡ ordering_then numbers (name_cmp name.now other.now) }
+{
+    match numbers {
+        Ordering::Equal => name.bytes().cmp(other.bytes()),
+        order => order,
     }
 }
 
@@ -160,9 +181,60 @@ impl Ord for Key {
     ghost matches_eq = { Prim.search (comparing, rules) };
 
     fn cmp(&self, other: &Key) -> Ordering {
-        match self.rank().cmp(&other.rank()) {
-            Ordering::Equal => order_of_kind(self, other),
-            order => order,
+        match (self, other) {
+            (Key::Part(name, Value::Big(number)), Key::Part(of, Value::Big(than))) => {
+                named_behind(number.cmp(than), name, of)
+            }
+            (Key::From(user), Key::From(other)) => user.bytes().cmp(other.bytes()),
+            _ => any_order(self, other),
         }
+    }
+}
+
+impl Hash for Key {
+    ghost use Rattle.sr_survey_places.specs.Inner.Exact.{hash_alike};
+    ghost use Rattle.sr_survey_places.specs.Inner.Hashes.{key_input};
+
+    ghost hash_input = { key_input };
+
+    ghost respects_eq = { hash_alike };
+
+    fn hash<H: Hasher>(&self, state: &mut H) {
+        match self {
+            Key::Whole(publication) => hash_kind(publication, 0, state),
+            Key::Part(publication, value) => {
+                state.write(publication.bytes());
+                hash_value(value, state);
+            }
+            Key::To(user) => hash_kind(user, 2, state),
+            Key::Text(user) => hash_kind(user, 3, state),
+            Key::From(user) => hash_kind(user, 4, state),
+            Key::Each => state.write_u8(5),
+        }
+    }
+}
+
+ghost use Rattle.std.specs.Prelude.{◌∷◌, fold};
+ghost use Rattle.std.specs.Hash as fed;
+ghost use Rattle.sr_survey_places.specs.Inner.Hashes.{value_input};
+
+/// Hashes a name and a kind.
+fn hash_kind<H: Hasher>(name: &Name, kind: u8, state: &mut H)
+    ensures hashed { state.new ≡ fold H.write state.old (name.now ∷ fed.u8 kind) }
+{
+    state.write(name.bytes());
+    state.write_u8(kind);
+}
+
+/// Hashes a value.
+fn hash_value<H: Hasher>(value: &Value, state: &mut H)
+    ensures hashed { state.new ≡ fold H.write state.old (value_input value.now) }
+{
+    match value {
+        Value::Null => (),
+        Value::Int(number) => state.write_i32(*number),
+        Value::Big(number) => state.write_i64(*number),
+        Value::Str(text) => state.write(text.bytes()),
+        Value::Date(day) => state.write_i32(day.days()),
     }
 }

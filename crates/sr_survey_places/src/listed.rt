@@ -1,7 +1,7 @@
 //! Places are listed under keys, and looked up.
 
 ghost use Rattle.std.specs.Prelude.{◌≡◌, ◌⊎◌, ◌++◌, ◌∷◌, [], ℕ, ◌≤◌, ◌<◌, ◌+◌, ◌-◌, ◌^◌, min, length, true, false, Some, IfOk, OnOk, OnErr, IsTrue};
-ghost use Rattle.std.specs.BTreeMap.{IsUnchanged};
+ghost use Rattle.std.specs.HashMap.{IsUnchanged};
 ghost use Rattle.std.specs.List.{Contains, insert};
 ghost use Rattle.sr_survey_places.specs.Inner.Search.{InOrder, IsFirstOther};
 ghost use Rattle.sr_survey_places.specs.declared.place.Place.{Place as APlace};
@@ -13,7 +13,7 @@ use crate::place::Place;
 use crate::search::{count_passed, earlier, end_of_some, first_other};
 use sr_base::{Copied, NoMemory, Seq};
 use std::alloc::{AllocError, Global};
-use std::collections::BTreeMap;
+use std::collections::HashMap;
 use std::mem::replace;
 
 impl Listings {
@@ -22,7 +22,7 @@ impl Listings {
         ensures empty { IsEmpty result.lists }
     {
         Listings {
-            lists: BTreeMap::new(alloc),
+            lists: HashMap::new(alloc),
             count: 0,
         }
     }

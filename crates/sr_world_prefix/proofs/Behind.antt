@@ -6,7 +6,7 @@ use Rattle.sr_book.specs.Entries.{Name}
 use Rattle.sr_database_history.specs.Recorded.{Recorded}
 use Rattle.sr_site.specs.Causes.{DiskStays}
 use Rattle.sr_site.specs.Files.{Files}
-use Rattle.sr_site.specs.Happenings.{Happening, attached, wrote, cut_to, synced, listed, fetched, sent, removed, Throughout}
+use Rattle.sr_site.specs.Happenings.{Happening, attached, wrote, cut_to, synced, listed, fetched, sent, removed, handed_over, Throughout}
 use Rattle.sr_site.specs.Images.{IsImage, IsSettled, MayLeave, RestsThroughout}
 use Rattle.sr_site.specs.Seen.{Seen}
 use Rattle.sr_database_meaning.specs.Events.{Event, PutFile, commit, put, commits, puts, puts_in}
@@ -27,6 +27,7 @@ none_before (listed address folder listing) more none = none
 none_before (fetched address name limit found) more none = none
 none_before (sent address name bytes done) more none = absurd (omega (arith, ap length none, length-append (puts_in more) ((address, name, bytes) ∷ [])))
 none_before (removed address name done) more none = none
+none_before (handed_over folders noted) more none = none
 
 -- where the mail is as it was nothing was put
 same_puts : (before now : Seen) → DiskStays before now → puts_in now.happened ≡ puts_in before.happened

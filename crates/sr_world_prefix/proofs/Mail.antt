@@ -13,7 +13,7 @@ use Rattle.sr_receive_gather.specs.MessageFiles.{FetchedFile, fetch_of}
 use Rattle.sr_receive_gather.specs.Purges.{dead, removals}
 use Rattle.sr_receive_gather.specs.declared.bag.Filed.{Filed}
 use Rattle.sr_msgform.specs.Messages.{message_spelling}
-use Rattle.sr_site.specs.Happenings.{Happening, attached, wrote, cut_to, synced, listed, fetched, sent, removed, mail_in, Grows}
+use Rattle.sr_site.specs.Happenings.{Happening, attached, wrote, cut_to, synced, listed, fetched, sent, removed, handed_over, mail_in, Grows}
 use Rattle.sr_site.specs.Inner.Growing.{all_of_it, more_than}
 use Rattle.sr_database_meaning.specs.Events.{Event, commit, put}
 use Rattle.sr_agent.specs.Deliveries.{with_puts}
@@ -110,6 +110,7 @@ mail-append (listed address folder listing ∷ more) before = ap (λ (l : List H
 mail-append (fetched address name limit found ∷ more) before = ap (λ (l : List Happening). fetched address name limit found ∷ l) (mail-append more before)
 mail-append (sent address name bytes done ∷ more) before = ap (λ (l : List Happening). sent address name bytes done ∷ l) (mail-append more before)
 mail-append (removed address name done ∷ more) before = ap (λ (l : List Happening). removed address name done ∷ l) (mail-append more before)
+mail-append (handed_over folders noted ∷ more) before = ap (λ (l : List Happening). handed_over folders noted ∷ l) (mail-append more before)
 
 all_mail : (P : Happening → Type 0) (steps : List Happening) → AllByRecursion P steps → AllByRecursion P (mail_in steps)
 all_mail P [] all = tt
@@ -121,6 +122,7 @@ all_mail P (listed address folder listing ∷ steps) all = (all.0, all_mail P st
 all_mail P (fetched address name limit found ∷ steps) all = (all.0, all_mail P steps all.1)
 all_mail P (sent address name bytes done ∷ steps) all = (all.0, all_mail P steps all.1)
 all_mail P (removed address name done ∷ steps) all = (all.0, all_mail P steps all.1)
+all_mail P (handed_over folders noted ∷ steps) all = (all.0, all_mail P steps all.1)
 
 -- ---- what happened since
 

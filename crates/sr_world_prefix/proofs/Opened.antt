@@ -13,7 +13,7 @@ use Rattle.sr_session.specs.Runs.{RanScript}
 use Rattle.sr_session.specs.declared.fault.SessionFault.{SessionFault}
 use Rattle.sr_site.specs.Causes.{Stays}
 use Rattle.sr_site.specs.Files.{Files, bytes_of, with_bytes, IsTorn, IsCutInPart}
-use Rattle.sr_site.specs.Happenings.{Happening, attached, wrote, cut_to, synced, listed, fetched, sent, removed, Throughout}
+use Rattle.sr_site.specs.Happenings.{Happening, attached, wrote, cut_to, synced, listed, fetched, sent, removed, handed_over, Throughout}
 use Rattle.sr_site.specs.Inner.Growing.{throughout_each}
 use Rattle.sr_site.specs.Images.{IsImage, IsSettled, MayLeave, RestsThroughout}
 use Rattle.sr_site.specs.Seen.{Seen}
@@ -78,6 +78,7 @@ some_image first (listed address folder listing ∷ before) = some_image first b
 some_image first (fetched address name limit found ∷ before) = some_image first before
 some_image first (sent address name bytes done ∷ before) = some_image first before
 some_image first (removed address name done ∷ before) = some_image first before
+some_image first (handed_over folders noted ∷ before) = some_image first before
 
 -- ---- from an earlier moment on
 

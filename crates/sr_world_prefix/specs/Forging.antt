@@ -5,7 +5,7 @@ use Rattle.sr_book.specs.Entries.{Name}
 use Rattle.sr_database_history.specs.Recorded.{Recorded}
 use Rattle.sr_msgform.specs.Messages.{IsMessage, message_spelling}
 use Rattle.sr_msgform.specs.declared.message.Message.{Message}
-use Rattle.sr_site.specs.Happenings.{Happening, attached, wrote, cut_to, synced, listed, fetched, sent, removed}
+use Rattle.sr_site.specs.Happenings.{Happening, attached, wrote, cut_to, synced, listed, fetched, sent, removed, handed_over}
 use Rattle.sr_site.specs.Seen.{Seen}
 use Rattle.sr_world_prefix.specs.Truths.{IsTrueInPart}
 
@@ -25,6 +25,7 @@ CameUnforged publisher user us (fetched address name limit (Ok None)) = ⊤
 CameUnforged publisher user us (fetched address name limit (Err fault)) = ⊤
 CameUnforged publisher user us (sent address name bytes done) = ⊤
 CameUnforged publisher user us (removed address name done) = ⊤
+CameUnforged publisher user us (handed_over folders noted) = ⊤
 
 -- nothing is forged that was fetched from the one moment to the other
 pub record NoneForged (publisher user : Name) (us : List Recorded) (before now : Seen) : Type 0 where

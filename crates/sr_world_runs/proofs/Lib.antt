@@ -14,3 +14,4 @@ pub mod Knowing
 pub mod Receiving
 pub mod AgentSteps
 pub mod Living
+pub mod Settled

@@ -16,7 +16,7 @@ use Rattle.sr_world_model.proofs.Leave.{named_kept}
 use Rattle.sr_msgform.specs.Messages.{IsMessage, message_spelling}
 use Rattle.sr_msgform.specs.declared.message.Message.{Message}
 use Rattle.sr_site.specs.Files.{Files}
-use Rattle.sr_site.specs.Happenings.{Happening, attached, wrote, cut_to, synced, listed, fetched, sent, removed}
+use Rattle.sr_site.specs.Happenings.{Happening, attached, wrote, cut_to, synced, listed, fetched, sent, removed, handed_over}
 use Rattle.sr_site.specs.Images.{IsImage, IsSettled, MayLeave}
 use Rattle.sr_site.specs.Seen.{Seen}
 use Rattle.sr_database_meaning.specs.Events.{PutFile, puts_in}
@@ -60,6 +60,7 @@ module _ (put_files : List PutFile) (messages : List Message) (are : AreFiles pu
   came_known (fetched address name limit (Err fault)) came = tt
   came_known (sent address name bytes done) came = tt
   came_known (removed address name done) came = tt
+  came_known (handed_over folders noted) came = tt
 
   all_known : (steps : List Happening) → AllByRecursion (CameOf put_files) steps → AllByRecursion (CameKnown messages receiver) steps
   all_known [] all = tt
@@ -67,17 +68,17 @@ module _ (put_files : List PutFile) (messages : List Message) (are : AreFiles pu
 
 -- ---- names
 
-first_of_fresh : (names : List Name) → map (λ (h : Name × List Recorded). h.0) (map (λ name. (name, [])) names) ≡ names
+pub first_of_fresh : (names : List Name) → map (λ (h : Name × List Recorded). h.0) (map (λ name. (name, [])) names) ≡ names
 first_of_fresh [] = refl
 first_of_fresh (name ∷ names) = ap (λ (l : List Name). name ∷ l) (first_of_fresh names)
 
-no_history : (names : List Name) (d : Name) → history_in {Entry = Recorded} d (map (λ name. (name, [])) names) ≡ []
+pub no_history : (names : List Name) (d : Name) → history_in {Entry = Recorded} d (map (λ name. (name, [])) names) ≡ []
 no_history [] d = refl
 no_history (name ∷ names) d = elim (name_test d name) [ inl t ↦ rw t.0 refl | inr t ↦ rw t (no_history names d) ]
 
 -- ---- the others
 
-others_all : (w : World Recorded) (owner d : Name) (database_steps : List (DatabaseStep Recorded)) → d ≢ owner → history (after_all w (acts_by owner database_steps)) d ≡ history w d
+pub others_all : (w : World Recorded) (owner d : Name) (database_steps : List (DatabaseStep Recorded)) → d ≢ owner → history (after_all w (acts_by owner database_steps)) d ≡ history w d
 others_all w owner d [] apart = refl
 others_all w owner d (database_step ∷ database_steps) apart =
     others_all (happens w (record { owner = owner; database_step = database_step })) owner d database_steps apart
@@ -89,11 +90,11 @@ module _ (names : List Name) where
   abbrev begin : World Recorded
   begin = fresh_world names
 
-  runs_more : (w : World Recorded) (rs : List (WorldRun Recorded)) (r : WorldRun Recorded) → after_world_runs w (rs ++ r ∷ []) ≡ after_world_run (after_world_runs w rs) r
+  pub runs_more : (w : World Recorded) (rs : List (WorldRun Recorded)) (r : WorldRun Recorded) → after_world_runs w (rs ++ r ∷ []) ≡ after_world_run (after_world_runs w rs) r
   runs_more w [] r = refl
   runs_more w (q ∷ rs) r = runs_more (after_world_run w q) rs r
 
-  are_more : (w : World Recorded) (rs : List (WorldRun Recorded)) (r : WorldRun Recorded) → AreRunsIn w rs → AreRunsIn (after_world_runs w rs) (r ∷ []) → AreRunsIn w (rs ++ r ∷ [])
+  pub are_more : (w : World Recorded) (rs : List (WorldRun Recorded)) (r : WorldRun Recorded) → AreRunsIn w rs → AreRunsIn (after_world_runs w rs) (r ∷ []) → AreRunsIn w (rs ++ r ∷ [])
   are_more w [] r are one = one
   are_more w (q ∷ rs) r are one = (are.0, are_more (after_world_run w q) rs r are.1 one)
 
@@ -103,7 +104,7 @@ at_one holds [] [] each = each
 at_one holds [] (step ∷ since) each = each.0
 at_one holds (step ∷ later) since each = at_one holds later since each.1
 
-files_more : (ls ms : List PutFile) (xs ys : List Message) → AreFiles ls xs → AreFiles ms ys → AreFiles (ls ++ ms) (xs ++ ys)
+pub files_more : (ls ms : List PutFile) (xs ys : List Message) → AreFiles ls xs → AreFiles ms ys → AreFiles (ls ++ ms) (xs ++ ys)
 files_more ls ms xs ys one other =
     map-append (λ (l : PutFile). l.2) ls ms ∙ ap (λ (bs : List (List ℕ)). bs ++ map (λ (l : PutFile). l.2) ms) one
     ∙ ap (λ (bs : List (List ℕ)). map message_spelling xs ++ bs) other ∙ sym (map-append message_spelling xs ys)
@@ -116,7 +117,7 @@ named_acts : (w : World Recorded) (acts : List (WorldStep Recorded)) (d : Name) 
 named_acts w [] d named = named
 named_acts w (act ∷ acts) d named = named_acts (happens w act) acts d (named_kept w act d named)
 
-named_runs : (w : World Recorded) (rs : List (WorldRun Recorded)) (d : Name) → IsNamed w d → IsNamed (after_world_runs w rs) d
+pub named_runs : (w : World Recorded) (rs : List (WorldRun Recorded)) (d : Name) → IsNamed w d → IsNamed (after_world_runs w rs) d
 named_runs w [] d named = named
 named_runs w (r ∷ rs) d named = named_runs (after_world_run w r) rs d (named_acts w (acts_by r.owner r.database_steps) d named)
 

@@ -1,5 +1,6 @@
 -- Where the next run finds its database.
 use Rattle.std.proofs.Common.{◌≡◌, ◌≢◌, List, [], ◌∷◌, ◌++◌, refl, sym, ap, subst, ◌∙◌, inl, inr}
+use Rattle.std.proofs.lemmas.List.{append_cancel_right}
 use Rattle.std.proofs.lemmas.List.Elements.{All-contains, All-from_recursion, Contains-append_right, Contains-get_or, recursion_from_All}
 use Rattle.std.specs.Prelude.{ℕ, Contains}
 use Rattle.std.specs.List.{AllByRecursion}
@@ -14,7 +15,7 @@ use Rattle.sr_msgform.specs.Messages.{IsMessage, message_spelling}
 use Rattle.sr_msgform.specs.declared.message.Message.{Message}
 use Rattle.sr_msgform.proofs.Whole.{one_message}
 use Rattle.sr_site.specs.Files.{Files}
-use Rattle.sr_site.specs.Happenings.{Happening}
+use Rattle.sr_site.specs.Happenings.{Happening, IsCall}
 use Rattle.sr_site.specs.Images.{IsImage, IsSettled, MayLeave}
 use Rattle.sr_site.specs.Seen.{Seen}
 use Rattle.sr_database_meaning.specs.Events.{PutFile, puts_in}
@@ -24,21 +25,21 @@ use Rattle.sr_world_untouched.proofs.All.{keys_agree}
 use Rattle.sr_world.specs.Real.{HasSpelling, IsGoodWorld, LawfulHistory, MayDo, layers}
 use Rattle.sr_world.proofs.Keeping.{real_laws}
 use Rattle.sr_world_runs.specs.Worlds.{AreFiles, IsFaithful, IsFaithfulThroughout, IsKnown, IsReturned, PutsComeLast, Rests, on_one, on_two, RestsAt, RestsBehind, put_in}
-use Rattle.sr_world_runs.specs.Inner.Worlds.{RestsAtEach}
+use Rattle.sr_world_runs.specs.Inner.Worlds.{CallsInOrder, RestsAtEach}
 use Rattle.sr_world_runs.proofs.DatabaseSteps.{database_steps_messages}
 use Rattle.sr_world_runs.proofs.Ordered.{own_history}
 
-named_all : (w : World Recorded) (owner : Name) (database_steps : List (DatabaseStep Recorded)) (d : Name) → IsNamed w d → IsNamed (after_all w (acts_by owner database_steps)) d
+pub named_all : (w : World Recorded) (owner : Name) (database_steps : List (DatabaseStep Recorded)) (d : Name) → IsNamed w d → IsNamed (after_all w (acts_by owner database_steps)) d
 named_all w owner [] d named = named
 named_all w owner (database_step ∷ database_steps) d named =
     let act : WorldStep Recorded = record { owner = owner; database_step = database_step } in
     named_all (happens w act) owner database_steps d (named_kept w act d named)
 
-messages_all : (w : World Recorded) (owner : Name) (database_steps : List (DatabaseStep Recorded)) → (after_all w (acts_by owner database_steps)).messages ≡ messages_after_all w.messages database_steps
+pub messages_all : (w : World Recorded) (owner : Name) (database_steps : List (DatabaseStep Recorded)) → (after_all w (acts_by owner database_steps)).messages ≡ messages_after_all w.messages database_steps
 messages_all w owner [] = refl
 messages_all w owner (database_step ∷ database_steps) = messages_all (happens w (record { owner = owner; database_step = database_step })) owner database_steps
 
-history_all : (w : World Recorded) (owner : Name) (database_steps : List (DatabaseStep Recorded)) → IsNamed w owner → history (after_all w (acts_by owner database_steps)) owner ≡ history_after_all (history w owner) database_steps
+pub history_all : (w : World Recorded) (owner : Name) (database_steps : List (DatabaseStep Recorded)) → IsNamed w owner → history (after_all w (acts_by owner database_steps)) owner ≡ history_after_all (history w owner) database_steps
 history_all w owner [] named = refl
 history_all w owner (database_step ∷ database_steps) named =
     let act : WorldStep Recorded = record { owner = owner; database_step = database_step } in
@@ -60,7 +61,7 @@ pub spelled_known : (messages : List Message) (receiver : Name) (m : Message) �
 spelled_known messages receiver m among is = λ other spelled same to. subst (λ (x : Message). Contains messages x) (one_message m other is spelled same) among
 
 -- what holds of the bytes of each message holds of the files that have them
-by_files : (P : List ℕ → Type 0) (put_files : List PutFile) (messages : List Message) → AreFiles put_files messages → AllByRecursion (λ m. P (message_spelling m)) messages → AllByRecursion (λ (l : PutFile). P l.2) put_files
+pub by_files : (P : List ℕ → Type 0) (put_files : List PutFile) (messages : List Message) → AreFiles put_files messages → AllByRecursion (λ m. P (message_spelling m)) messages → AllByRecursion (λ (l : PutFile). P l.2) put_files
 by_files P [] messages are all = tt
 by_files P (l ∷ put_files) [] are all = absurd cc
 by_files P (l ∷ put_files) (m ∷ messages) are all =
@@ -119,22 +120,25 @@ module _ (w : World Recorded) (owner : Name) (before : Seen) (good : IsGoodWorld
     each_faithful [] at = one_faithful [] at
     each_faithful (step ∷ more) at = (one_faithful (step ∷ more) at.0, each_faithful more at.1)
 
-  pub faithful : (found made : List (DatabaseStep Recorded)) (now : Seen) (run : RestsAtEach w.messages owner (history w owner) found made before now) → ((more : List Happening) → now.happened ≡ more ++ before.happened → PutsComeLast more)
+  pub faithful : (found made : List (DatabaseStep Recorded)) (now : Seen) (run : RestsAtEach w.messages owner (history w owner) found made before now) → CallsInOrder before now
       → IsReturned owner (history_after_all (history w owner) (found ++ made)) before now → IsFaithfulThroughout w owner before now
-  faithful found made now run last returned = record {
-    more = run.more;
-    is = run.is;
-    found = found;
-    ahead = run.ahead;
-    made = made;
-    moments = each_faithful (found ++ made) run.more run.moments;
-    joints = run.joints;
-    puts_come_last = last run.more run.is;
-    returned = returned;
-  }
+  faithful found made now run order returned =
+      let same : order.more ≡ run.more = append_cancel_right order.more run.more before.happened (sym order.is ∙ run.is) in
+      record {
+        more = run.more;
+        is = run.is;
+        found = found;
+        ahead = run.ahead;
+        made = made;
+        moments = each_faithful (found ++ made) run.more run.moments;
+        joints = run.joints;
+        calls = subst (λ (l : List Happening). AllByRecursion IsCall l) same order.calls;
+        puts_come_last = subst PutsComeLast same order.puts_come_last;
+        returned = returned;
+      }
 
 -- at the last of some moments it is so
-last_of : (holds : List Happening → Type 0) (more : List Happening) → AtEach holds more → holds more
+pub last_of : (holds : List Happening → Type 0) (more : List Happening) → AtEach holds more → holds more
 last_of holds [] at = at
 last_of holds (step ∷ more) at = at.0
 

@@ -1,24 +1,22 @@
 -- Behind a put nothing is done to the mail but further puts: in a run of the agent, to its end or to the fault that ended it.
-use Rattle.std.proofs.Common.{◌≡◌, ◌+◌, ℕ, List, [], ◌∷◌, ◌++◌, map, length, Result, Ok, Err, refl, sym, ap, subst, ◌∙◌, inl, inr, arith, append_assoc, append-nil, length-append}
+use Rattle.std.proofs.Common.{◌≡◌, ℕ, List, [], ◌∷◌, ◌++◌, map, length, Result, Ok, Err, refl, sym, ap, subst, ◌∙◌, arith, append_assoc, append-nil, length-append}
 use Rattle.std.proofs.lemmas.List.{append_cancel_right}
+use Rattle.sr_mail_cut.proofs.Lists.{AllByRecursion-append}
+use Rattle.std.specs.List.{AllByRecursion}
 use Rattle.std.specs.Prelude.{Bool, true, IsTrue}
 use Rattle.sr_book.specs.Entries.{Name}
-use Rattle.sr_database.specs.Books.{book_in}
 use Rattle.sr_database.specs.Databases.{IsDatabase}
 use Rattle.sr_database.specs.Views.{View}
 use Rattle.sr_database_history.specs.Recorded.{Recorded}
-use Rattle.sr_send.specs.PutFiles.{address_in, put_files, sent_note}
-use Rattle.sr_send.specs.Passes.{SendCause, Unnoted, NoteRefused}
-use Rattle.sr_send.specs.Posting.{PutAlone}
-use Rattle.sr_send.specs.declared.fault.SendFault.{SendFault}
-use Rattle.sr_send.specs.declared.fault.SendFault.TheVariants as sends
-use Rattle.sr_site.specs.Happenings.{Happening, attached, wrote, cut_to, synced, listed, fetched, sent, removed, mail_in}
+use Rattle.sr_send.specs.Posting.{PutAlone, PutSucceeded}
+use Rattle.sr_site.specs.Happenings.{Happening, attached, wrote, cut_to, synced, listed, fetched, sent, removed, handed_over, mail_in}
+use Rattle.sr_site.specs.Causes.{DiskStays}
 use Rattle.sr_site.specs.Seen.{Seen}
 use Rattle.sr_site.specs.Streams.{Output}
 use Rattle.sr_database_meaning.specs.Events.{Event, PutFile, commit, put, puts, puts_in}
 use Rattle.sr_database_meaning.specs.Traces.{Went}
-use Rattle.sr_database_meaning.proofs.Going.{mail_more, none_put, puts_more, puts_of_mail, told_puts, told_same}
-use Rattle.sr_agent.specs.Agents.{CameSoFar, Did}
+use Rattle.sr_database_meaning.proofs.Going.{calls_more, mail_more, none_calls, none_put, puts_more, puts_of_mail, told_calls, told_puts, told_same}
+use Rattle.sr_agent.specs.Agents.{CameSoFar, Did, RanAgent}
 use Rattle.sr_agent.specs.Deliveries.{with_puts}
 use Rattle.sr_agent.specs.Ends.{HasTold}
 use Rattle.sr_agent.specs.Lines.{Line}
@@ -27,12 +25,19 @@ use Rattle.sr_agent.specs.Stops.{StopsAt, at_first, gathering, behind_gathering,
 use Rattle.sr_agent.specs.PartnerPasses.{partner_pass_entries, partner_passes_mail}
 use Rattle.sr_agent.specs.declared.fault.AgentFault.{AgentFault}
 use Rattle.sr_agent.specs.declared.options.Options.{Options}
+use Rattle.sr_agent.proofs.PutsAlone.{cause_alone}
 use Rattle.sr_world_prefix.proofs.Backed.{puts_commits}
 use Rattle.sr_world_prefix.proofs.Backed as backed
 use Rattle.sr_world_prefix.proofs.Behind.{none_before}
 use Rattle.sr_database_meaning.proofs.Joining.{trace_puts}
-use Rattle.sr_world_prefix.proofs.Mail.{mail_of_on, partner_passes_mail_on, puts_on}
+use Rattle.sr_world_prefix.proofs.Mail.{goes_on, mail_of_on, partner_passes_mail_on, puts_on}
+use Rattle.sr_world_runs.specs.Inner.Worlds.{CallsInOrder}
 use Rattle.sr_world_runs.specs.Worlds.{PutsComeLast}
+use Rattle.sr_world_runs.proofs.Resting.{none_mail}
+
+no_last : (l : List PutFile) (x : PutFile) → l ++ x ∷ [] ≡ [] → ⊥
+no_last [] x e = cc
+no_last (y ∷ l) x e = cc
 
 -- ---- nothing was put
 
@@ -46,6 +51,7 @@ unput_last (listed address folder listing ∷ more) none = (none, unput_last mor
 unput_last (fetched address name limit found ∷ more) none = (none, unput_last more none)
 unput_last (sent address name bytes done ∷ more) none = unput_last more (none_before (sent address name bytes done) more none)
 unput_last (removed address name done ∷ more) none = (none, unput_last more none)
+unput_last (handed_over folders noted ∷ more) none = (none, unput_last more none)
 
 -- what happened since was no put, where the trace has none
 pub unput_since : (before now : Seen) (publisher : Name) (es : List Recorded) (trace : List Event) → Went before now publisher es trace → puts trace ≡ [] → (more : List Happening)
@@ -70,6 +76,7 @@ opened_last (listed address folder listing ∷ later) opening none last = (unput
 opened_last (fetched address name limit found ∷ later) opening none last = (unput_there later opening none last.0, opened_last later opening none last.1)
 opened_last (sent address name bytes done ∷ later) opening none last = opened_last later opening none last
 opened_last (removed address name done ∷ later) opening none last = (unput_there later opening none last.0, opened_last later opening none last.1)
+opened_last (handed_over folders noted ∷ later) opening none last = (unput_there later opening none last.0, opened_last later opening none last.1)
 
 -- after what happened before it was opened
 pub puts_behind : (before opened now : Seen) (opening : List Happening) → opened.happened ≡ opening ++ before.happened → mail_in opening ≡ [] → (later : List Happening)
@@ -79,6 +86,48 @@ puts_behind before opened now opening one none later two last more is =
     let joined : now.happened ≡ (later ++ opening) ++ before.happened = two ∙ ap (λ (l : List Happening). later ++ l) one ∙ sym (append_assoc later opening before.happened) in
     let same : later ++ opening ≡ more = append_cancel_right (later ++ opening) more before.happened (sym joined ∙ is) in
     subst PutsComeLast same (opened_last later opening none (last later two))
+
+-- ---- all that happened are calls, too
+
+-- where the mail was left alone
+pub quiet_order : (before now : Seen) → DiskStays before now → CallsInOrder before now
+quiet_order before now stays =
+    let all = goes_on before.happened now.happened stays.grows in
+    let none : mail_in all.more ≡ [] = none_mail before now all.more all.is stays in
+    record { more = all.more; is = all.is; calls = none_calls all.more none; puts_come_last = unput_last all.more (none_put all.more none) }
+
+-- where a database was opened and went through a trace
+pub went_order : (before opened now : Seen) → DiskStays before opened → (publisher : Name) (es : List Recorded) (trace : List Event) → Went opened now publisher es trace
+    → ((more : List Happening) → now.happened ≡ more ++ opened.happened → PutsComeLast more) → CallsInOrder before now
+went_order before opened now quiet publisher es trace went last =
+    let opening = goes_on before.happened opened.happened quiet.grows in
+    let none : mail_in opening.more ≡ [] = none_mail before opened opening.more opening.is quiet in
+    let later = told_calls opened now publisher es trace went in
+    let is : now.happened ≡ (later.0 ++ opening.more) ++ before.happened
+    = later.1 ∙ ap (λ (l : List Happening). later.0 ++ l) opening.is ∙ sym (append_assoc later.0 opening.more before.happened) in
+    record {
+      more = later.0 ++ opening.more;
+      is = is;
+      calls = calls_more opening.more later.0 later.2 (none_calls opening.more none);
+      puts_come_last = puts_behind before opened now opening.more opening.is none later.0 later.1 last (later.0 ++ opening.more) is;
+    }
+
+-- ---- where nothing was put, no put failed
+
+unput_done : (more : List Happening) → puts_in more ≡ [] → AllByRecursion PutSucceeded more
+unput_done [] none = tt
+unput_done (attached name folder done ∷ more) none = (tt, unput_done more none)
+unput_done (wrote file place bytes done after ∷ more) none = (tt, unput_done more none)
+unput_done (cut_to file to done after ∷ more) none = (tt, unput_done more none)
+unput_done (synced file done after ∷ more) none = (tt, unput_done more none)
+unput_done (listed address folder listing ∷ more) none = (tt, unput_done more none)
+unput_done (fetched address name limit found ∷ more) none = (tt, unput_done more none)
+unput_done (sent address name bytes done ∷ more) none = absurd (no_last (puts_in more) (address, name, bytes) none)
+unput_done (removed address name done ∷ more) none = (tt, unput_done more none)
+unput_done (handed_over folders noted ∷ more) none = (tt, unput_done more none)
+
+pub quiet_done : (before now : Seen) → DiskStays before now → (more : List Happening) → now.happened ≡ more ++ before.happened → AllByRecursion PutSucceeded more
+quiet_done before now stays more is = unput_done more (none_put more (none_mail before now more is stays))
 
 -- ---- by the mail alone
 
@@ -92,6 +141,24 @@ mail_last (listed address folder listing ∷ more) last = (sym (puts_of_mail mor
 mail_last (fetched address name limit found ∷ more) last = (sym (puts_of_mail more) ∙ last.0, mail_last more last.1)
 mail_last (sent address name bytes done ∷ more) last = mail_last more last
 mail_last (removed address name done ∷ more) last = (sym (puts_of_mail more) ∙ last.0, mail_last more last.1)
+mail_last (handed_over folders noted ∷ more) last = (sym (puts_of_mail more) ∙ last.0, mail_last more last.1)
+
+mail_done : (more : List Happening) → AllByRecursion PutSucceeded (mail_in more) → AllByRecursion PutSucceeded more
+mail_done [] done = tt
+mail_done (attached name folder done ∷ more) all = (tt, mail_done more all)
+mail_done (wrote file place bytes done after ∷ more) all = (tt, mail_done more all)
+mail_done (cut_to file to done after ∷ more) all = (tt, mail_done more all)
+mail_done (synced file done after ∷ more) all = (tt, mail_done more all)
+mail_done (listed address folder listing ∷ more) all = (tt, mail_done more all.1)
+mail_done (fetched address name limit found ∷ more) all = (tt, mail_done more all.1)
+mail_done (sent address name bytes done ∷ more) all = (all.0, mail_done more all.1)
+mail_done (removed address name done ∷ more) all = (tt, mail_done more all.1)
+mail_done (handed_over folders noted ∷ more) all = (tt, mail_done more all.1)
+
+with_puts_done : (events : List Event) (before : List Happening) → AllByRecursion PutSucceeded before → AllByRecursion PutSucceeded (with_puts events before)
+with_puts_done [] before all = all
+with_puts_done (commit r ∷ events) before all = with_puts_done events before all
+with_puts_done (put address name bytes ∷ events) before all = with_puts_done events (sent address name bytes true ∷ before) (refl, all)
 
 puts_last : (events : List Event) (before : List Happening) → PutsComeLast before → PutsComeLast (with_puts events before)
 puts_last [] before last = last
@@ -184,38 +251,15 @@ module _ (publisher : Name) (es : List Recorded) (options : Options) where
     came_last : (more : List Happening) → seen.happened ≡ more ++ before.happened → PutsComeLast more
     came_last more is = mail_last more (subst PutsComeLast (sym (mail_since_is before seen more mail is mail_is)) so_far_last)
 
+    came_done : (more : List Happening) → seen.happened ≡ more ++ before.happened → AllByRecursion PutSucceeded more
+    came_done more is =
+        mail_done more (subst (λ (l : List Happening). AllByRecursion PutSucceeded l) (sym (mail_since_is before seen more mail is mail_is)) (with_puts_done events received (unput_done received unput)))
+
     -- and then puts alone
     alone_behind : (now : Seen) (added : List Event) → PutAlone added (mail_in seen.happened) (mail_in now.happened) → (more : List Happening) → now.happened ≡ more ++ before.happened → PutsComeLast more
     alone_behind now added alone more is =
         let behind = alone_since added mail (mail_in before.happened) (mail_in now.happened) (subst (λ (l : List Happening). PutAlone added l (mail_in now.happened)) mail_is alone) in
         mail_last more (subst PutsComeLast (sym (mail_since_is before now more behind.more is behind.is)) (alone_last added mail behind.more behind.alone so_far_last))
-
--- a pass that a fault ended put files alone
-record IsPutAlone (before now : Seen) : Type 0 where
-  events : List Event
-  alone : PutAlone events (mail_in before.happened) (mail_in now.happened)
-
-module _ (publisher : Name) (there : List Recorded) (db new : View) (before now : Seen) (user : Name) (limit : ℕ) (ask : Bool) (told : IsTrue before.observable) (database : IsDatabase db publisher there before) where
-  unnoted_alone : Unnoted db new before now user limit ask → IsPutAlone before now
-  unnoted_alone part =
-      let some = part.part told publisher there database in
-      record { events = put_files (address_in db.catalog user) (book_in db.books user).send_count some.messages; alone = some.mail }
-
-  refused_alone : NoteRefused db new before now user limit ask → IsPutAlone before now
-  refused_alone noted =
-      let all = noted.part told publisher there database in
-      record {
-        events = put_files (address_in db.catalog user) (book_in db.books user).send_count all.messages ++ commit (sent_note user (book_in db.books user) noted.sent noted.count) ∷ [];
-        alone = all.mail;
-      }
-
-  cause_alone : (why : SendFault) → SendCause db new before now user limit ask why → IsPutAlone before now
-  cause_alone sends.Disk (rose, inl part) = unnoted_alone part
-  cause_alone sends.Disk (rose, inr noted) = refused_alone noted
-  cause_alone sends.Mail cause = unnoted_alone cause.1
-  cause_alone (sends.Full end need) cause = unnoted_alone cause.1
-  cause_alone (sends.Long size longest) cause = unnoted_alone cause.1
-  cause_alone sends.Memory cause = unnoted_alone cause
 
 module _ (publisher : Name) (es : List Recorded) (options : Options) (new : View) (before now : Seen) (told : IsTrue before.observable) where
   module _ (run : Run) (db : View) (seen : Seen) (came : CameSoFar db before seen publisher es options run) where
@@ -257,3 +301,33 @@ module _ (publisher : Name) (es : List Recorded) (options : Options) (new : View
       → now.happened ≡ more ++ before.happened → PutsComeLast more
   did_last written written' lines (Ok count) ran = came_last publisher es options ran.run new before now ran.came
   did_last written written' lines (Err fault) ran = stop_last ran.run ran.db ran.seen ran.came ran.events ran.told fault (HasTold lines written written') ran.stops ran.went
+
+-- ---- a run of the agent on a database that was opened
+
+module _ (publisher : Name) (es : List Recorded) (options : Options) (view new : View) (before opened now : Seen) (written written' : Output) where
+  pub agent_order : (result : Result ℕ AgentFault) → IsTrue before.observable → DiskStays before opened → IsDatabase view publisher es opened
+      → RanAgent view new opened now written written' options result → CallsInOrder before now
+  agent_order result told quiet database ran =
+      let still_told : IsTrue opened.observable = subst (λ (b : Bool). IsTrue b) (sym quiet.observable) told in
+      let did = ran.did still_told publisher es database in
+      let went = did_went ran.lines result did in
+      went_order before opened now quiet publisher es went.0 went.1 (did_last publisher es options new opened now still_told written written' ran.lines result did)
+    where
+      did_went : (lines : List Line) (result : Result ℕ AgentFault) → Did new opened now written written' publisher es options lines result
+          → (trace : List Event) × Went opened now publisher es trace
+      did_went lines (Ok count) whole = (trace_of publisher es whole.run, whole.came.went)
+      did_went lines (Err fault) part = (trace_of publisher es part.run ++ part.events, part.went)
+
+  pub agent_done : (count : ℕ) → IsTrue before.observable → DiskStays before opened → IsDatabase view publisher es opened
+      → RanAgent view new opened now written written' options (Ok count) → (more : List Happening) → now.happened ≡ more ++ before.happened → AllByRecursion PutSucceeded more
+  agent_done count told quiet database ran more is =
+      let still_told : IsTrue opened.observable = subst (λ (b : Bool). IsTrue b) (sym quiet.observable) told in
+      let whole = ran.did still_told publisher es database in
+      let opening = goes_on before.happened opened.happened quiet.grows in
+      let later = goes_on opened.happened now.happened ran.ended.site.grows in
+      let joined : now.happened ≡ (later.more ++ opening.more) ++ before.happened
+      = later.is ∙ ap (λ (l : List Happening). later.more ++ l) opening.is ∙ sym (append_assoc later.more opening.more before.happened) in
+      let same : later.more ++ opening.more ≡ more = append_cancel_right (later.more ++ opening.more) more before.happened (sym joined ∙ is) in
+      subst (λ (l : List Happening). AllByRecursion PutSucceeded l) same
+      (AllByRecursion-append PutSucceeded later.more opening.more (came_done publisher es options whole.run new opened now whole.came later.more later.is)
+      (quiet_done before opened quiet opening.more opening.is))

@@ -13,7 +13,7 @@ use Rattle.sr_msgform.specs.Messages.{IsMessage, message_spelling}
 use Rattle.sr_msgform.specs.declared.message.Message.{Message}
 use Rattle.sr_site.specs.Files.{Files}
 use Rattle.sr_site.specs.Causes.{DiskStays}
-use Rattle.sr_site.specs.Happenings.{Happening, Throughout, mail_in, attached, wrote, cut_to, synced, listed, fetched, sent, removed}
+use Rattle.sr_site.specs.Happenings.{Happening, Throughout, mail_in, attached, wrote, cut_to, synced, listed, fetched, sent, removed, handed_over}
 use Rattle.sr_site.specs.Images.{IsImage, MayLeave, RestsThroughout}
 use Rattle.sr_site.specs.Seen.{Seen}
 use Rattle.sr_database_meaning.specs.Events.{Event, PutFile, IsBetween, commit, put, commits, puts, puts_in}
@@ -176,6 +176,7 @@ no_mail (listed address folder listing ∷ since) none at = absurd (cc none)
 no_mail (fetched address name limit found ∷ since) none at = absurd (cc none)
 no_mail (sent address name bytes done ∷ since) none at = absurd (cc none)
 no_mail (removed address name done ∷ since) none at = absurd (cc none)
+no_mail (handed_over folders noted ∷ since) none at = absurd (cc none)
 
 mail_on : (step : Happening) (since more : List Happening) → IsAtMail (step ∷ since ++ more) → IsAtMail (step ∷ since)
 mail_on (attached name folder done) since more at = at
@@ -186,6 +187,7 @@ mail_on (listed address folder listing) since more at = at
 mail_on (fetched address name limit found) since more at = at
 mail_on (sent address name bytes done) since more at = at
 mail_on (removed address name done) since more at = at
+mail_on (handed_over folders noted) since more at = at
 
 -- the first entry of a trace is allowed
 first_can : (messages : List Message) (owner : Name) (es : List Recorded) (r : Recorded) (events : List Event) (database_steps : List (DatabaseStep Recorded)) → AreDatabaseSteps messages owner es (commit r ∷ events) database_steps
@@ -374,6 +376,7 @@ module _ (messages : List Message) (owner : Name) (first es : List Recorded) (be
     rests_at (fetched address name limit found ∷ since) on = at_mail (fetched address name limit found ∷ since) on tt
     rests_at (sent address name bytes done ∷ since) on = at_mail (sent address name bytes done ∷ since) on tt
     rests_at (removed address name done ∷ since) on = at_mail (removed address name done ∷ since) on tt
+    rests_at (handed_over folders noted ∷ since) on = at_mail (handed_over folders noted ∷ since) on tt
 
     rests_each : (more : List Happening) → AtEach (IsOnTrace files owner es past trace) more → AtEach RestsNow more
     rests_each [] on = rests_at [] on

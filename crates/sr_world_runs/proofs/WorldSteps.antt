@@ -23,7 +23,6 @@ use Rattle.sr_database_meaning.specs.Events.{Event, commit, commits}
 use Rattle.sr_database_meaning.specs.Standing.{StandsAs, StandsFor}
 use Rattle.sr_database_meaning.specs.Traces.{Went}
 use Rattle.sr_database_meaning.proofs.Standing.{one_history}
-use Rattle.sr_database_meaning.proofs.Going.{none_put}
 use Rattle.sr_agent.proofs.Joints.{commits_of, settled_as}
 use Rattle.sr_world.specs.Real.{IsGoodWorld, MayDo}
 use Rattle.sr_world_prefix.specs.Good.{AreSaid}
@@ -36,9 +35,9 @@ use Rattle.sr_world_prefix.proofs.Backed.{puts_commits}
 use Rattle.sr_world_prefix.proofs.Opened.{some_image, was_image}
 use Rattle.sr_agent.proofs.Returned.{SettlesAs, settles_before}
 use Rattle.sr_world_runs.proofs.Ordered.{IsOrdered, reached_ordered}
-use Rattle.sr_world_runs.proofs.PutsLast.{puts_behind, unput_last, unput_since}
+use Rattle.sr_world_runs.proofs.PutsLast.{quiet_order, unput_since, went_order}
 use Rattle.sr_world_runs.proofs.Reached.{history_more, lawful_says_so}
-use Rattle.sr_world_runs.proofs.Resting.{none_mail, opened_rests, silent_rests, went_rests}
+use Rattle.sr_world_runs.proofs.Resting.{opened_rests, silent_rests, went_rests}
 use Rattle.sr_world_prefix.proofs.Said.{script_says_so}
 use Rattle.sr_world_prefix.proofs.Steps.{IsOwnStep}
 
@@ -52,7 +51,7 @@ module _ (w : World Recorded) (owner : Name) where
   pub untouched_steps : (before now : Seen) → RestsThroughout (IsImage before) before now → DiskStays before now → MakesSteps w owner before now
   untouched_steps before now still stays good named rested known =
       faithful w owner before good named [] [] now (silent_rests w.messages owner first before rested now still stays)
-      (λ more is. unput_last more (none_put more (none_mail before now more is stays))) (inl (still, stays.mail))
+      (quiet_order before now stays) (inl (still, stays.mail))
 
   -- ---- the history that was opened
 
@@ -109,7 +108,7 @@ module _ (w : World Recorded) (owner : Name) where
       ∙ database_steps_history w.messages owner es on.trace on.has.database_steps on.has.are in
       faithful w owner before good named was.database_steps on.has.database_steps now
       (opened_rests w.messages owner first before settled was.database_steps on.has.database_steps opened now same still quiet later)
-      (puts_behind before opened now still.more still.is (none_mail before opened still.more still.is quiet) later.more later.is on.last)
+      (went_order before opened now quiet owner es on.trace on.went on.last)
       (inr (λ none. subst (λ (rs : List Recorded). IsSettled (StandsAs owner rs) now) (sym history_is) (settles_before owner (es ++ commits on.trace) before opened now quiet.later on.settles none)))
 
   -- ---- scripts

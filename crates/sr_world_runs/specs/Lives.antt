@@ -8,7 +8,7 @@ use Rattle.sr_world_model.specs.Runs.{WorldRun, after_world_runs}
 use Rattle.sr_msgform.specs.Messages.{IsMessage, message_spelling}
 use Rattle.sr_msgform.specs.declared.message.Message.{Message}
 use Rattle.sr_site.specs.Files.{Files}
-use Rattle.sr_site.specs.Happenings.{Happening, attached, wrote, cut_to, synced, listed, fetched, sent, removed}
+use Rattle.sr_site.specs.Happenings.{Happening, attached, wrote, cut_to, synced, listed, fetched, sent, removed, handed_over}
 use Rattle.sr_site.specs.Images.{IsImage, MayLeave}
 use Rattle.sr_site.specs.Seen.{Seen}
 use Rattle.sr_database_meaning.specs.Events.{PutFile, puts_in}
@@ -49,6 +49,7 @@ CameOf put_files (fetched address name limit (Ok None)) = ⊤
 CameOf put_files (fetched address name limit (Err fault)) = ⊤
 CameOf put_files (sent address name bytes done) = ⊤
 CameOf put_files (removed address name done) = ⊤
+CameOf put_files (handed_over folders noted) = ⊤
 
 -- a run comes after others: it is of one of the databases, found what these left, and all that it fetched had been put by them, or is no message
 pub record ComesBehind (names : List Name) (first : Name → Seen) (earlier : List SeenRun) (r : SeenRun) : Type 0 where

@@ -9,7 +9,7 @@ use Rattle.sr_msgform.specs.Messages.{IsMessage, message_spelling}
 use Rattle.sr_msgform.specs.declared.message.Message.{Message}
 use Rattle.sr_site.specs.Causes.{Rose}
 use Rattle.sr_site.specs.Files.{Files}
-use Rattle.sr_site.specs.Happenings.{Happening, attached, wrote, cut_to, synced, listed, fetched, sent, removed, mail_in}
+use Rattle.sr_site.specs.Happenings.{Happening, attached, wrote, cut_to, synced, listed, fetched, sent, removed, handed_over, mail_in, IsCall}
 use Rattle.sr_site.specs.Images.{IsImage, IsSettled, MayLeave, RestsThroughout}
 use Rattle.sr_site.specs.Seen.{Seen}
 use Rattle.sr_database_meaning.specs.Events.{PutFile, puts_in}
@@ -36,6 +36,7 @@ CameKnown messages receiver (fetched address name limit (Ok None)) = ⊤
 CameKnown messages receiver (fetched address name limit (Err fault)) = ⊤
 CameKnown messages receiver (sent address name bytes done) = ⊤
 CameKnown messages receiver (removed address name done) = ⊤
+CameKnown messages receiver (handed_over folders noted) = ⊤
 
 -- all that was fetched from the one moment to the other is known
 pub record AllKnown (messages : List Message) (receiver : Name) (before now : Seen) : Type 0 where
@@ -89,7 +90,7 @@ IsNext (on_two r each) (append q ∷ later) = q ≡ r
 IsNext (on_two r each) (put m ∷ later) = ⊥
 IsNext (on_two r each) (crash ∷ later) = ⊥
 
--- the last that happened is a call of the mail
+-- the last that happened is a call of the mail, or folders were handed over
 abbrev pub IsAtMail : List Happening → Type 0
 IsAtMail [] = ⊥
 IsAtMail (attached name folder done ∷ before) = ⊥
@@ -100,6 +101,7 @@ IsAtMail (listed address folder listing ∷ before) = ⊤
 IsAtMail (fetched address name limit found ∷ before) = ⊤
 IsAtMail (sent address name bytes done ∷ before) = ⊤
 IsAtMail (removed address name done ∷ before) = ⊤
+IsAtMail (handed_over folders noted ∷ before) = ⊤
 
 -- at a moment, after what happened since: it rests so after the message files that were put until then, and at a call of the mail on one history. The steps
 -- that lead there are the first of these, and an entry more is the next of them, unless nothing is left but what could be at first
@@ -151,6 +153,7 @@ PutsComeLast (listed address folder listing ∷ before) = (puts_in before ≡ []
 PutsComeLast (fetched address name limit found ∷ before) = (puts_in before ≡ []) × PutsComeLast before
 PutsComeLast (sent address name bytes done ∷ before) = PutsComeLast before
 PutsComeLast (removed address name done ∷ before) = (puts_in before ≡ []) × PutsComeLast before
+PutsComeLast (handed_over folders noted ∷ before) = (puts_in before ≡ []) × PutsComeLast before
 
 -- at the return: where a database was opened and no call of the disk failed, all that a crash may leave stands for this history; where none was opened, it is
 -- what it was before, and the mail was left alone
@@ -160,7 +163,8 @@ IsReturned owner es before now =
     ⊎ (¬ (Rose before.disk_faults now.disk_faults) → IsSettled (StandsAs owner es) now)
 
 -- so it is at each moment from the one to the other, along one list of steps: those that had been made of what was found, and those that the run made.
--- Between two of these, before the first of them and at the return all that a crash may leave stands for one history; and puts come last
+-- Between two of these, before the first of them and at the return all that a crash may leave stands for one history; all that happened are calls, and
+-- puts come last
 pub record IsFaithfulThroughout (w : World Recorded) (owner : Name) (before now : Seen) : Type 0 where
   pub more : List Happening
   pub is : now.happened ≡ more ++ before.happened
@@ -169,6 +173,7 @@ pub record IsFaithfulThroughout (w : World Recorded) (owner : Name) (before now 
   pub made : List (DatabaseStep Recorded)
   pub moments : AtEach (IsFaithful w owner before (found ++ made)) more
   pub joints : IsSettledBetween owner (history_after_all (history w owner) found) made before more
+  pub calls : AllByRecursion IsCall more
   pub puts_come_last : PutsComeLast more
   pub returned : IsReturned owner (history_after_all (history w owner) (found ++ made)) before now
 

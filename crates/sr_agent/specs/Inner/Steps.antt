@@ -30,6 +30,7 @@ use Rattle.sr_agent.specs.Deliveries.{Delivery, AreDeliveries, IsDelivery, after
 use Rattle.sr_agent.specs.Ends.{Ended, HasTold}
 use Rattle.sr_agent.specs.Faults.{fault_of_receive}
 use Rattle.sr_agent.specs.Lines.{Line, alarms, lines_text, received, report_lines}
+use Rattle.sr_agent.specs.Inner.Coming.{HaveCome, RemovesOfCome}
 use Rattle.sr_agent.specs.Runs.{quiet}
 use Rattle.sr_agent.specs.Stops.{GatheringStop, PartnerPassStop, DeliveryStop, IsUntold}
 use Rattle.sr_agent.specs.PartnerPasses.{Gathering, IsGathering, gathering_lines, gathering_mail}
@@ -117,6 +118,7 @@ pub record HasGatheredAll (view : View) (before now : Seen) (publisher : Name) (
   pub steady : IsSteady before now
   pub went : Went before now publisher es []
   pub mail : mail_in now.happened ≡ gathering_mail publisher gathering (mail_in before.happened)
+  pub came : HaveCome publisher before.happened now.happened gathering.fetched_files
   pub bag_is : (user : Name) → Has bag user (message_files_from user gathering.fetched_files) []
   pub lines_are : lines ≡ gathering_lines gathering
 
@@ -176,6 +178,7 @@ pub record TookPartnerPass (new : View) (before now : Seen) (publisher : Name) (
   pub steady : IsSteady before now
   pub went : Went before now publisher es (map commit (partner_pass_entries publisher es fetched_files partner_pass))
   pub mail : mail_in now.happened ≡ partner_pass_mail publisher es fetched_files purge partner_pass (mail_in before.happened)
+  pub removals : RemovesOfCome publisher fetched_files before now
   pub ask_is : ask ≡ asks_in publisher es fetched_files partner_pass
   pub lines_are : lines ≡ partner_pass_lines publisher es fetched_files partner_pass
 
@@ -197,6 +200,7 @@ pub record BrokeInPartnerPass (old new : View) (before now : Seen) (publisher : 
   pub events : List Event
   pub stop : PartnerPassStop publisher es fetched_files user old new before now events lines fault purge whole
   pub went : Went before now publisher es events
+  pub removals : RemovesOfCome publisher fetched_files before now
 
 -- a fault ended it
 pub record PartnerPassBroken (old new : View) (before now : Seen) (user : Name) (bag : List PartnerMail) (purge : Bool) (written written' : Output) (fault : AgentFault) : Type 0 where
@@ -224,6 +228,7 @@ pub record TookPartnerPasses (new : View) (before now : Seen) (publisher : Name)
   pub steady : IsSteady before now
   pub went : Went before now publisher es (map commit (partner_passes_entries publisher es fetched_files partner_passes))
   pub mail : mail_in now.happened ≡ partner_passes_mail publisher es fetched_files purge partner_passes (mail_in before.happened)
+  pub removals : RemovesOfCome publisher fetched_files before now
   pub asks_are : asks ≡ partners_in publisher es fetched_files partner_passes
   pub lines_are : lines ≡ partner_passes_lines publisher es fetched_files partner_passes
 
@@ -253,6 +258,7 @@ pub record BrokeInPartnerPasses (old new : View) (before now : Seen) (publisher 
   pub events : List Event
   pub stop : PartnerPassStop publisher (after_partner_passes publisher es fetched_files took.partner_passes) fetched_files user db new seen now events told fault purge (HasTold lines written written')
   pub went : Went before now publisher es (map commit (partner_passes_entries publisher es fetched_files took.partner_passes) ++ events)
+  pub removals : RemovesOfCome publisher fetched_files before now
   pub lines_are : lines ≡ earlier ++ told
   -- the lines of the partners' passes before it
   pub earlier_told : HasTold earlier written written'

@@ -68,10 +68,11 @@ pub record IsEnd (view : View) (after : Offset) (seen : Seen) : Type 0 where
   pub is : IsDatabase view publisher (done ++ left) seen
   pub after_is : after.0 ≡ end_of done
 
--- the offset parts the history whose entries the log holds: those done before it, those left behind it
+-- the offset parts a history: those done before it, of which the log may hold the last, and those left behind it, which it holds
 pub record Parts (log : Log) (after : ℕ) (publisher : Name) (done left : List Recorded) (seen : Seen) : Type 0 where
   pub stored : Stored publisher (done ++ left)
-  pub at : IsAt log after (bodies done) (bodies left) seen.files
+  pub front : List (List ℕ)
+  pub at : IsAt log after front (bodies left) seen.files
   pub after_is : after ≡ end_of done
 
 -- why the entry behind an offset of a log is not read: damage only where the disk does not tell what it holds, or the offset parts no history;

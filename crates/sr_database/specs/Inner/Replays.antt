@@ -1,4 +1,4 @@
--- A log that is read again from its beginning, entry by entry.
+-- A log that is read again from its base, entry by entry.
 use Rattle.std.specs.Prelude.{◌≡◌, ◌≢◌, ℕ, ◌+◌, ◌≤◌, ◌<◌, ⊤, Bool, true, false, List, [], ◌∷◌, ◌++◌, length, take, drop, Option, Some, None, IsTrue}
 use Rattle.sr_base.specs.Fields.{IsName}
 use Rattle.sr_base.specs.Values.{farthest_offset}
@@ -7,12 +7,12 @@ use Rattle.sr_database_history.specs.Fitting.{Fits, Stored}
 use Rattle.sr_database_history.specs.Folds.{state_of, end_of, books_of}
 use Rattle.sr_database_history.specs.Recorded.{Recorded, entry_of}
 use Rattle.sr_logfile.specs.Inner.Heads.{IsClosed}
-use Rattle.sr_logfile.specs.Records.{header, record_of, open_records, Spells, header_size}
+use Rattle.sr_logfile.specs.Records.{header, record_of, open_records, Spells, place_in}
 use Rattle.sr_logform.specs.Entries.{entry_spelling, IsEntry}
 use Rattle.sr_logform.specs.declared.entry.Entry.{Entry}
 use Rattle.sr_rows.specs.Marks.{Marked}
 use Rattle.sr_rows.specs.Inner.Steps.{at_mark}
-use Rattle.sr_catalog_schema.specs.Catalogs.{Lists, nothing_but}
+use Rattle.sr_catalog_schema.specs.Catalogs.{Lists}
 use Rattle.sr_site.specs.Causes.{Rose}
 use Rattle.sr_site.specs.Seen.{Seen}
 use Rattle.sr_site.specs.Files.{bytes_of}
@@ -20,7 +20,7 @@ use Rattle.sr_site.specs.declared.file.File.{File}
 use Rattle.sr_database_meaning.specs.Damage.{BeginsEntry}
 use Rattle.sr_database_meaning.specs.Standing.{body, bodies}
 use Rattle.sr_database.specs.Books.{BookMap, book_in}
-use Rattle.sr_database.specs.Databases.{IsOf}
+use Rattle.sr_database.specs.Databases.{IsBased, IsOf}
 use Rattle.sr_database.specs.Views.{View}
 use Rattle.sr_database_files.specs.declared.fault.DatabaseFault.{DatabaseFault}
 use Rattle.sr_database_files.specs.declared.fault.DatabaseFault.TheVariants.{Missing, Exists, Damaged, Disk, Full, Long, Memory}
@@ -39,25 +39,25 @@ pub record IsReplayedOf (catalog : Lists) (rows : Marked) (books : BookMap) (pos
   pub es : List Recorded
   pub is : IsReplayed catalog rows books position publisher es
 
--- it is some history of the publisher that is alone in another catalog
-pub record IsReplayedBehind (catalog : Lists) (rows : Marked) (books : BookMap) (position : ℕ) (base_catalog : Lists) : Type 0 where
+-- it is some history, of which a log begins at this base with that catalog
+pub record IsReplayedBehind (catalog : Lists) (rows : Marked) (books : BookMap) (position base : ℕ) (base_catalog : Lists) : Type 0 where
   pub publisher : Name
   pub es : List Recorded
   pub is : IsReplayed catalog rows books position publisher es
-  pub base_is : base_catalog ≡ nothing_but publisher
+  pub based : IsBased base base_catalog publisher es
 
--- it is a history that the log spells
-pub record HasReplayed (catalog : Lists) (rows : Marked) (books : BookMap) (position : ℕ) (publisher : Name) (log : File) (seen : Seen) : Type 0 where
-  pub es : List Recorded
-  pub is : IsReplayed catalog rows books position publisher es
-  pub spells : IsTrue seen.observable → Spells 0 (bodies es) (bytes_of seen.files log)
+-- it is a history that goes on behind these entries, and the log spells those that are left
+pub record HasReplayed (catalog : Lists) (rows : Marked) (books : BookMap) (position : ℕ) (publisher : Name) (done : List Recorded) (log : File) (seen : Seen) : Type 0 where
+  pub left : List Recorded
+  pub is : IsReplayed catalog rows books position publisher (done ++ left)
+  pub spells : IsTrue seen.observable → Spells (end_of done) (bodies left) (bytes_of seen.files log)
 
--- the value of a history that the log spells
-pub record IsOpened (db : View) (log : File) (publisher : Name) (seen : Seen) : Type 0 where
+-- the value of a history that goes on behind these entries, of which the log spells those that are left
+pub record IsOpened (db : View) (log : File) (publisher : Name) (done : List Recorded) (seen : Seen) : Type 0 where
   pub file_is : db.log.file ≡ log
-  pub es : List Recorded
-  pub is : IsOf db publisher es
-  pub spells : IsTrue seen.observable → Spells 0 (bodies es) (bytes_of seen.files log)
+  pub left : List Recorded
+  pub is : IsOf db publisher (done ++ left)
+  pub spells : IsTrue seen.observable → Spells (end_of done) (bodies left) (bytes_of seen.files log)
 
 -- the bytes begin with the record of an entry behind an open gate, and a gate
 pub record BeginsWith (r : Recorded) (bytes : List ℕ) : Type 0 where
@@ -65,19 +65,20 @@ pub record BeginsWith (r : Recorded) (bytes : List ℕ) : Type 0 where
   pub more : List ℕ
   pub is : bytes ≡ 1 ∷ (record_of (body r) ++ gate ∷ more)
 
--- a log's bytes begin with a header and the records of these entries, up to a position, where a gate stands
-pub record HasRead (es : List Recorded) (position : ℕ) (bytes : List ℕ) : Type 0 where
-  pub prefix : bytes ≡ (header 0 ++ open_records (bodies es)) ++ drop (header_size + position) bytes
-  pub some : 0 < length (drop (header_size + position) bytes)
+-- a log's bytes begin with the header of a base and the records of these entries, up to a position, where a gate stands
+pub record HasRead (base : ℕ) (es : List Recorded) (position : ℕ) (bytes : List ℕ) : Type 0 where
+  pub prefix : bytes ≡ (header base ++ open_records (bodies es)) ++ drop (place_in base position) bytes
+  pub some : 0 < length (drop (place_in base position) bytes)
 
--- these entries stand there, and what follows an open gate behind them is no record of one that may follow, at this place
-pub record LacksNext (publisher : Name) (bytes : List ℕ) (place : ℕ) : Type 0 where
+-- behind those before the log these entries stand there, and what follows an open gate behind them is no record of one that may follow, at this
+-- place
+pub record LacksNext (publisher : Name) (done : List Recorded) (bytes : List ℕ) (place : ℕ) : Type 0 where
   pub es : List Recorded
   pub rest : List ℕ
-  pub bytes_are : bytes ≡ (header 0 ++ open_records (bodies es)) ++ 1 ∷ rest
-  pub place_is : place ≡ length (header 0 ++ open_records (bodies es))
-  pub stored : Stored publisher es
-  pub broken : (r : Recorded) → BeginsEntry publisher es r rest → ⊥
+  pub bytes_are : bytes ≡ (header (end_of done) ++ open_records (bodies es)) ++ 1 ∷ rest
+  pub place_is : place ≡ length (header (end_of done) ++ open_records (bodies es))
+  pub stored : Stored publisher (done ++ es)
+  pub broken : (r : Recorded) → BeginsEntry publisher (done ++ es) r rest → ⊥
 
 -- an entry more was read: it is that of this recorded one
 pub record IsOneMore (catalog new_catalog : Lists) (rows new_rows : Marked) (books new_books : BookMap) (position end : ℕ) (publisher : Name) (es : List Recorded) (entry : Entry) : Type 0 where
@@ -109,27 +110,27 @@ FollowsAny catalog new_catalog rows new_rows books new_books count entry may =
     → Followed catalog new_catalog rows new_rows books new_books position (position + (count + 5)) publisher es entry may
 
 -- one entry more was read behind a history, up to an end, and its record stands in the log at the position
-pub record HasReadOn (new_catalog : Lists) (new_rows : Marked) (new_books : BookMap) (position end : ℕ) (publisher : Name) (es : List Recorded) (log : File) (seen : Seen) : Type 0 where
+pub record HasReadOn (new_catalog : Lists) (new_rows : Marked) (new_books : BookMap) (base position end : ℕ) (publisher : Name) (es : List Recorded) (log : File) (seen : Seen) : Type 0 where
   pub r : Recorded
   pub is : IsReplayed new_catalog new_rows new_books end publisher (es ++ r ∷ [])
-  pub begins : IsTrue seen.observable → BeginsWith r (drop (header_size + position) (bytes_of seen.files log))
+  pub begins : IsTrue seen.observable → BeginsWith r (drop (place_in base position) (bytes_of seen.files log))
 
 -- it was, behind whatever history was read up to there
-abbrev pub IsReadOn : Lists → Lists → Marked → Marked → BookMap → BookMap → ℕ → ℕ → Name → File → Seen → Type 0
-IsReadOn catalog new_catalog rows new_rows books new_books position end publisher log seen =
-    (es : List Recorded) → IsReplayed catalog rows books position publisher es → HasReadOn new_catalog new_rows new_books position end publisher es log seen
+abbrev pub IsReadOn : Lists → Lists → Marked → Marked → BookMap → BookMap → ℕ → ℕ → ℕ → Name → File → Seen → Type 0
+IsReadOn catalog new_catalog rows new_rows books new_books base position end publisher log seen =
+    (es : List Recorded) → IsReplayed catalog rows books position publisher es → HasReadOn new_catalog new_rows new_books base position end publisher es log seen
 
 -- the gate there is closed, and what was read stands
-pub record EndsThere (catalog new_catalog : Lists) (rows new_rows : Marked) (books new_books : BookMap) (position : ℕ) (log : File) (seen : Seen) : Type 0 where
+pub record EndsThere (catalog new_catalog : Lists) (rows new_rows : Marked) (books new_books : BookMap) (base position : ℕ) (log : File) (seen : Seen) : Type 0 where
   pub catalog_is : new_catalog ≡ catalog
   pub rows_are : new_rows ≡ rows
   pub books_are : new_books ≡ books
-  pub closed : IsTrue seen.observable → IsClosed (drop (header_size + position) (bytes_of seen.files log))
+  pub closed : IsTrue seen.observable → IsClosed (drop (place_in base position) (bytes_of seen.files log))
 
 -- the one or the other
-abbrev pub IsNextEntry : Lists → Lists → Marked → Marked → BookMap → BookMap → ℕ → Name → File → Seen → Option ℕ → Type 0
-IsNextEntry catalog new_catalog rows new_rows books new_books position publisher log seen None = EndsThere catalog new_catalog rows new_rows books new_books position log seen
-IsNextEntry catalog new_catalog rows new_rows books new_books position publisher log seen (Some end) = IsReadOn catalog new_catalog rows new_rows books new_books position end publisher log seen
+abbrev pub IsNextEntry : Lists → Lists → Marked → Marked → BookMap → BookMap → ℕ → ℕ → Name → File → Seen → Option ℕ → Type 0
+IsNextEntry catalog new_catalog rows new_rows books new_books base position publisher log seen None = EndsThere catalog new_catalog rows new_rows books new_books base position log seen
+IsNextEntry catalog new_catalog rows new_rows books new_books base position publisher log seen (Some end) = IsReadOn catalog new_catalog rows new_rows books new_books base position end publisher log seen
 
 -- these bytes of a file are there
 abbrev pub piece : ℕ → ℕ → List ℕ → List ℕ
@@ -159,22 +160,22 @@ SpellingCause log place bytes Memory = ⊤
 
 -- why a record of the log is not read behind what was: damage at its gate where no entry stands there that may; but for the disk's refusal no
 -- call of the disk failed
-abbrev pub RecordCause : File → Name → Lists → Marked → BookMap → ℕ → Seen → Seen → DatabaseFault → Type 0
-RecordCause log publisher catalog rows books position before now Missing = ⊥
-RecordCause log publisher catalog rows books position before now Exists = ⊥
-RecordCause log publisher catalog rows books position before now (Damaged file at) =
-    (file ≡ log) × (IsTrue before.observable → (es : List Recorded) → IsReplayed catalog rows books position publisher es → HasRead es position (bytes_of before.files log) → LacksNext publisher (bytes_of before.files log) at) × (now.disk_faults ≡ before.disk_faults)
-RecordCause log publisher catalog rows books position before now Disk = Rose before.disk_faults now.disk_faults
-RecordCause log publisher catalog rows books position before now (Full end need) = ⊥
-RecordCause log publisher catalog rows books position before now (Long size limit) = ⊥
-RecordCause log publisher catalog rows books position before now Memory = now.disk_faults ≡ before.disk_faults
+abbrev pub RecordCause : File → Name → Lists → Marked → BookMap → ℕ → ℕ → Seen → Seen → DatabaseFault → Type 0
+RecordCause log publisher catalog rows books base position before now Missing = ⊥
+RecordCause log publisher catalog rows books base position before now Exists = ⊥
+RecordCause log publisher catalog rows books base position before now (Damaged file at) =
+    (file ≡ log) × (IsTrue before.observable → (done es : List Recorded) → base ≡ end_of done → IsReplayed catalog rows books position publisher (done ++ es) → HasRead base es position (bytes_of before.files log) → LacksNext publisher done (bytes_of before.files log) at) × (now.disk_faults ≡ before.disk_faults)
+RecordCause log publisher catalog rows books base position before now Disk = Rose before.disk_faults now.disk_faults
+RecordCause log publisher catalog rows books base position before now (Full end need) = ⊥
+RecordCause log publisher catalog rows books base position before now (Long size limit) = ⊥
+RecordCause log publisher catalog rows books base position before now Memory = now.disk_faults ≡ before.disk_faults
 
--- why the entries are not read: but for the disk's refusal no call of the disk failed
-abbrev pub ReplayCause : File → Name → Seen → Seen → DatabaseFault → Type 0
-ReplayCause log publisher before now Missing = ⊥
-ReplayCause log publisher before now Exists = ⊥
-ReplayCause log publisher before now (Damaged file at) = (file ≡ log) × (IsTrue before.observable → LacksNext publisher (bytes_of before.files log) at) × (now.disk_faults ≡ before.disk_faults)
-ReplayCause log publisher before now Disk = Rose before.disk_faults now.disk_faults
-ReplayCause log publisher before now (Full end need) = ⊥
-ReplayCause log publisher before now (Long size limit) = ⊥
-ReplayCause log publisher before now Memory = now.disk_faults ≡ before.disk_faults
+-- why the entries behind these are not read: but for the disk's refusal no call of the disk failed
+abbrev pub ReplayCause : File → Name → List Recorded → Seen → Seen → DatabaseFault → Type 0
+ReplayCause log publisher done before now Missing = ⊥
+ReplayCause log publisher done before now Exists = ⊥
+ReplayCause log publisher done before now (Damaged file at) = (file ≡ log) × (IsTrue before.observable → LacksNext publisher done (bytes_of before.files log) at) × (now.disk_faults ≡ before.disk_faults)
+ReplayCause log publisher done before now Disk = Rose before.disk_faults now.disk_faults
+ReplayCause log publisher done before now (Full end need) = ⊥
+ReplayCause log publisher done before now (Long size limit) = ⊥
+ReplayCause log publisher done before now Memory = now.disk_faults ≡ before.disk_faults

@@ -3,7 +3,7 @@
 use Rattle.std.specs.Prelude.{ℕ, List, [], ◌∷◌, ◌++◌}
 use Rattle.sr_database_history.specs.Recorded.{Recorded}
 use Rattle.sr_database_meaning.specs.Events.{Event, commit, put}
-use Rattle.sr_site.specs.Happenings.{Happening, attached, wrote, cut_to, synced, listed, fetched, sent, removed}
+use Rattle.sr_site.specs.Happenings.{Happening, attached, wrote, cut_to, synced, listed, fetched, sent, removed, handed_over}
 
 -- one thing that was done: an entry was committed, or a call of the mail was made and succeeded, as it happened
 pub data Effect : Type 0 where
@@ -42,6 +42,7 @@ put_in (listed address folder listing) = []
 put_in (fetched address name limit found) = []
 put_in (sent address name bytes done) = put address name bytes ∷ []
 put_in (removed address name done) = []
+put_in (handed_over folders noted) = []
 
 -- the events of calls, the newest of which comes first among them, and last among the events
 abbrev pub puts_of : List Happening → List Event

@@ -8,7 +8,7 @@ use Rattle.sr_logfile.specs.declared.fault.LogFault.{LogFault}
 use Rattle.sr_logfile.specs.declared.fault.LogFault.TheVariants as logs
 use Rattle.sr_site.specs.Causes.{DiskStays, Rose}
 use Rattle.sr_site.specs.Files.{Files, bytes_of}
-use Rattle.sr_site.specs.Happenings.{Happening, attached, wrote, cut_to, synced, listed, fetched, sent, removed}
+use Rattle.sr_site.specs.Happenings.{Happening, attached, wrote, cut_to, synced, listed, fetched, sent, removed, handed_over}
 use Rattle.sr_site.specs.Seen.{Seen}
 use Rattle.sr_site.specs.declared.file.File.{File}
 use Rattle.sr_site.specs.declared.file.File.TheVariants.{Root, Snap1}
@@ -29,6 +29,7 @@ AreSyncs files (listed address folder listing ∷ more) = ⊥
 AreSyncs files (fetched address name limit found ∷ more) = ⊥
 AreSyncs files (sent address name bytes done ∷ more) = ⊥
 AreSyncs files (removed address name done ∷ more) = ⊥
+AreSyncs files (handed_over folders noted ∷ more) = ⊥
 
 -- nothing happened but syncs
 pub record OnlySynced (before now : Seen) : Type 0 where
@@ -117,44 +118,44 @@ SnapshotCause snapshot before now Memory = now.disk_faults ≡ before.disk_fault
 abbrev pub LogCause : File → Name → Seen → Seen → DatabaseFault → Type 0
 LogCause log publisher before now Missing = ⊥
 LogCause log publisher before now Exists = ⊥
-LogCause log publisher before now (Damaged file at) = (file ≡ log) × (IsTrue before.observable → IsDamagedLog publisher (bytes_of before.files log) at) × (now.disk_faults ≡ before.disk_faults)
+LogCause log publisher before now (Damaged file at) = (file ≡ log) × (IsTrue before.observable → IsDamagedLog publisher [] (bytes_of before.files log) at) × (now.disk_faults ≡ before.disk_faults)
 LogCause log publisher before now Disk = Rose before.disk_faults now.disk_faults
 LogCause log publisher before now (Full end need) = ⊥
 LogCause log publisher before now (Long size limit) = ⊥
 LogCause log publisher before now Memory = now.disk_faults ≡ before.disk_faults
 
 -- the log's header is not whole, or has another base
-abbrev pub IsDamagedHeader : List ℕ → ℕ → Type 0
-IsDamagedHeader bytes place = (LacksHeader bytes × (place ≡ 0)) ⊎ (HasOtherBase 0 bytes × (place ≡ 8))
+abbrev pub IsDamagedHeader : ℕ → List ℕ → ℕ → Type 0
+IsDamagedHeader base bytes place = (LacksHeader bytes × (place ≡ 0)) ⊎ (HasOtherBase base bytes × (place ≡ 8))
 
 -- why the log's header is refused: at damage no call of the disk failed
-abbrev pub BaseCause : File → Seen → Seen → DatabaseFault → Type 0
-BaseCause log before now Missing = ⊥
-BaseCause log before now Exists = ⊥
-BaseCause log before now (Damaged file at) = (file ≡ log) × (IsTrue before.observable → IsDamagedHeader (bytes_of before.files log) at) × (now.disk_faults ≡ before.disk_faults)
-BaseCause log before now Disk = Rose before.disk_faults now.disk_faults
-BaseCause log before now (Full end need) = ⊥
-BaseCause log before now (Long size limit) = ⊥
-BaseCause log before now Memory = ⊥
+abbrev pub BaseCause : ℕ → File → Seen → Seen → DatabaseFault → Type 0
+BaseCause base log before now Missing = ⊥
+BaseCause base log before now Exists = ⊥
+BaseCause base log before now (Damaged file at) = (file ≡ log) × (IsTrue before.observable → IsDamagedHeader base (bytes_of before.files log) at) × (now.disk_faults ≡ before.disk_faults)
+BaseCause base log before now Disk = Rose before.disk_faults now.disk_faults
+BaseCause base log before now (Full end need) = ⊥
+BaseCause base log before now (Long size limit) = ⊥
+BaseCause base log before now Memory = ⊥
 
--- the log's records are whole behind a header of the base 0
-pub record IsWholeLog (bytes : List ℕ) : Type 0 where
+-- the log's records are whole behind a header of this base
+pub record IsWholeLog (base : ℕ) (bytes : List ℕ) : Type 0 where
   pub all : List (List ℕ)
-  pub spells : Spells 0 all bytes
+  pub spells : Spells base all bytes
 
 -- the log's header is not whole, or has another base, or a record is not as written
-abbrev pub IsDamagedShape : List ℕ → ℕ → Type 0
-IsDamagedShape bytes place = (LacksHeader bytes × (place ≡ 0)) ⊎ ((HasOtherBase 0 bytes × (place ≡ 8)) ⊎ LacksRecordAt 0 bytes place)
+abbrev pub IsDamagedShape : ℕ → List ℕ → ℕ → Type 0
+IsDamagedShape base bytes place = (LacksHeader bytes × (place ≡ 0)) ⊎ ((HasOtherBase base bytes × (place ≡ 8)) ⊎ LacksRecordAt base bytes place)
 
 -- why the log's header and records are refused: at damage no call of the disk failed
-abbrev pub ShapeCause : File → Seen → Seen → DatabaseFault → Type 0
-ShapeCause log before now Missing = ⊥
-ShapeCause log before now Exists = ⊥
-ShapeCause log before now (Damaged file at) = (file ≡ log) × (IsTrue before.observable → IsDamagedShape (bytes_of before.files log) at) × (now.disk_faults ≡ before.disk_faults)
-ShapeCause log before now Disk = Rose before.disk_faults now.disk_faults
-ShapeCause log before now (Full end need) = ⊥
-ShapeCause log before now (Long size limit) = ⊥
-ShapeCause log before now Memory = ⊥
+abbrev pub ShapeCause : ℕ → File → Seen → Seen → DatabaseFault → Type 0
+ShapeCause base log before now Missing = ⊥
+ShapeCause base log before now Exists = ⊥
+ShapeCause base log before now (Damaged file at) = (file ≡ log) × (IsTrue before.observable → IsDamagedShape base (bytes_of before.files log) at) × (now.disk_faults ≡ before.disk_faults)
+ShapeCause base log before now Disk = Rose before.disk_faults now.disk_faults
+ShapeCause base log before now (Full end need) = ⊥
+ShapeCause base log before now (Long size limit) = ⊥
+ShapeCause base log before now Memory = ⊥
 
 -- the fault of a database whose log refuses
 abbrev pub IsLogFault : File → LogFault → DatabaseFault → Type 0
@@ -175,11 +176,11 @@ HasFoundDamage (logs.Full end need) = ⊥
 HasFoundDamage (logs.Damaged at) = ⊤
 
 -- why the shape of a log is refused after its own opening was: with the disk's refusal then or now, else at damage that was found both times
-abbrev pub ShapeRefusal : File → LogFault → Seen → Seen → DatabaseFault → Type 0
-ShapeRefusal log fault before now Missing = ⊥
-ShapeRefusal log fault before now Exists = ⊥
-ShapeRefusal log fault before now (Damaged file at) = (file ≡ log) × (IsTrue before.observable → IsDamagedShape (bytes_of before.files log) at) × (now.disk_faults ≡ before.disk_faults) × HasFoundDamage fault
-ShapeRefusal log fault before now Disk = (fault ≡ logs.Disk) ⊎ Rose before.disk_faults now.disk_faults
-ShapeRefusal log fault before now (Full end need) = ⊥
-ShapeRefusal log fault before now (Long size limit) = ⊥
-ShapeRefusal log fault before now Memory = ⊥
+abbrev pub ShapeRefusal : ℕ → File → LogFault → Seen → Seen → DatabaseFault → Type 0
+ShapeRefusal base log fault before now Missing = ⊥
+ShapeRefusal base log fault before now Exists = ⊥
+ShapeRefusal base log fault before now (Damaged file at) = (file ≡ log) × (IsTrue before.observable → IsDamagedShape base (bytes_of before.files log) at) × (now.disk_faults ≡ before.disk_faults) × HasFoundDamage fault
+ShapeRefusal base log fault before now Disk = (fault ≡ logs.Disk) ⊎ Rose before.disk_faults now.disk_faults
+ShapeRefusal base log fault before now (Full end need) = ⊥
+ShapeRefusal base log fault before now (Long size limit) = ⊥
+ShapeRefusal base log fault before now Memory = ⊥

@@ -1,6 +1,6 @@
 -- Which files a site was asked to change.
 use Rattle.std.specs.Prelude.{◌≡◌, ◌≢◌, ⊤, List, [], ◌∷◌, ◌++◌}
-use Rattle.sr_site.specs.Happenings.{Happening, attached, wrote, cut_to, synced, listed, fetched, sent, removed}
+use Rattle.sr_site.specs.Happenings.{Happening, attached, wrote, cut_to, synced, listed, fetched, sent, removed, handed_over}
 use Rattle.sr_site.specs.declared.file.File.{File}
 
 -- a call of the disk on this file
@@ -13,6 +13,7 @@ IsOn file (listed address folder listing) = ⊥
 IsOn file (fetched address name limit found) = ⊥
 IsOn file (sent address name bytes done) = ⊥
 IsOn file (removed address name done) = ⊥
+IsOn file (handed_over folders noted) = ⊥
 
 abbrev pub AreOn : File → List Happening → Type 0
 AreOn file [] = ⊤
@@ -34,6 +35,7 @@ IsOff file (listed address folder listing) = ⊥
 IsOff file (fetched address name limit found) = ⊥
 IsOff file (sent address name bytes done) = ⊥
 IsOff file (removed address name done) = ⊥
+IsOff file (handed_over folders noted) = ⊥
 
 abbrev pub AreOff : File → List Happening → Type 0
 AreOff file [] = ⊤

@@ -1,5 +1,5 @@
 -- What is read of a log's header and of a record's first bytes.
-use Rattle.std.specs.Prelude.{◌≡◌, ◌≢◌, ℕ, ◌+◌, ◌-◌, ◌^◌, ◌<◌, ◌≤◌, List, ◌∷◌, ◌++◌, length, drop, Option, Some, None, IsTrue}
+use Rattle.std.specs.Prelude.{◌≡◌, ◌≢◌, ℕ, ◌+◌, ◌^◌, ◌<◌, ◌≤◌, List, ◌∷◌, ◌++◌, length, drop, Option, Some, None, IsTrue}
 use Rattle.std.specs.Int.{w32, to_be_bytes}
 use Rattle.std.specs.List.{AllByRecursion}
 use Rattle.sr_base.specs.Values.{farthest_offset}
@@ -12,7 +12,7 @@ use Rattle.sr_logfile.specs.declared.fault.LogFault.TheVariants.{Disk, Full, Dam
 use Rattle.sr_logfile.specs.declared.head.Head.{Head}
 use Rattle.sr_logfile.specs.declared.head.Head.TheVariants.{Closed, Cut, Open}
 use Rattle.sr_logfile.specs.Damage.{BeginsRecord, LacksRecord}
-use Rattle.sr_logfile.specs.Records.{header, open_records, IsBody, Spells, header_size}
+use Rattle.sr_logfile.specs.Records.{header, open_records, IsBody, Spells, place_in}
 
 -- bytes that begin with a gate that is not open
 pub record IsClosed (bytes : List ℕ) : Type 0 where
@@ -84,8 +84,8 @@ RecordsCause file before now (Damaged at) = (IsTrue before.observable → LacksR
 -- the records up to a position are whole, and a gate stands there
 pub record Reaches (base position : ℕ) (bytes : List ℕ) : Type 0 where
   pub bodies : List (List ℕ)
-  pub bytes_are : bytes ≡ (header base ++ open_records bodies) ++ drop (header_size + (position - base)) bytes
-  pub some : 0 < length (drop (header_size + (position - base)) bytes)
+  pub bytes_are : bytes ≡ (header base ++ open_records bodies) ++ drop (place_in base position) bytes
+  pub some : 0 < length (drop (place_in base position) bytes)
   pub all_bodies : AllByRecursion IsBody bodies
   pub position_is : position ≡ base + length (open_records bodies)
 

@@ -7,7 +7,8 @@ use Rattle.sr_site.specs.declared.file.File.{File}
 use Rattle.sr_logfile.specs.Inner.Appends.{LeavesPart}
 use Rattle.sr_logfile.specs.Log.{Log}
 use Rattle.sr_logfile.specs.Inner.Logs.{IsLog, longer}
-use Rattle.sr_logfile.specs.Records.{Spells, body_of, empty_log}
+use Rattle.sr_logfile.specs.Inner.Records.{empty_log}
+use Rattle.sr_logfile.specs.Records.{Spells, body_of}
 
 -- the log's file holds these bodies, or these and the one that is framed
 abbrev pub HasOrLacks : Log → List (List ℕ) → List ℕ → Files → Type 0

@@ -4,11 +4,12 @@ use Rattle.std.specs.Option.{option_map}
 use Rattle.std.specs.Result.{result_map_both}
 use Rattle.sr_site.specs.Files.{Files}
 use Rattle.sr_site.specs.Happenings.{Happening, attached, wrote, cut_to, synced, listed, fetched, sent, removed}
+use Rattle.sr_memsite.specs.Handing.{handing}
 use Rattle.sr_memsite_mail.specs.Inner.Folders.{names_in}
 use Rattle.sr_memsite_disk.specs.Stores.{no_bytes}
 use Rattle.sr_memsite_disk.specs.Inner.Stores.{files_of}
 use Rattle.sr_memsite.specs.declared.calls.Step.{Step}
-use Rattle.sr_memsite.specs.declared.calls.Step.TheVariants.{Began, Attached, Wrote, Cut, Synced, Listed, Fetched, Put, Removed}
+use Rattle.sr_memsite.specs.declared.calls.Step.TheVariants.{Began, Attached, Wrote, Cut, Synced, Listed, Fetched, Put, Removed, Handed}
 
 -- the files with which the calls began
 abbrev pub first_of : List (Step × List ℕ) → Files
@@ -22,6 +23,7 @@ first_of ((Listed address mail listing, bytes) ∷ before) = first_of before
 first_of ((Fetched address name limit found, bytes) ∷ before) = first_of before
 first_of ((Put address name done, bytes) ∷ before) = first_of before
 first_of ((Removed address name done, bytes) ∷ before) = first_of before
+first_of ((Handed mail, bytes) ∷ before) = first_of before
 
 -- what happened since then, each call with the bytes that it was given
 abbrev pub happened_of : List (Step × List ℕ) → List Happening
@@ -36,3 +38,4 @@ happened_of ((Fetched address name limit found, bytes) ∷ before) =
     fetched address.value name.value limit (result_map_both (option_map (λ file. file.items)) (λ fault. fault) found.value) ∷ happened_of before
 happened_of ((Put address name done, bytes) ∷ before) = sent address.value name.value bytes done ∷ happened_of before
 happened_of ((Removed address name done, bytes) ∷ before) = removed address.value name.value done ∷ happened_of before
+happened_of ((Handed mail, bytes) ∷ before) = handing mail.value ∷ happened_of before

@@ -2,8 +2,8 @@ ghost use Rattle.std.specs.Prelude.{◌≡◌, ◌≤◌, length, take, IsTrue, 
 ghost use Rattle.std.specs.Option.{option_map};
 ghost use Rattle.sr_site.specs.Listings.{IsListing, Lists};
 ghost use Rattle.sr_site.specs.declared.mail.MailFault.TheVariants.{Failed as failed_mail, Memory as no_memory};
-ghost use Rattle.sr_memsite_mail.specs.Folders.{place};
-ghost use Rattle.sr_memsite_mail.specs.Inner.Folders.{file_at, after_put, after_remove, names_in};
+ghost use Rattle.sr_memsite_mail.specs.Folders.{place, file_at, after_put, after_remove};
+ghost use Rattle.sr_memsite_mail.specs.Inner.Folders.{names_in};
 
 use super::MemorySite;
 use sr_base::{Name, Text};
@@ -21,8 +21,8 @@ impl Mail for MemorySite {
     ghost use Rattle.sr_site.specs.declared.mail.MailFault.TheVariants.{Failed as failed_mail, Memory as no_memory};
     ghost use Rattle.sr_memsite.specs.Inner.Meaning.{seen_of, folders_of, numbering_of, wanted_of};
     ghost use Rattle.sr_memsite.specs.Inner.Numbering.{fails, counted};
-    ghost use Rattle.sr_memsite_mail.specs.Folders.{place};
-    ghost use Rattle.sr_memsite_mail.specs.Inner.Folders.{file_at, after_put, after_remove, names_in};
+    ghost use Rattle.sr_memsite_mail.specs.Folders.{place, file_at, after_put, after_remove};
+    ghost use Rattle.sr_memsite_mail.specs.Inner.Folders.{names_in};
 
     fn list(&mut self, alloc: Global, address: &Name) -> Result<Listing, MailFault>
         ensures listing { IfOk result IsListing }

@@ -8,8 +8,8 @@ use std::alloc::Global;
 impl MemorySite {
     ghost use Rattle.std.specs.Prelude.{◌≡◌, IfOk, OnOk, OnErr, is_some};
     ghost use Rattle.sr_memsite.specs.Inner.Meaning.{seen_of, folders_of, numbering_of, wanted_of};
-    ghost use Rattle.sr_memsite_mail.specs.Folders.{place, without_file};
-    ghost use Rattle.sr_memsite_mail.specs.Inner.Folders.{stored_file_at, with_copy};
+    ghost use Rattle.sr_memsite_mail.specs.Folders.{place, without_file, stored_file_at};
+    ghost use Rattle.sr_memsite_mail.specs.Inner.Folders.{with_copy};
 
     /// Loses a file, held back or not. `false` says that there is no such file.
     pub fn lose(&mut self, address: &Name, name: &Text) -> bool

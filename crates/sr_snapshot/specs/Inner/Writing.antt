@@ -2,7 +2,7 @@
 use Rattle.std.specs.Prelude.{◌≡◌, ◌≤◌, ◌<◌, ⊤, ℕ, List, [], ◌∷◌, ◌++◌, length, IsTrue}
 use Rattle.sr_site.specs.Causes.{DiskStays, Rose}
 use Rattle.sr_site.specs.Files.{bytes_of, with_bytes, OthersStay}
-use Rattle.sr_site.specs.Happenings.{Happening, attached, wrote, cut_to, synced, listed, fetched, sent, removed}
+use Rattle.sr_site.specs.Happenings.{Happening, attached, wrote, cut_to, synced, listed, fetched, sent, removed, handed_over}
 use Rattle.sr_site.specs.Images.{IsSettled}
 use Rattle.sr_site.specs.Seen.{Seen}
 use Rattle.sr_site.specs.declared.file.File.{File}
@@ -20,6 +20,7 @@ IsOn file (listed address folder listing) = ⊥
 IsOn file (fetched address name limit found) = ⊥
 IsOn file (sent address name bytes done) = ⊥
 IsOn file (removed address name done) = ⊥
+IsOn file (handed_over folders noted) = ⊥
 
 abbrev pub AreOn : File → List Happening → Type 0
 AreOn file [] = ⊤

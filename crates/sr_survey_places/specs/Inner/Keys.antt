@@ -1,6 +1,6 @@
 -- Keys that places of a log are listed under, and their order.
 use Rattle.std.specs.Prelude.{ℕ, Bool, true, false, List, []}
-use Rattle.std.specs.Ordering.{nat_cmp, on, then_cmp}
+use Rattle.std.specs.Ordering.{nat_cmp, on, then_cmp, eq_by_cmp}
 use Rattle.std.specs.declared.cmp.Ordering.{Ordering}
 use Rattle.sr_base.specs.Order.{name_cmp, value_cmp}
 use Rattle.sr_base.specs.declared.value.Value.{Value as Cell}
@@ -44,6 +44,10 @@ value_of (Text u) = Null
 value_of (From u) = Null
 value_of Each = Null
 
--- the order of keys: by their kind, their name and their value
+-- the order of keys: by their kind, their value and their name
 abbrev pub key_cmp : Key → Key → Ordering
-key_cmp = then_cmp (on rank_of nat_cmp) (then_cmp (on name_of name_cmp) (on value_of value_cmp))
+key_cmp = then_cmp (on rank_of nat_cmp) (then_cmp (on value_of value_cmp) (on name_of name_cmp))
+
+-- whether two keys are one
+abbrev pub key_eq : Key → Key → Bool
+key_eq = eq_by_cmp key_cmp

@@ -1,24 +1,26 @@
 -- What places are listed under which key, and what one place more changes.
 use Rattle.std.specs.Prelude.{◌≡◌, ◌⊎◌, ℕ, ◌≤◌, ◌<◌, Bool, true, false, not, ◌+◌, ◌||◌, List, Option, Some, None, is_some, length}
-use Rattle.std.specs.BTreeMap as tree
+use Rattle.std.specs.HashMap as table
+use Rattle.std.specs.declared.hash.BuildHasherDefault.{BuildHasherDefault}
+use Rattle.std.specs.declared.hash.FoldHasher.{FoldHasher}
 use Rattle.std.specs.List.{Contains, All, sum_by}
 use Rattle.std.specs.Ordering.{is_eq}
 use Rattle.sr_survey_places.specs.Inner.Search.{places_in, IsOwn}
-use Rattle.sr_survey_places.specs.Inner.Keys.{is_shared, key_cmp}
+use Rattle.sr_survey_places.specs.Inner.Keys.{is_shared, key_cmp, key_eq}
 use Rattle.sr_survey_places.specs.declared.key.Key.{Key}
 use Rattle.sr_survey_places.specs.declared.place.Place.{Place}
 
 -- lists of places by their keys
 abbrev pub ByKey : Type 0
-ByKey = tree.BTreeMap Key (List Place)
+ByKey = table.HashMap Key (List Place) (BuildHasherDefault FoldHasher)
 
 -- the places under a key, in order
 abbrev pub under : ByKey → Key → List Place
-under lists key = places_in (tree.get key_cmp lists key)
+under lists key = places_in (table.get key_eq lists key)
 
 -- whether a key has a list
 abbrev pub has_list : ByKey → Key → Bool
-has_list lists key = is_some (tree.get key_cmp lists key)
+has_list lists key = is_some (table.get key_eq lists key)
 
 -- whether places are listed under a key: under one of rows only once it was begun
 abbrev pub is_begun : ByKey → Key → Bool
@@ -26,7 +28,7 @@ is_begun lists key = not (is_shared key) || has_list lists key
 
 -- how many places are listed: one under several keys counts under each
 abbrev pub count_of : ByKey → ℕ
-count_of lists = sum_by (λ (places : List Place). length places) (tree.values lists)
+count_of lists = sum_by (λ (places : List Place). length places) (table.values lists)
 
 -- nothing is listed, and no key of rows is begun
 pub record IsEmpty (lists : ByKey) : Type 0 where

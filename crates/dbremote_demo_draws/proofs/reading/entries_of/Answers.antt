@@ -3,8 +3,14 @@ use Rattle.sr_base.specs.declared.offset.Offset.{Offset}
 use Rattle.sr_database.specs.Inner.Entries.{IsEntryAfter}
 use Rattle.sr_logform.specs.declared.entry.Entry.{Entry}
 use Rattle.sr_memsite.specs.Inner.Meaning.{seen_of}
-use Rattle.dbremote_demo_draws.proofs.EntriesRead.{AreRead, one_more}
+use Rattle.dbremote_demo_draws.proofs.EntriesRead.{AreRead, none_read, one_more, order}
 use Rattle.dbremote_demo_draws.proofs.reading.entries_of.Goals as goal
+
+pub entries-init : goal.entries-init
+entries-init c =
+    let first = seen_of c.args.site.now in
+    subst (λ (items : List Entry). AreRead c.args.database.now items c.base-after.result first first) (sym c.new-entries.ensures.items)
+    (none_read c.args.database.now c.base-after.result first c.base-after.ensures.base (order c.args.database.now (c.usable-usable_here.ensures.some c.requires.usable)))
 
 pub entries-preserved : goal.entries-preserved
 entries-preserved c =

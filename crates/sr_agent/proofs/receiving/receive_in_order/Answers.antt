@@ -1,8 +1,9 @@
-use Rattle.std.proofs.Common.{List, ◌∷◌, subst}
+use Rattle.std.proofs.Common.{◌≡◌, List, [], ◌∷◌, subst}
+use Rattle.std.proofs.lemmas.List.{nil_from_length}
 use Rattle.std.specs.List.{AllByRecursion}
 use Rattle.sr_book.specs.Entries.{Name}
 use Rattle.sr_agent.specs.Inner.Steps.{IsUser, PartnerPassesBroken}
-use Rattle.sr_agent.proofs.OrderSteps.{turning_more, turning_start}
+use Rattle.sr_agent.proofs.OrderSteps.{turning_done, turning_more, turning_start}
 use Rattle.sr_agent.proofs.OrderStops.{turning_stop}
 use Rattle.sr_agent.proofs.Ordering.{IsTurning}
 use Rattle.sr_agent.proofs.Purged.{if_err}
@@ -54,3 +55,15 @@ returns-clause-ready g c = c.partners.invariant.ready
 
 pub returns-clause-keeps : goal.returns-clause-keeps
 returns-clause-keeps g c = c.partners.invariant.keeps
+
+pub returns-clause-done : goal.returns-clause-done
+returns-clause-done g c =
+    let old = c.args.db.now in
+    let db = c.partners.db in
+    let before = g.S.Held.seen c.args.site.now in
+    let seen = g.S.Held.seen c.partners.site in
+    let written = g.O.Sink.seen c.args.sink.now in
+    let written' = g.O.Sink.seen c.partners.sink in
+    let none : c.partners.left.now ≡ [] = nil_from_length _ c.in_default.ensures.cases in
+    turning_done old db before seen c.args.names.now c.args.bag.now c.partners.bag c.args.purges c.args.progress.now c.partners.progress written written'
+    (subst (λ (l : List Name). IsTurning old db before seen c.args.names.now l c.args.bag.now c.partners.bag c.args.purges c.args.progress.now c.partners.progress written written') none c.partners.invariant)

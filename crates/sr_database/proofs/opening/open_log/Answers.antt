@@ -1,4 +1,4 @@
-use Rattle.std.proofs.Common.{sym, subst}
+use Rattle.std.proofs.Common.{[], sym, subst}
 use Rattle.std.specs.Prelude.{IsTrue}
 use Rattle.std.proofs.lemmas.Result.{err_from_is_err_and}
 use Rattle.sr_site.specs.Files.{Files, bytes_of}
@@ -16,10 +16,10 @@ returns-in_err-open_records-clause-cause g c =
 pub read_entries-requires-clause-whole : goal.read_entries-requires-clause-whole
 read_entries-requires-clause-whole g c told =
     let before = subst IsTrue c.open_records.ensures.synced.stays.observable told in
-    subst (λ (f : Files). IsWholeLog (bytes_of f c.args.log)) (sym (c.open_records.ensures.synced.only before).files) (c.in_ok-open_records.ensures.whole before)
+    subst (λ (f : Files). IsWholeLog 0 (bytes_of f c.args.log)) (sym (c.open_records.ensures.synced.only before).files) (c.in_ok-open_records.ensures.whole before)
 
 pub returns-clause-opened : goal.returns-clause-opened
-returns-clause-opened g c = opened_before c.args.log c.args.publisher _ _ c.open_records.ensures.synced _ c.read_entries.ensures.opened
+returns-clause-opened g c = opened_before c.args.log c.args.publisher [] _ _ c.open_records.ensures.synced _ c.read_entries.ensures.opened
 
 pub returns-clause-settled : goal.returns-clause-settled
 returns-clause-settled g c told =

@@ -10,5 +10,5 @@ returns-in_ok-read_record-in-Ok-Some-clause-read g c = read_then _ _ _ (read_alo
 
 pub returns-in-Err-clause-cause : goal.returns-in-Err-clause-cause
 returns-in-Err-clause-cause g c =
-    gate_cause c.args.log c.args.publisher.now c.args.replay.now.catalog c.args.replay.now.rows c.args.replay.now.books c.args.position (g.S.Held.seen c.args.site.now) (g.S.Held.seen c.record_end.new.site)
+    gate_cause c.args.log c.args.publisher.now c.args.replay.now.catalog c.args.replay.now.rows c.args.replay.now.books c.args.base c.args.position (g.S.Held.seen c.args.site.now) (g.S.Held.seen c.record_end.new.site)
     c.in-Err.fault c.log_fault.result c.log_fault.ensures c.in-Err.ensures.cause

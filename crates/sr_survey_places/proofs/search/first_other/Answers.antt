@@ -9,8 +9,8 @@ places-init c = record {
   own = own_at_first c.args.places.now c.args.own.now c.args.passed c.count_passed-at.result c.count_passed-at.ensures.passed;
 }
 
-pub returns-then-not-is_own : goal.returns-then-not-is_own
-returns-then-not-is_own c = record {
+pub returns-then-not-is_own_near : goal.returns-then-not-is_own_near
+returns-then-not-is_own_near c = record {
   first = other_is c.args.places.now c.args.own.now c.args.passed c.args.limit c.places.at _ c.requires.order c.places.invariant.left (omega arith) (c.lies_within.ensures.within (search rules))
-      (c.is_own.ensures.other (search rules)) c.places.invariant.own;
+      (c.is_own_near.ensures.other (search rules)) c.places.invariant.own;
 }

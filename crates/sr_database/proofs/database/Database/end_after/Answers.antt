@@ -12,7 +12,7 @@ end_behind-requires g c =
 pub returns-clause-end : goal.returns-clause-end
 returns-clause-end g c told publisher done left database is =
     let log_is : c.args.self.now.log ≡ c.self.inside.log = sym (ap (λ (v : View). v.log) c.self.view_is) in
-    c.end_behind.ensures.end told publisher done left (parts_of c.args.self.now c.self.inside.log log_is c.args.after (g.S.Held.seen c.args.site.now) (g.S.Held.seen c.end_behind.new.site) publisher done left database is)
+    c.end_behind.ensures.end told publisher done left (parts_of c.args.self.now c.self.inside.log log_is c.args.after c.requires.after.0 (g.S.Held.seen c.args.site.now) (g.S.Held.seen c.end_behind.new.site) publisher done left database is)
 
 pub returns-clause-files : goal.returns-clause-files
 returns-clause-files g c = c.end_behind.ensures.read.files
@@ -31,4 +31,4 @@ returns-clause-database g c told publisher es database =
 pub returns-clause-cause : goal.returns-clause-cause
 returns-clause-cause g c =
     let log_is : c.args.self.now.log ≡ c.self.inside.log = sym (ap (λ (v : View). v.log) c.self.view_is) in
-    behind_refused c.args.self.now c.self.inside.log log_is c.args.after (g.S.Held.seen c.args.site.now) (g.S.Held.seen c.end_behind.new.site) _ c.end_behind.ensures.cause
+    behind_refused c.args.self.now c.self.inside.log log_is c.args.after c.requires.after.0 (g.S.Held.seen c.args.site.now) (g.S.Held.seen c.end_behind.new.site) _ c.end_behind.ensures.cause

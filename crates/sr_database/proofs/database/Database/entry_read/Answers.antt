@@ -13,7 +13,7 @@ entry_behind-requires g c =
 pub returns-clause-entry : goal.returns-clause-entry
 returns-clause-entry g c told publisher done left database is =
     let log_is : c.args.self.now.log ≡ c.self.inside.log = sym (ap (λ (v : View). v.log) c.self.view_is) in
-    c.entry_behind.ensures.entry told publisher done left (parts_of c.args.self.now c.self.inside.log log_is c.args.after (g.S.Held.seen c.args.site.now) (g.S.Held.seen c.entry_behind.new.site) publisher done left database is)
+    c.entry_behind.ensures.entry told publisher done left (parts_of c.args.self.now c.self.inside.log log_is c.args.after c.requires.after.0 (g.S.Held.seen c.args.site.now) (g.S.Held.seen c.entry_behind.new.site) publisher done left database is)
 
 pub returns-clause-within : goal.returns-clause-within
 returns-clause-within g c =
@@ -37,4 +37,4 @@ returns-clause-database g c told publisher es database =
 pub returns-clause-cause : goal.returns-clause-cause
 returns-clause-cause g c =
     let log_is : c.args.self.now.log ≡ c.self.inside.log = sym (ap (λ (v : View). v.log) c.self.view_is) in
-    behind_refused c.args.self.now c.self.inside.log log_is c.args.after (g.S.Held.seen c.args.site.now) (g.S.Held.seen c.entry_behind.new.site) _ c.entry_behind.ensures.cause
+    behind_refused c.args.self.now c.self.inside.log log_is c.args.after c.requires.after.0 (g.S.Held.seen c.args.site.now) (g.S.Held.seen c.entry_behind.new.site) _ c.entry_behind.ensures.cause

@@ -13,7 +13,7 @@ kind_behind-requires g c =
 pub returns-clause-kind : goal.returns-clause-kind
 returns-clause-kind g c told publisher done left database is =
     let log_is : c.args.self.now.log ≡ c.self.inside.log = sym (ap (λ (v : View). v.log) c.self.view_is) in
-    c.kind_behind.ensures.kind told publisher done left (parts_of c.args.self.now c.self.inside.log log_is c.args.after (g.S.Held.seen c.args.site.now) (g.S.Held.seen c.kind_behind.new.site) publisher done left database is)
+    c.kind_behind.ensures.kind told publisher done left (parts_of c.args.self.now c.self.inside.log log_is c.args.after c.requires.after.0 (g.S.Held.seen c.args.site.now) (g.S.Held.seen c.kind_behind.new.site) publisher done left database is)
 
 pub returns-clause-within : goal.returns-clause-within
 returns-clause-within g c =
@@ -37,4 +37,4 @@ returns-clause-database g c told publisher es database =
 pub returns-clause-cause : goal.returns-clause-cause
 returns-clause-cause g c =
     let log_is : c.args.self.now.log ≡ c.self.inside.log = sym (ap (λ (v : View). v.log) c.self.view_is) in
-    behind_refused c.args.self.now c.self.inside.log log_is c.args.after (g.S.Held.seen c.args.site.now) (g.S.Held.seen c.kind_behind.new.site) _ c.kind_behind.ensures.cause
+    behind_refused c.args.self.now c.self.inside.log log_is c.args.after c.requires.after.0 (g.S.Held.seen c.args.site.now) (g.S.Held.seen c.kind_behind.new.site) _ c.kind_behind.ensures.cause

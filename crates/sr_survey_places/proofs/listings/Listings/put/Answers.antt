@@ -1,7 +1,7 @@
 use Rattle.std.proofs.Common.{◌≡◌, ◌-◌, ◌^◌, min, length, rules, sym, ap, subst, is_some}
-use Rattle.std.specs.BTreeMap as tree
+use Rattle.std.specs.HashMap as table
 use Rattle.sr_survey_places.specs.Inner.Search.{InOrder, places_in}
-use Rattle.sr_survey_places.specs.Inner.Keys.{key_cmp}
+use Rattle.sr_survey_places.specs.Inner.Keys.{key_eq}
 use Rattle.sr_survey_places.specs.Inner.Listed.{count_of}
 use Rattle.sr_survey_places.proofs.Listing.{stays_in_order, count_put, counted_more, counted_bound, listed_more, put_back, err_too}
 use Rattle.sr_survey_places.proofs.listings.Listings.put.Goals as goal
@@ -23,7 +23,7 @@ invariant_of-self c =
 
 pub invariant_of-self-in-None : goal.invariant_of-self-in-None
 invariant_of-self-in-None c = record {
-  in_order = λ q. subst (λ m. InOrder (places_in (tree.get key_cmp m q))) (sym c.get_mut.follows.holds-at-none) (c.args.self.now.in_order q);
+  in_order = λ q. subst (λ m. InOrder (places_in (table.get key_eq m q))) (sym c.get_mut.follows.holds-at-none) (c.args.self.now.in_order q);
   counted = subst (λ m. c.args.self.now.count ≡ min (count_of m) (2 ^ 64 - 1)) (sym c.get_mut.follows.holds-at-none) c.args.self.now.counted;
 }
 

@@ -2,7 +2,7 @@ use Rattle.std.proofs.Common.{rules, ◌≡◌, false, ◌∷◌, map, ap, sym, 
 use Rattle.std.specs.BTreeSet.{contains}
 use Rattle.sr_base.specs.Order.{name_cmp}
 use Rattle.sr_logform.proofs.Distinct.{are_left, starts, goes_on}
-use Rattle.sr_logform.proofs.names.are_distinct.Goals as goal
+use Rattle.sr_logform.proofs.names.are_many_distinct.Goals as goal
 
 pub items-init : goal.items-init
 items-init g c = starts _ _ c.new-seen.ensures.empty

@@ -1,7 +1,7 @@
 use Rattle.std.proofs.Common.{leb, leb-true, rules}
 use Rattle.std.proofs.lemmas.Bool.{leb-false}
 use Rattle.std.proofs.lemmas.List.Sorted.{IsPartitionPoint-from_clause, IsPartitionedBy-leb}
-use Rattle.sr_survey_places.proofs.search.count_passed.Goals as goal
+use Rattle.sr_survey_places.proofs.search.count_searched.Goals as goal
 
 pub returns : goal.returns
 returns c =

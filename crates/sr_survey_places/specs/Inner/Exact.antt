@@ -1,4 +1,5 @@
--- Keys that compare alike are one.
+-- Keys that compare alike are one, and hash alike.
+-- Here is what no contract of the program says by itself.
 use Rattle.std.proofs.Common.{◌≡◌, ℕ, zero, suc, true, List, refl, sym, ap, ◌∙◌}
 use Rattle.std.proofs.lemmas.Map.Lookups.{CmpEqualImpliesEq, exact_pairs, exact_unsigned, exact_bytes}
 use Rattle.std.specs.Cmp.{tied_itself}
@@ -8,16 +9,17 @@ use Rattle.std.specs.declared.cmp.Ordering.TheVariants.{Less, Equal, Greater}
 use Rattle.sr_base.proofs.Exact.{exact_values}
 use Rattle.sr_base.specs.Order.{name_cmp, value_cmp}
 use Rattle.sr_base.specs.declared.value.Value.{Value as Cell}
+use Rattle.sr_survey_places.specs.Inner.Hashes.{key_input}
 use Rattle.sr_survey_places.specs.Inner.KeyOrder.{key_cmp_total}
-use Rattle.sr_survey_places.specs.Inner.Keys.{rank_of, name_of, value_of, key_cmp}
+use Rattle.sr_survey_places.specs.Inner.Keys.{rank_of, name_of, value_of, key_cmp, key_eq}
 use Rattle.sr_survey_places.specs.declared.key.Key.{Key}
 use Rattle.sr_survey_places.specs.declared.key.Key.TheVariants.{Whole, Part, To, Text, From, Each}
 
 abbrev Parts : Type 0
-Parts = ℕ × (List ℕ × Cell)
+Parts = ℕ × (Cell × List ℕ)
 
 parts : Key → Parts
-parts k = (rank_of k, (name_of k, value_of k))
+parts k = (rank_of k, (value_of k, name_of k))
 
 key_of : ℕ → List ℕ → Cell → Key
 key_of zero n v = Whole n
@@ -28,7 +30,7 @@ key_of (suc (suc (suc (suc zero)))) n v = From n
 key_of (suc (suc (suc (suc (suc r))))) n v = Each
 
 whole : Parts → Key
-whole p = key_of p.0 p.1.0 p.1.1
+whole p = key_of p.0 p.1.1 p.1.0
 
 whole-parts : (k : Key) → whole (parts k) ≡ k
 unfolding whole parts key_of
@@ -39,11 +41,11 @@ whole-parts (Text n) = refl
 whole-parts (From n) = refl
 whole-parts Each = refl
 
-exact_names : CmpEqualImpliesEq (λ (x y : List ℕ × Cell). ordering_then (name_cmp x.0 y.0) (value_cmp x.1 y.1))
-exact_names = exact_pairs name_cmp value_cmp exact_bytes exact_values
+exact_behind : CmpEqualImpliesEq (λ (x y : Cell × List ℕ). ordering_then (value_cmp x.0 y.0) (name_cmp x.1 y.1))
+exact_behind = exact_pairs value_cmp name_cmp exact_values exact_bytes
 
-exact_parts : CmpEqualImpliesEq (λ (x y : Parts). ordering_then (nat_cmp x.0 y.0) (ordering_then (name_cmp x.1.0 y.1.0) (value_cmp x.1.1 y.1.1)))
-exact_parts = exact_pairs nat_cmp _ exact_unsigned exact_names
+exact_parts : CmpEqualImpliesEq (λ (x y : Parts). ordering_then (nat_cmp x.0 y.0) (ordering_then (value_cmp x.1.0 y.1.0) (name_cmp x.1.1 y.1.1)))
+exact_parts = exact_pairs nat_cmp _ exact_unsigned exact_behind
 
 pub exact_key : CmpEqualImpliesEq key_cmp
 unfolding parts
@@ -61,3 +63,7 @@ one_key k q e = exact_key k q (equal (key_cmp k q) e)
 -- a key is found at itself
 pub at_itself : (k : Key) → is_eq (key_cmp k k) ≡ true
 at_itself k = ap is_eq (tied_itself key_cmp_total k)
+
+-- keys that are one hash alike
+pub hash_alike : (x y : Key) → key_eq x y ≡ true → key_input x ≡ key_input y
+hash_alike x y e = ap key_input (one_key x y e)
