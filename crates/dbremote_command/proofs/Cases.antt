@@ -59,8 +59,8 @@ module _ (old new : Outside) (told : IsTrue old.site.observable) (stays : Stays 
   script_holds : (name : List ℕ) (now : Outside) (result : Result ℕ SessionFault) → now.site ≡ new.site → RanOn name old now result → P new.site
   script_holds name now result same ran =
       subst P same
-      (holds.script ran.is.publisher ran.is.es ran.view ran.view' ran.opened now.site old.output now.output ran.statements result (subst (λ (s : Seen). Stays old.site s) (sym same) stays)
-      (ran.is.untouched.moments told) ran.is.no_mail (ran.is.database told) ran.ran)
+      (holds.script (ran.is.history told).publisher (ran.is.history told).es ran.view ran.view' ran.opened now.site old.output now.output ran.statements result (subst (λ (s : Seen). Stays old.site s) (sym same) stays)
+      (ran.is.untouched.moments told) ran.is.no_mail (ran.is.history told).database ran.ran)
 
   sql_stopped : (name : List ℕ) (now : Outside) (fault : Fault) → now.site ≡ new.site → DiskStays old.site new.site → Stopped name old now fault → P new.site
   sql_stopped name now fault same quiet (inl before) = untouched_holds now.site same before.untouched (subst (λ (s : Seen). DiskStays old.site s) (sym same) quiet)
@@ -75,8 +75,8 @@ module _ (old new : Outside) (told : IsTrue old.site.observable) (stays : Stays 
   agent_holds : (name mail : List ℕ) (options : Options) (now : Outside) (result : Result ℕ AgentFault) → now.site ≡ new.site → AgentRan name mail options old now result → P new.site
   agent_holds name mail options now result same ran =
       subst P same
-      (holds.agent ran.is.publisher ran.is.es options ran.view ran.view' ran.opened now.site old.output now.output result (subst (λ (s : Seen). Stays old.site s) (sym same) stays)
-      (ran.is.untouched.moments told) ran.is.no_mail (ran.is.database told) ran.ran)
+      (holds.agent (ran.is.history told).publisher (ran.is.history told).es options ran.view ran.view' ran.opened now.site old.output now.output result (subst (λ (s : Seen). Stays old.site s) (sym same) stays)
+      (ran.is.untouched.moments told) ran.is.no_mail (ran.is.history told).database ran.ran)
 
   agent_stopped : (name mail : List ℕ) (options : Options) (now : Outside) (fault : Fault) → now.site ≡ new.site → AgentStopped name mail options old now fault → P new.site
   agent_stopped name mail options now fault same (unopened why is none) = untouched_holds now.site same none.untouched none.no_mail
@@ -101,7 +101,7 @@ module _ (old new : Outside) (told : IsTrue old.site.observable) where
       → CallsInOrder old.site new.site
   ran_calls name mail options now result same ran =
       subst (λ (s : Seen). CallsInOrder old.site s) same
-      (agent_order ran.is.publisher ran.is.es options ran.view ran.view' old.site ran.opened now.site old.output now.output result told ran.is.no_mail (ran.is.database told) ran.ran)
+      (agent_order (ran.is.history told).publisher (ran.is.history told).es options ran.view ran.view' old.site ran.opened now.site old.output now.output result told ran.is.no_mail (ran.is.history told).database ran.ran)
 
   stopped_calls : (name mail : List ℕ) (options : Options) (now : Outside) (fault : Fault) → now.site ≡ new.site → AgentStopped name mail options old now fault → CallsInOrder old.site new.site
   stopped_calls name mail options now fault same (unopened why is none) = subst (λ (s : Seen). CallsInOrder old.site s) same (quiet_order old.site now.site none.no_mail)
@@ -124,8 +124,8 @@ module _ (old new : Outside) (told : IsTrue old.site.observable) where
   order_done (Show name) status ran well = quiet_done old.site new.site ran.no_mail
   order_done (Agent name mail options) status ran well = elim ran.ended [
     | inl done ↦
-        agent_done done.ran.is.publisher done.ran.is.es options done.ran.view done.ran.view' old.site done.ran.opened new.site old.output new.output done.count told done.ran.is.no_mail
-        (done.ran.is.database told) done.ran.ran
+        agent_done (done.ran.is.history told).publisher (done.ran.is.history told).es options done.ran.view done.ran.view' old.site done.ran.opened new.site old.output new.output done.count told done.ran.is.no_mail
+        (done.ran.is.history told).database done.ran.ran
     | inr by ↦ elim well [
       | inl zero_is ↦ absurd (told_never_zero by.fault by.between new.output status by.line zero_is)
       | inr one_is ↦ absurd (told_never_one by.fault by.between new.output status by.line one_is)

@@ -93,8 +93,9 @@ whole_caught_up view before publisher es options lines old new receives stood no
 
 ran_caught_up : (name mail : List ℕ) (options : Options) (old new : Outside) (count : ℕ) → IsTrue old.site.observable → IsTrue options.receive → AgentRan name mail options old new (Ok count) → HasCaughtUp options old new
 ran_caught_up name mail options old new count told receives on =
-    whole_caught_up on.view' on.opened on.is.publisher on.is.es options on.ran.lines old new receives (on.is.stood told) on.is.no_mail.mail
-    (on.ran.did (on.is.no_mail.observable ∙ told) on.is.publisher on.is.es (on.is.database told))
+    let history = on.is.history told in
+    whole_caught_up on.view' on.opened history.publisher history.es options on.ran.lines old new receives history.stood on.is.no_mail.mail
+    (on.ran.did (on.is.no_mail.observable ∙ told) history.publisher history.es history.database)
 
 agent_caught_up : (name mail : List ℕ) (options : Options) (old new : Outside) (status : ℕ) → RanAgentOrder name mail options old new status → CatchesUp (Agent name mail options) old new status
 agent_caught_up name mail options old new status ran told receives low = elim ran.ended [

@@ -63,11 +63,12 @@ module _ (name mail : List ℕ) (before now : Seen) (view : View) (attaches : At
         attached = attached_still name mail before now attaches;
         steady = steady;
         no_mail = attaches.stays;
-        publisher = there.publisher;
-        es = there.es;
-        is = there.is.is;
-        stood = λ told. record { base = view.log.base; stands = there.is.held.stands };
-        database = λ told. database_still there.publisher there.es told there.is;
+        history = λ told. record {
+          publisher = there.publisher;
+          es = there.es;
+          stood = record { base = view.log.base; stands = there.is.held.stands };
+          database = database_still there.publisher there.es told there.is;
+        };
         untouched = untouched_still name mail true before now attaches;
       }
 

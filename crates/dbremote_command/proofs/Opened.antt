@@ -3,7 +3,7 @@ use Rattle.std.proofs.Common.{◌≡◌, Bool, true, false, List, [], ◌∷◌,
 use Rattle.std.specs.Prelude.{IsTrue, Result, map}
 use Rattle.sr_ast.specs.declared.stmt.Stmt.{Stmt}
 use Rattle.sr_book.specs.Entries.{Name}
-use Rattle.sr_database.specs.Databases.{IsOf, IsOfSome, IsDatabase, HasDatabase}
+use Rattle.sr_database.specs.Databases.{HasDatabase}
 use Rattle.sr_database_files.specs.Fresh.{IsNoneOrNew, IsThere}
 use Rattle.sr_database.specs.Views.{View}
 use Rattle.sr_database_history.specs.Recorded.{Recorded}
@@ -23,7 +23,7 @@ use Rattle.sr_database_meaning.proofs.Going.{told_attaches}
 use Rattle.dbremote_command.specs.Inner.Attaching.{Attaches}
 use Rattle.dbremote_command.specs.Making.{IsGuarded, IsMade}
 use Rattle.dbremote_command.specs.Outside.{IsAttached, IsAttachTried}
-use Rattle.dbremote_command.specs.Running.{IsUntouched, IsOpened}
+use Rattle.dbremote_command.specs.Running.{HasHistory, IsUntouched, IsOpened}
 
 -- ---- attaching
 
@@ -148,35 +148,26 @@ untouched_on name mail before middle now attaches same rests = record {
   moments = λ told. images_on name mail before middle now told attaches (rests (told_on before middle attaches.stays told));
 }
 
--- the history of a value, which is also that of its site where it tells
-record HasHistory (told : Bool) (view : View) (seen : Seen) : Type 0 where
-  pub publisher : Name
-  pub es : List Recorded
-  pub is : IsOf view publisher es
-  pub database : IsTrue told → IsDatabase view publisher es seen
-
-history_of : (told : Bool) (view : View) (seen : Seen) → IsOfSome view → (IsTrue told → HasDatabase view seen) → HasHistory told view seen
-history_of true view seen some has = let there = has refl in record { publisher = there.publisher; es = there.es; is = there.is.is; database = λ told. there.is }
-history_of false view seen some has = record { publisher = some.publisher; es = some.es; is = some.is; database = λ told. cc }
+-- the history of a value that was opened on the files that stood before
+history_of : (before now : Seen) (view : View) → now.files ≡ before.files → HasDatabase view now → HasHistory view before now
+history_of before now view same has =
+    record {
+      publisher = has.publisher;
+      es = has.es;
+      stood = record { base = view.log.base; stands = subst (λ (f : Files). StandsFor has.publisher has.es view.log.base f) same has.is.held.stands };
+      database = has.is;
+    }
 
 pub opened : (name mail : List ℕ) (before middle now : Seen) (view : View) → Attaches name mail true before middle → middle.disk_faults ≡ before.disk_faults → DiskStays middle now → AttachesStay middle now → now.disk_faults ≡ middle.disk_faults
-    → (IsTrue middle.observable → now.files ≡ middle.files) → (IsTrue middle.observable → RestsThroughout (IsImage middle) middle now) → IsOfSome view → (IsTrue middle.observable → HasDatabase view now)
+    → (IsTrue middle.observable → now.files ≡ middle.files) → (IsTrue middle.observable → RestsThroughout (IsImage middle) middle now) → (IsTrue middle.observable → HasDatabase view now)
     → IsOpened name mail view before now
-opened name mail before middle now view attaches steady stays alone still same rests some has =
+opened name mail before middle now view attaches steady stays alone still same rests has =
     let told_there : IsTrue before.observable → IsTrue middle.observable = told_on before middle attaches.stays in
-    let history = history_of middle.observable view now some has in
     record {
       attached = attached_on name mail before middle now attaches stays alone;
       steady = still ∙ steady;
       no_mail = disk_stays_on before middle now attaches.stays stays;
-      publisher = history.publisher;
-      es = history.es;
-      is = history.is;
-      stood = λ told. record {
-        base = view.log.base;
-        stands = subst (λ (f : Files). StandsFor history.publisher history.es view.log.base f) (same (told_there told) ∙ attaches.files told) (history.database (told_there told)).held.stands;
-      };
-      database = λ told. history.database (told_there told);
+      history = λ told. history_of before now view (same (told_there told) ∙ attaches.files told) (has (told_there told));
       untouched = untouched_on name mail before middle now attaches same rests;
     }
 

@@ -5,7 +5,7 @@ use Rattle.sr_ast.specs.declared.stmt.Stmt.{Stmt}
 use Rattle.sr_base.specs.Refusals.{IsNotUtf8}
 use Rattle.sr_base.specs.declared.refusals.NotUtf8.TheVariants as utf8
 use Rattle.sr_book.specs.Entries.{Name}
-use Rattle.sr_database.specs.Databases.{IsDatabase, IsOf}
+use Rattle.sr_database.specs.Databases.{IsDatabase}
 use Rattle.sr_database.specs.Views.{View}
 use Rattle.sr_database_files.specs.declared.fault.DatabaseFault.{DatabaseFault}
 use Rattle.sr_database_files.specs.declared.fault.DatabaseFault.TheVariants as store
@@ -31,16 +31,20 @@ pub record IsUntouched (before now : Seen) : Type 0 where
   pub files : IsTrue before.observable → now.files ≡ before.files
   pub moments : IsTrue before.observable → RestsThroughout (IsImage before) before now
 
--- a database was opened: it is that of the history for which the files of this name stand, and every crash leaves it. The mail was left alone
+-- the value is the database of a history for which the files stood before
+pub record HasHistory (view : View) (before now : Seen) : Type 0 where
+  pub publisher : Name
+  pub es : List Recorded
+  pub stood : StandsAs publisher es before.files
+  pub database : IsDatabase view publisher es now
+
+-- a database was opened: where its files tell, it is that of a history for which the files of this name stand, and every crash leaves it. The mail was left
+-- alone
 pub record IsOpened (name mail : List ℕ) (view : View) (before now : Seen) : Type 0 where
   pub attached : IsAttached name mail before now
   pub steady : now.disk_faults ≡ before.disk_faults
   pub no_mail : DiskStays before now
-  pub publisher : Name
-  pub es : List Recorded
-  pub is : IsOf view publisher es
-  pub stood : IsTrue before.observable → StandsAs publisher es before.files
-  pub database : IsTrue before.observable → IsDatabase view publisher es now
+  pub history : IsTrue before.observable → HasHistory view before now
   pub untouched : IsUntouched before now
 
 -- the source held a script, and this is it

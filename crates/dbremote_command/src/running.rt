@@ -90,11 +90,7 @@ fn open_anew<S: Site>(
         Ok(()) => {
             let opened = Database::open(alloc, site);
             match opened {
-                Ok(database) => {
-                    let usable = database.usable();
-                    prove!(usable);
-                    Ok(database)
-                }
+                Ok(database) => Ok(database),
                 Err(fault) => Err(fault),
             }
         }

@@ -12,7 +12,7 @@ use Rattle.sr_database_history.proofs.Kept.{stored_holds}
 use Rattle.sr_database_history.specs.Folds.{State, state_of}
 use Rattle.sr_database_history.specs.Inner.Laws.{Holds}
 use Rattle.sr_database_history.specs.Recorded.{Recorded, entry_of}
-use Rattle.sr_database_meaning.proofs.Standing.{one_history}
+use Rattle.sr_database_meaning.proofs.Alike.{whole}
 use Rattle.sr_database_meaning.specs.Standing.{StandsAs}
 use Rattle.sr_exec_fits.specs.Rows.{IsRow}
 use Rattle.sr_logform.specs.Rules.{AreDistinct}
@@ -155,7 +155,7 @@ module _ (w : World Recorded) (demo_site : DemoSite) (good : IsGoodWorld w) (hol
 state_same : (name : Name) (es : List Recorded) (files : Files) (entries : List LogEntry) (state : State) → StandsAs name es files → summaries.Holds files entries state
     → (state ≡ state_of name es) × (entries ≡ map entry_of es)
 state_same name es files entries state stands holds =
-    let one = one_history holds.publisher name holds.es es holds.stands.base stands.base files holds.stands.stands stands.stands in
+    let one = whole holds.publisher name holds.es es stands.base files holds.stands stands.stands in
     (holds.state_is ∙ ap (λ (p : Name). state_of p holds.es) one.0 ∙ ap (state_of name) one.1, holds.entries_are ∙ ap (map entry_of) one.1)
 
 below_nowhere : (w : World Recorded) (demo_site : DemoSite) (demo_sites : DemoSites) (entries : List LogEntry) (above : State) (part : Part) → IsGoodWorld w → HasDemoHistories w demo_sites

@@ -1,10 +1,11 @@
 -- The entries of a log, as they are read.
-use Rattle.std.proofs.Common.{◌≡◌, ◌≤◌, ◌<◌, ◌∙◌, ℕ, List, [], ◌∷◌, ◌++◌, map, Some, None, arith, rules, refl, sym, ap, subst, append_assoc}
+use Rattle.std.proofs.Common.{◌≡◌, ◌≤◌, ◌<◌, ◌∙◌, ℕ, List, [], ◌∷◌, ◌++◌, map, Some, None, arith, refl, sym, ap, subst, append_assoc}
 use Rattle.std.proofs.lemmas.List.{append-nil, map-append}
 use Rattle.sr_base.specs.declared.offset.Offset.{Offset}
 use Rattle.sr_book.specs.Entries.{Name}
-use Rattle.sr_database.proofs.Based.{base_is_first, base_within}
-use Rattle.sr_database.specs.Databases.{IsDatabase, IsOfSome}
+use Rattle.sr_database.proofs.Based.{base_is_first}
+use Rattle.sr_database.specs.Databases.{IsDatabase}
+use Rattle.sr_database.specs.Inner.Sound.{IsSound}
 use Rattle.sr_database.specs.Inner.Entries.{IsEntryAfter, IsNext}
 use Rattle.sr_database.specs.Views.{View}
 use Rattle.sr_database_history.specs.Folds.{end_of}
@@ -68,5 +69,5 @@ all_read view entries after first before way read publisher es is =
     let none = read publisher half.done half.left stood half.at in
     half.read ∙ ap (λ (rs : List Recorded). map entry_of rs) (sym (half.all ∙ (ap (λ (rs : List Recorded). half.done ++ rs) none ∙ append-nil half.done)))
 
-pub order : (view : View) → IsOfSome view → view.log.base ≤ view.log.end
-order view some = omega (arith, base_within view.log.base view.base_catalog some.publisher some.es some.is.based, some.is.end)
+pub order : (view : View) → IsSound view → view.log.base ≤ view.log.end
+order view sound = sound.order.order

@@ -2,6 +2,7 @@
 use Rattle.std.proofs.Common.{◌≡◌, ◌∙◌, ℕ, List, [], map, Option, refl, sym, ap, subst}
 use Rattle.sr_base.specs.declared.value.Value.{Value as Cell}
 use Rattle.sr_book.specs.Entries.{Name}
+use Rattle.sr_database.proofs.Based.{base_is_first}
 use Rattle.sr_database.specs.Databases.{HasDatabase, IsDatabase}
 use Rattle.sr_database.specs.Views.{View}
 use Rattle.sr_database.specs.Inner.Views.{present}
@@ -32,7 +33,8 @@ held : (view : View) (seen : Seen) (files : Files) (has : HasDatabase view seen)
 held view seen files has none same = record {
   publisher = has.publisher;
   es = has.es;
-  stands = record { base = view.log.base; stands = subst (λ (fs : Files). StandsFor has.publisher has.es view.log.base fs) same has.is.held.stands };
+  stands = subst (λ (base : ℕ). StandsFor has.publisher has.es base files) (base_is_first view.log.base view.base_catalog has.publisher has.es has.is.is.based)
+      (subst (λ (fs : Files). StandsFor has.publisher has.es view.log.base fs) same has.is.held.stands);
   entries_are = refl;
   state_is = state_held view has.publisher has.es seen has.is none;
 }

@@ -13,7 +13,7 @@ use Rattle.sr_rows.specs.Walks.{table_rows}
 use Rattle.sr_catalog_schema.specs.Catalogs.{Lists}
 use Rattle.sr_site.specs.Files.{Files}
 use Rattle.sr_catalog_schema.specs.declared.table.Table.{Table}
-use Rattle.sr_database_meaning.specs.Standing.{StandsAs}
+use Rattle.sr_database_meaning.specs.Standing.{StandsFor}
 use Rattle.dbremote_demo_draws.specs.Agreement.{differing}
 use Rattle.dbremote_demo_draws.specs.Counts.{no_outcomes, outcomes_of, own_keys}
 use Rattle.dbremote_demo_draws.specs.Names.{text_of}
@@ -27,11 +27,11 @@ use Rattle.dbremote_demo_draws.specs.declared.summary.Summary.{Summary}
 abbrev pub cust : List ℕ
 cust = codes "cust"
 
--- files stand for a history, whose entries these are and which comes to this state
+-- files whose log begins at 0 stand for a history, whose entries these are and which comes to this state
 pub record Holds (files : Files) (entries : List Entry) (state : State) : Type 0 where
   pub publisher : Name
   pub es : List Recorded
-  pub stands : StandsAs publisher es files
+  pub stands : StandsFor publisher es 0 files
   pub entries_are : entries ≡ map entry_of es
   pub state_is : state ≡ state_of publisher es
 

@@ -5,7 +5,7 @@ use Rattle.std.specs.List.{AllByRecursion}
 use Rattle.sr_book.specs.Entries.{Name}
 use Rattle.sr_database.specs.Views.{View}
 use Rattle.sr_receive_gather.specs.Bags.{Has}
-use Rattle.sr_receive.specs.Entering.{IsReady}
+use Rattle.sr_receive.specs.Inner.Ready.{IsReady}
 use Rattle.sr_receive_gather.specs.MessageFiles.{FetchedFile, message_files_from}
 use Rattle.sr_receive_gather.specs.declared.bag.PartnerMail.{PartnerMail}
 use Rattle.sr_site.specs.Inner.Growing.{stays_on}
@@ -80,9 +80,8 @@ pub ready_then : (old : View) (before seen : Seen) (bag : List PartnerMail) (cou
 ready_then old before seen bag count written between ready gathered = record {
   usable = ready.usable;
   idle = ready.idle;
-  some = ready.some;
+  sound = ready.sound;
   stands = λ told.
       let told' : IsTrue before.observable = subst (λ (b : Bool). IsTrue b) gathered.site.observable told in
-      let has = ready.stands told' in
-      record { publisher = has.publisher; es = has.es; is = (gathered.did told' has.publisher has.es has.is).database };
+      gathered.in_force told' (ready.stands told');
 }

@@ -7,12 +7,14 @@ use Rattle.sr_book.specs.Entries.{Name}
 use Rattle.sr_book.specs.declared.book.Book.{Book}
 use Rattle.sr_mail_cut.specs.Bodies.{first_long}
 use Rattle.sr_database.specs.Books.{book_in}
-use Rattle.sr_database.specs.Databases.{IsDatabase, IsOfSome}
+use Rattle.sr_database.specs.Databases.{IsDatabase}
+use Rattle.sr_database.specs.Inner.Sound.{IsSound}
+use Rattle.sr_database.proofs.Advancing.{advanced_sound}
 use Rattle.sr_database.specs.Views.{View}
 use Rattle.sr_database_history.specs.Folds.{books_of}
 use Rattle.sr_database_history.specs.Recorded.{Recorded}
 use Rattle.sr_msgform.specs.declared.message.Message.{Message}
-use Rattle.sr_receive.specs.Entering.{IsReady}
+use Rattle.sr_receive.specs.Inner.Ready.{IsReady}
 use Rattle.sr_catalog_schema.specs.Catalogs.{Lists}
 use Rattle.sr_send.specs.PutFiles.{address_in, put_files, noted_put_files, sent_note}
 use Rattle.sr_send.specs.Passes.{AreAll, HasSent, PutAndBegan, PutInPart, SendCause, sent_end, waiting}
@@ -51,26 +53,20 @@ pub ready_then : (old new : View) (before now : Seen) (user : Name) (limit : ℕ
 ready_then old new before now user limit ask sent ready has = record {
   usable = has.usable;
   idle = has.pending;
-  some = elim (is_put sent.put) [
-    | inl none ↦ subst (λ (v : View). IsOfSome v) (sym (has.idle none)) ready.some
-    | inr some ↦ record {
-      publisher = ready.some.publisher;
-      es = ready.some.es ++ sent_note user (book_in old.books user) sent.end sent.put ∷ [];
-      is = has.value some ready.some.publisher ready.some.es ready.some.is;
-    }
+  sound = elim (is_put sent.put) [
+    | inl none ↦ subst (λ (v : View). IsSound v) (sym (has.idle none)) ready.sound
+    | inr some ↦ advanced_sound old new (sent_note user (book_in old.books user) sent.end sent.put ∷ []) (has.value some) ready.sound
   ];
   stands = λ told.
       let first : IsTrue before.observable = subst (λ (b : Bool). IsTrue b) has.stays.observable told in
-      let there = ready.stands first in
-      record { publisher = there.publisher; es = _; is = (has.passed first there.publisher there.es there.is).database };
+      has.in_force first (ready.stands first);
 }
 
 pub keeps_then : (old new : View) (before now : Seen) (user : Name) (limit : ℕ) (ask : Bool) (sent : Sent) → IsReady old before → HasSent old new before now user limit ask sent → KeepsPartners old new
 keeps_then old new before now user limit ask sent ready has = elim (is_put sent.put) [
   | inl none ↦ subst (λ (v : View). KeepsPartners old v) (sym (has.idle none)) (keeps_same old)
   | inr some ↦
-      keeps_partners old new ready.some.publisher ready.some.es (sent_note user (book_in old.books user) sent.end sent.put ∷ []) ready.some.is
-      (has.value some ready.some.publisher ready.some.es ready.some.is)
+      keeps_partners old new (sent_note user (book_in old.books user) sent.end sent.put ∷ []) (has.value some)
 ]
 
 -- ---- a pass, said of the history

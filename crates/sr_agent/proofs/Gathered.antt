@@ -4,10 +4,11 @@ use Rattle.std.specs.Prelude.{IsTrue}
 use Rattle.std.specs.List.{AllByRecursion}
 use Rattle.sr_book.specs.Entries.{Name}
 use Rattle.sr_database.specs.Databases.{IsDatabase}
+use Rattle.sr_database.specs.InForce.{HasLogInForce}
 use Rattle.sr_database.specs.Views.{View}
 use Rattle.sr_database_history.specs.Folds.{state_of, end_of}
 use Rattle.sr_database_history.specs.Recorded.{Recorded}
-use Rattle.sr_receive.specs.Entering.{IsReady}
+use Rattle.sr_receive.specs.Inner.Ready.{IsReady}
 use Rattle.sr_receive_gather.specs.Gathers.{GatherCause, HappenedInPart, IsLastFetch, IsMailFault, fetches}
 use Rattle.sr_receive_gather.specs.Inner.Gathers.{HasGathered}
 use Rattle.sr_receive_gather.specs.MessageFiles.{FetchedFile, IsFetchedFile, fetch_of, gone, junk, stranger, message_file}
@@ -32,7 +33,7 @@ use Rattle.sr_agent.specs.Inner.Steps.{told_in_part, gathered_in_part, Gathering
 use Rattle.sr_agent.specs.declared.fault.AgentFault.{AgentFault}
 use Rattle.sr_agent.specs.declared.fault.AgentFault.TheVariants.{Memory}
 use Rattle.sr_agent.proofs.Ending.{EndedBy, ended_by, untold_is}
-use Rattle.sr_agent.proofs.Joints.{of_mail, still_there, went_quiet}
+use Rattle.sr_agent.proofs.Joints.{in_force_there, of_mail, still_there, went_quiet}
 use Rattle.sr_agent.proofs.Values.{publisher_is}
 
 -- ---- listings and fetches change nothing but the mail
@@ -138,6 +139,14 @@ with_history view before now publisher es reports bag told database gathered =
       lines_are = ap (λ (rs : List Report). report_lines rs) gathered.reports_are;
     }
 
+in_force_gathered : (view : View) (before now : Seen) (reports : List Report) (bag : List PartnerMail) → HasGathered view.catalog view.log.end before now [] reports bag → IsTrue before.observable → HasLogInForce view before → HasLogInForce view now
+in_force_gathered view before now reports bag gathered told has =
+    let all = gathered.happened told in
+    let address = view.catalog.publisher in
+    let first = listed address all.folder (Ok gathered.listing) in
+    let quietly = behind_step first before.happened (fetches address gathered.fetched_files (first ∷ before.happened)) tt (fetches_quietly address gathered.fetched_files (first ∷ before.happened)) in
+    in_force_there view before now quietly.more gathered.stays (all.happened ∙ quietly.is) quietly.quiet has
+
 all_gathered : (view : View) (before now : Seen) (publisher : Name) (es : List Recorded) (reports : List Report) (bag : List PartnerMail) → IsTrue before.observable → IsDatabase view publisher es before
     → HasGathered view.catalog view.log.end before now [] reports bag → HasGatheredAll view before now publisher es bag (report_lines reports)
 all_gathered view before now publisher es reports bag told database gathered =
@@ -187,6 +196,7 @@ gathered_done view before now written written' none shown reports outcome (Ok an
       count_is = subst (λ (rs : List Report). answer.1 ≡ alarms (report_lines rs)) is told.count_is;
       site = all.stays;
       steady = all.steady;
+      in_force = in_force_gathered view before now reports answer.0 all;
       did = λ tells publisher es database. all_gathered view before now publisher es reports answer.0 tells database all;
     }
 

@@ -4,6 +4,9 @@ use Rattle.std.specs.Prelude.{IsTrue}
 use Rattle.std.proofs.lemmas.List.{append-nil}
 use Rattle.sr_book.specs.Entries.{Name}
 use Rattle.sr_database.specs.Databases.{IsDatabase, IsHeld}
+use Rattle.sr_database.specs.InForce.{HasLogInForce}
+use Rattle.sr_database.proofs.Advancing.{none_advanced}
+use Rattle.sr_database.proofs.InForce.{in_force_still}
 use Rattle.sr_database.specs.Views.{View}
 use Rattle.sr_database_history.specs.Recorded.{Recorded}
 use Rattle.sr_receive.specs.Passes.{AreSteady as IsSteady}
@@ -56,6 +59,11 @@ still_there view publisher es before now more stays happened are database = reco
   held = subst (λ (files : Files). IsHeld view publisher es files) (sym stays.files) database.held;
   settled = λ image there. database.settled image (quiet_before before now more image stays.first happened are there);
 }
+
+-- and its log is in force as it was
+pub in_force_there : (view : View) (before now : Seen) (more : List Happening) → MailStays before now → now.happened ≡ more ++ before.happened → AreQuiet more → HasLogInForce view before → HasLogInForce view now
+in_force_there view before now more stays happened are has =
+    in_force_still view view before now refl (none_advanced view) stays.files (λ image there. quiet_before before now more image stays.first happened are there) has
 
 pub went_quiet : (view : View) (publisher : Name) (es : List Recorded) (before now : Seen) (more : List Happening) → MailStays before now → now.happened ≡ more ++ before.happened → AreQuiet more
     → IsDatabase view publisher es before → Went before now publisher es []

@@ -2,20 +2,22 @@
 use Rattle.std.proofs.Common.{◌≡◌, ◌+◌, ◌-◌, ◌^◌, ◌≤◌, ℕ, Bool, true, false, List, [], ◌∷◌, ◌++◌, length, map, take, drop, Result, Ok, Err, IfErr, IfOk, refl, sym, ap, subst, inl, inr, ◌∙◌, arith, append_assoc, length-append, if◌then◌else◌}
 use Rattle.std.specs.Prelude.{IsTrue, min}
 use Rattle.std.proofs.Math.Seq.{drop-append_seam, take-append_seam}
-use Rattle.sr_book.specs.Books.{new_book, with_note}
+use Rattle.sr_book.specs.Books.{with_note}
 use Rattle.sr_book.specs.Entries.{Name, booked}
 use Rattle.sr_book.specs.declared.book.Book.{Book}
 use Rattle.sr_book.specs.declared.note.Note.TheVariants.{Raised}
 use Rattle.sr_book.proofs.Folds.{book_from-append, same_name}
 use Rattle.sr_database.specs.Books.{book_in}
 use Rattle.sr_database.specs.Databases.{IsDatabase}
+use Rattle.sr_book.specs.Histories.{book_from}
 use Rattle.sr_database.specs.Views.{View}
-use Rattle.sr_database_history.specs.Folds.{books_of, sees}
+use Rattle.sr_database_history.specs.Folds.{sees}
 use Rattle.sr_database_history.specs.Recorded.{Recorded, note}
 use Rattle.sr_mail.specs.declared.window.Window.{Window}
 use Rattle.sr_receive.specs.Acts.{entries_of}
 use Rattle.sr_receive_gather.specs.Bags.{Has, filed_of}
-use Rattle.sr_receive.specs.Entering.{IsReady, Reached}
+use Rattle.sr_receive.specs.Entering.{Reached}
+use Rattle.sr_receive.specs.Inner.Ready.{IsReady}
 use Rattle.sr_receive_gather.specs.Greatest.{has_gap, raises}
 use Rattle.sr_receive_gather.specs.MessageFiles.{FetchedFile, MessageFile, message_files_from}
 use Rattle.sr_receive.specs.Passes.{PassedInPart, act_reports, begun_by, first_notes, gap_report, note_entries}
@@ -79,14 +81,13 @@ raised_one n = omega arith
 raised_book : (user : Name) (book : Book) → 1 ≤ (booked user book (sees (note user Raised))).rereceive_count
 raised_book user book = subst (λ (b : Bool). 1 ≤ (if b then with_note book Raised else book).rereceive_count) (sym (same_name user)) (raised_one book.rereceive_count)
 
-raised_last : (user : Name) (es : List Recorded) → 1 ≤ (books_of user (es ++ note user Raised ∷ [])).rereceive_count
-raised_last user es = subst (λ (b : Book). 1 ≤ b.rereceive_count) (sym (book_from-append sees user new_book es (note user Raised ∷ []))) (raised_book user (books_of user es))
+raised_last : (user : Name) (book : Book) (rs : List Recorded) → 1 ≤ (book_from sees user book (rs ++ note user Raised ∷ [])).rereceive_count
+raised_last user book rs = subst (λ (b : Book). 1 ≤ b.rereceive_count) (sym (book_from-append sees user book rs (note user Raised ∷ []))) (raised_book user (book_from sees user book rs))
 
-raised_where : (user : Name) (es first acts : List Recorded) (gap ask : Bool) → ask ≡ gap → IsTrue ask → 1 ≤ (books_of user (es ++ (first ++ (acts ++ note_entries user (if gap then Raised ∷ [] else []))))).rereceive_count
-raised_where user es first acts true ask is asked =
-    subst (λ (rs : List Recorded). 1 ≤ (books_of user rs).rereceive_count)
-    (append_assoc es (first ++ acts) (note user Raised ∷ []) ∙ ap (λ (rs : List Recorded). es ++ rs) (append_assoc first acts (note user Raised ∷ []))) (raised_last user (es ++ (first ++ acts)))
-raised_where user es first acts false ask is asked =
+raised_where : (user : Name) (book : Book) (first acts : List Recorded) (gap ask : Bool) → ask ≡ gap → IsTrue ask → 1 ≤ (book_from sees user book (first ++ (acts ++ note_entries user (if gap then Raised ∷ [] else [])))).rereceive_count
+raised_where user book first acts true ask is asked =
+    subst (λ (rs : List Recorded). 1 ≤ (book_from sees user book rs).rereceive_count) (append_assoc first acts (note user Raised ∷ [])) (raised_last user book (first ++ acts))
+raised_where user book first acts false ask is asked =
     let no : false ≡ true = subst (λ (b : Bool). IsTrue b) is asked in
     absurd (cc)
 
@@ -97,11 +98,10 @@ may_of : (old new : View) (before middle : Seen) (user : Name) (message_files : 
 may_of old new before middle user message_files dropped_windows dropped_windows' reports answer ready is_user keeps passed =
     let first = first_notes user (book_in old.books user) (map filed_of message_files) in
     let acts = entries_of user passed.acts in
-    let es = ready.some.es in
-    let is = passed.reached.value passed.reached.state.0 ready.some.publisher es ready.some.is in
+    let on = passed.reached.value passed.reached.state.0 in
     record {
       user = keeps.users user is_user;
-      raised = λ asked. subst (λ (b : Book). 1 ≤ b.rereceive_count) (sym (is.books user)) (raised_where user es first acts (has_gap answer.end.0 (map filed_of message_files)) answer.ask passed.ask asked);
+      raised = λ asked. subst (λ (b : Book). 1 ≤ b.rereceive_count) (sym (on.books user)) (raised_where user (book_in old.books user) first acts (has_gap answer.end.0 (map filed_of message_files)) answer.ask passed.ask asked);
     }
 
 pub took : (old new : View) (before middle : Seen) (user : Name) (bag bag' : List PartnerMail) (reports prefix behind : List Report) (answer : Received) → IsReady old before → IsUser old user → HasSome bag user
@@ -110,7 +110,7 @@ took old new before middle user bag bag' reports prefix behind answer ready is_u
     let here = received.passed some.message_files some.dropped_windows some.has in
     let passed = here.2 in
     let entries = first_notes user (book_in old.books user) (map filed_of some.message_files) ++ (entries_of user passed.acts ++ note_entries user (raises answer.end.0 (map filed_of some.message_files))) in
-    let keeps = keeps_partners old new ready.some.publisher ready.some.es entries ready.some.is (passed.reached.value passed.reached.state.0 ready.some.publisher ready.some.es ready.some.is) in
+    let keeps = keeps_partners old new entries (passed.reached.value passed.reached.state.0) in
     record {
       ready = ready_then old new before middle entries ready passed.reached;
       keeps = keeps;

@@ -8,7 +8,7 @@ use Rattle.sr_book.specs.Entries.{Name}
 use Rattle.sr_database.specs.Databases.{IsDatabase}
 use Rattle.sr_database.specs.Views.{View}
 use Rattle.sr_database_history.specs.Recorded.{Recorded}
-use Rattle.sr_receive.specs.Entering.{IsReady}
+use Rattle.sr_receive.specs.Inner.Ready.{IsReady}
 use Rattle.sr_receive_gather.specs.MessageFiles.{FetchedFile}
 use Rattle.sr_receive_gather.specs.declared.bag.PartnerMail.{PartnerMail}
 use Rattle.sr_site.specs.Inner.Growing.{stays_on}

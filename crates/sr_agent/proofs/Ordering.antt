@@ -9,7 +9,7 @@ use Rattle.sr_database.specs.Views.{View}
 use Rattle.sr_database_history.specs.Recorded.{Recorded}
 use Rattle.sr_receive_gather.specs.Bags.{IsPartnerMailWhere}
 use Rattle.sr_receive_gather.specs.Inner.Bags.{OthersStay}
-use Rattle.sr_receive.specs.Entering.{IsReady}
+use Rattle.sr_receive.specs.Inner.Ready.{IsReady}
 use Rattle.sr_receive_gather.specs.MessageFiles.{FetchedFile, message_files_from}
 use Rattle.sr_receive.specs.Passes.{AreSteady as IsSteady}
 use Rattle.sr_receive_gather.specs.declared.bag.PartnerMail.{PartnerMail}

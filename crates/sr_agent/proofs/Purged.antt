@@ -9,7 +9,7 @@ use Rattle.sr_database.specs.Views.{View}
 use Rattle.sr_database_history.specs.Folds.{books_of}
 use Rattle.sr_database_history.specs.Recorded.{Recorded}
 use Rattle.sr_receive_gather.specs.Bags.{partner_mail_of}
-use Rattle.sr_receive.specs.Entering.{IsReady}
+use Rattle.sr_receive.specs.Inner.Ready.{IsReady}
 use Rattle.sr_receive_gather.specs.MessageFiles.{FetchedFile}
 use Rattle.sr_receive.specs.Passes.{AreSteady as IsSteady}
 use Rattle.sr_receive.specs.Inner.Passes.{IsDeviceFault}
@@ -39,7 +39,7 @@ use Rattle.sr_agent.specs.declared.progress.Progress.{Progress}
 use Rattle.sr_agent.proofs.Ending.{ended_told}
 use Rattle.sr_agent.proofs.DoneWith.{IsDone, some_removed}
 use Rattle.sr_agent.proofs.Gathered.{IsQuietly}
-use Rattle.sr_agent.proofs.Joints.{of_mail, steady_on, still_there, told_then, went_quiet, went_still}
+use Rattle.sr_agent.proofs.Joints.{in_force_there, of_mail, steady_on, told_then, went_quiet, went_still}
 use Rattle.sr_agent.proofs.MessageFiles.{turned_untold}
 use Rattle.sr_agent.proofs.Removing.{are_removed}
 use Rattle.sr_agent.proofs.Turning.{purge_removes, took_and_purged, took_quietly}
@@ -56,12 +56,11 @@ ready_removed : (new : View) (middle now : Seen) (address : Name) (book : Book) 
 ready_removed new middle now address book files count ready purged = record {
   usable = ready.usable;
   idle = ready.idle;
-  some = ready.some;
+  sound = ready.sound;
   stands = λ told.
       let then = subst (λ (b : Bool). IsTrue b) purged.stays.observable told in
-      let had = ready.stands then in
       let removal = are_removed address (dead book files) middle.happened in
-      record { publisher = had.publisher; es = had.es; is = still_there new had.publisher had.es middle now removal.more purged.stays (purged.removed_are then ∙ removal.is) removal.quiet had.is };
+      in_force_there new middle now removal.more purged.stays (purged.removed_are then ∙ removal.is) removal.quiet (ready.stands then);
 }
 
 ready_where : (purge : Bool) (new : View) (user : Name) (bag' : List PartnerMail) (middle now : Seen) → IsReady new middle → PurgedWhere purge new user bag' middle now → IsReady new now

@@ -7,7 +7,7 @@ use Rattle.sr_database.specs.Databases.{IsDatabase}
 use Rattle.sr_database.specs.Views.{View}
 use Rattle.sr_database_history.specs.Folds.{state_of}
 use Rattle.sr_database_history.specs.Recorded.{Recorded}
-use Rattle.sr_receive.specs.Entering.{IsReady}
+use Rattle.sr_receive.specs.Inner.Ready.{IsReady}
 use Rattle.sr_receive.specs.Passes.{AreSteady as IsSteady}
 use Rattle.sr_site.specs.Causes.{Stays}
 use Rattle.sr_receive_gather.specs.declared.bag.PartnerMail.{PartnerMail}

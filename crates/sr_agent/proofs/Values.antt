@@ -1,24 +1,23 @@
 -- What a database's value comes to, as its history has it, and what of it stays so.
-use Rattle.std.proofs.Common.{◌≡◌, ◌≤◌, Bool, true, false, List, [], ◌∷◌, ◌++◌, bytes_eq, refl, sym, ap, subst, ◌∙◌, arith, if◌then◌else◌}
-use Rattle.std.specs.Prelude.{IsSome, max, nat_lt}
+use Rattle.std.proofs.Common.{◌≡◌, ◌≤◌, Bool, true, false, List, [], ◌∷◌, bytes_eq, refl, sym, ap, subst, ◌∙◌, arith, if◌then◌else◌}
+use Rattle.std.specs.Prelude.{max, nat_lt}
 use Rattle.sr_ast.specs.declared.stmt.Stmt.{Stmt}
-use Rattle.sr_book.specs.Books.{new_book, with_note, with_taken}
+use Rattle.sr_book.specs.Books.{with_note, with_taken}
 use Rattle.sr_book.specs.Entries.{Name, Sight, booked, from_user, local, noted}
 use Rattle.sr_book.specs.Histories.{book_from}
 use Rattle.sr_book.specs.declared.book.Book.{Book}
 use Rattle.sr_book.specs.declared.note.Note.{Note}
 use Rattle.sr_book.specs.declared.note.Note.TheVariants.{Confirmed, Asked, Raised, Sent}
-use Rattle.sr_book.proofs.Folds.{book_from-append}
 use Rattle.sr_database.specs.Books.{book_in}
 use Rattle.sr_database.specs.Databases.{IsOf}
-use Rattle.sr_database.specs.Views.{View}
+use Rattle.sr_database.specs.Advances.{Advances}
+use Rattle.sr_database.specs.Views.{View, committed}
 use Rattle.sr_database.proofs.Commits.{committed_is}
 use Rattle.sr_database_history.specs.Fitting.{Knows}
-use Rattle.sr_database_history.specs.Folds.{State, after_done, after_dones, after_pass, books_of, fresh, next, sees, state_from, state_of, with_changes, with_statement}
+use Rattle.sr_database_history.specs.Folds.{State, after_done, after_dones, after_pass, fresh, next, sees, state_from, state_of, with_changes, with_statement}
 use Rattle.sr_database_history.specs.Recorded.{Done}
 use Rattle.sr_database_history.specs.Recorded.{Recorded, own, taken, ddl, sync, pass, note}
 use Rattle.sr_database_history.proofs.Granted.{known_from}
-use Rattle.sr_database_history.proofs.Joined.{state_from-append}
 use Rattle.sr_logform.specs.declared.change.Change.{Change}
 use Rattle.sr_logform.specs.declared.op.Op.{Op}
 use Rattle.sr_receive.specs.Acts.{PassState}
@@ -26,8 +25,6 @@ use Rattle.sr_receive.specs.Passes.{first_of}
 use Rattle.sr_receive.proofs.Acted.{done_publisher}
 use Rattle.sr_catalog_script_laws.proofs.ReplayNexts.{publisher_next}
 use Rattle.sr_catalog_schema.specs.Catalogs.{Lists}
-use Rattle.sr_catalog_schema.specs.Members.{user_name}
-use Rattle.sr_catalog_schema.specs.Names.{named}
 use Rattle.sr_agent.specs.Inner.Steps.{IsUser, KeepsPartners}
 use Rattle.sr_agent.specs.PartnerPasses.{beginning}
 
@@ -96,27 +93,20 @@ raised_from : (user : Name) (book : Book) (rs : List Recorded) → 1 ≤ book.re
 raised_from user book [] one = one
 raised_from user book (r ∷ rs) one = raised_from user (booked user book (sees r)) rs (raised_booked user book (sees r) one)
 
-known_along : (old new : View) (publisher : Name) (es added : List Recorded) (user : Name) → IsOf old publisher es → IsOf new publisher (es ++ added) → IsUser old user → IsUser new user
-known_along old new publisher es added user was is user_is =
-    let there : Knows (state_of publisher es) user = subst (λ (c : Lists). IsSome (named user_name user c.users)) was.catalog user_is in
-    let later : Knows (state_of publisher (es ++ added)) user =
-    subst (λ (s : State). Knows s user) (sym (state_from-append (fresh publisher) es added)) (known_from (state_of publisher es) added user there) in
-    subst (λ (c : Lists). IsSome (named user_name user c.users)) (sym is.catalog) later
+known_along : (old new : View) (added : List Recorded) (user : Name) → Advances old new added → IsUser old user → IsUser new user
+known_along old new added user on is_user =
+    let later : Knows (state_from (committed old) added) user = known_from (committed old) added user is_user in
+    subst (λ (s : State). Knows s user) (sym on.state) later
 
-raised_along : (old new : View) (publisher : Name) (es added : List Recorded) (user : Name) → IsOf old publisher es → IsOf new publisher (es ++ added) → 1 ≤ (book_in old.books user).rereceive_count
-    → 1 ≤ (book_in new.books user).rereceive_count
-raised_along old new publisher es added user was is one =
-    let there : 1 ≤ (books_of user es).rereceive_count = subst (λ (b : Book). 1 ≤ b.rereceive_count) (was.books user) one in
-    let later : 1 ≤ (books_of user (es ++ added)).rereceive_count =
-    subst (λ (b : Book). 1 ≤ b.rereceive_count) (sym (book_from-append sees user new_book es added)) (raised_from user (books_of user es) added there) in
-    subst (λ (b : Book). 1 ≤ b.rereceive_count) (sym (is.books user)) later
+raised_along : (old new : View) (added : List Recorded) (user : Name) → Advances old new added → 1 ≤ (book_in old.books user).rereceive_count → 1 ≤ (book_in new.books user).rereceive_count
+raised_along old new added user on one = subst (λ (b : Book). 1 ≤ b.rereceive_count) (sym (on.books user)) (raised_from user (book_in old.books user) added one)
 
-pub keeps_partners : (old new : View) (publisher : Name) (es added : List Recorded) → IsOf old publisher es → IsOf new publisher (es ++ added) → KeepsPartners old new
-keeps_partners old new publisher es added was is = record {
-  users = λ user user_is. known_along old new publisher es added user was is user_is;
+pub keeps_partners : (old new : View) (added : List Recorded) → Advances old new added → KeepsPartners old new
+keeps_partners old new added on = record {
+  users = λ user user_is. known_along old new added user on user_is;
   asks = λ p may. record {
-    user = known_along old new publisher es added p.user was is may.user;
-    raised = λ ask. raised_along old new publisher es added p.user was is (may.raised ask);
+    user = known_along old new added p.user on may.user;
+    raised = λ ask. raised_along old new added p.user on (may.raised ask);
   };
 }
 

@@ -2,7 +2,7 @@
 
 ghost use Rattle.std.specs.Prelude.{◌≡◌, Bool, true, IfErr, IfOk, OnOk};
 ghost use Rattle.std.specs.List.{AllByRecursion};
-ghost use Rattle.sr_receive.specs.Entering.{IsReady};
+ghost use Rattle.sr_receive.specs.Inner.Ready.{IsReady};
 ghost use Rattle.sr_agent.specs.Inner.PartnerMails.{HasSome, HoldsSome, ToldMessageFiles};
 ghost use Rattle.sr_agent.specs.Inner.Steps.{GatheringBroken, GatheringCause, GatheringDone, IsUser, KeepsPartners, OutcomeCause, PurgeEnd, PurgedWhere, ReceivingBroken, ReceivingDone, ToldGathering, ToldPartnerPass, PartnerPassBroken, PartnerPassDone, PartnerPassesBroken, PartnerPassesDone};
 

@@ -3,8 +3,8 @@
 ghost use Rattle.std.specs.Prelude.{◌≡◌, ◌||◌, [], true, false, map, IsTrue, IfErr, IfOk, OnOk};
 ghost use Rattle.std.specs.List.{AllByRecursion};
 ghost use Rattle.sr_mail_cut.specs.Inner.Cuts.{IsMessageLimit};
-ghost use Rattle.sr_database.specs.Databases.{HasDatabase};
-ghost use Rattle.sr_receive.specs.Entering.{IsReady};
+ghost use Rattle.sr_database.specs.InForce.{HasLogInForce};
+ghost use Rattle.sr_receive.specs.Inner.Ready.{IsReady};
 ghost use Rattle.sr_catalog_schema.specs.Members.{user_name};
 ghost use Rattle.sr_agent.specs.Agents.{RanAgent};
 ghost use Rattle.sr_agent.specs.Inner.Steps.{IsUser, MadePass, MaySendTo, PassBroken, SendingBroken, SendingDone};
@@ -49,7 +49,7 @@ pub fn agent<S: Site, O: Sink>(
     requires some_pass { IsTrue (options.now.receive || options.now.send) }
     requires no_restart { options.now.restart ≡ false }
     requires limit { IsMessageLimit options.now.length }
-    requires stands { IsTrue (S.seen site.old).observable → HasDatabase db.old (S.seen site.old) }
+    requires stands { IsTrue (S.seen site.old).observable → HasLogInForce db.old (S.seen site.old) }
     ensures ran { RanAgent db.old db.new (S.seen site.old) (S.seen site.new) (O.seen sink.old) (O.seen sink.new) options.now result }
 {
     let _now = now;

@@ -3,7 +3,7 @@
 ghost use Rattle.std.specs.Prelude.{IfErr, OnOk};
 ghost use Rattle.std.specs.List.{AllByRecursion};
 ghost use Rattle.sr_mail_cut.specs.Inner.Cuts.{IsMessageLimit};
-ghost use Rattle.sr_receive.specs.Entering.{IsReady};
+ghost use Rattle.sr_receive.specs.Inner.Ready.{IsReady};
 ghost use Rattle.sr_send.specs.Inner.Surveys.{Surveys};
 ghost use Rattle.sr_agent.specs.Inner.Steps.{DeliveriesBroken, DeliveriesDone, DeliveryBroken, DeliveryDone, KeepsPartners, MaySendTo};
 

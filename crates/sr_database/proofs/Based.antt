@@ -1,5 +1,5 @@
 -- Where the log of a database begins.
-use Rattle.std.proofs.Common.{◌≡◌, ℕ, ◌≤◌, List, [], ◌∷◌, ◌++◌, refl, sym, ◌∙◌, ap, arith, append_assoc}
+use Rattle.std.proofs.Common.{◌≡◌, ℕ, ◌≤◌, List, [], ◌++◌, refl, sym, ◌∙◌, ap, arith}
 use Rattle.sr_book.specs.Entries.{Name}
 use Rattle.sr_database_history.specs.Folds.{state_of, end_of}
 use Rattle.sr_database_history.specs.Recorded.{Recorded}
@@ -37,19 +37,6 @@ module _ (base : ℕ) (catalog : Lists) (publisher : Name) (es : List Recorded) 
   -- it is in front of the end
   pub base_within : base ≤ end_of es
   base_within = omega (arith, is.base_is, ap end_of is.parts, end_from-append 0 is.done is.left, le-end_from (end_of is.done) is.left)
-
-  -- with one entry more
-  pub based_more : (new_base : ℕ) (new_catalog : Lists) (r : Recorded) → new_base ≡ base → new_catalog ≡ catalog → IsBased new_base new_catalog publisher (es ++ r ∷ [])
-  based_more new_base new_catalog r same also =
-      record {
-        done = is.done;
-        left = is.left ++ r ∷ [];
-        parts = ap (λ (l : List Recorded). l ++ r ∷ []) is.parts ∙ append_assoc is.done is.left (r ∷ []);
-        base_is = same ∙ is.base_is;
-        catalog_is = also ∙ is.catalog_is;
-        snapshot = is.snapshot;
-        is_snapshot = is.is_snapshot;
-      }
 
 -- two values of histories begin at one base
 pub same_base : (old new : View) (publisher : Name) (es fs : List Recorded) → IsOf old publisher es → IsOf new publisher fs → new.log.base ≡ old.log.base

@@ -27,11 +27,12 @@ use Rattle.sr_site.specs.Files.{Files}
 use Rattle.sr_site.specs.Images.{MayLeave}
 use Rattle.sr_site.specs.Seen.{Seen}
 use Rattle.sr_site.specs.declared.file.File.{File}
+use Rattle.sr_survey_brief.specs.Inner.Briefs.{IsBrief}
 use Rattle.sr_database_meaning.specs.Standing.{body, bodies}
 use Rattle.sr_database_meaning.proofs.Standing.{ends_are, size_is}
 use Rattle.sr_database.specs.Inner.Causes.{EntryCause, IsRecordFault}
 use Rattle.sr_database.specs.Databases.{IsHeld, IsDatabase}
-use Rattle.sr_database.specs.Inner.Entries.{IsNext, IsNextEnd, IsNextKind, BeginWith, Parts, BehindCause}
+use Rattle.sr_database.specs.Inner.Entries.{IsNext, IsNextBrief, IsNextEnd, IsNextKind, BeginWith, Parts, BehindCause}
 use Rattle.sr_database_files.specs.Inner.Openings.{IsLogFault}
 use Rattle.sr_database.specs.Inner.Replays.{SpellingCause}
 use Rattle.sr_database.specs.Views.{View}
@@ -109,6 +110,20 @@ module _ (log : Log) (publisher : Name) (done : List Recorded) (front : List (Li
         end_is = omega (arith, n.end_is, n.count_is, at, end_from-more 0 done r, size_is r, ap length heads);
       }
 
+  -- the same in brief
+  pub next_in_brief : (left : List Recorded) (files : Files) (buffer : List ℕ) (end : Offset) (count : ℕ) (brief : Entry) → Stored publisher (done ++ left) → IsNextBody log after front (bodies left) files buffer end.0 count
+      → ((entry : Entry) → IsEntry entry → take count buffer ≡ entry_spelling entry → IsBrief entry brief) → IsNextBrief done left end brief
+  next_in_brief [] files buffer end count brief stored n read = let is = n.left_is in absurd cc
+  next_in_brief (r ∷ rs) files buffer end count brief stored n read =
+      let heads : body r ≡ n.body = let is = n.left_is in cc in
+      let spelled : IsEntry (entry_of r) = first_fits r rs stored in
+      let same : take count buffer ≡ entry_spelling (entry_of r) = n.prefix ∙ sym heads in
+      record {
+        entry = entry_of r;
+        is = next_is (r ∷ rs) files buffer end count (entry_of r) stored n spelled same;
+        brief_is = read (entry_of r) spelled same;
+      }
+
   -- its end
   end_of_next : (left : List Recorded) (body_is : List ℕ) (rest : List (List ℕ)) (end : Offset) → bodies left ≡ body_is ∷ rest → end.0 ≡ after + 5 + length body_is → IsNextEnd done left end
   end_of_next [] body_is rest end left_is ends = absurd cc
@@ -173,6 +188,12 @@ module _ (log : Log) (after : ℕ) (before now : Seen) where
     read_behind step entry spelled read publisher done left parts =
         next_is log publisher done parts.front after parts.after_is left files buffer end count entry parts.stored
         (subst (λ (o : Option (Offset × ℕ)). StepOf log after before files buffer o) found_is step parts.front (bodies left) parts.at) spelled (sym body_is ∙ read)
+
+    pub brief_behind : StepOf log after before files buffer found → (brief : Entry) → ((entry : Entry) → IsEntry entry → body ≡ entry_spelling entry → IsBrief entry brief) → (publisher : Name) (done left : List Recorded)
+        → Parts log after publisher done left before → IsNextBrief done left end brief
+    brief_behind step brief read publisher done left parts =
+        next_in_brief log publisher done parts.front after parts.after_is left files buffer end count brief parts.stored
+        (subst (λ (o : Option (Offset × ℕ)). StepOf log after before files buffer o) found_is step parts.front (bodies left) parts.at) (λ entry spelled same. read entry spelled (body_is ∙ same))
 
     pub kind_read : StepOf log after before files buffer found → (kind : ℕ) → BeginWith body kind → (publisher : Name) (done left : List Recorded) → Parts log after publisher done left before → IsNextKind done left end kind
     kind_read step kind begins publisher done left parts =

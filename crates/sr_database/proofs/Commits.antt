@@ -4,12 +4,11 @@ use Rattle.std.proofs.lemmas.Bool.{cases_lt}
 use Rattle.std.proofs.lemmas.List.{map-append}
 use Rattle.sr_book.specs.Entries.{Name}
 use Rattle.sr_exec_dml.specs.FittingChanges.{ChangesFit}
-use Rattle.sr_database_fold.specs.Inner.Readings.{state_in}
 use Rattle.sr_database_history.specs.Fitting.{FitsState, Fits, Stored}
-use Rattle.sr_database_history.specs.Folds.{State, fresh, next, state_of, size, end_of}
-use Rattle.sr_database_history.specs.Recorded.{Recorded, own, taken, ddl, sync, pass, note, entry_of}
-use Rattle.sr_database_history.proofs.Joined.{state_from-more, end_from-append, end_from-more}
-use Rattle.sr_logfile.specs.Inner.Logs.{IsLog, HasLog}
+use Rattle.sr_database_history.specs.Folds.{State, state_of, size, end_of}
+use Rattle.sr_database_history.specs.Recorded.{Recorded, own, taken, ddl, sync, pass, note}
+use Rattle.sr_database_history.proofs.Joined.{end_from-append}
+use Rattle.sr_logfile.specs.Inner.Logs.{IsLog}
 use Rattle.sr_logfile.specs.Inner.Moments.{HasOrLacks, IsAsRead}
 use Rattle.sr_logfile.specs.Records.{HasHeader, Spells, body_of}
 use Rattle.sr_logfile.proofs.Uniqueness.{has_header}
@@ -18,7 +17,6 @@ use Rattle.sr_logform.specs.Limits.{longest_body}
 use Rattle.sr_logform.specs.declared.change.Change.{Change}
 use Rattle.sr_logform.specs.declared.entry.Entry.{Entry}
 use Rattle.sr_rows.specs.Marks.{Marked}
-use Rattle.sr_rows.specs.Inner.Steps.{at_mark}
 use Rattle.sr_catalog_schema.specs.Catalogs.{Lists}
 use Rattle.sr_site.specs.Causes.{DiskStays}
 use Rattle.sr_site.specs.Files.{Files, bytes_of, OthersStay}
@@ -28,7 +26,7 @@ use Rattle.sr_site.specs.declared.file.File.{File}
 use Rattle.sr_site.specs.declared.file.File.TheVariants.{Root}
 use Rattle.sr_database_meaning.specs.Generations.{Generation, even, odd, snapshot_of, log_of, generation_in}
 use Rattle.sr_database_meaning.specs.Bases.{HasBase, KeepsBase}
-use Rattle.sr_database_meaning.specs.Events.{commit, puts_in}
+use Rattle.sr_database_meaning.specs.Events.{commit}
 use Rattle.sr_database_meaning.specs.Standing.{body, bodies, IsSnapshotAt, StandsAs}
 use Rattle.sr_database_meaning.specs.Traces.{Went}
 use Rattle.sr_database_meaning.proofs.Going.{one_commit}
@@ -36,15 +34,13 @@ use Rattle.sr_database_meaning.proofs.Resting.{rests_end}
 use Rattle.sr_database_meaning.proofs.Standing.{one_generation, one_part, same_base, size_is, ends_are}
 use Rattle.sr_database.specs.Commits.{framed_size, HasRoom}
 use Rattle.sr_database.specs.Inner.Commits.{MayFollow, CanCommit}
-use Rattle.sr_database.specs.Databases.{ArePending, IsOf, IsHeld, IsDatabase, HasDatabase}
-use Rattle.sr_database.specs.Inner.Taking.{at_last_commit, BooksFollow}
+use Rattle.sr_database.specs.Databases.{ArePending, IsOf, IsHeld, IsDatabase}
+use Rattle.sr_database.specs.Inner.Taking.{at_last_commit}
 use Rattle.sr_database_files.specs.Inner.Touching.{HappenedOn}
 use Rattle.sr_database.specs.Views.{View, committed}
 use Rattle.sr_database_files.proofs.Attaches.{on_attaches}
 use Rattle.sr_database_files.proofs.Beside.{IsBeside, beside, rests_each, rests_both}
 use Rattle.sr_database_files.proofs.Images.{stays}
-use Rattle.sr_database.proofs.Based.{based_more}
-use Rattle.sr_database.proofs.Values.{none_pending, stored_more, books_more}
 
 -- ---- the state
 
@@ -65,14 +61,14 @@ pub not_below : (m n : ℕ) → ¬ (m < n) → n ≤ m
 not_below m n never = elim (cases_lt m n) [ inl below ↦ absurd (never below) | inr le ↦ le ]
 
 -- an entry that may follow, keeps its limits and has room may stand there
-pub may_stand : (view : View) (publisher : Name) (es : List Recorded) (entry : Entry) (r : Recorded) → IsOf view publisher es → CanCommit view entry r → IsEntry entry → HasRoom view.log entry → Fits (state_of publisher es) (end_of es) r
-may_stand view publisher es entry r is can spelled room =
+pub may_stand_on : (view : View) (entry : Entry) (r : Recorded) → ArePending view.catalog view.rows view.pending → CanCommit view entry r → IsEntry entry → HasRoom view.log entry → Fits (committed view) view.log.end r
+may_stand_on view entry r are can spelled room =
     record {
       meant = can.meant;
       spelled = subst IsEntry (sym can.is) spelled;
       short = subst (λ (e : Entry). size r ≤ longest_body e) (sym can.is) short;
       ends = ends;
-      state = subst (λ (s : State). FitsState s r) (committed_is view publisher es is) (fits_state view.catalog view.rows view.pending r is.pending can.follows);
+      state = fits_state view.catalog view.rows view.pending r are can.follows;
     }
   where
     sized : size r ≡ length (entry_spelling entry)
@@ -81,27 +77,12 @@ may_stand view publisher es entry r is can spelled room =
     short : size r ≤ longest_body entry
     short = omega (arith, sized, not_below (longest_body entry) (length (entry_spelling entry)) room.short)
 
-    ends : end_of es + (size r + 5) ≤ 2 ^ 62
-    ends = omega (arith, sized, is.end, not_below (2 ^ 62) (view.log.end + framed_size entry) (λ past. room.room (inr past)))
+    ends : view.log.end + (size r + 5) ≤ 2 ^ 62
+    ends = omega (arith, sized, not_below (2 ^ 62) (view.log.end + framed_size entry) (λ past. room.room (inr past)))
 
--- the value behind it
-pub one_more : (old new : View) (publisher : Name) (es : List Recorded) (entry : Entry) (r : Recorded) → IsOf old publisher es → Fits (state_of publisher es) (end_of es) r → entry_of r ≡ entry
-    → state_in new.catalog new.rows ≡ next (committed old) r → BooksFollow old.books new.books r → new.rows ≡ at_mark new.rows.rows → new.pending ≡ [] → new.base_catalog ≡ old.base_catalog
-    → new.log.base ≡ old.log.base → new.log.end ≡ old.log.end + framed_size entry → IsOf new publisher (es ++ r ∷ [])
-one_more old new publisher es entry r is fits same state books marked none base_catalog base end =
-    record {
-      name = is.name;
-      stored = stored_more publisher es r is.stored fits;
-      catalog = ap (λ (s : State). s.catalog) states;
-      marked = ap (λ (m : Marked). m.marked) marked ∙ ap (λ (s : State). s.rows) states;
-      pending = subst (λ (p : List Change). ArePending new.catalog new.rows p) (sym none) (subst (λ (m : Marked). ArePending new.catalog m []) (sym marked) (none_pending new.catalog new.rows.rows));
-      books = books_more es r old.books new.books is.books books;
-      based = based_more old.log.base old.base_catalog publisher es is.based new.log.base new.base_catalog r base base_catalog;
-      end = omega (arith, end, is.end, end_from-more 0 es r, size_is r, ap (λ (e : Entry). length (entry_spelling e)) same);
-    }
-  where
-    states : state_in new.catalog new.rows ≡ state_of publisher (es ++ r ∷ [])
-    states = state ∙ ap (λ (s : State). next s r) (committed_is old publisher es is) ∙ sym (state_from-more (fresh publisher) es r)
+pub may_stand : (view : View) (publisher : Name) (es : List Recorded) (entry : Entry) (r : Recorded) → IsOf view publisher es → CanCommit view entry r → IsEntry entry → HasRoom view.log entry → Fits (state_of publisher es) (end_of es) r
+may_stand view publisher es entry r is can spelled room =
+    subst (λ (s : State). Fits s (end_of es) r) (committed_is view publisher es is) (subst (λ (n : ℕ). Fits (committed view) n r) is.end (may_stand_on view entry r is.pending can spelled room))
 
 -- ---- the files
 
@@ -128,9 +109,6 @@ log_settled view publisher es seen database image there =
     let h = database.settled image there in
     subst (λ (l : List Recorded). IsLog view.log (bodies l) image) (one_log view publisher es image seen.files h database.held).1 (log_of_held view publisher es image database.is h)
 
-pub has_log : (view : View) (seen : Seen) → HasDatabase view seen → HasLog view.log seen.files
-has_log view seen has = record { bodies = bodies has.is.held.stands.left; is_log = log_of_held view has.publisher has.es seen.files has.is.is has.is.held }
-
 -- what is spelled has a header, and the files have one base
 headed : (base : ℕ) (all : List (List ℕ)) (bytes : List ℕ) → Spells base all bytes → HasHeader base bytes
 headed base all bytes s = has_header base all s.gate bytes s.rest (let le : base ≤ 2 ^ 62 = let limit = s.limit in omega arith in le) s.bytes_are
@@ -143,11 +121,11 @@ based_once view publisher es files base h has =
     (headed view.log.base (bodies s.left) (bytes_of files (log_of s.generation)) s.log)
 
 -- a log is no root and no snapshot
-log_not_root : (g : Generation) → log_of g ≢ Root
+pub log_not_root : (g : Generation) → log_of g ≢ Root
 log_not_root even e = cc
 log_not_root odd e = cc
 
-log_not_snapshot : (g : Generation) → log_of g ≢ snapshot_of g
+pub log_not_snapshot : (g : Generation) → log_of g ≢ snapshot_of g
 log_not_snapshot even e = cc
 log_not_snapshot odd e = cc
 

@@ -1,9 +1,12 @@
 pub mod Added
+pub mod Advancing
+pub mod Alike
 pub mod Based
 pub mod Behind
 pub mod Booked
 pub mod Commits
 pub mod Followed
+pub mod InForce
 pub mod Looped
 pub mod Opened
 pub mod Pending
@@ -13,3 +16,4 @@ pub mod Reopened
 pub mod Rooms
 pub mod Settled
 pub mod Values
+pub mod Without

@@ -11,7 +11,8 @@ use Rattle.sr_database_meaning.specs.Damage.{LacksEntry, IsDamagedRoot, IsDamage
 use Rattle.sr_database_meaning.specs.Generations.{Generation, even, odd, snapshot_of, log_of, generation_in}
 use Rattle.sr_database_meaning.specs.Snapshots.{fresh_snapshot}
 use Rattle.sr_database_meaning.specs.Standing.{StandsFor}
-use Rattle.sr_database_meaning.proofs.Standing.{fresh_there, one_history, missing_is_none, damaged_is_none}
+use Rattle.sr_database_meaning.proofs.Standing.{fresh_there, missing_is_none, damaged_is_none}
+use Rattle.sr_database.proofs.Alike.{database_of}
 use Rattle.sr_database.specs.Inner.Causes.{OpenCause, IsDiskOrMemory}
 use Rattle.sr_database.specs.Databases.{IsDatabase, HasDatabase}
 use Rattle.sr_database_files.specs.Inner.Openings.{SyncedAlone, IsFreshOf, AreInForce, RootCause, BlamesRoot, BlamesSnapshot, SnapshotCause, IsWholeLog, IsDamagedShape, ShapeCause, LogCause}
@@ -173,9 +174,7 @@ not_refused before now publisher es base told stands Memory cause = tt
 -- the database that was opened is that of the history
 pub its_history : (db : View) (before now : Seen) (publisher : Name) (es : List Recorded) (base : ℕ) → now.files ≡ before.files → StandsFor publisher es base before.files → HasDatabase db now → IsDatabase db publisher es now
 its_history db before now publisher es base same stands has =
-    let held : StandsFor has.publisher has.es db.log.base before.files = subst (λ (f : Files). StandsFor has.publisher has.es db.log.base f) same has.is.held.stands in
-    let one = one_history has.publisher publisher has.es es db.log.base base before.files held stands in
-    subst (λ (l : List Recorded). IsDatabase db publisher l now) one.1 (subst (λ (p : Name). IsDatabase db p has.es now) one.0 has.is)
+    database_of db has.publisher publisher has.es es base before.files now has.is same stands
 
 pub stood : (before now : Seen) (publisher : Name) (es : List Recorded) (base : ℕ) (result : Result View DatabaseFault) → IsTrue before.observable → now.files ≡ before.files → StandsFor publisher es base before.files → IfOk result (λ db. HasDatabase db now) → IfErr result (OpenCause before now)
     → IfOk result (λ db. IsDatabase db publisher es now) × IfErr result IsDiskOrMemory

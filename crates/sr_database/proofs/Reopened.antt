@@ -10,6 +10,7 @@ use Rattle.sr_database_history.specs.Recorded.{Recorded}
 use Rattle.sr_logfile.specs.Log.{Log}
 use Rattle.sr_logfile.specs.Inner.Moments.{IsAsRead}
 use Rattle.sr_logfile.specs.Records.{Spells}
+use Rattle.sr_logform.specs.declared.change.Change.{Change}
 use Rattle.sr_rows.specs.Marks.{Marked}
 use Rattle.sr_catalog_schema.specs.Catalogs.{Lists, nothing_but}
 use Rattle.sr_site.specs.Files.{Files, bytes_of}
@@ -22,11 +23,13 @@ use Rattle.sr_database_meaning.specs.Snapshots.{fresh_snapshot}
 use Rattle.sr_database_meaning.specs.Standing.{bodies, StandsFor}
 use Rattle.sr_database_meaning.proofs.Standing.{fresh_there}
 use Rattle.sr_database.specs.Books.{BookMap, book_in, or_new}
-use Rattle.sr_database.specs.Databases.{ArePending, IsBased, IsOf, IsOfSome, HasDatabase}
+use Rattle.sr_database.specs.Databases.{ArePending, IsBased, IsOf, HasDatabase}
 use Rattle.sr_database_files.specs.Inner.Openings.{SyncedAlone, IsFreshOf, AreInForce}
 use Rattle.sr_database.specs.Inner.Replays.{IsReplayed, IsReplayedBehind, HasReplayed, IsOpened}
+use Rattle.sr_database.specs.Inner.Sound.{IsSound}
 use Rattle.sr_database.specs.Views.{View}
 use Rattle.sr_database_files.specs.declared.fault.DatabaseFault.{DatabaseFault}
+use Rattle.sr_database.proofs.Advancing.{sound_of}
 use Rattle.sr_database.proofs.Based.{base_is_first, based_first}
 use Rattle.sr_database.proofs.Opened.{opened}
 use Rattle.sr_database_files.proofs.Quiet.{told_then, synced_then, settled_then}
@@ -61,9 +64,13 @@ replayed_is catalog base_catalog rows books log publisher es is based =
       end = is.position_is;
     }
 
-pub replayed_some : (catalog base_catalog : Lists) (rows : Marked) (books : BookMap) (log : Log) → IsReplayedBehind catalog rows books log.end log.base base_catalog
-    → IsOfSome (record { catalog = catalog; base_catalog = base_catalog; rows = rows; pending = []; books = books; log = log })
-replayed_some catalog base_catalog rows books log is = record { publisher = is.publisher; es = is.es; is = replayed_is catalog base_catalog rows books log is.publisher is.es is.is is.based }
+pub replayed_sound : (catalog base_catalog : Lists) (rows : Marked) (pending : List Change) (books : BookMap) (log : Log) (base end : ℕ) → pending ≡ [] → log.base ≡ base → log.end ≡ end
+    → IsReplayedBehind catalog rows books end base base_catalog → IsSound (record { catalog = catalog; base_catalog = base_catalog; rows = rows; pending = pending; books = books; log = log })
+replayed_sound catalog base_catalog rows pending books log base end none base_is end_is behind =
+    let is : IsReplayedBehind catalog rows books log.end log.base base_catalog =
+    subst (λ (n : ℕ). IsReplayedBehind catalog rows books n log.base base_catalog) (sym end_is) (subst (λ (n : ℕ). IsReplayedBehind catalog rows books end n base_catalog) (sym base_is) behind) in
+    subst (λ (p : List Change). IsSound (record { catalog = catalog; base_catalog = base_catalog; rows = rows; pending = p; books = books; log = log })) (sym none)
+    (sound_of (record { catalog = catalog; base_catalog = base_catalog; rows = rows; pending = []; books = books; log = log }) is.publisher is.es (replayed_is catalog base_catalog rows books log is.publisher is.es is.is is.based))
 
 pub replayed_behind : (catalog : Lists) (rows : Marked) (books : BookMap) (position : ℕ) (base_catalog : Lists) (publisher : Name) (log : File) (seen : Seen) → HasReplayed catalog rows books position publisher [] log seen → base_catalog ≡ nothing_but publisher → IsReplayedBehind catalog rows books position 0 base_catalog
 replayed_behind catalog rows books position base_catalog publisher log seen has base = record { publisher = publisher; es = has.left; is = has.is; based = based_first 0 base_catalog publisher has.left refl base }

@@ -1,4 +1,4 @@
--- A value of a history: what holds of it, with pending changes and without.
+-- A sound value: what holds of it, with pending changes and without.
 use Rattle.std.proofs.Common.{◌≡◌, List, [], ◌∷◌, ◌++◌, refl, sym, ◌∙◌, ap, subst}
 use Rattle.std.specs.List.{AllByRecursion}
 use Rattle.sr_book.specs.Entries.{Name, booked}
@@ -13,16 +13,15 @@ use Rattle.sr_database_history.specs.Folds.{fresh, state_of, end_of, sees, books
 use Rattle.sr_database_history.specs.Inner.Laws.{Holds}
 use Rattle.sr_database_history.specs.Recorded.{Recorded}
 use Rattle.sr_database_history.proofs.Joined.{stored_from-more}
-use Rattle.sr_database_history.proofs.Kept.{stored_holds}
 use Rattle.sr_logform.specs.Outcomes.{IsShortChange}
-use Rattle.sr_catalog_script_laws.specs.Inner.Scripts.{IsSpelled}
 use Rattle.sr_logform.specs.declared.change.Change.{Change}
 use Rattle.sr_rows.specs.Marks.{Marked, RowMap}
 use Rattle.sr_rows.specs.Inner.Steps.{at_mark}
 use Rattle.sr_catalog_schema.specs.Catalogs.{Lists}
 use Rattle.sr_database.specs.Books.{BookMap, book_in}
-use Rattle.sr_database.specs.Databases.{ArePending, IsOf, IsOfSome}
+use Rattle.sr_database.specs.Databases.{ArePending}
 use Rattle.sr_database.specs.Inner.Taking.{BooksFollow}
+use Rattle.sr_database.specs.Inner.Sound.{IsSound}
 use Rattle.sr_database.specs.Views.{View}
 use Rattle.sr_database.specs.Inner.Views.{present}
 
@@ -61,19 +60,12 @@ none_pending catalog rows = record { fit = tt; short = tt; rows_are = refl; stil
 
 -- ---- what holds
 
-pub fit_committed : (view : View) (publisher : Name) (es : List Recorded) → IsOf view publisher es → RowsFit view.catalog view.rows.marked
-fit_committed view publisher es is =
-    subst (λ (m : RowMap). RowsFit view.catalog m) (sym is.marked) (subst (λ (c : Lists). RowsFit c (state_of publisher es).rows) (sym is.catalog) (stored_holds publisher es is.stored).rows)
-
-pub present_holds : (view : View) (publisher : Name) (es : List Recorded) → IsOf view publisher es → Holds (present view)
-present_holds view publisher es is =
+pub sound_holds : (view : View) → IsSound view → Holds (present view)
+sound_holds view sound =
     record {
-      rows = subst (λ (m : RowMap). RowsFit view.catalog m) (sym is.pending.rows_are) (fitting_changes_keep view.catalog view.rows.marked view.pending (fit_committed view publisher es is) is.pending.fit);
-      catalog = subst (λ (c : Lists). IsSpelled c) (sym is.catalog) (stored_holds publisher es is.stored).catalog;
+      rows = subst (λ (m : RowMap). RowsFit view.catalog m) (sym sound.pending.rows_are) (fitting_changes_keep view.catalog view.rows.marked view.pending sound.holds.rows sound.pending.fit);
+      catalog = sound.holds.catalog;
     }
-
-pub some_holds : (view : View) → IsOfSome view → Holds (present view)
-some_holds view some = present_holds view some.publisher some.es some.is
 
 -- ---- one entry more
 

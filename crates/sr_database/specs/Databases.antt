@@ -1,5 +1,5 @@
 -- Which history a database is of, as a value and on its site.
-use Rattle.std.specs.Prelude.{◌≡◌, ℕ, List, [], ◌++◌}
+use Rattle.std.specs.Prelude.{◌≡◌, ℕ, List, [], ◌∷◌, ◌++◌}
 use Rattle.std.specs.List.{AllByRecursion}
 use Rattle.sr_base.specs.Fields.{IsName}
 use Rattle.sr_book.specs.Entries.{Name}
@@ -49,12 +49,6 @@ pub record IsOf (view : View) (publisher : Name) (es : List Recorded) : Type 0 w
   pub books : (user : Name) → book_in view.books user ≡ books_of user es
   pub based : IsBased view.log.base view.base_catalog publisher es
   pub end : view.log.end ≡ end_of es
-
--- the value is that of some history
-pub record IsOfSome (view : View) : Type 0 where
-  pub publisher : Name
-  pub es : List Recorded
-  pub is : IsOf view publisher es
 
 -- the files stand for the history, and the log of the value is the one that is in force
 pub record IsHeld (view : View) (publisher : Name) (es : List Recorded) (files : Files) : Type 0 where

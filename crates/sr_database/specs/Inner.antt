@@ -3,5 +3,7 @@ pub mod Causes
 pub mod Commits
 pub mod Entries
 pub mod Replays
+pub mod Sound
 pub mod Taking
 pub mod Views
+pub mod Without

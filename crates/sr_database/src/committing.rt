@@ -13,11 +13,15 @@ ghost use Rattle.sr_site.specs.Inner.Happenings.{Made};
 ghost use Rattle.sr_site.specs.Images.{IsSettled, RestsThroughout};
 ghost use Rattle.sr_site.specs.Files.{OthersStay};
 ghost use Rattle.sr_database_meaning.specs.Events.{commit};
+ghost use Rattle.sr_database_meaning.specs.Standing.{StandsFor};
 ghost use Rattle.sr_database_meaning.specs.Traces.{Went};
 ghost use Rattle.sr_database.specs.Inner.Causes.{CommitCause, FramingCause, IsBegun};
 ghost use Rattle.sr_database.specs.Commits.{HasRoom, IsPrepared};
 ghost use Rattle.sr_database.specs.Inner.Commits.{CanCommit, CanCommitSome, FollowsAsSome};
-ghost use Rattle.sr_database.specs.Databases.{ArePending, IsOf, IsDatabase, HasDatabase};
+ghost use Rattle.sr_database.specs.Advances.{Advances};
+ghost use Rattle.sr_database.specs.Databases.{ArePending, IsDatabase};
+ghost use Rattle.sr_database.specs.Inner.Without.{WasWithout};
+ghost use Rattle.sr_database.specs.InForce.{HasLogInForce};
 ghost use Rattle.sr_database.specs.Inner.Taking.{at_last_commit, StaysAll, Takes};
 ghost use Rattle.sr_exec_dml.specs.Inner.Conditions.{RowsFit};
 ghost use Rattle.sr_database_files.specs.declared.fault.DatabaseFault.TheVariants.{Disk};
@@ -50,13 +54,16 @@ impl Database {
     ) -> Result<Offset, DatabaseFault>
         requires usable { self.old.log.usable ≡ true }
         requires entry { CanCommitSome self.old entry.now }
-        requires stands { IsTrue (S.seen site.old).observable → HasDatabase self.old (S.seen site.old) }
+        requires stands { IsTrue (S.seen site.old).observable → HasLogInForce self.old (S.seen site.old) }
         ensures offset { IfOk result (λ offset. offset.0 ≡ self.new.log.end) }
         ensures ready { OnOk result ((self.new.log.usable ≡ true) × (self.new.pending ≡ [])) }
         ensures room { OnOk result (HasRoom self.old.log entry.now) }
-        ensures value { (publisher : AName) (es : List Recorded) (r : Recorded) → IsOf self.old publisher es → CanCommit self.old entry.now r → OnOk result (IsOf self.new publisher (es ++ r ∷ [])) }
+        ensures value { (r : Recorded) → CanCommit self.old entry.now r → OnOk result (Advances self.old self.new (r ∷ [])) }
+        ensures in_force { IsTrue (S.seen site.old).observable → OnOk result (HasLogInForce self.new (S.seen site.new)) }
         ensures database { IsTrue (S.seen site.old).observable → (publisher : AName) (es : List Recorded) (r : Recorded) → IsDatabase self.old publisher es (S.seen site.old) → CanCommit self.old entry.now r
             → OnOk result (IsDatabase self.new publisher (es ++ r ∷ []) (S.seen site.new)) }
+        ensures without { IsTrue (S.seen site.old).observable → (publisher : AName) (es : List Recorded) (base : ℕ) (r : Recorded) → CanCommit self.old entry.now r
+            → OnOk result (StandsFor publisher es base (S.seen site.new).files → WasWithout self.old publisher es r (S.seen site.old)) }
         ensures went { IsTrue (S.seen site.old).observable → (publisher : AName) (es : List Recorded) (r : Recorded) → IsDatabase self.old publisher es (S.seen site.old) → CanCommit self.old entry.now r
             → IsBegun result → Went (S.seen site.old) (S.seen site.new) publisher es (commit r ∷ []) }
         ensures others { IsTrue (S.seen site.old).observable → OthersStay self.old.log.file (S.seen site.old).files (S.seen site.new).files }

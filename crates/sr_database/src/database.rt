@@ -1,16 +1,15 @@
 ghost use Rattle.std.specs.Prelude.{◌≡◌, [], ◌∷◌, ◌++◌, true, List, IfOk, OnOk, OnErr, option_map};
 ghost use Rattle.std.specs.List.{AllByRecursion};
-ghost use Rattle.sr_book.specs.Entries.{Name as AName};
 ghost use Rattle.sr_exec_dml.specs.Applying.{applied};
 ghost use Rattle.sr_exec_dml.specs.FittingChanges.{ChangesFit};
 ghost use Rattle.sr_database_history.specs.Inner.Laws.{Holds};
-ghost use Rattle.sr_database_history.specs.Recorded.{Recorded};
 ghost use Rattle.sr_logform.specs.Outcomes.{IsShortChange};
 ghost use Rattle.sr_rows.specs.Inner.Steps.{at_mark};
 ghost use Rattle.sr_catalog_schema.specs.Members.{user_name};
 ghost use Rattle.sr_catalog_schema.specs.Names.{named};
 ghost use Rattle.sr_database.specs.Books.{book_in};
-ghost use Rattle.sr_database.specs.Databases.{IsOf, IsOfSome};
+ghost use Rattle.sr_database.specs.Advances.{Advances};
+ghost use Rattle.sr_database.specs.Inner.Sound.{IsSound};
 ghost use Rattle.sr_database.specs.Inner.Views.{present};
 
 use crate::bookkeeping::Books;
@@ -53,18 +52,18 @@ impl Model for Database {
 
     ghost coded = { Prim.hlevel (codes, term_code, chain_code, coded_marked, coded_books) };
 
-    ghost use Rattle.sr_database.specs.Databases.{IsOfSome};
+    ghost use Rattle.sr_database.specs.Inner.Sound.{IsSound};
 
     ghost view = { λ d. record { catalog = d.catalog; base_catalog = d.base_catalog; rows = d.rows; pending = d.pending.items; books = d.books; log = d.log } };
 
-    ghost invariant = { λ d. IsTrue d.log.usable → IsOfSome (record { catalog = d.catalog; base_catalog = d.base_catalog; rows = d.rows; pending = d.pending.items; books = d.books; log = d.log }) };
+    ghost invariant = { λ d. IsTrue d.log.usable → IsSound (record { catalog = d.catalog; base_catalog = d.base_catalog; rows = d.rows; pending = d.pending.items; books = d.books; log = d.log }) };
 }
 
 impl Database {
-    /// Whether the value can be used: not after `commit` answered `Disk`. One that can be used is that of some history.
+    /// Whether the value can be used: not after `commit` answered `Disk`. One that can be used is sound.
     pub fn usable(&self) -> bool
         ensures usable { result ≡ self.now.log.usable }
-        ensures some { self.now.log.usable ≡ true → IsOfSome self.now }
+        ensures sound { self.now.log.usable ≡ true → IsSound self.now }
     {
         self.log.usable()
     }
@@ -141,7 +140,7 @@ impl Database {
         requires fit { ChangesFit self.old.catalog self.old.rows.rows changes.now.list }
         ensures rows { OnOk result (self.new.rows.rows ≡ applied self.old.catalog changes.now.list self.old.rows.rows) }
         ensures pending { OnOk result (self.new.pending ≡ self.old.pending ++ changes.now.list) }
-        ensures value { (publisher : AName) (es : List Recorded) → IsOf self.old publisher es → IsOf self.new publisher es }
+        ensures value { Advances self.old self.new [] }
         ensures database { OnOk result ((self.new.catalog ≡ self.old.catalog) × (self.new.log ≡ self.old.log)) }
         ensures err { OnErr result (self.new ≡ self.old) }
     {
@@ -156,7 +155,7 @@ impl Database {
         requires fit { ChangesFit self.old.catalog self.old.rows.rows changes.list }
         ensures rows { OnOk result (self.new.rows.rows ≡ applied self.old.catalog changes.list self.old.rows.rows) }
         ensures pending { OnOk result (self.new.pending ≡ self.old.pending ++ changes.list) }
-        ensures value { (publisher : AName) (es : List Recorded) → IsOf self.old publisher es → IsOf self.new publisher es }
+        ensures value { Advances self.old self.new [] }
         ensures database { OnOk result ((self.new.catalog ≡ self.old.catalog) × (self.new.log ≡ self.old.log)) }
         ensures err { OnErr result (self.new ≡ self.old) }
     {
@@ -186,7 +185,7 @@ impl Database {
     /// Takes the pending changes back. It takes no memory.
     pub fn rollback(&mut self)
         ensures back { self.new ≡ record self.old { rows = at_mark self.old.rows.marked; pending = [] } }
-        ensures value { (publisher : AName) (es : List Recorded) → IsOf self.old publisher es → IsOf self.new publisher es }
+        ensures value { Advances self.old self.new [] }
     {
         self.pending.clear();
         self.rows.undo();

@@ -6,6 +6,7 @@
 //! at each moment a crash leaves the one or the other, and after a refusal all is as it was.
 #![tactic(auto)]
 
+mod alike_laws;
 mod bookkeeping;
 mod committing;
 mod creating;
@@ -15,5 +16,6 @@ mod reading;
 mod replaying;
 mod settling;
 
+pub use alike_laws::a_database_is_of_alike_histories;
 pub use database::Database;
 pub use sr_database_files::DatabaseFault;

@@ -6,12 +6,12 @@ ghost use Rattle.sr_database_history.specs.Recorded.{Recorded};
 ghost use Rattle.sr_site.specs.Causes.{DiskStays};
 ghost use Rattle.sr_database.specs.Inner.Causes.{EntryCause, IsRecordFault};
 ghost use Rattle.sr_database.specs.Databases.{IsDatabase};
-ghost use Rattle.sr_database.specs.Inner.Entries.{IsEntryAfter, IsEndAfter, IsKindAfter, BeginWith, Parts, BehindCause};
+ghost use Rattle.sr_database.specs.Inner.Entries.{IsEntryAfter, IsBriefAfter, IsEndAfter, IsKindAfter, BeginWith, Parts, BehindCause};
 ghost use Rattle.sr_database_files.specs.declared.fault.DatabaseFault.TheVariants.{Damaged, Memory};
 ghost use Rattle.sr_database_files.specs.Inner.Openings.{ReadAlone};
 
 use crate::database::Database;
-use crate::replaying::entry_in;
+use crate::replaying::{brief_in, entry_in};
 use sr_base::Offset;
 use sr_database_files::{DatabaseFault, log_fault};
 use sr_logfile::{LogFault, LogFile, RecordFault, Step, place_in};
@@ -67,6 +67,31 @@ impl Database {
         ensures cause { IfErr result (EntryCause self.now after (S.seen site.old) (S.seen site.new)) }
     {
         entry_behind(alloc, &self.log, site, after, buffer)
+    }
+
+    /// As `entry_read`, the entry in brief: of a transaction that was taken it passes over the ops that inserted rows, in the place of each of which stands
+    /// another one that ran no statement, with the same outcome. Who has to know of an entry what it changed here, and not all that was asked for, is
+    /// spared the reading of their rows.
+    pub fn brief_read<S: Site>(
+        &self,
+        alloc: Global,
+        site: &mut S,
+        after: Offset,
+        buffer: &mut Vec<u8>,
+    ) -> Result<Option<(Offset, Entry)>, DatabaseFault>
+        requires usable { self.now.log.usable ≡ true }
+        requires after { (self.now.log.base ≤ after.0) × (after.0 ≤ self.now.log.end) }
+        ensures brief { IsTrue (S.seen site.old).observable → (publisher : AName) (done left : List Recorded) → IsDatabase self.now publisher (done ++ left) (S.seen site.old) → after.0 ≡ end_of done
+            → IfOk result (IsBriefAfter done left) }
+        ensures within { IfOk result (λ found. IfSome found (λ x. (after.0 < x.0.0) × (x.0.0 ≤ self.now.log.end))) }
+        ensures files { IsTrue (S.seen site.old).observable → (S.seen site.new).files ≡ (S.seen site.old).files }
+        ensures happened { IsTrue (S.seen site.old).observable → (S.seen site.new).happened ≡ (S.seen site.old).happened }
+        ensures database { IsTrue (S.seen site.old).observable → (publisher : AName) (es : List Recorded) → IsDatabase self.now publisher es (S.seen site.old) → IsDatabase self.now publisher es (S.seen site.new) }
+        ensures stays { DiskStays (S.seen site.old) (S.seen site.new) }
+        ensures steady { OnOk result ((S.seen site.new).disk_faults ≡ (S.seen site.old).disk_faults) }
+        ensures cause { IfErr result (EntryCause self.now after (S.seen site.old) (S.seen site.new)) }
+    {
+        brief_behind(alloc, &self.log, site, after, buffer)
     }
 
     /// The end of the entry that follows the offset `after`, the base or the end of an entry, with the byte that its bytes begin with: that tells its kind.
@@ -164,6 +189,32 @@ fn entry_behind<S: Site>(
         Ok(Some((end, length))) => {
             let (body, _) = buffer.as_slice().split_at(length);
             let entry = entry_in(alloc, log.file(), place_of(log, after), body)?;
+            Ok(Some((end, entry)))
+        }
+        Err(fault) => Err(record_fault(log.file(), fault)),
+    }
+}
+
+/// The entry that follows an offset of a log, in brief, with its own end.
+fn brief_behind<S: Site>(
+    alloc: Global,
+    log: &LogFile,
+    site: &mut S,
+    after: Offset,
+    lent: &mut Vec<u8>,
+) -> Result<Option<(Offset, Entry)>, DatabaseFault>
+    requires after { (log.now.base ≤ after.0) × (after.0 ≤ log.now.end) }
+    ensures brief { IsTrue (S.seen site.old).observable → (publisher : AName) (done left : List Recorded) → Parts log.now after.0 publisher done left (S.seen site.old) → IfOk result (IsBriefAfter done left) }
+    ensures within { IfOk result (λ found. IfSome found (λ x. (after.0 < x.0.0) × (x.0.0 ≤ log.now.end))) }
+    ensures read { ReadAlone (S.seen site.old) (S.seen site.new) }
+    ensures steady { OnOk result ((S.seen site.new).disk_faults ≡ (S.seen site.old).disk_faults) }
+    ensures cause { IfErr result (BehindCause log.now after.0 (S.seen site.old) (S.seen site.new)) }
+{
+    match log.record_after(site, after, lent) {
+        Ok(None) => Ok(None),
+        Ok(Some((end, length))) => {
+            let (body, _) = lent.as_slice().split_at(length);
+            let entry = brief_in(alloc, log.file(), place_of(log, after), body)?;
             Ok(Some((end, entry)))
         }
         Err(fault) => Err(record_fault(log.file(), fault)),

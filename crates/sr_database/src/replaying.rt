@@ -10,7 +10,9 @@ ghost use Rattle.sr_logfile.specs.Inner.Heads.{HasWhole};
 ghost use Rattle.sr_logfile.specs.Inner.Log.{InOrder};
 ghost use Rattle.sr_logfile.specs.Records.{place_in};
 ghost use Rattle.sr_logform.specs.Entries.{entry_spelling, IsEntry};
+ghost use Rattle.sr_logform.specs.declared.entry.Entry.{Entry as Body};
 ghost use Rattle.sr_site.specs.Files.{bytes_of};
+ghost use Rattle.sr_survey_brief.specs.Inner.Briefs.{IsBrief};
 ghost use Rattle.sr_database.specs.Books.{book_in};
 ghost use Rattle.sr_database_files.specs.Inner.Openings.{ReadAlone};
 ghost use Rattle.sr_database.specs.Inner.Replays.{IsReplayed, IsReplayedOf, IsReplayedSome, IsNextEntry, IsReadOn, FollowsAny, piece, SpellingCause, BodyCause, RecordCause};
@@ -26,6 +28,7 @@ use sr_logfile::{place_in, record_end};
 use sr_logform::{Entry, longest_body, read_entry};
 use sr_rows::Rows;
 use sr_site::{Disk, File, Site};
+use sr_survey_brief::read_brief;
 use std::alloc::Global;
 
 /// What the entries come to that were read so far, and a buffer for the next one.
@@ -194,6 +197,26 @@ pub(crate) fn entry_in(
     ensures cause { IfErr result (SpellingCause log place body.now) }
 {
     match read_entry(alloc, body) {
+        Ok(entry) => Ok(entry),
+        Err(Bad::Memory) => Err(DatabaseFault::Memory),
+        Err(Bad::Field { .. }) => Err(DatabaseFault::Damaged {
+            file: log,
+            at: place,
+        }),
+    }
+}
+
+/// As `entry_in`, the entry in brief.
+pub(crate) fn brief_in(
+    alloc: Global,
+    log: File,
+    place: u64,
+    body: &[u8],
+) -> Result<Entry, DatabaseFault>
+    ensures brief { IfOk result (λ brief. (entry : Body) → IsEntry entry → body.now ≡ entry_spelling entry → IsBrief entry brief) }
+    ensures cause { IfErr result (SpellingCause log place body.now) }
+{
+    match read_brief(alloc, body) {
         Ok(entry) => Ok(entry),
         Err(Bad::Memory) => Err(DatabaseFault::Memory),
         Err(Bad::Field { .. }) => Err(DatabaseFault::Damaged {

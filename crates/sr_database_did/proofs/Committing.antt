@@ -5,13 +5,12 @@ use Rattle.sr_base.specs.declared.offset.Offset.{Offset}
 use Rattle.sr_book.specs.Entries.{Name}
 use Rattle.sr_database.specs.Causes.{IsTooFar, IsTooLong}
 use Rattle.sr_database.specs.Commits.{HasRoom}
-use Rattle.sr_database.specs.Databases.{IsOf, IsDatabase}
+use Rattle.sr_database.specs.Databases.{IsDatabase}
 use Rattle.sr_database.specs.Inner.Causes.{CommitCause, IsBegun, IsSame}
 use Rattle.sr_database.specs.Inner.Commits.{CanCommit}
 use Rattle.sr_database.proofs.Rooms.{room_at}
 use Rattle.sr_database_files.specs.declared.fault.DatabaseFault.{DatabaseFault}
 use Rattle.sr_database_files.specs.declared.fault.DatabaseFault.TheVariants.{Missing, Exists, Damaged, Disk, Full, Long, Memory}
-use Rattle.sr_database_history.specs.Folds.{end_of}
 use Rattle.sr_database_history.specs.Recorded.{Recorded}
 use Rattle.sr_database_meaning.specs.Events.{commit}
 use Rattle.sr_database_meaning.specs.Traces.{Went}
@@ -20,12 +19,15 @@ use Rattle.sr_site.specs.Causes.{Stays, DiskStays}
 use Rattle.sr_site.specs.Seen.{Seen}
 use Rattle.sr_database_did.specs.Inner.Did.{PlaceView, Did, Commits}
 use Rattle.sr_database_did.specs.Inner.Effects.{End, full, long, short}
+use Rattle.sr_database.specs.Advances.{Advances}
+use Rattle.sr_database.specs.InForce.{HasLogInForce}
 use Rattle.sr_database_did.proofs.Still.{same_still, still_did, nothing_short}
 
 -- what `commit` says
 pub record CommitSays (a b : PlaceView) (entry : Entry) (result : Result Offset DatabaseFault) : Type 0 where
   pub ready : OnOk result ((b.db.log.usable ≡ true) × (b.db.pending ≡ []))
-  pub value : (publisher : Name) (es : List Recorded) (r : Recorded) → IsOf a.db publisher es → CanCommit a.db entry r → OnOk result (IsOf b.db publisher (es ++ r ∷ []))
+  pub value : (r : Recorded) → CanCommit a.db entry r → OnOk result (Advances a.db b.db (r ∷ []))
+  pub in_force : IsTrue a.seen.observable → OnOk result (HasLogInForce b.db b.seen)
   pub database : IsTrue a.seen.observable → (publisher : Name) (es : List Recorded) (r : Recorded) → IsDatabase a.db publisher es a.seen → CanCommit a.db entry r → OnOk result (IsDatabase b.db publisher (es ++ r ∷ []) b.seen)
   pub went : IsTrue a.seen.observable → (publisher : Name) (es : List Recorded) (r : Recorded) → IsDatabase a.db publisher es a.seen → CanCommit a.db entry r → IsBegun result → Went a.seen b.seen publisher es (commit r ∷ [])
   pub room : OnOk result (HasRoom a.db.log entry)
@@ -48,9 +50,11 @@ commit_did a b entry r (Ok offset) usable can says = record {
   state = (says.ready.0, says.steady);
   cause = says.stays.mail_faults;
   pending = λ none. says.ready.1;
-  room = λ publisher es is. (room_at a.db.log entry r (end_of es) can.is is.end says.room, tt);
-  value = λ yes publisher es is. says.value publisher es r is can;
-  told = λ told publisher es is. record { database = λ yes. says.database told publisher es r is can; went = says.went told publisher es r is can tt; mail = says.stays.mail };
+  room = (room_at a.db.log entry r a.db.log.end can.is refl says.room, tt);
+  value = λ yes. says.value r can;
+  in_force = λ told yes has. says.in_force told;
+  told = λ told publisher es is. record { database = λ yes. says.database told publisher es r is can; went = says.went told publisher es r is can tt };
+  mail = λ told. says.stays.mail;
 }
 commit_did a b entry r (Err Missing) usable can says = says.cause
 commit_did a b entry r (Err Exists) usable can says = says.cause
@@ -60,9 +64,11 @@ commit_did a b entry r (Err Disk) usable can says = record {
   state = (says.cause.0.spent, says.cause.0.rose);
   cause = says.stays.mail_faults;
   pending = λ none. says.cause.0.pending;
-  room = λ publisher es is. tt;
-  value = λ yes publisher es is. absurd (spent b.db.log.usable says.cause.0.spent yes);
-  told = λ told publisher es is. record { database = λ yes. absurd (spent b.db.log.usable says.cause.0.spent yes); went = says.went told publisher es r is can tt; mail = says.stays.mail };
+  room = tt;
+  value = λ yes. absurd (spent b.db.log.usable says.cause.0.spent yes);
+  in_force = λ told yes has. absurd (spent b.db.log.usable says.cause.0.spent yes);
+  told = λ told publisher es is. record { database = λ yes. absurd (spent b.db.log.usable says.cause.0.spent yes); went = says.went told publisher es r is can tt };
+  mail = λ told. says.stays.mail;
 }
 commit_did a b entry r (Err (Full end need)) usable can says =
     same_place a b (full r end need) says.cause.1 (still_did a a [] (same_still a usable) [] (full r end need) (subst (λ (e : Entry). IsTooFar a.db.log e end need) (sym can.is) says.cause.0, refl) refl refl refl (λ before. refl))

@@ -3,15 +3,14 @@ use Rattle.std.proofs.Common.{◌≡◌, ℕ, Bool, List, [], ◌∷◌, ◌++�
 use Rattle.std.specs.Prelude.{IsTrue, map}
 use Rattle.std.proofs.lemmas.List.{append-nil, map-append}
 use Rattle.sr_book.specs.Entries.{Name}
-use Rattle.sr_database.proofs.Based.{same_base}
 use Rattle.sr_database.specs.Broken.{IsBroken}
-use Rattle.sr_database.specs.Databases.{IsOf, IsDatabase}
+use Rattle.sr_database.specs.Databases.{IsDatabase}
 use Rattle.sr_database.specs.Rooms.{HaveRoom}
+use Rattle.sr_database.specs.Advances.{Advances}
+use Rattle.sr_database.proofs.Advancing.{advanced_then}
 use Rattle.sr_database.specs.Views.{View}
 use Rattle.sr_database.proofs.Rooms.{rooms_on}
-use Rattle.sr_database_history.specs.Folds.{end_of}
 use Rattle.sr_database_history.specs.Recorded.{Recorded}
-use Rattle.sr_database_history.proofs.Joined.{end_from-append}
 use Rattle.sr_database_meaning.specs.Events.{Event, commit, commits}
 use Rattle.sr_database_meaning.specs.Traces.{Went}
 use Rattle.sr_database_meaning.proofs.Joining.{joined}
@@ -96,18 +95,18 @@ did_on a b c xs ys end one two =
       state = state_on (broken end) c.db a.seen b.seen c.seen one.state.1 two.state;
       cause = cause_on end c.db a.seen b.seen c.seen one.cause two.cause;
       pending = λ none. two.pending (one.pending none);
-      room = λ publisher es is.
-          let grown = one.value one.state.0 publisher es is in
-          subst (λ (l : List Recorded). HaveRoom a.db.log.base (end_of es) l) (sym (entries_on xs ys))
-          (rooms_on a.db.log.base b.db.log.base (end_of es) (entries xs) (entries ys) (same_base a.db b.db publisher es (es ++ entries xs) is grown) (one.room publisher es is)
-          (subst (λ (n : ℕ). HaveRoom b.db.log.base n (entries ys)) (end_from-append 0 es (entries xs)) (two.room publisher (es ++ entries xs) grown)));
-      value = λ yes publisher es is. subst (λ (l : List Recorded). IsOf c.db publisher l) (on es) (two.value yes publisher (es ++ entries xs) (one.value one.state.0 publisher es is));
+      room =
+          let grown = one.value one.state.0 in
+          subst (λ (l : List Recorded). HaveRoom a.db.log.base a.db.log.end l) (sym (entries_on xs ys))
+          (rooms_on a.db.log.base b.db.log.base a.db.log.end (entries xs) (entries ys) grown.base one.room (subst (λ (n : ℕ). HaveRoom b.db.log.base n (entries ys)) grown.end two.room));
+      value = λ yes. subst (λ (l : List Recorded). Advances a.db c.db l) (sym (entries_on xs ys)) (advanced_then a.db b.db c.db (entries xs) (entries ys) (one.value one.state.0) (two.value yes));
+      in_force = λ told yes has. two.in_force (told_on a.seen b.seen one.stays told) yes (one.in_force told one.state.0 has);
       told = λ yes publisher es is.
           let first = one.told yes publisher es is in
           let second = two.told (told_on a.seen b.seen one.stays yes) publisher (es ++ entries xs) (first.database one.state.0) in
           record {
             database = λ usable. subst (λ (l : List Recorded). IsDatabase c.db publisher l c.seen) (on es) (second.database usable);
             went = went_on a.seen b.seen c.seen publisher es xs ys end first.went second.went;
-            mail = second.mail ∙ ap (λ (l : List Happening). under_way end ++ l) (ap (mail_behind ys) first.mail ∙ sym (mail_on xs ys (mail_in a.seen.happened)));
           };
+      mail = λ yes. two.mail (told_on a.seen b.seen one.stays yes) ∙ ap (λ (l : List Happening). under_way end ++ l) (ap (mail_behind ys) (one.mail yes) ∙ sym (mail_on xs ys (mail_in a.seen.happened)));
     }

@@ -4,10 +4,12 @@ use Rattle.std.specs.Prelude.{IsTrue, map}
 use Rattle.std.proofs.lemmas.List.{append-nil}
 use Rattle.sr_book.specs.Entries.{Name}
 use Rattle.sr_database.specs.Broken.{IsBroken}
-use Rattle.sr_database.specs.Databases.{IsOf, IsHeld, IsDatabase}
+use Rattle.sr_database.specs.Databases.{IsHeld, IsDatabase}
 use Rattle.sr_database.specs.Rooms.{HaveRoom}
+use Rattle.sr_database.specs.Advances.{Advances}
+use Rattle.sr_database.proofs.Advancing.{none_advanced, advanced_still}
+use Rattle.sr_database.proofs.InForce.{in_force_still}
 use Rattle.sr_database.specs.Views.{View}
-use Rattle.sr_database_history.specs.Folds.{end_of}
 use Rattle.sr_database_history.specs.Recorded.{Recorded}
 use Rattle.sr_database_meaning.specs.Events.{Event, commit}
 use Rattle.sr_database_meaning.specs.Inner.Events.{AreQuiet}
@@ -68,11 +70,11 @@ calls_quiet hs still = calls_trace hs ∙ puts_quiet hs still ∙ ap (λ (rs : L
 
 -- ---- a database that stays
 
--- a value of the same history, and a site on which this happened, which changed no file
+-- a value of the same entries, and a site on which this happened, which changed no file
 pub record IsStill (a b : PlaceView) (hs : List Happening) : Type 0 where
   pub log : b.db.log ≡ a.db.log
   pub pending : a.db.pending ≡ [] → b.db.pending ≡ []
-  pub value : (publisher : Name) (es : List Recorded) → IsOf a.db publisher es → IsOf b.db publisher es
+  pub value : Advances a.db b.db []
   pub usable : a.db.log.usable ≡ true
   pub stays : MailStays a.seen b.seen
   pub quiet : AreQuiet hs
@@ -87,7 +89,7 @@ held_still old new publisher es files same held =
 
 database_still : (a b : PlaceView) (hs : List Happening) (publisher : Name) (es : List Recorded) → IsStill a b hs → IsTrue a.seen.observable → IsDatabase a.db publisher es a.seen → IsDatabase b.db publisher es b.seen
 database_still a b hs publisher es still told database = record {
-  is = still.value publisher es database.is;
+  is = advanced_still a.db b.db publisher es still.value database.is;
   held = subst (λ (files : Files). IsHeld b.db publisher es files) (sym still.stays.files) (held_still a.db b.db publisher es a.seen.files still.log database.held);
   settled = λ image there. held_still a.db b.db publisher es image still.log (database.settled image (quiet_before a.seen b.seen hs image still.stays.first (still.happened told) still.quiet there));
 }
@@ -103,14 +105,15 @@ module _ (a b : PlaceView) (hs : List Happening) (still : IsStill a b hs) where
         state = subst (λ (rs : List Recorded). IsBroken rs b.db a.seen b.seen) (sym unbroken) (ap (λ (l : Log). l.usable) still.log ∙ still.usable, still.stays.disk_faults);
         cause = cause;
         pending = still.pending;
-        room = λ publisher es is. subst (λ (l : List Recorded). HaveRoom a.db.log.base (end_of es) l) (sym none) tt;
-        value = λ yes publisher es is. subst (λ (l : List Recorded). IsOf b.db publisher l) (es_on es) (still.value publisher es is);
+        room = subst (λ (l : List Recorded). HaveRoom a.db.log.base a.db.log.end l) (sym none) tt;
+        value = λ yes. subst (λ (l : List Recorded). Advances a.db b.db l) (sym none) still.value;
+        in_force = λ told yes has. in_force_still a.db b.db a.seen b.seen still.log still.value still.stays.files (λ image there. quiet_before a.seen b.seen hs image still.stays.first (still.happened told) still.quiet there) has;
         told = λ told publisher es is. record {
           database = λ yes. subst (λ (l : List Recorded). IsDatabase b.db publisher l b.seen) (es_on es) (database_still a b hs publisher es still told is);
           went = subst (λ (l : List Event). Went a.seen b.seen publisher es l) (sym (events ∙ puts_quiet hs still.quiet))
               (quiet a.seen b.seen publisher es hs (settled_as a.db publisher es a.seen is) still.stays.observable still.stays.first (still.happened told) still.quiet);
-          mail = ap mail_in (still.happened told) ∙ mail_more a.seen.happened hs ∙ ap (λ (l : List Happening). l ++ mail_in a.seen.happened) (mail_quiet hs still.quiet) ∙ sym (mail (mail_in a.seen.happened));
         };
+        mail = λ told. ap mail_in (still.happened told) ∙ mail_more a.seen.happened hs ∙ ap (λ (l : List Happening). l ++ mail_in a.seen.happened) (mail_quiet hs still.quiet) ∙ sym (mail (mail_in a.seen.happened));
       }
 
   -- each of the calls succeeded
@@ -129,12 +132,12 @@ stays_still : (seen : Seen) → MailStays seen seen
 stays_still seen = record { observable = refl; first = refl; files = refl; grows = λ moment there. there; disk_faults = refl; later = omega arith }
 
 -- nothing happened
-pub alike_still : (old new : View) (seen : Seen) → new.log ≡ old.log → (old.pending ≡ [] → new.pending ≡ []) → ((publisher : Name) (es : List Recorded) → IsOf old publisher es → IsOf new publisher es) → old.log.usable ≡ true
+pub alike_still : (old new : View) (seen : Seen) → new.log ≡ old.log → (old.pending ≡ [] → new.pending ≡ []) → Advances old new [] → old.log.usable ≡ true
     → IsStill (record { db = old; seen = seen }) (record { db = new; seen = seen }) []
 alike_still old new seen log pending value usable = record { log = log; pending = pending; value = value; usable = usable; stays = stays_still seen; quiet = tt; happened = λ told. refl }
 
 pub same_still : (a : PlaceView) → a.db.log.usable ≡ true → IsStill a a []
-same_still a usable = alike_still a.db a.db a.seen refl (λ none. none) (λ publisher es is. is) usable
+same_still a usable = alike_still a.db a.db a.seen refl (λ none. none) (none_advanced a.db) usable
 
 pub nothing_did : (a : PlaceView) → a.db.log.usable ≡ true → Did a a [] whole
 nothing_did a usable = calls_did a a [] (same_still a usable) refl
@@ -146,4 +149,4 @@ nothing_short a usable = short_did a a [] (same_still a usable) refl
 pub site_still : (db : View) (before now : Seen) (hs : List Happening) → db.log.usable ≡ true → MailStays before now → AreQuiet hs → (IsTrue before.observable → now.happened ≡ hs ++ before.happened)
     → IsStill (record { db = db; seen = before }) (record { db = db; seen = now }) hs
 site_still db before now hs usable stays quiet happened =
-    record { log = refl; pending = λ none. none; value = λ publisher es is. is; usable = usable; stays = stays; quiet = quiet; happened = happened }
+    record { log = refl; pending = λ none. none; value = none_advanced db; usable = usable; stays = stays; quiet = quiet; happened = happened }

@@ -1,7 +1,7 @@
 //! A database together with the site that it stands on.
 
 ghost use Rattle.std.specs.Prelude.{◌≡◌, true, IsTrue};
-ghost use Rattle.sr_database.specs.Databases.{HasDatabase};
+ghost use Rattle.sr_database.specs.InForce.{HasLogInForce};
 ghost use Rattle.sr_database.specs.Inner.Commits.{CanCommit, CanCommitSome};
 ghost use Rattle.sr_database_history.specs.Recorded.{Recorded};
 
@@ -27,7 +27,7 @@ impl<'d, 's, S: Site> Place<'d, 's, S> {
     pub fn commit(&mut self, entry: &Entry) -> Result<Offset, DatabaseFault>
         requires usable { self.old.db.now.log.usable ≡ true }
         requires entry { CanCommitSome self.old.db.now entry.now }
-        requires stands { IsTrue (S.seen self.old.site.now).observable → HasDatabase self.old.db.now (S.seen self.old.site.now) }
+        requires stands { IsTrue (S.seen self.old.site.now).observable → HasLogInForce self.old.db.now (S.seen self.old.site.now) }
         ensures lent { IsLent self.old self.new }
         ensures did { (r : Recorded) → CanCommit self.old.db.now entry.now r → Commits (at S.seen self.old) (at S.seen self.new) r result }
     {

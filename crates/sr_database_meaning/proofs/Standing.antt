@@ -1,4 +1,4 @@
--- Files stand for one history or are damaged at one place.
+-- Files that stand for a history are damaged nowhere, and none are damaged at two places.
 use Rattle.std.proofs.Common.{◌≡◌, inl, inr, ℕ, ◌+◌, ◌^◌, ◌≤◌, List, [], ◌∷◌, ◌++◌, length, Some, Ok, Err, refl, sym, ◌∙◌, ap, subst, arith, length-append}
 use Rattle.std.specs.List.{AllByRecursion}
 use Rattle.sr_base.specs.Fields.{IsName}
@@ -12,7 +12,7 @@ use Rattle.sr_database_history.proofs.Once.{bytes_once}
 use Rattle.sr_logfile.specs.Records.{record_of, open_records, IsBody, HasHeader, Spells}
 use Rattle.sr_logfile.proofs.Records.{length-record}
 use Rattle.sr_logfile.proofs.Commits.{length-prefix}
-use Rattle.sr_logfile.proofs.Uniqueness.{one_spelling, has_header, same_header, compared, Extends, never_both, one_damage as one_record_damage}
+use Rattle.sr_logfile.proofs.Uniqueness.{has_header, same_header, compared, Extends, never_both, one_damage as one_record_damage}
 use Rattle.sr_logform.specs.Entries.{entry_spelling, IsEntry}
 use Rattle.sr_logform.specs.Limits.{longest_body}
 use Rattle.sr_logform.specs.declared.entry.Entry.{Entry}
@@ -24,14 +24,14 @@ use Rattle.sr_database_meaning.specs.Damage.{IsMissing, BeginsEntry, LacksRecord
 use Rattle.sr_database_meaning.specs.Generations.{Generation, even, odd, snapshot_of, log_of, generation_in}
 use Rattle.sr_database_meaning.specs.Snapshots.{fresh_snapshot, snapshot_at}
 use Rattle.sr_database_meaning.specs.Standing.{body, bodies, IsSnapshotAt, StandsFor}
-use Rattle.sr_database_meaning.proofs.Snapshots.{fresh_at, fresh_once, empty_breaks}
+use Rattle.sr_database_meaning.proofs.Snapshots.{fresh_at, empty_breaks}
 
 -- ---- bodies of entries
 
 pub body_once : (r q : Recorded) → IsRecorded r → IsRecorded q → IsEntry (entry_of r) → IsEntry (entry_of q) → body r ≡ body q → r ≡ q
 body_once r q n m fit fit' same = (bytes_once r q [] [] n m fit fit' (ap (λ (l : List ℕ). l ++ []) same)).0
 
-bodies_once : (s : State) (place : ℕ) (es fs : List Recorded) → stored_from s place es → stored_from s place fs → bodies es ≡ bodies fs → es ≡ fs
+pub bodies_once : (s : State) (place : ℕ) (es fs : List Recorded) → stored_from s place es → stored_from s place fs → bodies es ≡ bodies fs → es ≡ fs
 bodies_once s place [] [] a b same = refl
 bodies_once s place [] (f ∷ fs) a b same = cc
 bodies_once s place (e ∷ es) [] a b same = cc
@@ -154,16 +154,6 @@ stands publisher es base files s =
 pub one_generation : (files : Files) (g h : Generation) → generation_in files.root ≡ Some g → generation_in files.root ≡ Some h → g ≡ h
 one_generation files g h a b = cc
 
--- ---- one history
-
-pub one_history : (publisher other : Name) (es others : List Recorded) (base place : ℕ) (files : Files) → StandsFor publisher es base files → StandsFor other others place files → (publisher ≡ other) × (es ≡ others) × (base ≡ place)
-one_history publisher other es others base place files s t =
-    let a = stands publisher es base files s in
-    let b = subst (λ (g : Generation). Stands g other others files) (one_generation files t.generation s.generation t.root s.root) (stands other others place files t) in
-    let one : publisher ≡ other = fresh_once publisher other a.name b.name (sym a.snapshot ∙ b.snapshot) in
-    let same = one_spelling (bytes_of files (log_of s.generation)) 0 0 (bodies es) (bodies others) a.log b.log in
-    (one, bodies_once (fresh other) 0 es others (subst (λ (p : Name). Stored p es) one a.stored) b.stored same.1, base_zero publisher es base files s ∙ sym (base_zero other others place files t))
-
 pub is_stored : (publisher : Name) (es : List Recorded) (base : ℕ) (files : Files) → StandsFor publisher es base files → Stored publisher es
 is_stored publisher es base files s = s.stored
 
@@ -191,7 +181,7 @@ begins publisher ds b rest tail (x ∷ more) r gate rest_is is fits =
     record { gate = 1; more = (record_of x ++ open_records more) ++ gate ∷ tail; rest_is = subst (λ (l : List ℕ). rest ≡ record_of l ++ 1 ∷ ((record_of x ++ open_records more) ++ gate ∷ tail)) (sym is) rest_is; fits = fits }
 
 -- what is stored behind other entries, and where these end
-behind : (publisher : Name) (done es : List Recorded) → Stored publisher (done ++ es) → stored_from (state_of publisher done) (end_of done) es
+pub behind : (publisher : Name) (done es : List Recorded) → Stored publisher (done ++ es) → stored_from (state_of publisher done) (end_of done) es
 behind publisher done es stored = ((stored_from-append (fresh publisher) 0 done es).0 stored).1
 
 first_ends : (publisher : Name) (done es : List Recorded) → Stored publisher (done ++ es) → end_of done ≤ 2 ^ 62

@@ -6,13 +6,18 @@ ghost use Rattle.sr_database_history.specs.Fitting.{Stored};
 ghost use Rattle.sr_database_history.specs.Recorded.{Recorded};
 ghost use Rattle.sr_site.specs.Files.{Files};
 ghost use Rattle.sr_site.specs.declared.file.File.{File};
+ghost use Rattle.sr_database_meaning.specs.Inner.Alike.{AreAlike};
 ghost use Rattle.sr_database_meaning.specs.Damage.{IsMissing, IsDamagedAt};
 ghost use Rattle.sr_database_meaning.specs.Standing.{StandsFor};
 
-/// Files stand for the history of one publisher at most, and it may stand in a log.
-#[tactic(auto, using(crate::proofs::Standing::one_history, crate::proofs::Standing::is_stored))]
-pub fn files_stand_for_one_history()
-    ensures one { (publisher other : Name) (es others : List Recorded) (base place : ℕ) (files : Files) → StandsFor publisher es base files → StandsFor other others place files → (publisher ≡ other) × (es ≡ others) × (base ≡ place) }
+/// Files stand for histories of one publisher at most, which are alike from the base of the log on: what they have before it comes to the same, and behind it they
+/// have the same entries. Where the log begins at 0 they stand for one history alone. What they stand for may stand in a log.
+#[tactic(auto, using(crate::proofs::Alike::alike, crate::proofs::Alike::whole, crate::proofs::Standing::is_stored))]
+pub fn files_stand_for_alike_histories()
+    ensures one { (publisher other : Name) (es others : List Recorded) (base place : ℕ) (files : Files) → StandsFor publisher es base files → StandsFor other others place files
+        → (publisher ≡ other) × (base ≡ place) × AreAlike publisher es others base }
+    ensures whole { (publisher other : Name) (es others : List Recorded) (place : ℕ) (files : Files) → StandsFor publisher es 0 files → StandsFor other others place files
+        → (publisher ≡ other) × (es ≡ others) }
     ensures stored { (publisher : Name) (es : List Recorded) (base : ℕ) (files : Files) → StandsFor publisher es base files → Stored publisher es }
 {}
 

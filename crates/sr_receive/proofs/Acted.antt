@@ -2,11 +2,12 @@
 use Rattle.std.proofs.Common.{◌≡◌, ℕ, ◌+◌, ◌≤◌, ◌<◌, ◌^◌, ◌-◌, List, [], ◌∷◌, ◌++◌, length, length-append, refl, ap, ◌∙◌, arith}
 use Rattle.sr_ast.specs.declared.stmt.Stmt.{Stmt}
 use Rattle.sr_book.specs.Entries.{Name}
-use Rattle.sr_database.specs.Databases.{IsOf}
-use Rattle.sr_database.specs.Views.{View}
-use Rattle.sr_database_history.specs.Folds.{State, with_changes, with_statement, after_done, after_dones, size, end_from, end_of}
+use Rattle.sr_database.specs.Advances.{Advances}
+use Rattle.sr_database.specs.Inner.Sound.{IsSound}
+use Rattle.sr_database.specs.Views.{View, committed}
+use Rattle.sr_database_history.specs.Folds.{State, with_changes, with_statement, after_done, after_dones, size, end_from}
 use Rattle.sr_database_history.specs.Recorded.{Recorded, Done, plain, ran, conflict, clash, taken}
-use Rattle.sr_database_history.proofs.Bounds.{ends_within}
+use Rattle.sr_database.proofs.Advancing.{ends_within}
 use Rattle.sr_catalog_script_laws.proofs.ReplayNexts.{publisher_next}
 use Rattle.sr_site.specs.Happenings.{Happening, attached, wrote, cut_to, synced, listed, fetched, sent, removed, handed_over}
 use Rattle.sr_database_meaning.specs.Inner.Events.{AreQuiet}
@@ -42,13 +43,11 @@ many_end place [] = omega arith
 many_end place (r ∷ rs) = omega (arith, many_end (place + (size r + 5)) rs)
 
 -- fewer than a count can tell: the history ends at 2^62 at most
-pub few_taken : (db : View) (publisher user : Name) (es : List Recorded) (acts : List ReceiveAct) → IsOf db publisher (es ++ entries_of user acts) → taken_in acts < 2 ^ 64 - 1
-few_taken db publisher user es acts is =
-    let whole = es ++ entries_of user acts in
-    let ends : end_of whole ≤ 2 ^ 62 = ends_within publisher whole is.stored in
-    let many : 0 + length whole ≤ end_of whole = many_end 0 whole in
-    let parts : length whole ≡ length es + length (entries_of user acts) = length-append es (entries_of user acts) in
-    omega (arith, ends, many, parts, taken_count user acts)
+pub few_taken : (old new : View) (user : Name) (acts : List ReceiveAct) → IsSound old → Advances old new (entries_of user acts) → taken_in acts < 2 ^ 64 - 1
+few_taken old new user acts sound on =
+    let limit : old.log.end ≤ 2 ^ 62 = sound.order.limit in
+    let ends : end_from old.log.end (entries_of user acts) ≤ 2 ^ 62 = ends_within (committed old) old.log.end (entries_of user acts) limit on.fit in
+    omega (arith, ends, many_end old.log.end (entries_of user acts), taken_count user acts)
 
 -- ---- calls of the mail that change no file
 

@@ -1,10 +1,10 @@
 -- How a pass ended, as its contract tells it.
 use Rattle.std.proofs.Common.{◌≡◌, List, [], ◌++◌, refl, sym, ap, subst, ◌∙◌, inl, inr}
-use Rattle.std.specs.Prelude.{IsTrue, map}
+use Rattle.std.specs.Prelude.{map}
 use Rattle.std.proofs.lemmas.List.{map-append}
 use Rattle.sr_book.specs.Entries.{Name}
 use Rattle.sr_database_did.specs.Inner.Did.{PlaceView, Did}
-use Rattle.sr_database_did.specs.Inner.Effects.{Effect, End, whole, refused, failed, full, long, short, asked, begun, broken, entries, mail_behind, trace, under_way}
+use Rattle.sr_database_did.specs.Inner.Effects.{Effect, End, whole, refused, failed, full, long, short, asked, begun, broken, entries, trace, under_way}
 use Rattle.sr_database_did.proofs.Still.{puts_quiet}
 use Rattle.sr_database_history.specs.Folds.{State}
 use Rattle.sr_database_history.specs.Recorded.{Recorded, taken}
@@ -12,13 +12,14 @@ use Rattle.sr_database_meaning.specs.Events.{Event, commit}
 use Rattle.sr_database_meaning.specs.Inner.Events.{AreQuiet}
 use Rattle.sr_database_meaning.specs.Traces.{Went}
 use Rattle.sr_resolve.specs.Taking.{is_above}
-use Rattle.sr_site.specs.Happenings.{Happening, mail_in}
+use Rattle.sr_site.specs.Happenings.{Happening}
 use Rattle.sr_receive_gather.specs.Fetches.{RefetchedInPart}
 use Rattle.sr_receive_gather.specs.MessageFiles.{MessageFile}
 use Rattle.sr_receive_gather.specs.declared.report.Report.{Report}
 use Rattle.sr_receive_judged.specs.Judged.{AreDone}
 use Rattle.sr_receive.specs.Acts.{ReceiveAct, PassState, stand_of}
-use Rattle.sr_receive.specs.Entering.{IsReady, Reached}
+use Rattle.sr_receive.specs.Entering.{Reached}
+use Rattle.sr_receive.specs.Inner.Ready.{IsReady}
 use Rattle.sr_receive.specs.Inner.Noting.{fault_of}
 use Rattle.sr_receive.specs.Inner.Passes.{IsDeviceFault}
 use Rattle.sr_receive.specs.Inner.Stands.{Stand, IsFetching, IsNextEntryHere, IsUnderWay, publisher_in}
@@ -69,15 +70,12 @@ module _ (a b : PlaceView) (effects : List Effect) where
     idle = did.pending ready.idle;
     room = did.room;
     value = did.value;
+    in_force = did.in_force;
     database = λ told yes publisher es is. (did.told told publisher es is).database yes;
     went = λ told publisher es is.
         subst (λ (l : List Event). Went a.seen b.seen publisher es l) ((λ i. events i ++ begun_quiet end quiet i) ∙ sym (map-append commit (entries effects) (broken end))) (did.told told publisher es is).went;
     stays = did.stays;
   }))
-
-  -- and this happened to the mail
-  pub mail_did : (end : End) → IsReady a.db a.seen → Did a b effects end → IsTrue a.seen.observable → mail_in b.seen.happened ≡ under_way end ++ mail_behind effects (mail_in a.seen.happened)
-  mail_did end ready did told = let had = ready.stands told in (did.told told had.publisher had.es had.is).mail
 
 -- ---- what was under way
 

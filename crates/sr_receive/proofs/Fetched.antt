@@ -26,7 +26,7 @@ use Rattle.sr_receive_gather.specs.Gathers.{IsLastFetch}
 use Rattle.sr_receive_gather.specs.declared.fault.ReceiveFault.{ReceiveFault}
 use Rattle.sr_receive_gather.specs.declared.fault.ReceiveFault.TheVariants.{Disk, Mail, Full, Long, Memory}
 use Rattle.sr_receive.specs.Acts.{dropped, IsReadAs}
-use Rattle.sr_receive.specs.Entering.{IsReady}
+use Rattle.sr_receive.specs.Inner.Ready.{IsReady}
 use Rattle.sr_receive.specs.Inner.Running.{IsOnTrial, IsReadOrNot, IsUnderTrial}
 use Rattle.sr_receive.specs.Inner.Stands.{Stand, Acted, HasCome, IsDueHere, IsFetching, Loses, Stopped, publisher_in}
 use Rattle.sr_receive.proofs.Acted.{quiet_both}

@@ -20,7 +20,7 @@ use Rattle.sr_logform.specs.Inner.Entries.{IsShortEntry}
 use Rattle.sr_logform.specs.declared.entry.Entry.{Entry}
 use Rattle.sr_logform.specs.declared.entry.Entry.TheVariants.{Note as note_entry}
 use Rattle.sr_site.specs.Seen.{Seen}
-use Rattle.sr_receive.specs.Entering.{IsReady}
+use Rattle.sr_receive.specs.Inner.Ready.{IsReady}
 use Rattle.sr_receive.specs.Inner.Noting.{Enters, EntersAll, IsEndOf, NotAll, NotEntered, fault_of}
 use Rattle.sr_receive_gather.specs.Inner.Faults.{fault_of_store}
 use Rattle.sr_receive_gather.specs.declared.fault.ReceiveFault.{ReceiveFault}

@@ -8,7 +8,7 @@ use Rattle.sr_book.specs.declared.book.Book.{Book}
 use Rattle.sr_book.specs.declared.note.Note.{Note}
 use Rattle.sr_catalog_schema.specs.declared.user.User.{User}
 use Rattle.sr_database.specs.Books.{book_in}
-use Rattle.sr_database.specs.Databases.{IsOf}
+use Rattle.sr_database.specs.Advances.{Advances}
 use Rattle.sr_database.specs.Views.{committed}
 use Rattle.sr_database_did.specs.Inner.Did.{PlaceView, Did}
 use Rattle.sr_database_did.specs.Inner.Effects.{Effect, entered, End, whole, asked, entries, mail_behind, trace, under_way}
@@ -30,7 +30,7 @@ use Rattle.sr_receive_gather.specs.declared.bag.PartnerMail.{PartnerMail}
 use Rattle.sr_receive_gather.specs.declared.fault.ReceiveFault.{ReceiveFault}
 use Rattle.sr_receive_gather.specs.declared.report.Report.{Report}
 use Rattle.sr_receive.specs.Acts.{ReceiveAct, PassState, stand_of, IsAtRest, entries_of, mail_after, taken_in}
-use Rattle.sr_receive.specs.Entering.{IsReady}
+use Rattle.sr_receive.specs.Inner.Ready.{IsReady}
 use Rattle.sr_receive.specs.Inner.Noting.{EntersAll, NotAll}
 use Rattle.sr_receive.specs.Inner.Passes.{IsDeviceFault, Passed, ReceivedMail}
 use Rattle.sr_receive.specs.Inner.Running.{HasRaised, StoppedRaising, WentBehind, WentThrough}
@@ -39,7 +39,7 @@ use Rattle.sr_receive.specs.Passes.{PassedInPart, StopsAmong, act_reports, first
 use Rattle.sr_receive.specs.declared.receiving.Received.{Received}
 use Rattle.sr_receive.proofs.Acted.{few_taken}
 use Rattle.sr_receive.proofs.Committing.{ready_did, state_did}
-use Rattle.sr_receive.proofs.Ends.{mail_did, quiet_way, reached_did, refused_did, told_mail_at, told_next, why_did}
+use Rattle.sr_receive.proofs.Ends.{quiet_way, reached_did, refused_did, told_mail_at, told_next, why_did}
 use Rattle.sr_receive.proofs.Leading.{none_leads}
 use Rattle.sr_receive.proofs.Telling.{Tells, told_entries, told_mail, told_steps, told_trace}
 
@@ -196,9 +196,7 @@ module _ (o a d : PlaceView) (s : Stand) (mail mail' : PartnerMail) (reports' : 
       few : taken_in acted.acts ≡ min (taken_in acted.acts) (2 ^ 64 - 1)
       few =
           let ready' = ready_did o a (map entered notes) ready noted_there in
-          let some = ready'.some in
-          let value = acted.did.value acted.did.state.0 some.publisher some.es some.is in
-          let less = few_taken c.db some.publisher s.user some.es acted.acts (subst (λ (l : List Recorded). IsOf c.db some.publisher (some.es ++ l)) (told_entries (publisher_in s) s.user acted.acts) value) in
+          let less = few_taken a.db c.db s.user acted.acts ready'.sound (subst (λ (l : List Recorded). Advances a.db c.db l) (told_entries (publisher_in s) s.user acted.acts) (acted.did.value acted.did.state.0)) in
           omega (arith, less)
 
     went_through : (answer : Received) → WentThrough s a d (map filed_of message_files) mail'.inbox reports' answer
@@ -222,7 +220,7 @@ module _ (o a d : PlaceView) (s : Stand) (mail mail' : PartnerMail) (reports' : 
             dropped_windows_are = refl;
             reached = reached_did o d (between notes publisher s.user acts raised) whole (notes ++ (entries_of s.user acts ++ note_entries s.user (raises answer.end.0 (map filed_of message_files)))) ready
                 (between_entries notes publisher s.user acts raised ∙ ap (λ (l : List Recorded). notes ++ (entries_of s.user acts ++ l)) raised_is) (between_trace notes publisher s.user acts raised) tt did;
-            mail = λ told. mail_did o d (between notes publisher s.user acts raised) whole ready did told ∙ between_mail notes publisher s.user acts raised (mail_in o.seen.happened);
+            mail = λ told. did.mail told ∙ between_mail notes publisher s.user acts raised (mail_in o.seen.happened);
             steady = did.cause;
             reports_are = went.raised.reports_are ∙ (λ i. t.reports_are i ++ gap_is i) ∙ append_assoc s.reports (act_reports s.user acts) (gap_report s.user answer.end.0 (map filed_of message_files));
             took = went.raised.took ∙ t.took ∙ sym (few last went.middle went.acted);
@@ -256,7 +254,7 @@ module _ (o a d : PlaceView) (s : Stand) (mail mail' : PartnerMail) (reports' : 
                   (between_entries notes publisher s.user acts [] ∙ ap (λ (l : List Recorded). notes ++ l) (append-nil (entries_of s.user acts))) (between_trace notes publisher s.user acts []) (quiet_way stopped.middle end stopped.under_way) did;
               mail = λ told.
                   told_mail_at publisher s.user message_files first s.reports acts stopped.middle t end (mail_after publisher acts (mail_in o.seen.happened)) (mail_in d.seen.happened) stopped.under_way
-                  (mail_did o d (between notes publisher s.user acts []) end ready did told ∙ ap (λ (l : List Happening). under_way end ++ l) (between_mail notes publisher s.user acts [] (mail_in o.seen.happened)));
+                  (did.mail told ∙ ap (λ (l : List Happening). under_way end ++ l) (between_mail notes publisher s.user acts [] (mail_in o.seen.happened)));
               reports_are = stopped.reports_are ∙ t.reports_are;
             });
           })),
@@ -285,7 +283,7 @@ module _ (o a d : PlaceView) (s : Stand) (mail mail' : PartnerMail) (reports' : 
               parts = sym (raised_are stopped.last stopped.middle stopped.acted (map filed_of message_files) refl) ∙ not.parts;
               is = refused_did o d (between notes publisher s.user acts not.done) not.end did;
               reached = reached_did o d (between notes publisher s.user acts not.done) not.end (notes ++ (entries_of s.user acts ++ not.done)) ready (between_entries notes publisher s.user acts not.done) (between_trace notes publisher s.user acts not.done) quiet did;
-              mail = λ told. mail_did o d (between notes publisher s.user acts not.done) not.end ready did told
+              mail = λ told. did.mail told
                   ∙ (λ i. not.quiet i ++ between_mail notes publisher s.user acts not.done (mail_in o.seen.happened) i);
               reports_are = stopped.reports_are ∙ t.reports_are;
             });
@@ -320,7 +318,7 @@ notes_stopped o a user mail reports fault ready not = record {
     inl (record {
       stops = subst (λ (f : List Filed). StopsAmong o.db a.db o.seen a.seen (first_notes user (book_in o.db.books user) f) fault) is.files (stops_among o a (first_notes user (book_in o.db.books user) mail.files.items) fault ready not);
       dropped_windows_are = refl;
-      mail = λ told. mail_did o a (map entered not.done) not.end ready not.did told ∙ (λ i. not.quiet i ++ all_mail not.done (mail_in o.seen.happened) i);
+      mail = λ told. not.did.mail told ∙ (λ i. not.quiet i ++ all_mail not.done (mail_in o.seen.happened) i);
       reports_are = refl;
     }),
   );

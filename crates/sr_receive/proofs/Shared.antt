@@ -16,7 +16,7 @@ use Rattle.sr_receive_gather.specs.declared.fault.ReceiveFault.{ReceiveFault}
 use Rattle.sr_receive.specs.declared.receiving.Received.{Received}
 use Rattle.sr_receive_gather.specs.declared.fault.ReceiveFault.TheVariants.{Memory}
 use Rattle.sr_receive_gather.specs.declared.report.Report.{Report}
-use Rattle.sr_receive.specs.Entering.{IsReady}
+use Rattle.sr_receive.specs.Inner.Ready.{IsReady}
 use Rattle.sr_receive.proofs.Noted.{none_for_want}
 use Rattle.sr_receive.proofs.Passing.{stops_among}
 

@@ -28,7 +28,7 @@ use Rattle.sr_receive_gather.specs.declared.fault.ReceiveFault.{ReceiveFault}
 use Rattle.sr_receive_gather.specs.declared.fault.ReceiveFault.TheVariants.{Memory}
 use Rattle.sr_receive_gather.specs.declared.report.Report.{Report}
 use Rattle.sr_receive.specs.Acts.{took}
-use Rattle.sr_receive.specs.Entering.{IsReady}
+use Rattle.sr_receive.specs.Inner.Ready.{IsReady}
 use Rattle.sr_receive.specs.Inner.Noting.{IsEndOf, NotEntered}
 use Rattle.sr_receive.specs.Inner.Running.{IsItsEntry}
 use Rattle.sr_receive.specs.Inner.Stands.{Stand, Acted, IsUnderWay, Stopped, made_of, with_reports}

@@ -7,7 +7,7 @@ ghost use Rattle.sr_database_history.specs.Recorded.{Recorded, note as noted_of}
 ghost use Rattle.sr_catalog_schema.specs.Members.{user_name};
 ghost use Rattle.sr_catalog_schema.specs.Names.{named};
 ghost use Rattle.sr_receive_gather.specs.Inner.OneNote.{at_most_one};
-ghost use Rattle.sr_receive.specs.Entering.{IsReady};
+ghost use Rattle.sr_receive.specs.Inner.Ready.{IsReady};
 ghost use Rattle.sr_receive.specs.Inner.Noting.{Enters, EntersAll};
 ghost use Rattle.sr_receive.specs.Passes.{note_entries};
 

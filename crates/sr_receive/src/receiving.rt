@@ -5,7 +5,7 @@ ghost use Rattle.sr_catalog_schema.specs.Members.{user_name};
 ghost use Rattle.sr_catalog_schema.specs.Names.{named};
 ghost use Rattle.sr_database.specs.Books.{book_in};
 ghost use Rattle.sr_database_did.specs.Inner.Places.{IsLent, at};
-ghost use Rattle.sr_receive.specs.Entering.{IsReady};
+ghost use Rattle.sr_receive.specs.Inner.Ready.{IsReady};
 ghost use Rattle.sr_receive_gather.specs.Greatest.{asks, confirms, has_gap, raises};
 ghost use Rattle.sr_receive_gather.specs.Bags.{partner_mail_of};
 ghost use Rattle.sr_receive_gather.specs.declared.bag.PartnerMail.{PartnerMail as APartnerMail};

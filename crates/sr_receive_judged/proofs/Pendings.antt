@@ -11,7 +11,9 @@ use Rattle.sr_base.specs.Values.{IsShort}
 use Rattle.sr_base.specs.declared.value.Value.{Value as Cell}
 use Rattle.sr_book.specs.Entries.{Name}
 use Rattle.sr_mail_cut.proofs.Lists.{AllByRecursion-append, AllByRecursion-back}
-use Rattle.sr_database.specs.Databases.{IsOf, IsOfSome}
+use Rattle.sr_database.specs.Advances.{Advances}
+use Rattle.sr_database.specs.Inner.Sound.{IsSound}
+use Rattle.sr_database.proofs.Advancing.{none_advanced, advanced_then}
 use Rattle.sr_database.specs.Views.{View, committed}
 use Rattle.sr_database.specs.Inner.Views.{present}
 use Rattle.sr_exec_dml.specs.Applying.{applied, applied_in}
@@ -24,7 +26,7 @@ use Rattle.sr_exec_dml.proofs.Over.{over}
 use Rattle.sr_database_fold.proofs.Changing.{applied_append, changes_append, own_name}
 use Rattle.sr_database_history.specs.Fitting.{DoneFits}
 use Rattle.sr_database_history.specs.Folds.{State, after_done}
-use Rattle.sr_database_history.specs.Recorded.{Recorded, Done, plain, ran, conflict, clash, done_of, IsLawfulDone}
+use Rattle.sr_database_history.specs.Recorded.{Done, plain, ran, conflict, clash, done_of, IsLawfulDone}
 use Rattle.sr_logform.specs.Ops.{IsShortOp}
 use Rattle.sr_logform.specs.Outcomes.{IsShortChange, IsShortOutcome, OutcomeHas}
 use Rattle.sr_logform.specs.declared.change.Change.{Change}
@@ -151,24 +153,24 @@ pending_short op (outcomes.Clash why) short = tt
 
 -- ---- nothing pending
 
-pub nothing_pending : (view : View) → IsOfSome view → view.pending ≡ [] → present view ≡ committed view
-nothing_pending view some none =
-    let are = some.is.pending in
+pub nothing_pending : (view : View) → IsSound view → view.pending ≡ [] → present view ≡ committed view
+nothing_pending view sound none =
+    let are = sound.pending in
     let rows : view.rows.rows ≡ view.rows.marked = are.rows_are ∙ ap (λ (l : List Change). applied view.catalog l view.rows.marked) none in
     λ i. record { catalog = view.catalog; rows = rows i }
 
-pub judged_from : (view : View) (after : State) (above : Bool) (asked : List Op) (judged : List (Op × Outcome)) → IsOfSome view → view.pending ≡ []
+pub judged_from : (view : View) (after : State) (above : Bool) (asked : List Op) (judged : List (Op × Outcome)) → IsSound view → view.pending ≡ []
     → AreJudgedAs (present view) after above asked judged → AreJudgedAs (committed view) after above asked judged
-judged_from view after above asked judged some none are = subst (λ (s : State). AreJudgedAs s after above asked judged) (nothing_pending view some none) are
+judged_from view after above asked judged sound none are = subst (λ (s : State). AreJudgedAs s after above asked judged) (nothing_pending view sound none) are
 
 -- the changes that are pending are taken back
-pub alike_back : (old mid new : View) → mid.catalog ≡ old.catalog → mid.log ≡ old.log → ((publisher : Name) (es : List Recorded) → IsOf old publisher es → IsOf mid publisher es)
-    → new ≡ record mid { rows = at_mark mid.rows.marked; pending = [] } → ((publisher : Name) (es : List Recorded) → IsOf mid publisher es → IsOf new publisher es) → IsAlike old new
-alike_back old mid new catalog log kept back value = record {
+pub alike_back : (old mid new : View) → mid.catalog ≡ old.catalog → mid.log ≡ old.log → Advances old mid []
+    → new ≡ record mid { rows = at_mark mid.rows.marked; pending = [] } → Advances mid new [] → IsAlike old new
+alike_back old mid new catalog log kept back advanced = record {
   idle = ap (λ (v : View). v.pending) back;
   catalog = ap (λ (v : View). v.catalog) back ∙ catalog;
   log = ap (λ (v : View). v.log) back ∙ log;
-  value = λ publisher es is. value publisher es (kept publisher es is);
+  value = advanced_then old mid new [] [] kept advanced;
 }
 
 -- ---- ops one after the other
@@ -210,7 +212,7 @@ pub record PendingSoFar (old now : View) (above : Bool) (asked left : List Op) (
   pub stands : ¬ (left ≡ []) → after ≡ present now
   pub catalog : now.catalog ≡ old.catalog
   pub log : now.log ≡ old.log
-  pub value : (publisher : Name) (es : List Recorded) → IsOf old publisher es → IsOf now publisher es
+  pub value : Advances old now []
 
 pub pending_start : (view : View) (above : Bool) (asked : List Op) (judged : List (Op × Outcome)) → judged ≡ [] → PendingSoFar view view above asked asked judged
 pending_start view above asked judged none = record {
@@ -221,7 +223,7 @@ pending_start view above asked judged none = record {
   stands = λ some. refl;
   catalog = refl;
   log = refl;
-  value = λ publisher es is. is;
+  value = none_advanced view;
 }
 
 -- of one op at most none is left behind the first
@@ -237,7 +239,7 @@ no_statement asked passed rest op parts (inr all) some =
 
 pub pending_on : (old now new : View) (above : Bool) (asked left rest : List Op) (op : Op) (judged judged' : List (Op × Outcome)) → PendingSoFar old now above asked left judged
     → left ≡ op ∷ rest → AllByRecursion IsShortOp asked → (length asked ≤ 1) ⊎ AllByRecursion (λ o. is_exec o ≡ false) asked → PendingMore now new above op judged judged'
-    → new.catalog ≡ now.catalog → new.log ≡ now.log → ((publisher : Name) (es : List Recorded) → IsOf now publisher es → IsOf new publisher es)
+    → new.catalog ≡ now.catalog → new.log ≡ now.log → Advances now new []
     → PendingSoFar old new above asked rest judged'
 pending_on old now new above asked left rest op judged judged' so split short few_or_other more catalog log value =
     let parts : asked ≡ so.passed ++ op ∷ rest = so.parts ∙ ap (λ (l : List Op). so.passed ++ l) split in
@@ -253,7 +255,7 @@ pending_on old now new above asked left rest op judged judged' so split short fe
       stands = λ some. ap (after_done d) stands ∙ sym (more.leaves (no_statement asked so.passed rest op parts few_or_other some));
       catalog = catalog ∙ so.catalog;
       log = log ∙ so.log;
-      value = λ publisher es is. value publisher es (so.value publisher es is);
+      value = advanced_then old now new [] [] so.value value;
     }
 
 no_items : {A : Type 0} (items : List A) → length items ≡ 0 → items ≡ []

@@ -2,15 +2,14 @@
 
 ghost use Rattle.std.specs.Prelude.{◌≡◌, ◌↔◌, ◌≤◌, ◌⊎◌, ◌∷◌, ◌++◌, [], List, true, false, length, is_ok, IfOk, IsSome, OnOk};
 ghost use Rattle.std.specs.List.{AllByRecursion};
-ghost use Rattle.sr_book.specs.Entries.{Name as AName};
-ghost use Rattle.sr_database.specs.Databases.{IsOf, IsOfSome};
+ghost use Rattle.sr_database.specs.Advances.{Advances};
+ghost use Rattle.sr_database.specs.Inner.Sound.{IsSound};
 ghost use Rattle.sr_database.specs.Views.{committed};
 ghost use Rattle.sr_database.specs.Inner.Views.{present};
 ghost use Rattle.sr_exec_dml.specs.Applying.{applied};
 ghost use Rattle.sr_exec_dml.specs.Inner.Conditions.{RowsFit};
 ghost use Rattle.sr_exec_dml.specs.FittingChanges.{ChangesFit};
 ghost use Rattle.sr_database_history.specs.Folds.{State};
-ghost use Rattle.sr_database_history.specs.Recorded.{Recorded};
 ghost use Rattle.sr_logform.specs.Ops.{IsShortOp};
 ghost use Rattle.sr_logform.specs.Inner.Ops.{IsShortTransaction};
 ghost use Rattle.sr_logform.specs.Outcomes.{IsShortChange, IsShortOutcome};
@@ -53,7 +52,7 @@ pub fn entry_of(
 ) -> Result<Entry, NoMemory>
     requires usable { db.old.log.usable ≡ true }
     requires pending { db.old.pending ≡ [] }
-    requires some { IsOfSome db.old }
+    requires sound { IsSound db.old }
     requires known { IsSome (named user_name user.now db.old.catalog.users) }
     requires short { IsShortTransaction transaction.now }
     ensures entry { IfOk result (IsEntryOf (committed db.old) user.now transaction.now) }
@@ -94,7 +93,7 @@ fn judge_all(
 ) -> Result<Vec<(Op, Outcome)>, NoMemory>
     requires usable { db.old.log.usable ≡ true }
     requires pending { db.old.pending ≡ [] }
-    requires some { IsOfSome db.old }
+    requires sound { IsSound db.old }
     requires known { IsSome (named user_name user.now db.old.catalog.users) }
     requires short { AllByRecursion IsShortOp ops.now }
     ensures judged { IfOk result (λ judged. (after : State) × AreJudgedAs (committed db.old) after (is_above (committed db.old) user.now) ops.now judged.items) }
@@ -150,7 +149,7 @@ fn judge_beside(
 ) -> Result<Vec<(Op, Outcome)>, NoMemory>
     requires usable { db.now.log.usable ≡ true }
     requires pending { db.now.pending ≡ [] }
-    requires some { IsOfSome db.now }
+    requires sound { IsSound db.now }
     requires known { IsSome (named user_name user.now db.now.catalog.users) }
     requires short { AllByRecursion IsShortOp ops.now }
     ensures judged { IfOk result (λ judged. (after : State) × AreJudgedAs (committed db.now) after above ops.now judged.items) }
@@ -167,7 +166,7 @@ fn judge_here(
 ) -> Result<Vec<(Op, Outcome)>, NoMemory>
     requires usable { db.old.log.usable ≡ true }
     requires pending { db.old.pending ≡ [] }
-    requires some { IsOfSome db.old }
+    requires sound { IsSound db.old }
     requires short { AllByRecursion IsShortOp ops.now }
     requires plain { (length ops.now ≤ 1) ⊎ AllByRecursion (λ op. is_exec op ≡ false) ops.now }
     ensures judged { IfOk result (λ judged. (after : State) × AreJudgedAs (committed db.old) after above ops.now judged.items) }
@@ -187,13 +186,13 @@ fn judge_pending(
 ) -> Result<Vec<(Op, Outcome)>, NoMemory>
     requires usable { db.old.log.usable ≡ true }
     requires pending { db.old.pending ≡ [] }
-    requires some { IsOfSome db.old }
+    requires sound { IsSound db.old }
     requires short { AllByRecursion IsShortOp ops.now }
     requires plain { (length ops.now ≤ 1) ⊎ AllByRecursion (λ op. is_exec op ≡ false) ops.now }
     ensures judged { IfOk result (λ judged. (after : State) × AreJudgedAs (committed db.old) after above ops.now judged.items) }
     ensures catalog { db.new.catalog ≡ db.old.catalog }
     ensures log { db.new.log ≡ db.old.log }
-    ensures value { (publisher : AName) (es : List Recorded) → IsOf db.old publisher es → IsOf db.new publisher es }
+    ensures value { Advances db.old db.new [] }
 {
     let mut judged = Vec::new(alloc);
     let mut left = ops;
@@ -216,7 +215,7 @@ fn judge_next(
     ensures more { OnOk result (PendingMore db.old db.new above op.now judged.old.items judged.new.items) }
     ensures catalog { db.new.catalog ≡ db.old.catalog }
     ensures log { db.new.log ≡ db.old.log }
-    ensures value { (publisher : AName) (es : List Recorded) → IsOf db.old publisher es → IsOf db.new publisher es }
+    ensures value { Advances db.old db.new [] }
 {
     let pair = judge_present(alloc, db, above, op)?;
     let kept = keep_pending(alloc, db, &pair);
@@ -315,7 +314,7 @@ fn keep_pending(alloc: Global, db: &mut Database, pair: &(Op, Outcome)) -> Resul
     ensures rows { OnOk result (db.new.rows.rows ≡ applied db.old.catalog (pending_of pair.now.0 pair.now.1) db.old.rows.rows) }
     ensures catalog { db.new.catalog ≡ db.old.catalog }
     ensures log { db.new.log ≡ db.old.log }
-    ensures value { (publisher : AName) (es : List Recorded) → IsOf db.old publisher es → IsOf db.new publisher es }
+    ensures value { Advances db.old db.new [] }
 {
     let changes = changes_of(alloc, &pair.0, &pair.1)?;
     db.take_in(alloc, changes)

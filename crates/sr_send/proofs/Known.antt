@@ -4,39 +4,33 @@ use Rattle.std.specs.Prelude.{IsTrue, IfErr, IfSome, OnOk}
 use Rattle.std.proofs.lemmas.List.{append-nil}
 use Rattle.sr_base.specs.declared.offset.Offset.{Offset}
 use Rattle.sr_book.specs.Entries.{Name}
-use Rattle.sr_database.proofs.Based.{base_is_first, catalog_is_first}
-use Rattle.sr_database.specs.Databases.{IsDatabase, HasDatabase}
-use Rattle.sr_database.specs.Inner.Entries.{IsNext}
+use Rattle.sr_database.proofs.Based.{base_is_first}
+use Rattle.sr_database.specs.Databases.{IsBased, IsDatabase}
+use Rattle.sr_database.specs.Inner.Entries.{IsNextBrief}
 use Rattle.sr_database.specs.Views.{View}
 use Rattle.sr_database_history.proofs.Joined.{end_from-append, le-end_from, stored_from-append}
 use Rattle.sr_database_history.specs.Fitting.{Stored}
 use Rattle.sr_database_history.specs.Folds.{fresh, end_of}
 use Rattle.sr_database_history.specs.Recorded.{Recorded, entry_of}
-use Rattle.sr_database_meaning.proofs.Standing.{one_history}
 use Rattle.sr_database_meaning.specs.Events.{Event}
 use Rattle.sr_logform.specs.declared.entry.Entry.{Entry}
 use Rattle.sr_site.specs.Causes.{Stays}
 use Rattle.sr_site.specs.Seen.{Seen}
+use Rattle.sr_survey.proofs.Brief.{takes_brief}
 use Rattle.sr_survey.proofs.Keeping.{begun_surveyed, kept as keeps_up}
-use Rattle.sr_survey.specs.Inner.Surveyed.{Begins, Takes}
+use Rattle.sr_survey.specs.Inner.Surveyed.{Begins, HasSurveyed, Takes}
 use Rattle.sr_survey.specs.declared.survey.Survey.{Survey}
 use Rattle.sr_send.specs.Posting.{IsSteady}
 use Rattle.sr_send.specs.Inner.Notes.{Noted}
 use Rattle.sr_send.specs.Inner.Posting.{Posted}
 use Rattle.sr_send.specs.Inner.Starts.{BeginStop, IsStill, Walked}
-use Rattle.sr_send.specs.Inner.Surveys.{BeginsAt, IsSurveyOf, IsWhole, Knows, SurveysTo}
+use Rattle.sr_send.specs.Inner.Surveys.{BeginsAt, IsSurveyOf, IsWhole, KnowsAllOf, KnowsOf, SurveysTo}
 use Rattle.sr_send.specs.declared.fault.SendFault.{SendFault}
 use Rattle.sr_send.proofs.Loops.{fault_from}
-use Rattle.sr_send.proofs.Posts.{ends_on, posted_database}
+use Rattle.sr_send.proofs.Posts.{ends_on, posted_before}
 use Rattle.sr_send.proofs.Starts.{read_on}
 
 -- ---- one database
-
--- a database on its site is of one history
-pub one_database : (db : View) (publisher other : Name) (es others : List Recorded) (seen : Seen) → IsDatabase db publisher es seen → IsDatabase db other others seen → (publisher ≡ other) × (es ≡ others)
-one_database db publisher other es others seen one two =
-    let same = one_history publisher other es others db.log.base db.log.base seen.files one.held.stands two.held.stands in
-    (same.0, same.1)
 
 -- where the entries before an offset end the offset lies within the log
 pub ends_within : (db : View) (publisher : Name) (done left : List Recorded) (seen : Seen) (at : ℕ) → IsDatabase db publisher (done ++ left) seen → at ≡ end_of done → (db.log.base ≤ at) × (at ≤ db.log.end)
@@ -55,28 +49,23 @@ told_before before now stays told = subst (λ (b : Bool). IsTrue b) stays.observ
 pub knows_on : (db : View) (s : Survey) (before now : Seen) (events : List Event) → Posted before now events → IsSurveyOf db s before → IsSurveyOf db s now
 knows_on db s before now events posted surveyed kept told =
     let was = told_before before now posted.stays told in
-    let k = surveyed kept was in
-    record {
-      publisher = k.publisher;
-      done = k.done;
-      left = k.left;
-      is = posted_database db k.publisher (k.done ++ k.left) before now events posted was k.is;
-      has = k.has;
-      before = k.before;
-      behind = k.behind;
-      begins = k.begins;
-      begin_is = k.begin_is;
-    }
+    λ publisher es database. surveyed kept was publisher es (posted_before db publisher es before now events posted was database)
 
 -- who knows all knows the first
+some_of : (publisher : Name) (es : List Recorded) (s : Survey) → KnowsAllOf publisher es s → KnowsOf publisher es s
+some_of publisher es s k =
+    record { done = es; left = []; parts = sym (append-nil es); has = k.has; before = k.before; behind = k.behind; begins = k.begins; begin_is = k.begin_is }
+
 pub knows_some : (db : View) (s : Survey) (seen : Seen) → IsWhole db s seen → IsSurveyOf db s seen
-knows_some db s seen whole kept told =
-    let k = whole kept told in
+knows_some db s seen whole kept told = λ publisher es database. some_of publisher es s (whole kept told publisher es database)
+
+-- with an entry that is noted
+noted_of : (publisher : Name) (es : List Recorded) (s : Survey) (r : Recorded) → KnowsOf publisher es s → KnowsOf publisher (es ++ r ∷ []) s
+noted_of publisher es s r k =
     record {
-      publisher = k.publisher;
-      done = k.es;
-      left = [];
-      is = subst (λ (rs : List Recorded). IsDatabase db k.publisher rs seen) (sym (append-nil k.es)) k.is;
+      done = k.done;
+      left = k.left ++ r ∷ [];
+      parts = ap (λ (rs : List Recorded). rs ++ r ∷ []) k.parts ∙ append_assoc k.done k.left (r ∷ []);
       has = k.has;
       before = k.before;
       behind = k.behind;
@@ -84,22 +73,12 @@ knows_some db s seen whole kept told =
       begin_is = k.begin_is;
     }
 
--- with an entry that is noted
 pub knows_noted : (old new : View) (s : Survey) (before now : Seen) (r : Recorded) → Stays before now → Noted old new before now r → IsSurveyOf old s before → IsSurveyOf new s now
 knows_noted old new s before now r stays noted surveyed kept told =
     let was = told_before before now stays told in
-    let k = surveyed kept was in
-    record {
-      publisher = k.publisher;
-      done = k.done;
-      left = k.left ++ r ∷ [];
-      is = subst (λ (rs : List Recorded). IsDatabase new k.publisher rs now) (append_assoc k.done k.left (r ∷ [])) (noted.database was k.publisher (k.done ++ k.left) k.is);
-      has = k.has;
-      before = k.before;
-      behind = k.behind;
-      begins = k.begins;
-      begin_is = k.begin_is;
-    }
+    λ publisher es database.
+    let w = noted.without was publisher es new.log.base database.held.stands in
+    subst (λ (rs : List Recorded). KnowsOf publisher rs s) (sym w.is) (noted_of publisher w.first s r (surveyed kept was publisher w.first w.database))
 
 -- the same of the survey that is shared
 pub shared_on : (db : View) (o : Option Survey) (before now : Seen) (events : List Event) → Posted before now events → IfSome o (λ s. IsSurveyOf db s before) → IfSome o (λ s. IsSurveyOf db s now)
@@ -116,49 +95,47 @@ shared_noted old new (Some s) before now r stays noted surveyed = knows_noted ol
 
 -- ---- where it begins
 
-module _ (db : View) (s : Survey) (first before now : Seen) (stands : IsTrue first.observable → HasDatabase db first) where
+module _ (db : View) (s : Survey) (first before now : Seen) where
   -- behind what was sent to everybody
-  pub begun_behind : (sent : ℕ) (at : Offset) → Walked db sent at first before → Posted before now [] → IsStill db at before → BeginsAt db.catalog at.0 s → IsSurveyOf db s now
-  begun_behind sent at walked read still begins kept told =
-      let then_told = told_before before now read.stays told in
-      let was = told_before first before walked.posted.stays then_told in
-      let has = stands was in
-      let part = walked.part was has.publisher has.es has.is in
-      let here : IsDatabase db has.publisher (part.done ++ part.left) before =
-      subst (λ (rs : List Recorded). IsDatabase db has.publisher rs before) part.parts (posted_database db has.publisher has.es first before [] walked.posted was has.is) in
-      let b = begins kept in
+  behind_of : (sent : ℕ) (at : Offset) → Walked db sent at first before → IsStill db at before → Begins db.catalog at.0 s → IsTrue first.observable → IsTrue before.observable
+      → (publisher : Name) (es : List Recorded) → IsDatabase db publisher es before → KnowsOf publisher es s
+  behind_of sent at walked still b was then_told publisher es database =
+      let part = walked.part was publisher es (posted_before db publisher es first before [] walked.posted was database) in
+      let here : IsDatabase db publisher (part.done ++ part.left) before = subst (λ (rs : List Recorded). IsDatabase db publisher rs before) part.parts database in
       record {
-        publisher = has.publisher;
         done = part.done;
         left = part.left;
-        is = posted_database db has.publisher (part.done ++ part.left) before now [] read then_told here;
-        has = begun_surveyed has.publisher part.done db.catalog s (subst (λ (n : ℕ). Begins db.catalog n s) part.at_is b) (still then_told has.publisher part.done part.left here part.at_is);
+        parts = part.parts;
+        has = begun_surveyed publisher part.done db.catalog s (subst (λ (n : ℕ). Begins db.catalog n s) part.at_is b) (still then_told publisher part.done part.left here part.at_is);
         before = part.done;
         behind = [];
         begins = sym (append-nil part.done);
         begin_is = b.begin ∙ part.at_is;
       }
 
-  -- at the base
-  pub begun_at_base : (sent : ℕ) (at base : Offset) → Walked db sent at first before → Posted before now [] → base.0 ≡ db.log.base → BeginsAt db.base_catalog base.0 s → IsSurveyOf db s now
-  begun_at_base sent at base walked read at_base begins kept told =
+  pub begun_behind : (sent : ℕ) (at : Offset) → Walked db sent at first before → Posted before now [] → IsStill db at before → BeginsAt db.catalog at.0 s → IsSurveyOf db s now
+  begun_behind sent at walked read still begins kept told =
       let then_told = told_before before now read.stays told in
       let was = told_before first before walked.posted.stays then_told in
-      let has = stands was in
-      let here : IsDatabase db has.publisher has.es before = posted_database db has.publisher has.es first before [] walked.posted was has.is in
-      let b = begins kept in
-      let start : base.0 ≡ 0 = at_base ∙ base_is_first db.log.base db.base_catalog has.publisher has.es has.is.is.based in
+      λ publisher es database.
+      behind_of sent at walked still (begins kept) was then_told publisher es (posted_before db publisher es before now [] read then_told database)
+
+  -- at the base
+  base_of : (base : ℕ) → base ≡ db.log.base → Begins db.base_catalog base s → (publisher : Name) (es : List Recorded) → IsBased db.log.base db.base_catalog publisher es → KnowsOf publisher es s
+  base_of base at_base b publisher es based =
       record {
-        publisher = has.publisher;
-        done = [];
-        left = has.es;
-        is = posted_database db has.publisher has.es before now [] read then_told here;
-        has = begun_surveyed has.publisher [] db.base_catalog s (subst (λ (n : ℕ). Begins db.base_catalog n s) start b) (catalog_is_first db.log.base db.base_catalog has.publisher has.es has.is.is.based);
-        before = [];
+        done = based.done;
+        left = based.left;
+        parts = based.parts;
+        has = begun_surveyed publisher based.done db.base_catalog s (subst (λ (n : ℕ). Begins db.base_catalog n s) (at_base ∙ based.base_is) b) based.catalog_is;
+        before = based.done;
         behind = [];
-        begins = refl;
-        begin_is = b.begin ∙ start;
+        begins = sym (append-nil based.done);
+        begin_is = b.begin ∙ at_base ∙ based.base_is;
       }
+
+  pub begun_at_base : (base : Offset) → base.0 ≡ db.log.base → BeginsAt db.base_catalog base.0 s → IsSurveyOf db s now
+  begun_at_base base at_base begins kept told = λ publisher es database. base_of base.0 at_base (begins kept) publisher es database.is.based
 
 -- if there is one
 pub begun_made : (db : View) (o : Option Survey) (now : Seen) (holds : Survey → Type 0) → ((s : Survey) → holds s → IsSurveyOf db s now) → IfSome o holds → IfSome o (λ s. IsSurveyOf db s now)
@@ -176,56 +153,60 @@ stored_more publisher done rest r stored =
 abbrev pub TakesOr : Survey → Entry → ℕ → Survey → Type 0
 TakesOr old e at new = new.given_up ≡ None → (old.given_up ≡ None) × Takes old e at new
 
-took_one : (db : View) (old new : Survey) (end : Offset) (entry : Entry) (before now : Seen) → Posted before now [] → IsTrue before.observable → (k : Knows db old before) → IsNext k.done k.left end entry → Takes old entry end.0 new
-    → Knows db new now
-took_one db old new end entry before now read told k n takes =
+took_of : (publisher : Name) (es : List Recorded) (old new : Survey) (end : Offset) (brief : Entry) → Stored publisher es → (k : KnowsOf publisher es old) → IsNextBrief k.done k.left end brief → Takes old brief end.0 new
+    → KnowsOf publisher es new
+took_of publisher es old new end brief stands k b takes =
+    let n = b.is in
     let r = n.r in
-    let whole : k.done ++ k.left ≡ k.done ++ r ∷ n.rest = ap (λ (rs : List Recorded). k.done ++ rs) n.left_is in
-    let stored : Stored k.publisher (k.done ++ r ∷ []) = stored_more k.publisher k.done n.rest r (subst (λ (rs : List Recorded). Stored k.publisher rs) whole k.is.is.stored) in
-    let same : Takes old (entry_of r) (end_of (k.done ++ r ∷ [])) new = subst (λ (m : ℕ). Takes old (entry_of r) m new) n.end_is (subst (λ (e : Entry). Takes old e end.0 new) n.entry_is takes) in
+    let whole : es ≡ k.done ++ r ∷ n.rest = k.parts ∙ ap (λ (rs : List Recorded). k.done ++ rs) n.left_is in
+    let stored : Stored publisher (k.done ++ r ∷ []) = stored_more publisher k.done n.rest r (subst (λ (rs : List Recorded). Stored publisher rs) whole stands) in
+    let same : Takes old (entry_of r) (end_of (k.done ++ r ∷ [])) new = subst (λ (m : ℕ). Takes old (entry_of r) m new) n.end_is (subst (λ (e : Entry). Takes old e end.0 new) n.entry_is (takes_brief old new b.entry brief end.0 b.brief_is takes)) in
     record {
-      publisher = k.publisher;
       done = k.done ++ r ∷ [];
       left = n.rest;
-      is = posted_database db k.publisher ((k.done ++ r ∷ []) ++ n.rest) before now [] read told
-          (subst (λ (rs : List Recorded). IsDatabase db k.publisher rs before) (whole ∙ sym (append_assoc k.done (r ∷ []) n.rest)) k.is);
-      has = keeps_up k.publisher k.done r old new stored k.has same;
+      parts = whole ∙ sym (append_assoc k.done (r ∷ []) n.rest);
+      has = keeps_up publisher k.done r old new stored k.has same;
       before = k.before;
       behind = k.behind ++ r ∷ [];
       begins = ap (λ (rs : List Recorded). rs ++ r ∷ []) k.begins ∙ append_assoc k.before k.behind (r ∷ []);
       begin_is = takes.begin ∙ k.begin_is;
     }
 
-pub took_next : (db : View) (old new : Survey) (at end : Offset) (entry : Entry) (before now : Seen) → SurveysTo db old at before → Posted before now []
-    → (IsTrue before.observable → (publisher : Name) (done left : List Recorded) → IsDatabase db publisher (done ++ left) before → at.0 ≡ end_of done → IsNext done left end entry) → TakesOr old entry end.0 new
+pub took_next : (db : View) (old new : Survey) (at end : Offset) (brief : Entry) (before now : Seen) → SurveysTo db old at before → Posted before now []
+    → (IsTrue before.observable → (publisher : Name) (done left : List Recorded) → IsDatabase db publisher (done ++ left) before → at.0 ≡ end_of done → IsNextBrief done left end brief) → TakesOr old brief end.0 new
     → SurveysTo db new end now
-took_next db old new at end entry before now surveyed read found takes = record {
+took_next db old new at end brief before now surveyed read found takes = record {
   end_is = λ stays. (takes stays).1.end;
   knows = λ stays told.
       let t = takes stays in
       let was = told_before before now read.stays told in
-      let k = surveyed.knows t.0 was in
-      took_one db old new end entry before now read was k (found was k.publisher k.done k.left k.is (sym (surveyed.end_is t.0) ∙ k.has.end_is)) t.1;
+      λ publisher es database.
+      let there = posted_before db publisher es before now [] read was database in
+      let k = surveyed.knows t.0 was publisher es there in
+      took_of publisher es old new end brief there.is.stored k
+      (found was publisher k.done k.left (subst (λ (rs : List Recorded). IsDatabase db publisher rs before) k.parts there) (sym (surveyed.end_is t.0) ∙ k.has.end_is)) t.1;
 }
 
 -- none follows: it knows all
+all_of : (publisher : Name) (es : List Recorded) (s : Survey) → (k : KnowsOf publisher es s) → k.left ≡ [] → KnowsAllOf publisher es s
+all_of publisher es s k empty =
+    let whole : es ≡ k.done = k.parts ∙ ap (λ (rs : List Recorded). k.done ++ rs) empty ∙ append-nil k.done in
+    record {
+      has = subst (λ (rs : List Recorded). HasSurveyed publisher rs s) (sym whole) k.has;
+      before = k.before;
+      behind = k.behind;
+      begins = whole ∙ k.begins;
+      begin_is = k.begin_is;
+    }
+
 pub took_all : (db : View) (s : Survey) (at : Offset) (before now : Seen) → SurveysTo db s at before → Posted before now []
     → (IsTrue before.observable → (publisher : Name) (done left : List Recorded) → IsDatabase db publisher (done ++ left) before → at.0 ≡ end_of done → left ≡ []) → IsWhole db s now
 took_all db s at before now surveyed read none stays told =
     let was = told_before before now read.stays told in
-    let k = surveyed.knows stays was in
-    let empty : k.left ≡ [] = none was k.publisher k.done k.left k.is (sym (surveyed.end_is stays) ∙ k.has.end_is) in
-    let whole : k.done ++ k.left ≡ k.done = ap (λ (rs : List Recorded). k.done ++ rs) empty ∙ append-nil k.done in
-    record {
-      publisher = k.publisher;
-      es = k.done;
-      is = posted_database db k.publisher k.done before now [] read was (subst (λ (rs : List Recorded). IsDatabase db k.publisher rs before) whole k.is);
-      has = k.has;
-      before = k.before;
-      behind = k.behind;
-      begins = k.begins;
-      begin_is = k.begin_is;
-    }
+    λ publisher es database.
+    let there = posted_before db publisher es before now [] read was database in
+    let k = surveyed.knows stays was publisher es there in
+    all_of publisher es s k (none was publisher k.done k.left (subst (λ (rs : List Recorded). IsDatabase db publisher rs before) k.parts there) (sym (surveyed.end_is stays) ∙ k.has.end_is))
 
 -- one that was given up says nothing
 pub given_up_whole : (db : View) (s : Survey) (seen : Seen) → ¬ (s.given_up ≡ None) → IsWhole db s seen

@@ -6,8 +6,7 @@ use Rattle.sr_base.specs.declared.offset.Offset.{Offset}
 use Rattle.sr_book.specs.Entries.{Name}
 use Rattle.sr_mail_cut.proofs.Items.{long-behind}
 use Rattle.sr_mail_cut.proofs.Lists.{AllByRecursion-append}
-use Rattle.sr_database.proofs.Based.{base_within}
-use Rattle.sr_database.specs.Databases.{IsOfSome, IsDatabase}
+use Rattle.sr_database.specs.Databases.{IsDatabase}
 use Rattle.sr_database.specs.Inner.Entries.{IsNext}
 use Rattle.sr_database.specs.Views.{View}
 use Rattle.sr_database_history.specs.Folds.{end_of}
@@ -234,10 +233,6 @@ pub stop_answer : (db : View) (aim : Aim) (scan : Scan) (old : Post) (after end 
     → IsFoundNext db after end entry before → IfErr result (FeedStop aim scan old end entry middle now) → IfErr (stepped_to end result) (StepStop db aim scan old after before now)
 stop_answer db aim scan old after end entry before middle now (Ok done) read steady found stop = tt
 stop_answer db aim scan old after end entry before middle now (Err fault) read steady found stop = step_stopped db aim scan old after end entry before middle now fault read steady found stop
-
--- the base does not lie past the end
-pub base_first : (db : View) → IsOfSome db → db.log.base ≤ db.log.end
-base_first db some = omega (arith, base_within db.log.base db.base_catalog some.publisher some.es some.is.based, some.is.end)
 
 pub loop_end : (db : View) (aim : Aim) (user : Name) (scan scan' : Scan) (post post' : Post) (after : Offset) (first before now : Seen) (found : Option Offset) → UnderWay db aim user scan post after first before
     → ((end : Offset) → found ≡ Some end → ⊥) → DoneStep db aim scan scan' post post' after before now found → AllRead db aim user post' first now

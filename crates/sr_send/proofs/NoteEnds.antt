@@ -10,7 +10,10 @@ use Rattle.sr_book.specs.declared.note.Note.TheVariants.{Sent as sent_up_to}
 use Rattle.sr_database.specs.Inner.Causes.{CommitCause, IsBegun}
 use Rattle.sr_database.specs.Commits.{HasRoom, IsLong}
 use Rattle.sr_database.specs.Inner.Commits.{CanCommit, CanCommitSome}
-use Rattle.sr_database.specs.Databases.{IsOf, IsDatabase}
+use Rattle.sr_database.specs.Databases.{IsDatabase}
+use Rattle.sr_database.specs.Inner.Without.{WasWithout}
+use Rattle.sr_database.specs.Advances.{Advances}
+use Rattle.sr_database.specs.InForce.{HasLogInForce}
 use Rattle.sr_database.specs.Views.{View}
 use Rattle.sr_database_files.specs.declared.fault.DatabaseFault.{DatabaseFault}
 use Rattle.sr_database_files.specs.declared.fault.DatabaseFault.TheVariants as store
@@ -24,6 +27,7 @@ use Rattle.sr_catalog_schema.specs.Members.{user_name}
 use Rattle.sr_catalog_schema.specs.Names.{named}
 use Rattle.sr_site.specs.Seen.{Seen}
 use Rattle.sr_database_meaning.specs.Events.{commit}
+use Rattle.sr_database_meaning.specs.Standing.{StandsFor}
 use Rattle.sr_database_meaning.specs.Traces.{Went}
 use Rattle.sr_send.specs.Inner.Notes.{Noted, NoteCause, IsNoteRefusal, IsNotedAs}
 use Rattle.sr_send.specs.declared.fault.SendFault.{SendFault}
@@ -85,8 +89,10 @@ note_refused old new before now entry (Err store.Memory) short cause = tt
 -- what `commit` says
 pub record CommitSays (old new : View) (before now : Seen) (entry : Entry) (result : Result Offset DatabaseFault) : Type 0 where
   pub ready : OnOk result ((new.log.usable ≡ true) × (new.pending ≡ []))
-  pub value : (publisher : Name) (es : List Recorded) (r : Recorded) → IsOf old publisher es → CanCommit old entry r → OnOk result (IsOf new publisher (es ++ r ∷ []))
+  pub value : (r : Recorded) → CanCommit old entry r → OnOk result (Advances old new (r ∷ []))
+  pub in_force : IsTrue before.observable → OnOk result (HasLogInForce new now)
   pub database : IsTrue before.observable → (publisher : Name) (es : List Recorded) (r : Recorded) → IsDatabase old publisher es before → CanCommit old entry r → OnOk result (IsDatabase new publisher (es ++ r ∷ []) now)
+  pub without : IsTrue before.observable → (publisher : Name) (es : List Recorded) (base : ℕ) (r : Recorded) → CanCommit old entry r → OnOk result (StandsFor publisher es base now.files → WasWithout old publisher es r before)
   pub went : IsTrue before.observable → (publisher : Name) (es : List Recorded) (r : Recorded) → IsDatabase old publisher es before → CanCommit old entry r → IsBegun result → Went before now publisher es (commit r ∷ [])
   pub room : OnOk result (HasRoom old.log entry)
   pub steady : OnOk result (now.disk_faults ≡ before.disk_faults)
@@ -101,8 +107,10 @@ noted_answer old new before now user what entry (Ok offset) answer none known is
       pending = says.ready.1;
       room = subst (λ (e : Entry). HasRoom old.log e) is says.room;
       steady = says.steady;
-      value = λ publisher es there. says.value publisher es (note user what) there can;
+      value = says.value (note user what) can;
+      in_force = says.in_force;
       database = λ told publisher es database. says.database told publisher es (note user what) database can;
+      without = λ told publisher es base stands. says.without told publisher es base (note user what) can stands;
       went = λ told publisher es database. says.went told publisher es (note user what) database can tt;
     } in
     subst (λ (r : Result (Unit {0}) SendFault). OnOk r (Noted old new before now (note user what))) (sym noted) done

@@ -15,7 +15,11 @@ use Rattle.sr_database.specs.Books.{book_in}
 use Rattle.sr_database.specs.Causes.{IsTooFar}
 use Rattle.sr_database.specs.Inner.Causes.{IsSame}
 use Rattle.sr_database.specs.Commits.{HasRoom}
-use Rattle.sr_database.specs.Databases.{IsOf, IsDatabase, HasDatabase}
+use Rattle.sr_database.specs.Databases.{IsOf, IsDatabase}
+use Rattle.sr_database.specs.Advances.{Advances}
+use Rattle.sr_database.proofs.Advancing.{none_advanced}
+use Rattle.sr_database.proofs.InForce.{in_force_still}
+use Rattle.sr_database.specs.InForce.{HasLogInForce}
 use Rattle.sr_database.specs.Views.{View}
 use Rattle.sr_database_history.specs.Recorded.{Recorded, entry_of}
 use Rattle.sr_logform.specs.declared.op.Transaction.{Transaction}
@@ -203,6 +207,7 @@ module _ (db : View) (user : Name) (book : Book) (limit : ℕ) (ask : Bool) (is 
       idle = λ nothing. refl;
       room = λ some. absurd (some none);
       value = λ some. absurd (some none);
+      in_force = λ told has. in_force_still db db before middle refl (none_advanced db) (put.posted.files told) (put.posted.images told) has;
       passed = λ told publisher es database.
           subst (λ (b : Book). Passed db db before middle publisher es user b limit ask sent) is
           (passed_none publisher es told database (no_messages put.messages (sym put.count ∙ none)));
@@ -248,7 +253,8 @@ module _ (db : View) (user : Name) (book : Book) (limit : ℕ) (ask : Bool) (is 
       stays = stays_on before middle now put.posted.stays (of_disk middle now stays);
       steady = steady_on before middle now put.steady (steady_read middle now stays noted.steady);
       idle = λ none. absurd (some none);
-      value = λ yes publisher es there. subst (λ (b : Book). IsOf new publisher (es ++ sent_note user b sent.end sent.put ∷ [])) is (noted.value publisher es there);
+      value = λ yes. subst (λ (b : Book). Advances db new (sent_note user b sent.end sent.put ∷ [])) is noted.value;
+      in_force = λ told has. noted.in_force (told_then before middle put.posted.stays told);
       room = λ yes. subst (λ (b : Book). HasRoom db.log (entry_of (sent_note user b sent.end sent.put))) is noted.room;
       passed = λ told publisher es database.
           subst (λ (b : Book). Passed db new before now publisher es user b limit ask sent) is (passed_noted publisher es told database some stays noted);
@@ -353,9 +359,8 @@ pub has_book : (found : Option Book) (o : Option User) (b : Book) → found ≡ 
 has_book found None b is known none = let both : false ≡ true = known in cc
 has_book found (Some user) b is known none = none b is
 
--- the database is still there once files were put
-pub still_database : (db : View) (before now : Seen) (events : List Event) → Posted before now events → (IsTrue before.observable → HasDatabase db before) → IsTrue now.observable → HasDatabase db now
-still_database db before now events posted stands told =
+-- the log is still in force once files were put
+pub still_in_force : (db : View) (before now : Seen) (events : List Event) → Posted before now events → (IsTrue before.observable → HasLogInForce db before) → IsTrue now.observable → HasLogInForce db now
+still_in_force db before now events posted stands told =
     let then : IsTrue before.observable = subst (λ (b : Bool). IsTrue b) posted.stays.observable told in
-    let there = stands then in
-    record { publisher = there.publisher; es = there.es; is = posted_database db there.publisher there.es before now events posted then there.is }
+    in_force_still db db before now refl (none_advanced db) (posted.files then) (posted.images then) (stands then)

@@ -12,7 +12,7 @@ use Rattle.sr_site.specs.Causes.{Stays, DiskStays, MailStays, Rose}
 use Rattle.sr_site.specs.Files.{Files}
 use Rattle.sr_site.specs.Inner.Growing.{stays_on}
 use Rattle.sr_site.specs.Happenings.{Happening, sent, mail_in}
-use Rattle.sr_site.specs.Images.{IsSettled}
+use Rattle.sr_site.specs.Images.{IsImage, IsSettled, MayLeave}
 use Rattle.sr_site.specs.Seen.{Seen}
 use Rattle.sr_site.specs.declared.mail.MailFault.{MailFault}
 use Rattle.sr_site.specs.declared.mail.MailFault.TheVariants as mail
@@ -50,12 +50,18 @@ alone_on [] more a b c one two = subst (λ (from : List Happening). PutAlone mor
 alone_on (commit r ∷ events) more a b c one two = alone_on events more a b c one two
 alone_on (put address name bytes ∷ events) more a b c one two = (one.0, alone_on events more (sent address name bytes one.0 ∷ a) b c one.1 two)
 
+-- what a crash may leave before these calls, it may leave behind them
+image_behind : (before now : Seen) (more : List Happening) (image : Files) → now.first ≡ before.first → now.happened ≡ more ++ before.happened → MayLeave before.first (more ++ before.happened) image → IsImage now image
+image_behind before now more image first is there =
+    subst (λ (f : Files). MayLeave f now.happened image) (sym first) (subst (λ (h : List Happening). MayLeave before.first h image) (sym is) there)
+
 pub posted_none : (seen : Seen) → Posted seen seen []
 posted_none seen = record {
   stays = still seen;
   files = λ told. refl;
   went = λ told publisher es settled. nothing seen publisher es settled;
   images = λ told image there. there;
+  images_too = λ told image there. there;
   mail = λ told. refl;
 }
 
@@ -65,6 +71,7 @@ posted_read before now stays files happened = record {
   files = files;
   went = λ told publisher es settled. quiet before now publisher es [] settled stays.observable stays.first (happened told) tt;
   images = λ told image there. quiet_before before now [] image stays.first (happened told) tt there;
+  images_too = λ told image there. image_behind before now [] image stays.first (happened told) there;
   mail = λ told. stays.mail;
 }
 
@@ -75,6 +82,7 @@ posted_one before now address name bytes done stays happened = record {
   files = λ told. stays.files;
   went = λ told publisher es settled. one_put before now publisher es address name bytes done settled stays.observable stays.first (happened told);
   images = λ told image there. put_before before now address name bytes done image stays.first (happened told) there;
+  images_too = λ told image there. image_behind before now (sent address name bytes done ∷ []) image stays.first (happened told) there;
   mail = λ told. (done, ap mail_in (happened told));
 }
 
@@ -91,6 +99,7 @@ posted_on a b c events more silent one two = record {
       (subst (λ (rs : List Recorded). Went b c publisher rs more) (sym same)
       (two.went (told_then a b one.stays told) publisher es (settled_then (StandsAs publisher es) a b events one told settled)));
   images = λ told image there. one.images told image (two.images (told_then a b one.stays told) image there);
+  images_too = λ told image there. two.images_too (told_then a b one.stays told) image (one.images_too told image there);
   mail = λ told. alone_on events more (mail_in a.happened) (mail_in b.happened) (mail_in c.happened) (one.mail told) (two.mail (told_then a b one.stays told));
 }
 
@@ -104,6 +113,14 @@ posted_database view publisher es before now events posted told database = recor
   is = database.is;
   held = subst (λ (files : Files). IsHeld view publisher es files) (sym (posted.files told)) database.held;
   settled = settled_then (IsHeld view publisher es) before now events posted told database.settled;
+}
+
+-- and it stood so before
+pub posted_before : (view : View) (publisher : Name) (es : List Recorded) (before now : Seen) (events : List Event) → Posted before now events → IsTrue before.observable → IsDatabase view publisher es now → IsDatabase view publisher es before
+posted_before view publisher es before now events posted told database = record {
+  is = database.is;
+  held = subst (λ (files : Files). IsHeld view publisher es files) (posted.files told) database.held;
+  settled = λ image there. database.settled image (posted.images_too told image there);
 }
 
 pub posted_went : (view : View) (publisher : Name) (es : List Recorded) (before now : Seen) (events : List Event) → Posted before now events → IsTrue before.observable → IsDatabase view publisher es before → Went before now publisher es events

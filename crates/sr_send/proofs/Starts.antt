@@ -5,7 +5,8 @@ use Rattle.std.proofs.lemmas.List.{append-nil}
 use Rattle.sr_base.specs.declared.offset.Offset.{Offset}
 use Rattle.sr_book.specs.Entries.{Name}
 use Rattle.sr_database.proofs.Based.{base_is_first}
-use Rattle.sr_database.specs.Databases.{IsOfSome, IsDatabase}
+use Rattle.sr_database.specs.Databases.{IsDatabase}
+use Rattle.sr_database.specs.Inner.Sound.{IsSound}
 use Rattle.sr_database.specs.Inner.Entries.{IsNextEnd, IsNextKind}
 use Rattle.sr_database.specs.Views.{View}
 use Rattle.sr_database_history.specs.Fitting.{Stored}
@@ -64,18 +65,19 @@ none_unsent publisher user done sent before = none_past sent (fresh publisher) 0
 pub read_on : (before middle now : Seen) → Posted before middle [] → Posted middle now [] → Posted before now []
 read_on before middle now one two = posted_on before middle now [] [] refl one two
 
-pub walk_start : (db : View) (sent : ℕ) (at : Offset) (seen : Seen) → IsOfSome db → at.0 ≡ db.log.base → Walked db sent at seen seen
-walk_start db sent at seen some at_is =
-    let base : db.log.base ≡ 0 = base_is_first db.log.base db.base_catalog some.publisher some.es some.is.based in
+pub walk_start : (db : View) (sent : ℕ) (at : Offset) (seen : Seen) → IsSound db → at.0 ≡ db.log.base → Walked db sent at seen seen
+walk_start db sent at seen sound at_is =
     record {
       posted = posted_none seen;
       steady = same_counts seen;
       from_base = omega (arith, at_is);
-      within = omega (arith, at_is, base);
-      part = λ told publisher es database. record { done = []; left = es; parts = refl; at_is = at_is ∙ base; before = omega (arith, at_is, base) };
+      within = omega (arith, at_is, sound.order.order);
+      part = λ told publisher es database.
+          let base : db.log.base ≡ 0 = base_is_first db.log.base db.base_catalog publisher es database.is.based in
+          record { done = []; left = es; parts = refl; at_is = at_is ∙ base; before = omega (arith, at_is, base) };
     }
 
-part_on : (es : List Recorded) (sent : ℕ) (at end : Offset) → (part : IsPartAt es sent at) → IsNextEnd part.done part.left end → end.0 ≤ sent → IsPartAt es sent end
+pub part_on : (es : List Recorded) (sent : ℕ) (at end : Offset) → (part : IsPartAt es sent at) → IsNextEnd part.done part.left end → end.0 ≤ sent → IsPartAt es sent end
 part_on es sent at end part next_is before = record {
   done = part.done ++ next_is.r ∷ [];
   left = next_is.rest;
@@ -118,7 +120,7 @@ begin_stopped first before now fault posted steady read mail cause = record {
 -- ---- the catalog
 
 -- an entry of which no statement ran
-still_next : (publisher : Name) (done left : List Recorded) (end : Offset) → Stored publisher (done ++ left) → (still : IsStillEnd done left end) → (state_of publisher (done ++ still.r ∷ [])).catalog ≡ (state_of publisher done).catalog
+pub still_next : (publisher : Name) (done left : List Recorded) (end : Offset) → Stored publisher (done ++ left) → (still : IsStillEnd done left end) → (state_of publisher (done ++ still.r ∷ [])).catalog ≡ (state_of publisher done).catalog
 still_next publisher done left end stored still =
     let r = still.r in
     let s = state_of publisher done in
@@ -190,7 +192,7 @@ look_start db from seen within = record {
   };
 }
 
-still_on : (publisher : Name) (done left : List Recorded) (at end : Offset) → Stored publisher (done ++ left) → (to : IsStillTo publisher done left at) → IsStillEnd (done ++ to.more) to.rest end → IsStillTo publisher done left end
+pub still_on : (publisher : Name) (done left : List Recorded) (at end : Offset) → Stored publisher (done ++ left) → (to : IsStillTo publisher done left at) → IsStillEnd (done ++ to.more) to.rest end → IsStillTo publisher done left end
 still_on publisher done left at end stored to still =
     let whole : done ++ left ≡ (done ++ to.more) ++ to.rest = ap (λ (rs : List Recorded). done ++ rs) to.parts ∙ sym (append_assoc done to.more to.rest) in
     let joined : (done ++ to.more) ++ still.r ∷ [] ≡ done ++ (to.more ++ still.r ∷ []) = append_assoc done to.more (still.r ∷ []) in
@@ -220,7 +222,7 @@ look_on db from at end first before now looked read steady within found = record
 }
 
 -- nothing is left where the ends are one
-none_rest : (done rest : List Recorded) → end_of done ≡ end_of (done ++ rest) → rest ≡ []
+pub none_rest : (done rest : List Recorded) → end_of done ≡ end_of (done ++ rest) → rest ≡ []
 none_rest done [] same = refl
 none_rest done (r ∷ rs) same =
     let end = end_of done + (size r + 5) in
@@ -257,15 +259,14 @@ begun_here db aim scan after first before now walked read steady still catalog =
       };
 }
 
-pub begun_base : (db : View) (aim : Aim) (scan : Scan) (sent : ℕ) (at after : Offset) (first before now : Seen) → IsOfSome db → Walked db sent at first before → Posted before now [] → IsSteady before now → after.0 ≡ db.log.base → scan.catalog ≡ db.base_catalog
+pub begun_base : (db : View) (aim : Aim) (scan : Scan) (sent : ℕ) (at after : Offset) (first before now : Seen) → IsSound db → Walked db sent at first before → Posted before now [] → IsSteady before now → after.0 ≡ db.log.base → scan.catalog ≡ db.base_catalog
     → Begun db aim scan after first now
-begun_base db aim scan sent at after first before now some walked read steady at_is catalog =
-    let base : db.log.base ≡ 0 = base_is_first db.log.base db.base_catalog some.publisher some.es some.is.based in
+begun_base db aim scan sent at after first before now sound walked read steady at_is catalog =
     record {
       posted = read_on first before now walked.posted read;
       steady = steady_on first before now walked.steady steady;
       from_base = omega (arith, at_is);
-      within = omega (arith, at_is, base);
+      within = omega (arith, at_is, sound.order.order);
       read = λ told publisher es database. read_none db publisher es scan.user aim.prev.0 after scan database.is at_is catalog refl;
     }
 

@@ -37,10 +37,9 @@ use Rattle.sr_send.specs.declared.fault.SendFault.{SendFault}
 use Rattle.sr_send.specs.declared.fault.SendFault.TheVariants.{Memory}
 use Rattle.sr_send.specs.declared.post.Post.{Post}
 use Rattle.sr_send.proofs.Jumps.{reached_all, reached_next, reached_none, reached_prefix}
-use Rattle.sr_send.proofs.Known.{one_database}
 use Rattle.sr_send.proofs.Loops.{fault_from, long_of, next_fault, posted_behind_read, put_files_on, stop_from}
 use Rattle.sr_send.proofs.Numbers.{no_commits}
-use Rattle.sr_send.proofs.Posts.{ends_none, ends_on, posted_database, posted_none, posted_on, same_counts, steady_on, told_then}
+use Rattle.sr_send.proofs.Posts.{ends_none, ends_on, posted_before, posted_database, posted_none, posted_on, same_counts, steady_on, told_then}
 use Rattle.sr_send.proofs.Pushes.{nothing_put, stopped_short}
 
 -- ---- the entry at a place
@@ -144,9 +143,7 @@ place_unread db aim s user old place before now fault good read mail cause = rec
 -- it is one of the history
 pub place_known : (db : View) (s : Survey) (user : Name) (at : ℕ) (place : Place) (seen : Seen) → (IsTrue seen.observable → KnowsAll db s seen) → IsNext s user at (Some place) → IsPlaceOf db place seen
 place_known db s user at place seen whole next told publisher es database =
-    let k = whole told in
-    let same = one_database db publisher k.publisher es k.es seen database k.is in
-    subst (λ (rs : List Recorded). IsPlace rs place) (sym same.1) (k.has.places next.0.key place next.0.there)
+    (whole told publisher es database).has.places next.0.key place next.0.there
 
 module _ (db : View) (aim : Aim) (s : Survey) (user : Name) (old new : Post) (at : Offset) (place : Place) (before now : Seen) (next : IsNext s user at.0 (Some place)) where
   pub went_next : (result : Result (Unit {0}) SendFault) → OnOk result (PutPlace db aim s user old new place before now) → IfOk (stepped_to (offset_from place.end) result) (WentOn db aim s user old new at before now)
@@ -173,9 +170,7 @@ next_short db aim s user old at seen good = record { added = []; found = inl ref
 
 -- what a survey knows is so of the history that the database is of
 known : (db : View) (s : Survey) (publisher : Name) (es : List Recorded) (seen : Seen) → (k : KnowsAll db s seen) → IsDatabase db publisher es seen → HasSurveyed publisher es s
-known db s publisher es seen k database =
-    let same = one_database db publisher k.publisher es k.es seen database k.is in
-    subst (λ (p : Name). HasSurveyed p es s) (sym same.0) (subst (λ (rs : List Recorded). HasSurveyed k.publisher rs s) (sym same.1) k.has)
+known db s publisher es seen k database = (k publisher es database).has
 
 module _ (db : View) (aim : Aim) (s : Survey) (user : Name) (first : Seen) (can : CanTell s user aim.prev.0) (whole : IsTrue first.observable → KnowsAll db s first) where
   pub telling_start : (post : Post) → HasMade aim post [] [] → Telling db aim s user post aim.prev first first
@@ -189,9 +184,8 @@ module _ (db : View) (aim : Aim) (s : Survey) (user : Name) (first : Seen) (can 
     past = omega arith;
     ends = let end_is : post.end.0 ≡ aim.prev.0 = ap (λ (o : Offset). o.0) made.end_is in omega arith;
     reached = λ told publisher es database.
-        let k = whole told in
-        let same = one_database db publisher k.publisher es k.es first database k.is in
-        reached_none publisher user es k.before k.behind s.begin aim.prev.0 (same.1 ∙ k.begins) k.begin_is can.begun;
+        let k = whole told publisher es database in
+        reached_none publisher user es k.before k.behind s.begin aim.prev.0 k.begins k.begin_is can.begun;
   }
 
   pub some_told : (post : Post) (at : Offset) (now : Seen) → Telling db aim s user post at first now → HasMadeSome aim post
@@ -201,17 +195,7 @@ module _ (db : View) (aim : Aim) (s : Survey) (user : Name) (first : Seen) (can 
   pub still_whole : (post : Post) (at : Offset) (now : Seen) → Telling db aim s user post at first now → IsTrue now.observable → KnowsAll db s now
   still_whole post at now t told =
       let was : IsTrue first.observable = subst (λ (b : Bool). IsTrue b) t.steady.observable told in
-      let k = whole was in
-      record {
-        publisher = k.publisher;
-        es = k.es;
-        is = posted_database db k.publisher k.es first now _ t.posted was k.is;
-        has = k.has;
-        before = k.before;
-        behind = k.behind;
-        begins = k.begins;
-        begin_is = k.begin_is;
-      }
+      λ publisher es database. whole was publisher es (posted_before db publisher es first now _ t.posted was database)
 
   pub telling_on : (post post' : Post) (at end : Offset) (before now : Seen) → Telling db aim s user post at first before → ToldNext db aim s user post post' at end before now → Telling db aim s user post' end first now
   telling_on post post' at end before now t n = record {
@@ -284,10 +268,8 @@ nothing_told db aim s user post first whole nothing made = record {
   spelled = tt;
   steady = same_counts first;
   whole = λ told publisher es database.
-      let k = whole told in
-      let same = one_database db publisher k.publisher es k.es first database k.is in
-      reached_all publisher user es s aim.prev.0 aim.prev.0 [] (known db s publisher es first k database)
-      (reached_none publisher user es k.before k.behind s.begin aim.prev.0 (same.1 ∙ k.begins) k.begin_is nothing.begun) nothing.next;
+      let k = whole told publisher es database in
+      reached_all publisher user es s aim.prev.0 aim.prev.0 [] k.has (reached_none publisher user es k.before k.behind s.begin aim.prev.0 k.begins k.begin_is nothing.begun) nothing.next;
 }
 
 -- ---- behind what was read for the survey

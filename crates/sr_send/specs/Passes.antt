@@ -10,7 +10,9 @@ use Rattle.sr_logform.specs.Limits.{longest_transaction}
 use Rattle.sr_database.specs.Books.{book_in}
 use Rattle.sr_database.specs.Causes.{IsTooFar}
 use Rattle.sr_database.specs.Commits.{HasRoom}
-use Rattle.sr_database.specs.Databases.{IsOf, IsDatabase}
+use Rattle.sr_database.specs.Databases.{IsDatabase}
+use Rattle.sr_database.specs.Advances.{Advances}
+use Rattle.sr_database.specs.InForce.{HasLogInForce}
 use Rattle.sr_database.specs.Views.{View}
 use Rattle.sr_database_history.specs.Recorded.{Recorded, entry_of}
 use Rattle.sr_logform.specs.declared.op.Transaction.{Transaction}
@@ -63,8 +65,8 @@ pub record HasSent (old new : View) (before now : Seen) (user : Name) (limit : �
   -- where no message is due the database is as it was
   pub idle : sent.put ≡ 0 → new ≡ old
   pub room : sent.put ≢ 0 → HasRoom old.log (entry_of (sent_note user (book_in old.books user) sent.end sent.put))
-  pub value : sent.put ≢ 0 → (publisher : Name) (es : List Recorded) → IsOf old publisher es
-      → IsOf new publisher (es ++ sent_note user (book_in old.books user) sent.end sent.put ∷ [])
+  pub value : sent.put ≢ 0 → Advances old new (sent_note user (book_in old.books user) sent.end sent.put ∷ [])
+  pub in_force : IsTrue before.observable → HasLogInForce old before → HasLogInForce new now
   pub passed : IsTrue before.observable → (publisher : Name) (es : List Recorded) → IsDatabase old publisher es before
       → Passed old new before now publisher es user (book_in old.books user) limit ask sent
 

@@ -28,5 +28,6 @@ mod writable;
 
 pub use fault::SendFault;
 pub use laws::{what_a_history_gives_can_be_written, what_is_put_is_true};
+pub use passing::runs_nothing;
 pub use sending::{Sent, send};
 pub use shared::SharedSurvey;

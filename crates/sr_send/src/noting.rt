@@ -4,7 +4,7 @@ ghost use Rattle.std.specs.Prelude.{◌≡◌, [], true, IsTrue, IsSome, IfOk, I
 ghost use Rattle.sr_base.specs.Values.{offset_from};
 ghost use Rattle.sr_book.specs.declared.note.Note.TheVariants.{Sent as sent_up_to};
 ghost use Rattle.sr_database.specs.Commits.{IsLong};
-ghost use Rattle.sr_database.specs.Databases.{HasDatabase};
+ghost use Rattle.sr_database.specs.InForce.{HasLogInForce};
 ghost use Rattle.sr_database_history.specs.Recorded.{note};
 ghost use Rattle.sr_logform.specs.declared.entry.Entry.TheVariants.{Note as note_entry};
 ghost use Rattle.sr_catalog_schema.specs.Members.{user_name};
@@ -67,7 +67,7 @@ pub(crate) fn note_sent<S: Site>(
     requires usable { db.old.log.usable ≡ true }
     requires pending { db.old.pending ≡ [] }
     requires user { IsSome (named user_name user.now db.old.catalog.users) }
-    requires stands { IsTrue (S.seen site.old).observable → HasDatabase db.old (S.seen site.old) }
+    requires stands { IsTrue (S.seen site.old).observable → HasLogInForce db.old (S.seen site.old) }
     ensures noted { OnOk result (Noted db.old db.new (S.seen site.old) (S.seen site.new) (note user.now (sent_up_to sent.end sent.put (offset_from confirm)))) }
     ensures stays { DiskStays (S.seen site.old) (S.seen site.new) }
     ensures cause { IfErr result (NoteCause db.old db.new (S.seen site.old) (S.seen site.new) (note user.now (sent_up_to sent.end sent.put (offset_from confirm)))) }

@@ -27,7 +27,7 @@ pub(crate) fn pass_over(alloc: Global, scanner: &mut Scanner, entry: &Entry) -> 
 
 /// Whether no statement of an entry ran here: then the catalog after it is the one before it.
 #[tactic(auto, using(crate::proofs::Still::pass_runs_nothing))]
-pub(crate) fn runs_nothing(entry: &Entry) -> bool
+pub fn runs_nothing(entry: &Entry) -> bool
     ensures nothing { IsTrue result → RunsNothing entry.now }
 {
     match entry {

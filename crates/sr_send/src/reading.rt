@@ -5,7 +5,7 @@ ghost use Rattle.sr_book.specs.Entries.{Name as AName};
 ghost use Rattle.sr_database_history.specs.Folds.{end_of};
 ghost use Rattle.sr_database_history.specs.Recorded.{Recorded};
 ghost use Rattle.sr_database.specs.Databases.{IsDatabase};
-ghost use Rattle.sr_database.specs.Inner.Entries.{IsEntryAfter};
+ghost use Rattle.sr_database.specs.Inner.Entries.{IsEntryAfter, IsBriefAfter};
 ghost use Rattle.sr_send.specs.Inner.Aims.{IsAim, HasMade, HasMadeSome};
 ghost use Rattle.sr_send.specs.Posting.{IsSteady};
 ghost use Rattle.sr_send.specs.Inner.Posting.{Posted};
@@ -67,6 +67,51 @@ pub(crate) fn entry_from<S: Site>(
         return Ok(None);
     }
     next_entry(alloc, db, site, after, buffer)
+}
+
+/// As `next_entry`, the entry in brief.
+fn next_brief<S: Site>(
+    alloc: Global,
+    db: &Database,
+    site: &mut S,
+    after: Offset,
+    buffer: &mut Vec<u8>,
+) -> Result<Option<(Offset, Entry)>, SendFault>
+    requires usable { db.now.log.usable ≡ true }
+    requires after { (db.now.log.base ≤ after.0) × (after.0 ≤ db.now.log.end) }
+    ensures brief { IsTrue (S.seen site.old).observable → (publisher : AName) (done left : List Recorded) → IsDatabase db.now publisher (done ++ left) (S.seen site.old) → after.0 ≡ end_of done
+        → IfOk result (IsBriefAfter done left) }
+    ensures within { IfOk result (λ found. IfSome found (λ x. (after.0 < x.0.0) × (x.0.0 ≤ db.now.log.end))) }
+    ensures posted { Posted (S.seen site.old) (S.seen site.new) [] }
+    ensures steady { OnOk result (IsSteady (S.seen site.old) (S.seen site.new)) }
+    ensures mail { (S.seen site.new).mail_faults ≡ (S.seen site.old).mail_faults }
+    ensures cause { IfErr result (NextFault (S.seen site.old) (S.seen site.new)) }
+{
+    let found = db.brief_read(alloc, site, after, buffer);
+    found_or_end(found)
+}
+
+/// As `next_brief`, after any offset: none follows one that does not lie within the log.
+pub(crate) fn brief_from<S: Site>(
+    alloc: Global,
+    db: &Database,
+    site: &mut S,
+    after: Offset,
+    buffer: &mut Vec<u8>,
+) -> Result<Option<(Offset, Entry)>, SendFault>
+    requires usable { db.now.log.usable ≡ true }
+    ensures brief { IsTrue (S.seen site.old).observable → (publisher : AName) (done left : List Recorded) → IsDatabase db.now publisher (done ++ left) (S.seen site.old) → after.0 ≡ end_of done
+        → IfOk result (IsBriefAfter done left) }
+    ensures within { IfOk result (λ found. IfSome found (λ x. (after.0 < x.0.0) × (x.0.0 ≤ db.now.log.end))) }
+    ensures posted { Posted (S.seen site.old) (S.seen site.new) [] }
+    ensures steady { OnOk result (IsSteady (S.seen site.old) (S.seen site.new)) }
+    ensures mail { (S.seen site.new).mail_faults ≡ (S.seen site.old).mail_faults }
+    ensures cause { IfErr result (NextFault (S.seen site.old) (S.seen site.new)) }
+{
+    if !is_within(db, after) {
+        return Ok(None);
+    }
+    next_brief(alloc, db, site, after, buffer)
 }
 
 /// Whether an offset lies within the log.

@@ -4,7 +4,7 @@ ghost use Rattle.std.specs.Prelude.{◌≡◌, ◌≢◌, ◌≤◌, [], true, f
 ghost use Rattle.sr_base.specs.Values.{offset_from};
 ghost use Rattle.sr_mail_cut.specs.Inner.Cuts.{IsMessageLimit};
 ghost use Rattle.sr_database.specs.Books.{book_in};
-ghost use Rattle.sr_database.specs.Databases.{HasDatabase};
+ghost use Rattle.sr_database.specs.InForce.{HasLogInForce};
 ghost use Rattle.sr_catalog_schema.specs.Members.{user_name};
 ghost use Rattle.sr_catalog_schema.specs.Names.{named};
 ghost use Rattle.sr_send.specs.Inner.Aims.{IsAim, HasMade, aim_at};
@@ -63,7 +63,7 @@ pub fn send<S: Site>(
     requires user { IsSome (named user_name user.now db.old.catalog.users) }
     requires limit { IsMessageLimit length }
     requires ask { IsTrue ask → 1 ≤ (book_in db.old.books user.now).rereceive_count }
-    requires stands { IsTrue (S.seen site.old).observable → HasDatabase db.old (S.seen site.old) }
+    requires stands { IsTrue (S.seen site.old).observable → HasLogInForce db.old (S.seen site.old) }
     requires surveyed { Surveys db.old shared.old (S.seen site.old) }
     ensures surveyed { OnOk result (Surveys db.new shared.new (S.seen site.new)) }
     ensures sent { IfOk result (HasSent db.old db.new (S.seen site.old) (S.seen site.new) user.now length ask) }
@@ -103,7 +103,6 @@ fn put_due<S: Site>(
     requires usable { db.now.log.usable ≡ true }
     requires limit { IsMessageLimit length }
     requires ask { IsTrue ask → 1 ≤ book.now.rereceive_count }
-    requires stands { IsTrue (S.seen site.old).observable → HasDatabase db.now (S.seen site.old) }
     requires surveyed { Surveys db.now shared.old (S.seen site.old) }
     ensures put { IfOk result (PutAll db.now (aim_at db.now user.now book.now length ask) book.now ask user.now (S.seen site.old) (S.seen site.new)) }
     ensures surveyed { OnOk result (Surveys db.now shared.new (S.seen site.new)) }
@@ -129,7 +128,6 @@ fn put_cut<S: Site>(
     requires usable { db.now.log.usable ≡ true }
     requires aim { IsAim aim.now }
     requires prev { aim.now.prev ≡ offset_from book.now.log_sent }
-    requires stands { IsTrue (S.seen site.old).observable → HasDatabase db.now (S.seen site.old) }
     requires surveyed { Surveys db.now shared.old (S.seen site.old) }
     ensures put { IfOk result (PutAll db.now aim.now book.now ask user.now (S.seen site.old) (S.seen site.new)) }
     ensures surveyed { OnOk result (Surveys db.now shared.new (S.seen site.new)) }
@@ -157,7 +155,6 @@ fn put_pass<S: Site>(
     requires aim { IsAim aim.now }
     requires made { HasMade aim.now post.old [] [] }
     requires prev { aim.now.prev ≡ offset_from book.now.log_sent }
-    requires stands { IsTrue (S.seen site.old).observable → HasDatabase db.now (S.seen site.old) }
     requires surveyed { Surveys db.now shared.old (S.seen site.old) }
     ensures put { IfOk result (PutAll db.now aim.now book.now ask user.now (S.seen site.old) (S.seen site.new)) }
     ensures surveyed { OnOk result (Surveys db.now shared.new (S.seen site.new)) }

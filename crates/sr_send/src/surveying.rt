@@ -1,7 +1,6 @@
 //! The survey that passes share, begun and read on.
 
 ghost use Rattle.std.specs.Prelude.{◌≡◌, ◌≤◌, ◌<◌, true, false, [], Some, None, IsTrue, IfOk, IfErr, IfSome, OnOk};
-ghost use Rattle.sr_database.specs.Databases.{HasDatabase};
 ghost use Rattle.sr_send.specs.Inner.Posting.{Posted};
 ghost use Rattle.sr_send.specs.Inner.Starts.{BeginStop};
 ghost use Rattle.sr_send.specs.Inner.Stops.{NextFault};
@@ -9,7 +8,7 @@ ghost use Rattle.sr_send.specs.Inner.Surveys.{BeginsAt, IsSurveyOf, IsWay, IsWho
 ghost use Rattle.sr_send.specs.Posting.{IsSteady};
 
 use crate::fault::SendFault;
-use crate::reading::entry_from;
+use crate::reading::brief_from;
 use crate::shared::SharedSurvey;
 use crate::starting::{end_before, is_still};
 use crate::way::Way;
@@ -35,7 +34,6 @@ impl SharedSurvey {
         site: &mut S,
     ) -> Result<(), SendFault>
         requires usable { db.now.log.usable ≡ true }
-        requires stands { IsTrue (S.seen site.old).observable → HasDatabase db.now (S.seen site.old) }
         requires surveyed { Surveys db.now self.old (S.seen site.old) }
         ensures whole { OnOk result (SurveysAll db.now self.new (S.seen site.new)) }
         ensures posted { OnOk result (Posted (S.seen site.old) (S.seen site.new) []) }
@@ -59,7 +57,6 @@ impl SharedSurvey {
         buffer: &mut Vec<u8>,
     ) -> Result<(), SendFault>
         requires usable { db.now.log.usable ≡ true }
-        requires stands { IsTrue (S.seen site.old).observable → HasDatabase db.now (S.seen site.old) }
         requires surveyed { Surveys db.now self.old (S.seen site.old) }
         ensures surveyed { OnOk result (Surveys db.now self.new (S.seen site.new)) }
         ensures posted { OnOk result (Posted (S.seen site.old) (S.seen site.new) []) }
@@ -85,7 +82,6 @@ fn begun<S: Site>(
     buffer: &mut Vec<u8>,
 ) -> Result<Option<Survey>, SendFault>
     requires usable { db.now.log.usable ≡ true }
-    requires stands { IsTrue (S.seen site.old).observable → HasDatabase db.now (S.seen site.old) }
     ensures surveyed { IfOk result (λ made. IfSome made (λ s. IsSurveyOf db.now s (S.seen site.new))) }
     ensures posted { OnOk result (Posted (S.seen site.old) (S.seen site.new) []) }
     ensures steady { OnOk result (IsSteady (S.seen site.old) (S.seen site.new)) }
@@ -154,7 +150,7 @@ fn take_next<S: Site>(
     if is_given_up(survey) {
         return Ok(None);
     }
-    match entry_from(alloc, db, site, at, buffer)? {
+    match brief_from(alloc, db, site, at, buffer)? {
         None => Ok(None),
         Some((end, entry)) => {
             survey.take(alloc, &entry, end);

@@ -1,7 +1,6 @@
 //! What the log gives a user and he has not been sent, put as messages: told by the survey where it can, else by the log itself.
 
-ghost use Rattle.std.specs.Prelude.{◌≡◌, true, [], IsTrue, IfErr, OnOk};
-ghost use Rattle.sr_database.specs.Databases.{HasDatabase};
+ghost use Rattle.std.specs.Prelude.{◌≡◌, true, [], IfErr, OnOk};
 ghost use Rattle.sr_send.specs.Inner.Aims.{IsAim, HasMade};
 ghost use Rattle.sr_send.specs.Inner.Steps.{AllRead};
 ghost use Rattle.sr_send.specs.Inner.Stops.{ReadStop};
@@ -35,7 +34,6 @@ pub(crate) fn put_unsent<S: Site>(
     requires usable { db.now.log.usable ≡ true }
     requires aim { IsAim aim.now }
     requires made { HasMade aim.now post.old [] [] }
-    requires stands { IsTrue (S.seen site.old).observable → HasDatabase db.now (S.seen site.old) }
     requires surveyed { Surveys db.now shared.old (S.seen site.old) }
     ensures read { OnOk result (AllRead db.now aim.now user.now post.new (S.seen site.old) (S.seen site.new)) }
     ensures surveyed { OnOk result (Surveys db.now shared.new (S.seen site.new)) }

@@ -16,6 +16,7 @@ use Rattle.sr_catalog_schema.specs.Catalogs.{Lists}
 use Rattle.sr_catalog_schema.specs.declared.fault.DdlFault.{DdlFault}
 use Rattle.sr_site.specs.Seen.{Seen}
 use Rattle.sr_database.specs.Inner.Commits.{CanCommit, CanCommitSome}
+use Rattle.sr_database.proofs.Advancing.{none_advanced}
 use Rattle.sr_database.specs.Views.{View, committed}
 use Rattle.sr_session_script.specs.Acts.{nothing, line}
 use Rattle.sr_session_script.specs.Meaning.{enters, unless_ddl, accepted, recorded, changed, is_done_already}
@@ -71,7 +72,7 @@ changed_already view seen lines lines' region s usable fine is said =
     took_ok (accepted view.catalog s) (λ _. recorded (is_done_already view.catalog s) s (work_of view region)) tt view view seen seen lines lines' region (Ok tt) fine (record {
       acts = nothing ∷ [];
       is = ap (λ b. recorded b s (work_of view region)) is;
-      came = came_still view view seen lines lines' (nothing ∷ []) refl refl refl usable (λ publisher es of. of) said;
+      came = came_still view view seen lines lines' (nothing ∷ []) refl refl refl usable (none_advanced view) said;
     })
 
 -- any other is an entry

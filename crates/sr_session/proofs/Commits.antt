@@ -6,7 +6,7 @@ use Rattle.std.proofs.lemmas.List.{append-nil}
 use Rattle.sr_ast.specs.declared.stmt.Passthrough.{Passthrough}
 use Rattle.sr_base.specs.declared.offset.Offset.{Offset}
 use Rattle.sr_book.specs.Entries.{Name}
-use Rattle.sr_database_history.specs.Folds.{State, next, size, end_of}
+use Rattle.sr_database_history.specs.Folds.{State, next, size}
 use Rattle.sr_database_history.specs.Recorded.{Recorded}
 use Rattle.sr_logform.specs.declared.change.Change.{Change}
 use Rattle.sr_logform.specs.declared.entry.Entry.{Entry}
@@ -18,7 +18,10 @@ use Rattle.sr_database.specs.Causes.{IsTooFar, IsTooLong}
 use Rattle.sr_database.specs.Inner.Causes.{CommitCause, IsBegun}
 use Rattle.sr_database.specs.Commits.{HasRoom}
 use Rattle.sr_database.specs.Inner.Commits.{CanCommit}
-use Rattle.sr_database.specs.Databases.{IsOf, IsDatabase}
+use Rattle.sr_database.specs.Advances.{Advances}
+use Rattle.sr_database.specs.Databases.{IsDatabase}
+use Rattle.sr_database.specs.InForce.{HasLogInForce}
+use Rattle.sr_database.proofs.Advancing.{none_advanced}
 use Rattle.sr_database.specs.Views.{View, committed}
 use Rattle.sr_database.proofs.Rooms.{room_at}
 use Rattle.sr_database_files.specs.declared.fault.DatabaseFault.{DatabaseFault}
@@ -31,12 +34,11 @@ use Rattle.sr_session.specs.Inner.Ready.{IsReady, work_of}
 use Rattle.sr_session.specs.Inner.Steps.{acts_in, Came, Took}
 use Rattle.sr_session.specs.declared.fault.StepFault.TheVariants.{Memory}
 use Rattle.sr_session.proofs.Reaching.{reached_still}
-use Rattle.sr_session.proofs.States.{committed_more, end_more}
 
 -- nothing was done
 pub came_none : (view : View) (seen : Seen) (lines lines' : List ℕ) → view.log.usable ≡ true → lines' ≡ lines → Came view view seen seen lines lines' [] []
 came_none view seen lines lines' usable same = record {
-  reached = reached_still view view seen [] refl refl refl usable (λ publisher es is. is);
+  reached = reached_still view view seen [] refl refl refl usable (none_advanced view);
   said = same ∙ sym (append-nil lines);
 }
 
@@ -49,7 +51,8 @@ took_none meant view seen lines lines' region usable same = record { acts = []; 
 pub record Committed (old new : View) (before now : Seen) (entry : Entry) (offset : Offset) : Type 0 where
   pub offset_is : offset.0 ≡ new.log.end
   pub ready : (new.log.usable ≡ true) × (new.pending ≡ [])
-  pub value : (publisher : Name) (es : List Recorded) (r : Recorded) → IsOf old publisher es → CanCommit old entry r → IsOf new publisher (es ++ r ∷ [])
+  pub value : (r : Recorded) → CanCommit old entry r → Advances old new (r ∷ [])
+  pub in_force : IsTrue before.observable → HasLogInForce new now
   pub database : IsTrue before.observable → (publisher : Name) (es : List Recorded) (r : Recorded) → IsDatabase old publisher es before → CanCommit old entry r → IsDatabase new publisher (es ++ r ∷ []) now
   pub went : IsTrue before.observable → (publisher : Name) (es : List Recorded) (r : Recorded) → IsDatabase old publisher es before → CanCommit old entry r → Went before now publisher es (commit r ∷ [])
   pub room : HasRoom old.log entry
@@ -74,19 +77,18 @@ pub entered : (old new : View) (before now : Seen) (lines lines' : List ℕ) (re
     → IsReady old before → CanCommit old entry r → Committed old new before now entry offset → lines' ≡ lines ++ line (codes "committed " ++ decimal offset.0)
     → Took (enters r (work_of old region)) old new before now lines lines' region (Ok tt)
 entered old new before now lines lines' region entry offset r ready can done said =
-    let is = ready.some.is in
-    let after = done.value ready.some.publisher ready.some.es r is can in
-    let state = committed_more old new ready.some.publisher ready.some.es r is after in
-    let end = end_more old new ready.some.publisher ready.some.es r is after in
+    let on = done.value r can in
+    let end : new.log.end ≡ old.log.end + (size r + 5) = on.end in
     record {
       acts = commits r ∷ [];
-      is = ap (λ (w : Work). goes (commits r ∷ []) w) (work_same (committed new) (next (committed old) r) new.pending region state done.ready.1);
+      is = ap (λ (w : Work). goes (commits r ∷ []) w) (work_same (committed new) (next (committed old) r) new.pending region on.state done.ready.1);
       came = record {
         reached = record {
           state = (done.ready.0, done.steady);
-          room = λ publisher es of. (room_at old.log entry r (end_of es) can.is of.end done.room, tt);
-          value = λ yes publisher es of. done.value publisher es r of can;
+          room = (room_at old.log entry r old.log.end can.is refl done.room, tt);
+          value = λ yes. on;
           end = λ yes. end;
+          in_force = λ told yes has. done.in_force told;
           database = λ told yes publisher es database. done.database told publisher es r database can;
           went = λ told publisher es database. done.went told publisher es r database can;
           stays = done.stays;
@@ -122,8 +124,9 @@ not_entered old new before now lines lines' region entry r store.Disk ready can 
   came = record {
     reached = record {
       state = (done.cause.0.spent, done.cause.0.rose);
-      room = λ publisher es is. tt;
-      value = λ yes publisher es is. absurd (true_not_false new.log.usable done.cause.0.spent yes);
+      room = tt;
+      value = λ yes. absurd (true_not_false new.log.usable done.cause.0.spent yes);
+      in_force = λ told yes has. absurd (true_not_false new.log.usable done.cause.0.spent yes);
       end = λ yes. absurd (true_not_false new.log.usable done.cause.0.spent yes);
       database = λ told yes publisher es database. absurd (true_not_false new.log.usable done.cause.0.spent yes);
       went = λ told publisher es database. done.went told publisher es r database can tt;

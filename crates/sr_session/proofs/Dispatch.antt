@@ -1,11 +1,10 @@
 -- A step behind the commit of the open transaction.
-use Rattle.std.proofs.Common.{◌≡◌, ℕ, List, [], ◌++◌, Option, Result, Ok, Err, sym, ap, subst, ◌∙◌}
+use Rattle.std.proofs.Common.{◌≡◌, ℕ, List, [], Option, Result, Ok, Err, sym, ap, subst}
 use Rattle.std.specs.Prelude.{IsTrue, OnOk}
 use Rattle.sr_ast.specs.declared.stmt.Passthrough.{Passthrough}
-use Rattle.sr_database_history.specs.Folds.{State, fresh, state_from}
-use Rattle.sr_database_history.proofs.Joined.{state_from-append}
+use Rattle.sr_database_history.specs.Folds.{State, state_from}
 use Rattle.sr_site.specs.Seen.{Seen}
-use Rattle.sr_database.specs.Databases.{IsOfSome, HasDatabase}
+use Rattle.sr_database.specs.Inner.Sound.{IsSound}
 use Rattle.sr_database.specs.Views.{View, committed}
 use Rattle.sr_session_script.specs.Acts.{ScriptAct, entries_of}
 use Rattle.sr_session_script.specs.Meaning.{Stepped, goes, after, closing, once_closed}
@@ -15,36 +14,25 @@ use Rattle.sr_session.specs.Inner.Ready.{AreUsers, IsReady, work_of}
 use Rattle.sr_session.specs.Inner.Steps.{IsDoneStep, Took}
 use Rattle.sr_session.specs.declared.fault.StepFault.{StepFault}
 use Rattle.sr_session.proofs.Regions.{users_on}
-use Rattle.sr_database.proofs.Commits.{committed_is}
+use Rattle.sr_database.proofs.Advancing.{advanced_sound}
 use Rattle.sr_session.proofs.Taking.{took_after, took_prefix}
 
 -- ---- what a stretch without a refusal leaves
 
-pub some_on : (old new : View) (first second : Seen) (acts : List ScriptAct) → Reached old new first second acts [] → IsOfSome old → IsOfSome new
-some_on old new first second acts reached some =
-    record { publisher = some.publisher; es = some.es ++ entries_of acts; is = reached.value reached.state.0 some.publisher some.es some.is }
-
-database_on : (old new : View) (first second : Seen) (acts : List ScriptAct) → Reached old new first second acts [] → IsTrue first.observable → HasDatabase old first → HasDatabase new second
-database_on old new first second acts reached told has =
-    record { publisher = has.publisher; es = has.es ++ entries_of acts; is = reached.database told reached.state.0 has.publisher has.es has.is }
-
 pub ready_on : (old new : View) (first second : Seen) (acts : List ScriptAct) → Reached old new first second acts [] → IsReady old first → IsReady new second
 ready_on old new first second acts reached ready = record {
   usable = reached.state.0;
-  some = some_on old new first second acts reached ready.some;
-  stands = λ told. let before : IsTrue first.observable = subst (λ b. IsTrue b) reached.stays.observable told in database_on old new first second acts reached before (ready.stands before);
+  sound = advanced_sound old new (entries_of acts) (reached.value reached.state.0) ready.sound;
+  stands = λ told. let before : IsTrue first.observable = subst (λ b. IsTrue b) reached.stays.observable told in reached.in_force before reached.state.0 (ready.stands before);
 }
 
-pub committed_on : (old new : View) (first second : Seen) (acts : List ScriptAct) → Reached old new first second acts [] → IsOfSome old → committed new ≡ state_from (committed old) (entries_of acts)
-committed_on old new first second acts reached some =
-    committed_is new some.publisher (some.es ++ entries_of acts) (reached.value reached.state.0 some.publisher some.es some.is)
-    ∙ state_from-append (fresh some.publisher) some.es (entries_of acts)
-    ∙ ap (λ (s : State). state_from s (entries_of acts)) (sym (committed_is old some.publisher some.es some.is))
+pub committed_on : (old new : View) (first second : Seen) (acts : List ScriptAct) → Reached old new first second acts [] → committed new ≡ state_from (committed old) (entries_of acts)
+committed_on old new first second acts reached = (reached.value reached.state.0).state
 
-pub users_kept : (old new : View) (first second : Seen) (acts : List ScriptAct) (region : Option Passthrough) → Reached old new first second acts [] → IsOfSome old
+pub users_kept : (old new : View) (first second : Seen) (acts : List ScriptAct) (region : Option Passthrough) → Reached old new first second acts []
     → AreUsers (committed old) region → AreUsers (committed new) region
-users_kept old new first second acts region reached some users =
-    subst (λ (s : State). AreUsers s region) (sym (committed_on old new first second acts reached some)) (users_on (committed old) (entries_of acts) region users)
+users_kept old new first second acts region reached users =
+    subst (λ (s : State). AreUsers s region) (sym (committed_on old new first second acts reached)) (users_on (committed old) (entries_of acts) region users)
 
 -- ---- the open transaction is committed
 
@@ -84,14 +72,14 @@ pub closed_ready : (old middle : View) (first second : Seen) (l0 l1 : List ℕ) 
 closed_ready old middle first second l0 l1 region done ready = ready_on old middle first second done.acts done.came.reached ready
 
 pub closed_users : (old middle : View) (first second : Seen) (l0 l1 : List ℕ) (region : Option Passthrough)
-    → IsDoneStep (goes (closing old.pending) (closed (work_of old region))) old middle first second l0 l1 region → IsOfSome old → AreUsers (committed old) region → AreUsers (committed middle) region
-closed_users old middle first second l0 l1 region done some users = users_kept old middle first second done.acts region done.came.reached some users
+    → IsDoneStep (goes (closing old.pending) (closed (work_of old region))) old middle first second l0 l1 region → IsSound old → AreUsers (committed old) region → AreUsers (committed middle) region
+closed_users old middle first second l0 l1 region done sound users = users_kept old middle first second done.acts region done.came.reached users
 
 -- a step that is done leaves the users of the region behind it granted, where they were
 pub users_behind : (meant : Stepped) (old new : View) (first second : Seen) (lines lines' : List ℕ) (region : Option Passthrough) (result : Result (Unit {0}) StepFault)
-    → Took meant old new first second lines lines' region result → IsOfSome old → AreUsers (committed old) region → OnOk result (AreUsers (committed new) region)
-users_behind meant old new first second lines lines' region (Ok done) took some users = users_kept old new first second took.acts region took.came.reached some users
-users_behind meant old new first second lines lines' region (Err fault) took some users = tt
+    → Took meant old new first second lines lines' region result → IsSound old → AreUsers (committed old) region → OnOk result (AreUsers (committed new) region)
+users_behind meant old new first second lines lines' region (Ok done) took sound users = users_kept old new first second took.acts region took.came.reached users
+users_behind meant old new first second lines lines' region (Err fault) took sound users = tt
 
 pub in_any : {A : Type 0} (result : Result (Unit {0}) StepFault) → A → OnOk result A
 in_any (Ok done) holds = holds

@@ -3,7 +3,6 @@ use Rattle.std.proofs.Common.{◌≡◌, true, ℕ, List, [], ◌∷◌, ◌++�
 use Rattle.std.specs.Prelude.{IsTrue}
 use Rattle.std.proofs.lemmas.List.{append-nil}
 use Rattle.sr_ast.specs.declared.stmt.Stmt.{Stmt}
-use Rattle.sr_book.specs.Entries.{Name}
 use Rattle.sr_database_history.specs.Recorded.{Recorded, entry_of}
 use Rattle.sr_logfile.specs.Log.{Log}
 use Rattle.sr_site.specs.Causes.{Rose}
@@ -11,11 +10,13 @@ use Rattle.sr_site.specs.Seen.{Seen}
 use Rattle.sr_site.specs.Streams.{Output, OutputStays}
 use Rattle.sr_database.specs.Broken.{IsBroken}
 use Rattle.sr_database.specs.Causes.{IsTooFar}
-use Rattle.sr_database.specs.Databases.{IsOf}
+use Rattle.sr_database.specs.Advances.{Advances}
+use Rattle.sr_database.proofs.Advancing.{advanced_then, advanced_still}
+use Rattle.sr_database.proofs.InForce.{in_force_still}
 use Rattle.sr_database.specs.Views.{View, committed}
 use Rattle.sr_database_files.specs.declared.fault.DatabaseFault.{DatabaseFault}
 use Rattle.sr_database_files.specs.declared.fault.DatabaseFault.TheVariants as store
-use Rattle.sr_session_script.specs.Acts.{ScriptAct, commits, text_from}
+use Rattle.sr_session_script.specs.Acts.{ScriptAct, commits, entries_of, text_from}
 use Rattle.sr_session_script.specs.Scripts.{ScriptRun as Script, ran}
 use Rattle.sr_session.specs.Ends.{StoreEnd, DidAllActs, EndsAs, SinkEnd}
 use Rattle.sr_session.specs.Ends.{Wrote as LinesOf}
@@ -32,11 +33,11 @@ use Rattle.sr_session.proofs.Stretches.{outputs_on, said_flush, prefix_said}
 use Rattle.sr_session.proofs.Taking.{no_broken, prefix_of_store}
 use Rattle.sr_session.proofs.Timely.{in_time_on}
 
--- ---- a value that keeps its log and its history
+-- ---- a value that keeps its log and what was committed
 
 pub record IsKept (old new : View) : Type 0 where
   pub log : new.log ≡ old.log
-  pub value : (publisher : Name) (es : List Recorded) → IsOf old publisher es → IsOf new publisher es
+  pub value : Advances old new []
 
 broken_kept : (broken : List Recorded) (old new : View) (before now : Seen) → new.log ≡ old.log → IsBroken broken old before now → IsBroken broken new before now
 broken_kept [] old new before now same state = (ap (λ (log : Log). log.usable) same ∙ state.0, state.1)
@@ -50,11 +51,14 @@ pub reached_kept : (old middle new : View) (before now : Seen) (acts : List Scri
 reached_kept old middle new before now acts broken kept reached = record {
   state = broken_kept broken middle new before now kept.log reached.state;
   room = reached.room;
-  value = λ can publisher es is. kept.value publisher _ (reached.value (usable_before middle new kept.log can) publisher es is);
+  value = λ can.
+      subst (λ (rs : List Recorded). Advances old new rs) (append-nil (entries_of acts))
+      (advanced_then old middle new (entries_of acts) [] (reached.value (usable_before middle new kept.log can)) kept.value);
   end = λ can. ap (λ (log : Log). log.end) kept.log ∙ reached.end (usable_before middle new kept.log can);
+  in_force = λ told can has. in_force_still middle new now now kept.log kept.value refl (λ image there. there) (reached.in_force told (usable_before middle new kept.log can) has);
   database = λ told can publisher es database.
       let there = reached.database told (usable_before middle new kept.log can) publisher es database in
-      database_along middle new publisher _ now kept.log (kept.value publisher _ there.is) there;
+      database_along middle new publisher _ now kept.log (advanced_still middle new publisher _ kept.value there.is) there;
   went = reached.went;
   stays = reached.stays;
 }

@@ -2,10 +2,8 @@
 use Rattle.std.proofs.Common.{◌≡◌, true, ℕ, List, [], ◌∷◌, ◌++◌, Option, Result, Ok, Err, map, length, refl, sym, ap, subst}
 use Rattle.sr_ast.specs.declared.stmt.Passthrough.{Passthrough}
 use Rattle.sr_base.specs.declared.value.Value.{Value as Cell}
-use Rattle.sr_book.specs.Entries.{Name}
-use Rattle.sr_database_history.specs.Recorded.{Recorded}
 use Rattle.sr_site.specs.Seen.{Seen}
-use Rattle.sr_database.specs.Databases.{IsOf}
+use Rattle.sr_database.specs.Advances.{Advances}
 use Rattle.sr_database.specs.Views.{View}
 use Rattle.sr_session_script.specs.Acts.{ScriptAct, row, rows, entries_of, end_behind, text_from}
 use Rattle.sr_session_script.specs.Inner.Answers.{IsStop}
@@ -21,10 +19,10 @@ use Rattle.sr_session.proofs.Reaching.{reached_still}
 
 -- acts without an entry
 pub came_still : (old new : View) (seen : Seen) (lines lines' : List ℕ) (acts : List ScriptAct) → entries_of acts ≡ [] → end_behind old.log.end acts ≡ old.log.end
-    → new.log ≡ old.log → old.log.usable ≡ true → ((publisher : Name) (es : List Recorded) → IsOf old publisher es → IsOf new publisher es)
+    → new.log ≡ old.log → old.log.usable ≡ true → Advances old new []
     → lines' ≡ lines ++ text_from old.log.end acts → Came old new seen seen lines lines' acts []
-came_still old new seen lines lines' acts none ends same usable keeps said = record {
-  reached = reached_still old new seen acts none ends same usable keeps;
+came_still old new seen lines lines' acts none ends same usable on said = record {
+  reached = reached_still old new seen acts none ends same usable on;
   said = said;
 }
 

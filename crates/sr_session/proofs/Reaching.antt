@@ -3,9 +3,7 @@ use Rattle.std.proofs.Common.{◌≡◌, true, ℕ, List, [], ◌∷◌, ◌++�
 use Rattle.std.specs.Prelude.{IsTrue}
 use Rattle.std.proofs.lemmas.List.{append-nil}
 use Rattle.sr_book.specs.Entries.{Name}
-use Rattle.sr_database_history.specs.Folds.{end_of}
 use Rattle.sr_database_history.specs.Recorded.{Recorded}
-use Rattle.sr_database_history.proofs.Joined.{end_from-append}
 use Rattle.sr_logfile.specs.Log.{Log}
 use Rattle.sr_site.specs.Causes.{DiskStays, Rose}
 use Rattle.sr_site.specs.Files.{Files}
@@ -18,11 +16,13 @@ use Rattle.sr_database_meaning.specs.Standing.{StandsFor, StandsAs}
 use Rattle.sr_database_meaning.specs.Traces.{Went}
 use Rattle.sr_database_meaning.proofs.Going.{nothing}
 use Rattle.sr_database_meaning.proofs.Joining.{joined}
-use Rattle.sr_database.proofs.Based.{same_base}
+use Rattle.sr_database.specs.Advances.{Advances}
 use Rattle.sr_database.specs.Broken.{IsBroken}
 use Rattle.sr_database.specs.Databases.{IsOf, IsHeld, IsDatabase}
 use Rattle.sr_database.specs.Rooms.{HaveRoom}
 use Rattle.sr_database.specs.Views.{View}
+use Rattle.sr_database.proofs.Advancing.{advanced_still, advanced_then}
+use Rattle.sr_database.proofs.InForce.{in_force_still}
 use Rattle.sr_database.proofs.Rooms.{rooms_on}
 use Rattle.sr_session_script.specs.Acts.{ScriptAct, entries_of, end_behind, text_from}
 use Rattle.sr_session_script.proofs.Joins.{entries_of-append, end_behind-append, text_from-append}
@@ -59,15 +59,16 @@ no_more es acts none = sym (ap (λ rs. es ++ rs) none ∙ append-nil es)
 
 -- acts without an entry, on a value that keeps its log
 pub reached_still : (old new : View) (seen : Seen) (acts : List ScriptAct) → entries_of acts ≡ [] → end_behind old.log.end acts ≡ old.log.end
-    → new.log ≡ old.log → old.log.usable ≡ true → ((publisher : Name) (es : List Recorded) → IsOf old publisher es → IsOf new publisher es)
+    → new.log ≡ old.log → old.log.usable ≡ true → Advances old new []
     → Reached old new seen seen acts []
-reached_still old new seen acts none ends same usable keeps = record {
+reached_still old new seen acts none ends same usable on = record {
   state = (ap (λ (log : Log). log.usable) same ∙ usable, refl);
-  room = λ publisher es is. subst (λ (rs : List Recorded). HaveRoom old.log.base (end_of es) rs) (sym none) tt;
-  value = λ yes publisher es is. subst (λ (rs : List Recorded). IsOf new publisher rs) (no_more es acts none) (keeps publisher es is);
+  room = subst (λ (rs : List Recorded). HaveRoom old.log.base old.log.end rs) (sym none) tt;
+  value = λ yes. subst (λ (rs : List Recorded). Advances old new rs) (sym none) on;
   end = λ yes. ap (λ (log : Log). log.end) same ∙ sym ends;
+  in_force = λ told yes has. in_force_still old new seen seen same on refl (λ image there. there) has;
   database = λ told yes publisher es database.
-      subst (λ (rs : List Recorded). IsDatabase new publisher rs seen) (no_more es acts none) (database_along old new publisher es seen same (keeps publisher es database.is) database);
+      subst (λ (rs : List Recorded). IsDatabase new publisher rs seen) (no_more es acts none) (database_along old new publisher es seen same (advanced_still old new publisher es on database.is) database);
   went = λ told publisher es database.
       subst (λ (rs : List Recorded). Went seen seen publisher es (map commit (rs ++ []))) (sym none) (nothing seen publisher es (stands_as old publisher es seen database));
   stays = still seen;
@@ -104,14 +105,15 @@ pub reached_on : (a b c : View) (first second third : Seen) (acts more : List Sc
     → Reached a b first second acts [] → Reached b c second third more broken → Reached a c first third (acts ++ more) broken
 reached_on a b c first second third acts more broken one two = record {
   state = broken_on broken b c first second third one.state two.state;
-  room = λ publisher es is.
-      let grown = one.value one.state.0 publisher es is in
-      subst (λ (rs : List Recorded). HaveRoom a.log.base (end_of es) rs) (sym (entries_of-append acts more))
-      (rooms_on a.log.base b.log.base (end_of es) (entries_of acts) (entries_of more) (same_base a b publisher es (es ++ entries_of acts) is grown) (one.room publisher es is)
-      (subst (λ (n : ℕ). HaveRoom b.log.base n (entries_of more)) (end_from-append 0 es (entries_of acts)) (two.room publisher (es ++ entries_of acts) grown)));
-  value = λ yes publisher es is.
-      subst (λ (rs : List Recorded). IsOf c publisher rs) (entries_on es acts more) (two.value yes publisher (es ++ entries_of acts) (one.value one.state.0 publisher es is));
+  room =
+      let grown = one.value one.state.0 in
+      subst (λ (rs : List Recorded). HaveRoom a.log.base a.log.end rs) (sym (entries_of-append acts more))
+      (rooms_on a.log.base b.log.base a.log.end (entries_of acts) (entries_of more) grown.base one.room (subst (λ (n : ℕ). HaveRoom b.log.base n (entries_of more)) grown.end two.room));
+  value = λ yes.
+      subst (λ (rs : List Recorded). Advances a c rs) (sym (entries_of-append acts more))
+      (advanced_then a b c (entries_of acts) (entries_of more) (one.value one.state.0) (two.value yes));
   end = λ yes. two.end yes ∙ ap (λ place. end_behind place more) (one.end one.state.0) ∙ sym (end_behind-append a.log.end acts more);
+  in_force = λ told yes has. two.in_force (told_later first second one.stays told) yes (one.in_force told one.state.0 has);
   database = λ told yes publisher es database.
       subst (λ (rs : List Recorded). IsDatabase c publisher rs third) (entries_on es acts more)
       (two.database (told_later first second one.stays told) yes publisher (es ++ entries_of acts) (one.database told one.state.0 publisher es database));

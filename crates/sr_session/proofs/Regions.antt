@@ -25,6 +25,7 @@ use Rattle.sr_catalog_schema.specs.Members.{user_name}
 use Rattle.sr_catalog_schema.specs.Names.{named}
 use Rattle.sr_catalog_schema.specs.declared.user.User.{User}
 use Rattle.sr_database.specs.Inner.Commits.{CanCommit, CanCommitSome}
+use Rattle.sr_database.proofs.Advancing.{none_advanced}
 use Rattle.sr_database.specs.Views.{View, committed}
 use Rattle.sr_session_script.specs.Works.{region_of}
 use Rattle.sr_session_script.proofs.Regions.{once_distinct, once_all}
@@ -125,7 +126,7 @@ begin_done view seen lines lines' region p inside usable fine is said = record {
   is =
       ap (λ (m : Result (Unit {0}) Refusal). then_step m (beginning (work_of view region) p)) fine
       ∙ ap (λ (r : Passthrough). goes (region_begins ∷ []) (work_of view (Some r))) (sym is);
-  came = came_still view view seen lines lines' (region_begins ∷ []) refl refl refl usable (λ publisher es of. of) said;
+  came = came_still view view seen lines lines' (region_begins ∷ []) refl refl refl usable (none_advanced view) said;
 }
 
 pub region_users : (view : View) (p inside : Passthrough) → accepted view.catalog (stmt.Passthrough p) ≡ Ok tt → inside ≡ region_of p → AreUsers (committed view) (Some inside)
@@ -135,7 +136,7 @@ region_users view p inside fine is =
 pub end_done : (view : View) (seen : Seen) (lines lines' : List ℕ) (region : Option Passthrough) → view.log.usable ≡ true → lines' ≡ lines ++ line (codes "passthrough off")
     → Took (ended (work_of view region)) view view seen seen lines lines' None (Ok tt)
 end_done view seen lines lines' region usable said =
-    record { acts = region_ends ∷ []; is = refl; came = came_still view view seen lines lines' (region_ends ∷ []) refl refl refl usable (λ publisher es of. of) said }
+    record { acts = region_ends ∷ []; is = refl; came = came_still view view seen lines lines' (region_ends ∷ []) refl refl refl usable (none_advanced view) said }
 
 -- ---- a statement that passthrough does not carry
 

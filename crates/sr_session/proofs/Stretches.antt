@@ -12,6 +12,7 @@ use Rattle.sr_logform.specs.declared.change.Change.{Change}
 use Rattle.sr_site.specs.Causes.{Rose}
 use Rattle.sr_site.specs.Seen.{Seen}
 use Rattle.sr_site.specs.Streams.{Output, OutputStays}
+use Rattle.sr_database.proofs.Advancing.{none_advanced}
 use Rattle.sr_database.specs.Views.{View, committed}
 use Rattle.sr_session_script.specs.Acts.{ScriptAct, commits, rolled_back, line, text_from}
 use Rattle.sr_session_script.specs.Acts.{end_behind as acts_end}
@@ -320,7 +321,7 @@ last_open (c ∷ changes) some = refl
 pub ran_open : (old view : View) (first seen : Seen) (written taken : Output) (lines lines' : List ℕ) (region : Option Passthrough) (all : List Stmt)
     → Under old view first seen written taken lines region all [] → view.pending ≢ [] → lines' ≡ lines ++ line (codes "rolled back") → Ran old view first seen written taken lines' all (Ok tt)
 ran_open old view first seen written taken lines lines' region all under some said =
-    let came = came_still view view seen lines lines' (rolled_back ∷ []) refl refl refl under.ready.usable (λ publisher es is. is) said in
+    let came = came_still view view seen lines lines' (rolled_back ∷ []) refl refl refl under.ready.usable (none_advanced view) said in
     record {
       acts = under.acts ++ rolled_back ∷ [];
       broken = [];

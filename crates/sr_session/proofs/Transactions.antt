@@ -5,15 +5,15 @@ use Rattle.std.specs.List.{AllByRecursion}
 use Rattle.std.proofs.lemmas.Bool.{eqb-true}
 use Rattle.std.proofs.lemmas.List.{nil_from_length}
 use Rattle.sr_ast.specs.declared.stmt.Passthrough.{Passthrough}
-use Rattle.sr_book.specs.Entries.{Name}
 use Rattle.sr_database_history.specs.Folds.{State, with_changes, next}
-use Rattle.sr_database_history.specs.Recorded.{Recorded, own}
+use Rattle.sr_database_history.specs.Recorded.{own}
 use Rattle.sr_logform.specs.Outcomes.{IsShortChange}
 use Rattle.sr_logform.specs.declared.change.Change.{Change}
 use Rattle.sr_logform.specs.declared.entry.Entry.TheVariants.{Own}
 use Rattle.sr_site.specs.Seen.{Seen}
 use Rattle.sr_database.specs.Inner.Commits.{CanCommit, CanCommitSome}
-use Rattle.sr_database.specs.Databases.{IsOf}
+use Rattle.sr_database.specs.Advances.{Advances}
+use Rattle.sr_database.proofs.Advancing.{none_advanced}
 use Rattle.sr_database.specs.Views.{View, committed}
 use Rattle.sr_session_script.specs.Acts.{nothing, rolled_back, line}
 use Rattle.sr_session_script.specs.Meaning.{Stepped, goes, enters, closing, committing, committed as committed_step, rolled}
@@ -51,7 +51,7 @@ pub committed_none : (view : View) (seen : Seen) (lines lines' : List ℕ) (regi
 committed_none view seen lines lines' region usable said none = record {
   acts = nothing ∷ [];
   is = subst (λ (p : List Change). goes (committing p) (closed_work (committed view) region p) ≡ goes (nothing ∷ []) (open_work (committed view) region p)) (sym none) refl;
-  came = came_still view view seen lines lines' (nothing ∷ []) refl refl refl usable (λ publisher es is. is) said;
+  came = came_still view view seen lines lines' (nothing ∷ []) refl refl refl usable (none_advanced view) said;
 }
 
 -- something is open: it is one entry
@@ -102,7 +102,7 @@ took_own old new first second lines lines' region result changes same took =
 
 -- ROLLBACK
 pub rolled_back_step : (old new : View) (seen : Seen) (lines lines' : List ℕ) (region : Option Passthrough) → old.log.usable ≡ true → new.log ≡ old.log → new.pending ≡ [] → committed new ≡ committed old
-    → ((publisher : Name) (es : List Recorded) → IsOf old publisher es → IsOf new publisher es) → lines' ≡ lines ++ line (codes "rolled back")
+    → Advances old new [] → lines' ≡ lines ++ line (codes "rolled back")
     → Took (rolled (work_of old region)) old new seen seen lines lines' region (Ok tt)
 rolled_back_step old new seen lines lines' region usable same none state keeps said = record {
   acts = rolled_back ∷ [];

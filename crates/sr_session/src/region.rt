@@ -6,7 +6,7 @@ ghost use Rattle.sr_ast.specs.declared.stmt.Passthrough.{Passthrough as Region};
 ghost use Rattle.sr_exec_dml.specs.FittingChanges.{ChangesFit};
 ghost use Rattle.sr_database_history.specs.Fitting.{IsAcceptedPass, MayHaveChanges};
 ghost use Rattle.sr_database_history.specs.Recorded.{IsCarried, IsDdl, pass};
-ghost use Rattle.sr_database.specs.Databases.{IsOfSome};
+ghost use Rattle.sr_database.specs.Inner.Sound.{IsSound};
 ghost use Rattle.sr_database.specs.Views.{committed};
 ghost use Rattle.sr_session_script.specs.Meaning.{enters, passed, catalog_changes, row_changes, refused_in, began, ended};
 ghost use Rattle.sr_site.specs.Seen.{Seen as SiteSeen};
@@ -36,7 +36,7 @@ pub(crate) fn begin(
     passthrough: &Passthrough,
 ) -> Result<(), StepFault>
     requires usable { db.now.log.usable ≡ true }
-    requires some { IsOfSome db.now }
+    requires sound { IsSound db.now }
     requires stmt { stmt.now ≡ PassthroughStmt passthrough.now }
     ensures took { (seen : SiteSeen) → Took (began passthrough.now (work_of db.now session.old.region)) db.now db.now seen seen session.old.lines.items session.new.lines.items session.new.region result }
     ensures users { OnOk result (AreUsers (committed db.now) session.new.region) }
@@ -51,7 +51,7 @@ pub(crate) fn begin(
 /// `PASSTHROUGH STOP`: no region is there.
 pub(crate) fn end(db: &Database, session: &mut Session) -> Result<(), StepFault>
     requires usable { db.now.log.usable ≡ true }
-    requires some { IsOfSome db.now }
+    requires sound { IsSound db.now }
     ensures took { (seen : SiteSeen) → Took (ended (work_of db.now session.old.region)) db.now db.now seen seen session.old.lines.items session.new.lines.items session.new.region result }
     ensures users { OnOk result (AreUsers (committed db.now) session.new.region) }
 {

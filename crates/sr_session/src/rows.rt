@@ -2,7 +2,7 @@
 
 ghost use Rattle.std.specs.Prelude.{◌≡◌, true, Option};
 ghost use Rattle.sr_ast.specs.declared.stmt.Passthrough.{Passthrough as Region};
-ghost use Rattle.sr_database.specs.Databases.{IsOfSome};
+ghost use Rattle.sr_database.specs.Inner.Sound.{IsSound};
 ghost use Rattle.sr_session_script.specs.Meaning.{executed, answered};
 ghost use Rattle.sr_site.specs.Seen.{Seen as SiteSeen};
 ghost use Rattle.sr_session.specs.Inner.Ready.{work_of};
@@ -24,7 +24,7 @@ pub(crate) fn execute(
     stmt: &Dml,
 ) -> Result<(), StepFault>
     requires usable { db.old.log.usable ≡ true }
-    requires some { IsOfSome db.old }
+    requires sound { IsSound db.old }
     ensures took { (seen : SiteSeen) (region : Option Region) → Took (executed (work_of db.old region) stmt.now) db.old db.new seen seen lines.old.items lines.new.items region result }
 {
     let spare = db.spare(alloc);
@@ -40,7 +40,7 @@ fn execute_reusing(
     spare: Vec<Change>,
 ) -> Result<(), StepFault>
     requires usable { db.old.log.usable ≡ true }
-    requires some { IsOfSome db.old }
+    requires sound { IsSound db.old }
     ensures took { (seen : SiteSeen) (region : Option Region) → Took (executed (work_of db.old region) stmt.now) db.old db.new seen seen lines.old.items lines.new.items region result }
 {
     let changes = sr_session_script::execute(alloc, db.catalog(), db.rows(), stmt, spare)?;
@@ -61,7 +61,7 @@ pub(crate) fn select(
     stmt: &Select,
 ) -> Result<(), StepFault>
     requires usable { db.now.log.usable ≡ true }
-    requires some { IsOfSome db.now }
+    requires sound { IsSound db.now }
     ensures took { (seen : SiteSeen) (region : Option Region) → Took (answered (work_of db.now region) stmt.now) db.now db.now seen seen lines.old.items lines.new.items region result }
 {
     let rows = answer(alloc, db.catalog(), db.rows(), stmt)?;

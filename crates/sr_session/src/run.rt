@@ -2,7 +2,7 @@
 
 ghost use Rattle.std.specs.Prelude.{◌≡◌, [], true, not, Err, IsTrue};
 ghost use Rattle.std.specs.List.{AllByRecursion};
-ghost use Rattle.sr_database.specs.Databases.{HasDatabase};
+ghost use Rattle.sr_database.specs.InForce.{HasLogInForce};
 ghost use Rattle.sr_ast.specs.NormalForms.{IsNormal};
 ghost use Rattle.sr_session.specs.Inner.Running.{counted, IsNoSink};
 ghost use Rattle.sr_session.specs.Runs.{RanScript};
@@ -37,7 +37,7 @@ pub fn run_script<S: Site, O: Sink>(
     requires usable { db.old.log.usable ≡ true }
     requires pending { db.old.pending ≡ [] }
     requires normal { AllByRecursion IsNormal script.now }
-    requires stands { IsTrue (S.seen site.old).observable → HasDatabase db.old (S.seen site.old) }
+    requires stands { IsTrue (S.seen site.old).observable → HasLogInForce db.old (S.seen site.old) }
     ensures ran { RanScript db.old db.new (S.seen site.old) (S.seen site.new) (O.seen sink.old) (O.seen sink.new) script.now result }
 {
     let statements = script.as_slice();

@@ -5,7 +5,7 @@ ghost use Rattle.sr_ast.specs.declared.stmt.Passthrough.{Passthrough as Region};
 ghost use Rattle.sr_database_history.specs.Recorded.{own};
 ghost use Rattle.sr_session_script.specs.Meaning.{enters, goes, closing, committed, rolled};
 ghost use Rattle.sr_session_script.specs.Works.{closed};
-ghost use Rattle.sr_database.specs.Databases.{IsOfSome};
+ghost use Rattle.sr_database.specs.Inner.Sound.{IsSound};
 ghost use Rattle.sr_site.specs.Seen.{Seen as SiteSeen};
 ghost use Rattle.sr_session.specs.Inner.Ready.{IsReady, work_of};
 ghost use Rattle.sr_session.specs.Inner.Steps.{Took};
@@ -85,7 +85,7 @@ fn copied(alloc: Global, changes: &[Change]) -> Result<Seq<Change>, NoMemory>
 /// `ROLLBACK`.
 pub(crate) fn roll_back(db: &mut Database, lines: &mut Vec<u8>) -> Result<(), StepFault>
     requires usable { db.old.log.usable ≡ true }
-    requires some { IsOfSome db.old }
+    requires sound { IsSound db.old }
     ensures took { (seen : SiteSeen) (region : Option Region) → Took (rolled (work_of db.old region)) db.old db.new seen seen lines.old.items lines.new.items region result }
 {
     lines.extend_from_slice(b"rolled back\n")?;

@@ -1,4 +1,5 @@
 pub mod Alike
+pub mod Brief
 pub mod Charted
 pub mod Concerned
 pub mod Followed

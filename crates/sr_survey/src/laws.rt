@@ -18,6 +18,7 @@ ghost use Rattle.sr_database_history.specs.Inner.Laws.{Holds};
 ghost use Rattle.sr_database_history.specs.Recorded.{Recorded, entry_of};
 ghost use Rattle.sr_exec_dml.specs.Statements.{table_named};
 ghost use Rattle.sr_logform.specs.declared.change.Change.{Change as AChange};
+ghost use Rattle.sr_logform.specs.declared.entry.Entry.{Entry as AnEntry};
 ghost use Rattle.sr_logform.specs.declared.entry.Entry.TheVariants.{Own, From, Sync, Pass};
 ghost use Rattle.sr_logform.specs.declared.op.Op.{Op as AnOp};
 ghost use Rattle.sr_logform.specs.declared.outcome.Outcome.{Outcome as AnOutcome};
@@ -33,6 +34,7 @@ ghost use Rattle.sr_survey.specs.Inner.Quiet.{GiveNothing, IsUnheld};
 ghost use Rattle.sr_survey.specs.Inner.Following.{since_of};
 ghost use Rattle.sr_survey.specs.Inner.Surveyed.{HasSurveyed, IsNext, IsBefore, IsToldNow, Begins, OfEach, Takes, place_of};
 ghost use Rattle.sr_survey.specs.declared.survey.Survey.{Survey as ASurvey};
+ghost use Rattle.sr_survey_brief.specs.Inner.Briefs.{IsBrief};
 ghost use Rattle.sr_survey_places.specs.Inner.Listed.{under};
 ghost use Rattle.sr_survey_places.specs.declared.key.Key.TheVariants as keyed;
 ghost use Rattle.sr_survey_places.specs.declared.place.Place.{Place as Listed};
@@ -47,6 +49,11 @@ pub fn a_survey_begins()
 pub fn a_survey_keeps_up()
     ensures kept { (publisher : Bytes) (done : List Recorded) (r : Recorded) (old new : ASurvey) → Stored publisher (done ++ r ∷ []) → HasSurveyed publisher done old
         → Takes old (entry_of r) (end_of (done ++ r ∷ [])) new → HasSurveyed publisher (done ++ r ∷ []) new }
+{}
+
+/// A survey that takes an entry in brief takes the entry.
+pub fn a_brief_entry_is_taken_as_the_entry()
+    ensures taken { (old new : ASurvey) (entry brief : AnEntry) (at : ℕ) → IsBrief entry brief → Takes old brief at new → Takes old entry at new }
 {}
 
 /// No entry that ends past an offset gives a user something, if it ends before the place that is next for him, or none is.

@@ -22,8 +22,9 @@ mod taking_up;
 
 pub use given_up::GivenUp;
 pub use laws::{
-    a_survey_begins, a_survey_keeps_up, held_rows_have_keys, nothing_is_due_before_the_next,
-    shares_stay, told_alike, unheld_gives_nothing, what_gives_nothing_may_be_passed_over,
-    what_is_given_is_told_by_the_catalog_of_now, what_is_not_listed_gives_nothing,
+    a_brief_entry_is_taken_as_the_entry, a_survey_begins, a_survey_keeps_up, held_rows_have_keys,
+    nothing_is_due_before_the_next, shares_stay, told_alike, unheld_gives_nothing,
+    what_gives_nothing_may_be_passed_over, what_is_given_is_told_by_the_catalog_of_now,
+    what_is_not_listed_gives_nothing,
 };
 pub use survey::Survey;

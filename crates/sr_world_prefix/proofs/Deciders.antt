@@ -77,4 +77,4 @@ module _ (publisher : Name) where
       → RanScript view new opened now written written' statements result → KeepsDecided publisher before now
   script_decided owner es view new before opened now written written' statements result told stays still database ran =
       script_holds publisher Decided (StandDecided publisher) into out owner es view new before opened now written written' statements result told stays still database ran
-      (λ own_view decided. locals_decided es (entries_of ran.acts ++ ran.broken) decided (script_locals view new opened now written written' statements result ran))
+      (λ there own_view decided. locals_decided there (entries_of ran.acts ++ ran.broken) decided (script_locals view new opened now written written' statements result ran))

@@ -79,5 +79,5 @@ module _ (publisher : Name) where
       → RanScript view new opened now written written' statements result → KeepsGood publisher before now
   script_good owner es view new before opened now written written' statements result told stays still database ran =
       script_holds publisher (IsGoodHistory publisher) (StandGood publisher) into out owner es view new before opened now written written' statements result told stays still database ran
-      (λ own_view good. steps_along (IsOwnStep publisher) (IsGoodHistory publisher) own_good es (entries_of ran.acts ++ ran.broken) good
-      (script_says_so publisher es view new opened now written written' statements result own_view ran))
+      (λ there own_view good. steps_along (IsOwnStep publisher) (IsGoodHistory publisher) own_good there (entries_of ran.acts ++ ran.broken) good
+      (script_says_so publisher there view new opened now written written' statements result own_view ran))

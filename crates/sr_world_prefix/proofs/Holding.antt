@@ -3,6 +3,7 @@ use Rattle.std.proofs.Common.{◌≡◌, ℕ, Bool, List, [], ◌∷◌, ◌++�
 use Rattle.std.specs.Prelude.{◌⊎◌, IsTrue}
 use Rattle.sr_ast.specs.declared.stmt.Stmt.{Stmt}
 use Rattle.sr_book.specs.Entries.{Name}
+use Rattle.sr_database.proofs.Alike.{database_in}
 use Rattle.sr_database.specs.Databases.{IsDatabase}
 use Rattle.sr_database.specs.Views.{View}
 use Rattle.sr_database_history.specs.Recorded.{Recorded}
@@ -18,7 +19,6 @@ use Rattle.sr_site.specs.Streams.{Output}
 use Rattle.sr_database_meaning.specs.Events.{Event, commit, commits}
 use Rattle.sr_database_meaning.specs.Standing.{StandsAs}
 use Rattle.sr_database_meaning.specs.Traces.{AtEach, IsOnTrace, LacksLast, Went}
-use Rattle.sr_database_meaning.proofs.Standing.{one_history}
 use Rattle.sr_agent.specs.Agents.{RanAgent}
 use Rattle.sr_agent.specs.declared.fault.AgentFault.{AgentFault}
 use Rattle.sr_agent.specs.declared.options.Options.{Options}
@@ -66,18 +66,18 @@ module _ (publisher : Name) (holds : List Recorded → Type 0) (Stand : Files �
 
   -- ---- whole runs
 
-  -- the history that was opened is one that stood before
-  record WasThere (owner : Name) (es : List Recorded) : Type 0 where
-    same : owner ≡ publisher
-    held : holds es
+  -- what was opened is the database of a history that stood before
+  record WasThere (view : View) (opened : Seen) : Type 0 where
+    there : List Recorded
+    own : IsDatabase view publisher there opened
+    held : holds there
 
   opened_holds : (owner : Name) (es : List Recorded) (view : View) (before opened : Seen) → opened.first ≡ before.first → RestsThroughout (IsImage before) before opened
-      → IsDatabase view owner es opened → IsSettled Stand before → WasThere owner es
+      → IsDatabase view owner es opened → IsSettled Stand before → WasThere view opened
   opened_holds owner es view before opened same still database settled =
       let some = some_image opened.first opened.happened in
       let stood : StandsHolding publisher holds some.0 = out some.0 (settled some.0 (was_image before opened some.0 same still some.1)) in
-      let one = one_history publisher owner stood.es es stood.stands.base view.log.base some.0 stood.stands.stands (database.settled some.0 some.1).stands in
-      record { same = sym one.0; held = subst holds one.1 stood.held }
+      record { there = stood.es; own = database_in view owner publisher es stood.es stood.stands.base some.0 opened database some.1 stood.stands.stands; held = stood.held }
 
   pub untouched_holds : (before now : Seen) → RestsThroughout (IsImage before) before now → IsSettled Stand before → RestsThroughout Stand before now
   untouched_holds before now still settled = rests_still Stand before now settled still
@@ -90,22 +90,20 @@ module _ (publisher : Name) (holds : List Recorded → Type 0) (Stand : Files �
   agent_holds kept owner es options view new before opened now written written' result told stays still database ran settled =
       let same : opened.first ≡ before.first = sym ran.ended.site.first ∙ stays.first in
       let still_told : IsTrue opened.observable = subst (λ (b : Bool). IsTrue b) (sym (sym ran.ended.site.observable ∙ stays.observable)) told in
-      let there = opened_holds owner es view before opened same still database settled in
-      let own_view : IsDatabase view publisher es opened = subst (λ (n : Name). IsDatabase view n es opened) there.same database in
-      let did = did_steps publisher es options new opened now written written' ran.lines result still_told (ran.did still_told publisher es own_view) in
-      let along : Along holds es (commits did.trace) = steps_along (IsRunStep publisher) holds kept es (commits did.trace) there.held did.steps in
-      rests_on Stand before opened now same (rests_still Stand before opened settled still) (went_holds es did.trace along opened now did.went)
+      let was = opened_holds owner es view before opened same still database settled in
+      let did = did_steps publisher was.there options new opened now written written' ran.lines result still_told (ran.did still_told publisher was.there was.own) in
+      let along : Along holds was.there (commits did.trace) = steps_along (IsRunStep publisher) holds kept was.there (commits did.trace) was.held did.steps in
+      rests_on Stand before opened now same (rests_still Stand before opened settled still) (went_holds was.there did.trace along opened now did.went)
 
   -- of a script on one, where it holds with each of its entries
   pub script_holds : (owner : Name) (es : List Recorded) (view new : View) (before opened now : Seen) (written written' : Output) (statements : List Stmt) (result : Result ℕ SessionFault)
       → IsTrue before.observable → Stays before now → RestsThroughout (IsImage before) before opened → IsDatabase view owner es opened
-      → (ran : RanScript view new opened now written written' statements result) → (IsDatabase view publisher es opened → holds es → Along holds es (entries_of ran.acts ++ ran.broken))
+      → (ran : RanScript view new opened now written written' statements result) → ((there : List Recorded) → IsDatabase view publisher there opened → holds there → Along holds there (entries_of ran.acts ++ ran.broken))
       → IsSettled Stand before → RestsThroughout Stand before now
   script_holds owner es view new before opened now written written' statements result told stays still database ran adds settled =
       let same : opened.first ≡ before.first = sym ran.reached.stays.first ∙ stays.first in
       let still_told : IsTrue opened.observable = subst (λ (b : Bool). IsTrue b) (sym (sym ran.reached.stays.observable ∙ stays.observable)) told in
-      let there = opened_holds owner es view before opened same still database settled in
-      let own_view : IsDatabase view publisher es opened = subst (λ (n : Name). IsDatabase view n es opened) there.same database in
+      let was = opened_holds owner es view before opened same still database settled in
       let entries : List Recorded = entries_of ran.acts ++ ran.broken in
-      let along : Along holds es (commits (map commit entries)) = subst (λ (rs : List Recorded). Along holds es rs) (sym (commits_of entries)) (adds own_view there.held) in
-      rests_on Stand before opened now same (rests_still Stand before opened settled still) (went_holds es (map commit entries) along opened now (ran.reached.went still_told publisher es own_view))
+      let along : Along holds was.there (commits (map commit entries)) = subst (λ (rs : List Recorded). Along holds was.there rs) (sym (commits_of entries)) (adds was.there was.own was.held) in
+      rests_on Stand before opened now same (rests_still Stand before opened settled still) (went_holds was.there (map commit entries) along opened now (ran.reached.went still_told publisher was.there was.own))

@@ -2,6 +2,7 @@
 use Rattle.std.proofs.Common.{◌≡◌, ℕ, Bool, true, false, List, [], ◌∷◌, ◌++◌, length, Result, refl, sym, ap, subst, ◌∙◌, arith, append_assoc}
 use Rattle.std.specs.Prelude.{IsTrue}
 use Rattle.sr_book.specs.Entries.{Name}
+use Rattle.sr_database.proofs.Alike.{database_in}
 use Rattle.sr_database.specs.Databases.{IsDatabase}
 use Rattle.sr_database.specs.Views.{View}
 use Rattle.sr_database_history.specs.Fitting.{Stored}
@@ -20,7 +21,6 @@ use Rattle.sr_site.specs.Seen.{Seen}
 use Rattle.sr_site.specs.Streams.{Output}
 use Rattle.sr_site.specs.declared.file.File.{File}
 use Rattle.sr_site.specs.declared.file.File.TheVariants.{Root, Log0, Log1, Snap0, Snap1}
-use Rattle.sr_database_meaning.proofs.Standing.{one_history}
 use Rattle.sr_agent.specs.Agents.{Did, RanAgent}
 use Rattle.sr_agent.specs.Lines.{Line}
 use Rattle.sr_agent.specs.declared.fault.AgentFault.{AgentFault}
@@ -121,18 +121,18 @@ was_image before middle image same still there =
     = subst (λ (l : List Happening). MayLeave before.first l image) still.is (subst (λ (f : Files). MayLeave f middle.happened image) same there) in
     last image then
 
--- the history that was opened is one that stood before
-record WasThere (publisher user owner : Name) (us es : List Recorded) : Type 0 where
-  same : owner ≡ publisher
+-- what was opened is the database of a history that stood before
+record WasThere (publisher user : Name) (us : List Recorded) (view : View) (opened : Seen) : Type 0 where
+  es : List Recorded
+  own : IsDatabase view publisher es opened
   partners : ArePartners publisher user es us
 
 opened_partners : (publisher user owner : Name) (us es : List Recorded) (view : View) (before opened : Seen) → opened.first ≡ before.first → RestsThroughout (IsImage before) before opened
-    → IsDatabase view owner es opened → IsSettled (StandInStep publisher user us) before → WasThere publisher user owner us es
+    → IsDatabase view owner es opened → IsSettled (StandInStep publisher user us) before → WasThere publisher user us view opened
 opened_partners publisher user owner us es view before opened same still database settled =
     let some = some_image opened.first opened.happened in
     let stood : StandInStep publisher user us some.0 = settled some.0 (was_image before opened some.0 same still some.1) in
-    let one = one_history publisher owner stood.es es stood.stands.base view.log.base some.0 stood.stands.stands (database.settled some.0 some.1).stands in
-    record { same = sym one.0; partners = subst (λ (rs : List Recorded). ArePartners publisher user rs us) one.1 stood.partners }
+    record { es = stood.es; own = database_in view owner publisher es stood.es stood.stands.base some.0 opened database some.1 stood.stands.stands; partners = stood.partners }
 
 pub untouched_kept : (publisher user : Name) (us : List Recorded) (before now : Seen) → RestsThroughout (IsImage before) before now → KeepsPartner publisher user us before now
 untouched_kept publisher user us before now still settled none = rests_still (StandInStep publisher user us) before now settled still
@@ -145,12 +145,11 @@ agent_kept publisher user owner es us options view new before opened now written
     let same : opened.first ≡ before.first = sym ran.ended.site.first ∙ stays.first in
     let still_told : IsTrue opened.observable = subst (λ (b : Bool). IsTrue b) (sym (sym ran.ended.site.observable ∙ stays.observable)) told in
     let there = opened_partners publisher user owner us es view before opened same still database settled in
-    let own : IsDatabase view publisher es opened = subst (λ (n : Name). IsDatabase view n es opened) there.same database in
     let later = goes_on opened.happened now.happened ran.ended.site.grows in
     let all : AllSince (Unforged publisher user us) before.happened now.happened = record { more = none.more; is = none.is; each = none.each } in
     let each = since_parts (Unforged publisher user us) before.happened opened.happened now.happened still.more later.more all still.is later.is in
     let behind : NoneForged publisher user us opened now = record { more = later.more; is = later.is; each = each.0 } in
-    let ran_on = run_kept publisher user es us options view new opened now written written' ran.lines result still_told own stored there.partners behind (ran.did still_told publisher es own) in
+    let ran_on = run_kept publisher user there.es us options view new opened now written written' ran.lines result still_told there.own stored there.partners behind (ran.did still_told publisher there.es there.own) in
     rests_on (StandInStep publisher user us) before opened now same (rests_still (StandInStep publisher user us) before opened settled still) ran_on
 
 -- a run of a script on one
@@ -161,6 +160,5 @@ script_run_kept publisher user owner es us view new before opened now written wr
     let same : opened.first ≡ before.first = sym ran.reached.stays.first ∙ stays.first in
     let still_told : IsTrue opened.observable = subst (λ (b : Bool). IsTrue b) (sym (sym ran.reached.stays.observable ∙ stays.observable)) told in
     let there = opened_partners publisher user owner us es view before opened same still database settled in
-    let own : IsDatabase view publisher es opened = subst (λ (n : Name). IsDatabase view n es opened) there.same database in
-    let ran_on = script_kept publisher user es us view new opened now written written' statements result still_told own there.partners ran in
+    let ran_on = script_kept publisher user there.es us view new opened now written written' statements result still_told there.own there.partners ran in
     rests_on (StandInStep publisher user us) before opened now same (rests_still (StandInStep publisher user us) before opened settled still) ran_on

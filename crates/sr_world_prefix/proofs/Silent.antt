@@ -3,6 +3,7 @@ use Rattle.std.proofs.Common.{◌≡◌, ℕ, Bool, List, [], ◌++◌, map, Res
 use Rattle.std.specs.Prelude.{⊤, IsTrue}
 use Rattle.sr_ast.specs.declared.stmt.Stmt.{Stmt}
 use Rattle.sr_book.specs.Entries.{Name}
+use Rattle.sr_database.proofs.Alike.{database_in}
 use Rattle.sr_database.specs.Databases.{IsDatabase}
 use Rattle.sr_database.specs.Views.{View}
 use Rattle.sr_database_history.specs.Recorded.{Recorded}
@@ -17,7 +18,6 @@ use Rattle.sr_site.specs.Seen.{Seen}
 use Rattle.sr_site.specs.Streams.{Output}
 use Rattle.sr_database_meaning.specs.Events.{commit}
 use Rattle.sr_database_meaning.specs.Standing.{StandsAs}
-use Rattle.sr_database_meaning.proofs.Standing.{one_history}
 use Rattle.sr_agent.specs.Agents.{Did, RanAgent}
 use Rattle.sr_agent.specs.Lines.{Line}
 use Rattle.sr_agent.specs.declared.fault.AgentFault.{AgentFault}
@@ -36,15 +36,14 @@ use Rattle.sr_world_prefix.proofs.TruePuts.{AreInOrder, whole_truth}
 
 module _ (publisher : Name) (before : Seen) (opened : Seen) (same : opened.first ≡ before.first) (still : RestsThroughout (IsImage before) before opened) (owner : Name) (es : List Recorded) (view : View)
     (database : IsDatabase view owner es opened) where
-  -- it is that of some files that a crash could have left before
+  -- what was opened is the database of a history for which files stand that a crash could have left before
   record WasOne (Of : List Recorded → Type 0) : Type 0 where
-    own : IsDatabase view publisher es opened
-    held : Of es
+    there : List Recorded
+    own : IsDatabase view publisher there opened
+    held : Of there
 
   was_one : (Of : List Recorded → Type 0) (files : Files) (rs : List Recorded) → IsImage opened files → StandsAs publisher rs files → Of rs → WasOne Of
-  was_one Of files rs there stands held =
-      let one = one_history publisher owner rs es stands.base view.log.base files stands.stands (database.settled files there).stands in
-      record { own = subst (λ (n : Name). IsDatabase view n es opened) (sym one.0) database; held = subst Of one.1 held }
+  was_one Of files rs there stands held = record { there = rs; own = database_in view owner publisher es rs stands.base files opened database there stands.stands; held = held }
 
   good_one : IsSettled (StandGood publisher) before → WasOne (IsGoodHistory publisher)
   good_one settled =
@@ -84,11 +83,11 @@ agent_true publisher owner es options view new before opened now written written
       whole = λ settled.
           let was = good_one publisher before opened quiet.first still owner es view database settled in
           still_opened (StandBehind (IsTrueOf layers) publisher) before (good_nothing publisher before settled) opened now quiet.first still quiet
-          (run_backs publisher (IsTrueOf layers) AreInOrder (whole_truth publisher) es was.held.books options new opened now written written' ran.lines result (ran.did still_told publisher es was.own));
+          (run_backs publisher (IsTrueOf layers) AreInOrder (whole_truth publisher) was.there was.held.books options new opened now written written' ran.lines result (ran.did still_told publisher was.there was.own));
       in_part = λ settled.
           let was = any_one publisher before opened quiet.first still owner es view database settled in
           still_opened (StandBehind IsTrueInPart publisher) before (any_nothing publisher before settled) opened now quiet.first still quiet
-          (run_backs publisher IsTrueInPart (λ rs. ⊤) (part_truth publisher) es tt options new opened now written written' ran.lines result (ran.did still_told publisher es was.own));
+          (run_backs publisher IsTrueInPart (λ rs. ⊤) (part_truth publisher) was.there tt options new opened now written written' ran.lines result (ran.did still_told publisher was.there was.own));
     }
 
 -- of a script on one
@@ -102,12 +101,12 @@ script_true publisher owner es view new before opened now written written' state
       whole = λ settled.
           let was = good_one publisher before opened quiet.first still owner es view database settled in
           still_opened (StandBehind (IsTrueOf layers) publisher) before (good_nothing publisher before settled) opened now quiet.first still quiet
-          (went_back publisher (IsTrueOf layers) AreInOrder (whole_truth publisher) es was.held.books opened now (map commit entries) (backs_commits (IsTrueOf layers publisher) es entries)
-          (ran.reached.went still_told publisher es was.own));
+          (went_back publisher (IsTrueOf layers) AreInOrder (whole_truth publisher) was.there was.held.books opened now (map commit entries) (backs_commits (IsTrueOf layers publisher) was.there entries)
+          (ran.reached.went still_told publisher was.there was.own));
       in_part = λ settled.
           let was = any_one publisher before opened quiet.first still owner es view database settled in
           still_opened (StandBehind IsTrueInPart publisher) before (any_nothing publisher before settled) opened now quiet.first still quiet
-          (went_back publisher IsTrueInPart (λ rs. ⊤) (part_truth publisher) es tt opened now (map commit entries) (backs_commits (IsTrueInPart publisher) es entries) (ran.reached.went still_told publisher es was.own));
+          (went_back publisher IsTrueInPart (λ rs. ⊤) (part_truth publisher) was.there tt opened now (map commit entries) (backs_commits (IsTrueInPart publisher) was.there entries) (ran.reached.went still_told publisher was.there was.own));
     }
 
 -- ---- a run of the agent on a history that is there

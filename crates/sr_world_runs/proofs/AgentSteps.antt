@@ -1,18 +1,21 @@
 -- A run of the agent, from the moment at which nothing was opened yet, or on a database that stands open: it makes steps of a world alone.
-use Rattle.std.proofs.Common.{◌≡◌, ℕ, List, [], ◌++◌, Result, Ok, Err, refl, sym, subst, le_refl}
+use Rattle.std.proofs.Common.{◌≡◌, ℕ, List, [], ◌∷◌, ◌++◌, Result, Ok, Err, inl, inr, refl, sym, subst, le_refl}
 use Rattle.std.specs.Prelude.{Bool, IsTrue}
 use Rattle.sr_book.specs.Entries.{Name}
-use Rattle.sr_database.specs.Databases.{HasDatabase, IsDatabase}
+use Rattle.sr_database.specs.Databases.{IsDatabase}
+use Rattle.sr_database.specs.InForce.{HasLogInForce}
 use Rattle.sr_database.specs.Views.{View}
 use Rattle.sr_database_history.specs.Folds.{fresh, state_of}
 use Rattle.sr_database_history.specs.Recorded.{Recorded}
-use Rattle.sr_world_model.specs.Worlds.{World}
+use Rattle.sr_world_model.specs.Worlds.{World, history}
 use Rattle.sr_msgform.specs.declared.message.Message.{Message}
 use Rattle.sr_site.specs.Causes.{DiskStays, Stays}
+use Rattle.sr_site.specs.Files.{Files}
 use Rattle.sr_site.specs.Images.{IsImage, RestsThroughout}
 use Rattle.sr_site.specs.Seen.{Seen}
 use Rattle.sr_site.specs.Streams.{Output}
 use Rattle.sr_database_meaning.specs.Events.{commits}
+use Rattle.sr_database_meaning.specs.Standing.{StandsAs}
 use Rattle.sr_agent.specs.Agents.{Did, RanAgent}
 use Rattle.sr_agent.specs.Ends.{HasTold}
 use Rattle.sr_agent.specs.Lines.{Line}
@@ -20,7 +23,7 @@ use Rattle.sr_agent.specs.Runs.{taken_entries, trace_of}
 use Rattle.sr_agent.specs.declared.fault.AgentFault.{AgentFault}
 use Rattle.sr_agent.specs.declared.options.Options.{Options}
 use Rattle.sr_world_prefix.specs.Good.{AreSaid}
-use Rattle.sr_world_runs.specs.Worlds.{AllKnown, MakesSteps}
+use Rattle.sr_world_runs.specs.Worlds.{AllKnown, MakesSteps, Rests, on_one, on_two}
 use Rattle.sr_world_prefix.proofs.Along.{steps_along, steps_first, steps_second}
 use Rattle.sr_world_runs.proofs.DatabaseSteps.{CanStep}
 use Rattle.sr_world_prefix.proofs.TruePuts.{AreInOrder}
@@ -67,16 +70,16 @@ agent_steps w owner publisher es options view new before opened now written writ
     let later : AllKnown w.messages owner opened now
     = known_later w.messages owner before opened now known (goes_on before.happened opened.happened quiet.grows) (goes_on opened.happened now.happened ran.ended.site.grows) in
     trace_steps w owner publisher es view before opened now quiet.first still quiet database good named settled
-    (λ there ordered.
-    let did = ran.did still_told owner es there in
-    let on = did_database_steps w.messages owner es options new opened now written written' ran.lines result (own_publisher view owner es opened there) ordered.books still_told later did in
+    (λ there database_there ordered.
+    let did = ran.did still_told owner there database_there in
+    let on = did_database_steps w.messages owner there options new opened now written written' ran.lines result (own_publisher view owner there opened database_there) ordered.books still_told later did in
     record {
       trace = on.trace;
       went = on.went;
       has = on.has;
       said = λ said.
-          steps_along (IsRunStep owner) (AreSaid (fresh owner)) (λ qs r before is. said_more (fresh owner) qs r before (step_says_so owner qs r is)) es (commits on.trace) said on.steps;
-      last = did_last owner es options new opened now still_told written written' ran.lines result did;
+          steps_along (IsRunStep owner) (AreSaid (fresh owner)) (λ qs r before is. said_more (fresh owner) qs r before (step_says_so owner qs r is)) there (commits on.trace) said on.steps;
+      last = did_last owner there options new opened now still_told written written' ran.lines result did;
       settles = on.settles;
     })
 
@@ -88,7 +91,21 @@ still_here seen = record { more = []; is = refl; moments = λ image there. there
 quiet_here : (seen : Seen) → DiskStays seen seen
 quiet_here seen = record { observable = refl; first = refl; grows = λ moment there. there; mail = refl; mail_faults = refl; later = le_refl seen.disk_faults }
 
+-- what a read gives stands for a history, where what a crash may leave rests on one
+record StoodThere (owner : Name) (files : Files) : Type 0 where
+  es : List Recorded
+  stood : StandsAs owner es files
+
+stood_there : (messages : List Message) (owner : Name) (es : List Recorded) (seen : Seen) → IsImage seen seen.files → Rests messages owner es (IsImage seen) → StoodThere owner seen.files
+stood_there messages owner es seen read (on_one all) = record { es = es; stood = all seen.files read }
+stood_there messages owner es seen read (on_two r each) = elim (each seen.files read) [
+  | inl short ↦ record { es = es; stood = short }
+  | inr long ↦ record { es = es ++ r ∷ []; stood = long.stands }
+]
+
 pub steps_from_open : (w : World Recorded) (owner : Name) (options : Options) (view new : View) (before now : Seen) (written written' : Output) (result : Result ℕ AgentFault)
-    → IsTrue before.observable → HasDatabase view before → RanAgent view new before now written written' options result → MakesSteps w owner before now
-steps_from_open w owner options view new before now written written' result told database ran =
-    agent_steps w owner database.publisher database.es options view new before before now written written' result told ran.ended.site (still_here before) (quiet_here before) database.is ran
+    → IsTrue before.observable → IsImage before before.files → HasLogInForce view before → RanAgent view new before now written written' options result → MakesSteps w owner before now
+steps_from_open w owner options view new before now written written' result told read has ran good named rested known =
+    let there = stood_there w.messages owner (history w owner) before read rested in
+    agent_steps w owner owner there.es options view new before before now written written' result told ran.ended.site (still_here before) (quiet_here before)
+    (has.each owner there.es there.stood.base there.stood.stands) ran good named rested known

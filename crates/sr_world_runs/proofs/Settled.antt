@@ -1,7 +1,9 @@
 -- Where a run ended with all that a crash may leave on one history, its steps lead to that history.
-use Rattle.std.proofs.Common.{◌≡◌, List, [], ◌∷◌, ◌++◌, sym, subst, ◌∙◌, inl, inr, append-nil}
+use Rattle.std.proofs.Common.{◌≡◌, ◌⊎◌, List, [], ◌∷◌, ◌++◌, sym, subst, ◌∙◌, inl, inr, append-nil, arith}
 use Rattle.std.specs.List.{AllByRecursion}
 use Rattle.sr_book.specs.Entries.{Name}
+use Rattle.sr_database_history.proofs.Joined.{end_from-more}
+use Rattle.sr_database_history.specs.Folds.{end_of}
 use Rattle.sr_database_history.specs.Recorded.{Recorded}
 use Rattle.sr_world_model.specs.Steps.{DatabaseStep, append, history_after_all, messages_after_all}
 use Rattle.sr_world_model.specs.Worlds.{World, history}
@@ -15,7 +17,7 @@ use Rattle.sr_site.specs.Images.{IsSettled, MayLeave}
 use Rattle.sr_site.specs.Seen.{Seen}
 use Rattle.sr_database_meaning.specs.Events.{PutFile, puts_in}
 use Rattle.sr_database_meaning.specs.Standing.{StandsAs}
-use Rattle.sr_database_meaning.proofs.Standing.{one_history}
+use Rattle.sr_database_meaning.proofs.Alike.{alike, alike_end}
 use Rattle.sr_world.specs.Real.{HasSpelling, LawfulHistory, layers}
 use Rattle.sr_world_prefix.proofs.Opened.{some_image, was_image}
 use Rattle.sr_world_runs.specs.Worlds.{AreFiles, HasOneMore, IsFaithful, IsFaithfulThroughout, IsReturned, Rests, on_one, on_two, RestsBehind, put_in}
@@ -27,8 +29,15 @@ pub record SettlesBehind (messages : List Message) (owner : Name) (es : List Rec
   pub rest : RestsBehind messages owner es put_files Left
   pub all : (image : Files) → Left image → StandsAs owner (history_after_all es rest.database_steps) image
 
-same_history : (owner : Name) (es others : List Recorded) (image : Files) → StandsAs owner es image → StandsAs owner others image → es ≡ others
-same_history owner es others image one other = (one_history owner owner es others one.base other.base image one.stands other.stands).1
+-- histories for which the same files stand end at one offset
+same_end : (owner : Name) (es others : List Recorded) (image : Files) → StandsAs owner es image → StandsAs owner others image → end_of es ≡ end_of others
+same_end owner es others image one other =
+    let a = alike owner owner es others one.base other.base image one.stands other.stands in
+    alike_end owner es others one.base a.2
+
+-- no history ends where it does with an entry more
+longer : (es : List Recorded) (r : Recorded) → end_of es ≡ end_of (es ++ r ∷ []) → ⊥
+longer es r same = omega (arith, same, end_from-more 0 es r)
 
 module _ (messages : List Message) (owner : Name) (es : List Recorded) (put_files : List PutFile) (Left : Files → Type 0) (rest : RestsBehind messages owner es put_files Left) where
   abbrev there : List Recorded
@@ -54,16 +63,27 @@ module _ (messages : List Message) (owner : Name) (es : List Recorded) (put_file
       }
 
   module _ (others : List Recorded) (stood : (image : Files) → Left image → StandsAs owner others image) (some : Files) (has : Left some) where
-    as_it_is : there ≡ others → SettlesBehind messages owner es put_files Left
-    as_it_is same = record { rest = rest; all = λ image left. subst (λ (rs : List Recorded). StandsAs owner rs image) (sym same) (stood image left) }
+    as_it_is : ((image : Files) → Left image → StandsAs owner there image) → SettlesBehind messages owner es put_files Left
+    as_it_is all = record { rest = rest; all = all }
+
+    -- where one image has the entry more, or not, so it is with each
+    without_too : (r : Recorded) → StandsAs owner there some → (image : Files) → Left image → StandsAs owner there image ⊎ HasOneMore (messages_after_all messages rest.database_steps) owner there r image
+        → StandsAs owner there image
+    without_too r short image left (inl is) = is
+    without_too r short image left (inr long) =
+        absurd (longer there r (same_end owner there others some short (stood some has) ∙ sym (same_end owner (there ++ r ∷ []) others image long.stands (stood image left))))
+
+    with_too : (r : Recorded) → StandsAs owner (there ++ r ∷ []) some → (image : Files) → Left image
+        → StandsAs owner there image ⊎ HasOneMore (messages_after_all messages rest.database_steps) owner there r image → StandsAs owner (there ++ r ∷ []) image
+    with_too r long image left (inl short) =
+        absurd (longer there r (same_end owner there others image short (stood image left) ∙ sym (same_end owner (there ++ r ∷ []) others some long (stood some has))))
+    with_too r long image left (inr is) = is.stands
 
     settles_by : Rests (messages_after_all messages rest.database_steps) owner there Left → SettlesBehind messages owner es put_files Left
-    settles_by (on_one all) = as_it_is (same_history owner there others some (all some has) (stood some has))
+    settles_by (on_one all) = as_it_is all
     settles_by (on_two r each) = elim (each some has) [
-      | inl short ↦ as_it_is (same_history owner there others some short (stood some has))
-      | inr long ↦
-          with_one r some long
-          (λ image left. subst (λ (rs : List Recorded). StandsAs owner rs image) (sym (same_history owner (there ++ r ∷ []) others some long.stands (stood some has))) (stood image left))
+      | inl short ↦ as_it_is (λ image left. without_too r short image left (each image left))
+      | inr long ↦ with_one r some long (λ image left. with_too r long.stands image left (each image left))
     ]
 
 -- so it is behind a run in which no call of the disk failed, where its database stood for one history before

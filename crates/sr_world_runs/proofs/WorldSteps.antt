@@ -1,8 +1,9 @@
 -- Whole runs, from the moment at which nothing was opened yet: they make steps of a world alone.
-use Rattle.std.proofs.Common.{◌≡◌, ℕ, Bool, List, [], ◌∷◌, ◌++◌, map, Result, inl, inr, refl, sym, ap, subst, ◌∙◌, append-nil}
+use Rattle.std.proofs.Common.{◌≡◌, ℕ, Bool, List, [], ◌∷◌, ◌++◌, map, Result, inl, inr, refl, sym, subst, ◌∙◌, append-nil}
 use Rattle.std.specs.Prelude.{IsTrue}
 use Rattle.sr_ast.specs.declared.stmt.Stmt.{Stmt}
 use Rattle.sr_book.specs.Entries.{Name}
+use Rattle.sr_database.proofs.Alike.{database_in}
 use Rattle.sr_database.specs.Databases.{IsDatabase}
 use Rattle.sr_database.specs.Views.{View}
 use Rattle.sr_database_history.specs.Folds.{fresh}
@@ -20,9 +21,8 @@ use Rattle.sr_site.specs.Images.{IsImage, IsSettled, RestsThroughout}
 use Rattle.sr_site.specs.Seen.{Seen}
 use Rattle.sr_site.specs.Streams.{Output}
 use Rattle.sr_database_meaning.specs.Events.{Event, commit, commits}
-use Rattle.sr_database_meaning.specs.Standing.{StandsAs, StandsFor}
+use Rattle.sr_database_meaning.specs.Standing.{StandsAs}
 use Rattle.sr_database_meaning.specs.Traces.{Went}
-use Rattle.sr_database_meaning.proofs.Standing.{one_history}
 use Rattle.sr_agent.proofs.Joints.{commits_of, settled_as}
 use Rattle.sr_world.specs.Real.{IsGoodWorld, MayDo}
 use Rattle.sr_world_prefix.specs.Good.{AreSaid}
@@ -55,33 +55,37 @@ module _ (w : World Recorded) (owner : Name) where
 
   -- ---- the history that was opened
 
-  -- it is one to which the world's history leads, with nothing put
-  record WasReached (publisher : Name) (es : List Recorded) : Type 0 where
-    same : publisher ≡ owner
+  -- what was opened is the database of one to which the world's history leads, with nothing put
+  record WasReached (view : View) (opened : Seen) : Type 0 where
     database_steps : List (DatabaseStep Recorded)
     ahead : IsAhead database_steps
     may : MayDo w.messages owner first database_steps
     none : put_in database_steps ≡ []
-    there : history_after_all first database_steps ≡ es
+    own : IsDatabase view owner (history_after_all first database_steps) opened
 
-  reached_by : (publisher : Name) (es : List Recorded) (view : View) (database_steps : List (DatabaseStep Recorded)) (files : Files) → IsAhead database_steps → MayDo w.messages owner first database_steps → put_in database_steps ≡ []
-      → StandsAs owner (history_after_all first database_steps) files → StandsFor publisher es view.log.base files → WasReached publisher es
-  reached_by publisher es view database_steps files ahead may none stands held =
-      let one = one_history owner publisher (history_after_all first database_steps) es stands.base view.log.base files stands.stands held in
-      record { same = sym one.0; database_steps = database_steps; ahead = ahead; may = may; none = none; there = one.1 }
+  module _ (publisher : Name) (es : List Recorded) (view : View) (opened : Seen) (database : IsDatabase view publisher es opened) (files : Files) (left : IsImage opened files) where
+    reached_by : (database_steps : List (DatabaseStep Recorded)) → IsAhead database_steps → MayDo w.messages owner first database_steps → put_in database_steps ≡ []
+        → StandsAs owner (history_after_all first database_steps) files → WasReached view opened
+    reached_by database_steps ahead may none stands = record {
+      database_steps = database_steps;
+      ahead = ahead;
+      may = may;
+      none = none;
+      own = database_in view publisher owner es (history_after_all first database_steps) stands.base files opened database left stands.stands;
+    }
 
-  reached_in : (publisher : Name) (es : List Recorded) (view : View) (seen : Seen) (files : Files) → Rested seen → IsImage seen files → StandsFor publisher es view.log.base files → WasReached publisher es
-  reached_in publisher es view seen files (on_one all) there held = reached_by publisher es view [] files tt tt refl (all files there) held
-  reached_in publisher es view seen files (on_two r each) there held = elim (each files there) [
-    | inl short ↦ reached_by publisher es view [] files tt tt refl short held
-    | inr long ↦ reached_by publisher es view (append r ∷ []) files tt long.may refl long.stands held
-  ]
+    reached_in : (seen : Seen) → Rested seen → IsImage seen files → WasReached view opened
+    reached_in seen (on_one all) there = reached_by [] tt tt refl (all files there)
+    reached_in seen (on_two r each) there = elim (each files there) [
+      | inl short ↦ reached_by [] tt tt refl short
+      | inr long ↦ reached_by (append r ∷ []) tt long.may refl long.stands
+    ]
 
   opened_reached : (publisher : Name) (es : List Recorded) (view : View) (before opened : Seen) → opened.first ≡ before.first → RestsThroughout (IsImage before) before opened
-      → IsDatabase view publisher es opened → Rested before → WasReached publisher es
+      → IsDatabase view publisher es opened → Rested before → WasReached view opened
   opened_reached publisher es view before opened same still database rested =
       let some = some_image opened.first opened.happened in
-      reached_in publisher es view before some.0 rested (was_image before opened some.0 same still some.1) (database.settled some.0 some.1).stands
+      reached_in publisher es view opened database some.0 some.1 before rested (was_image before opened some.0 same still some.1)
 
   -- a trace on it of steps that are allowed, each entry of which says what is so
   pub record TraceOn (es : List Recorded) (opened now : Seen) : Type 0 where
@@ -95,21 +99,19 @@ module _ (w : World Recorded) (owner : Name) where
 
   pub trace_steps : (publisher : Name) (es : List Recorded) (view : View) (before opened now : Seen) → opened.first ≡ before.first → RestsThroughout (IsImage before) before opened → DiskStays before opened
       → IsDatabase view publisher es opened → IsGoodWorld w → IsNamed w owner → Rested before
-      → (IsDatabase view owner es opened → IsOrdered owner es → TraceOn es opened now) → IsFaithfulThroughout w owner before now
+      → ((there : List Recorded) → IsDatabase view owner there opened → IsOrdered owner there → TraceOn there opened now) → IsFaithfulThroughout w owner before now
   trace_steps publisher es view before opened now same still quiet database good named settled goes =
       let was = opened_reached publisher es view before opened same still database settled in
-      let own : IsDatabase view owner es opened = subst (λ (n : Name). IsDatabase view n es opened) was.same database in
-      let ordered : IsOrdered owner es
-      = subst (IsOrdered owner) was.there (reached_ordered w w.messages owner first was.database_steps good named refl (λ m has. has) was.may) in
-      let on = goes own ordered in
-      let later = went_rests w.messages owner first es was.database_steps was.may was.none was.there on.trace on.has.database_steps on.has.are (on.said (lawful_says_so owner es ordered.lawful)) was.ahead opened now on.went in
-      let history_is : history_after_all first (was.database_steps ++ on.has.database_steps) ≡ es ++ commits on.trace
-      = history_more first was.database_steps on.has.database_steps ∙ ap (λ (rs : List Recorded). history_after_all rs on.has.database_steps) was.there
-      ∙ database_steps_history w.messages owner es on.trace on.has.database_steps on.has.are in
+      let there : List Recorded = history_after_all first was.database_steps in
+      let ordered : IsOrdered owner there = reached_ordered w w.messages owner first was.database_steps good named refl (λ m has. has) was.may in
+      let on = goes there was.own ordered in
+      let later = went_rests w.messages owner first there was.database_steps was.may was.none refl on.trace on.has.database_steps on.has.are (on.said (lawful_says_so owner there ordered.lawful)) was.ahead opened now on.went in
+      let history_is : history_after_all first (was.database_steps ++ on.has.database_steps) ≡ there ++ commits on.trace
+      = history_more first was.database_steps on.has.database_steps ∙ database_steps_history w.messages owner there on.trace on.has.database_steps on.has.are in
       faithful w owner before good named was.database_steps on.has.database_steps now
       (opened_rests w.messages owner first before settled was.database_steps on.has.database_steps opened now same still quiet later)
-      (went_order before opened now quiet owner es on.trace on.went on.last)
-      (inr (λ none. subst (λ (rs : List Recorded). IsSettled (StandsAs owner rs) now) (sym history_is) (settles_before owner (es ++ commits on.trace) before opened now quiet.later on.settles none)))
+      (went_order before opened now quiet owner there on.trace on.went on.last)
+      (inr (λ none. subst (λ (rs : List Recorded). IsSettled (StandsAs owner rs) now) (sym history_is) (settles_before owner (there ++ commits on.trace) before opened now quiet.later on.settles none)))
 
   -- ---- scripts
 
@@ -135,14 +137,14 @@ module _ (w : World Recorded) (owner : Name) where
       let entries : List Recorded = entries_of ran.acts ++ ran.broken in
       let still_told : IsTrue opened.observable = subst (λ (b : Bool). IsTrue b) (sym quiet.observable) told in
       trace_steps publisher es view before opened now quiet.first still quiet database good named settled
-      (λ there ordered.
-      let own : Steps (IsOwnStep owner) es entries = script_says_so owner es view new opened now written written' statements result there ran in
+      (λ there database_there ordered.
+      let own : Steps (IsOwnStep owner) there entries = script_says_so owner there view new opened now written written' statements result database_there ran in
       record {
         trace = map commit entries;
-        went = ran.reached.went still_told owner es there;
-        has = record { database_steps = map append entries; are = commits_database_steps w.messages owner es entries (own_can es entries own) };
-        said = subst (λ (rs : List Recorded). AreSaid (fresh owner) es → Along (AreSaid (fresh owner)) es rs) (sym (commits_of entries)) (own_said es entries own);
-        last = unput_since opened now owner es (map commit entries) (ran.reached.went still_told owner es there) (puts_commits entries);
-        settles = subst (λ (rs : List Recorded). SettlesAs owner (es ++ rs) opened now) (sym (commits_of entries))
-            (script_settles es view new opened now ran.acts ran.broken still_told there ran.reached);
+        went = ran.reached.went still_told owner there database_there;
+        has = record { database_steps = map append entries; are = commits_database_steps w.messages owner there entries (own_can there entries own) };
+        said = subst (λ (rs : List Recorded). AreSaid (fresh owner) there → Along (AreSaid (fresh owner)) there rs) (sym (commits_of entries)) (own_said there entries own);
+        last = unput_since opened now owner there (map commit entries) (ran.reached.went still_told owner there database_there) (puts_commits entries);
+        settles = subst (λ (rs : List Recorded). SettlesAs owner (there ++ rs) opened now) (sym (commits_of entries))
+            (script_settles there view new opened now ran.acts ran.broken still_told database_there ran.reached);
       })

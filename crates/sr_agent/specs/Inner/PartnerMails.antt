@@ -8,7 +8,7 @@ use Rattle.sr_mail.specs.declared.window.Window.{Window}
 use Rattle.sr_receive.specs.Acts.{mail_after}
 use Rattle.sr_receive_gather.specs.Bags.{Has, partner_mail_of}
 use Rattle.sr_receive_gather.specs.Inner.Bags.{OthersStay}
-use Rattle.sr_receive.specs.Entering.{IsReady}
+use Rattle.sr_receive.specs.Inner.Ready.{IsReady}
 use Rattle.sr_receive_gather.specs.MessageFiles.{FetchedFile, MessageFile, message_files_from}
 use Rattle.sr_receive.specs.Passes.{AreSteady as IsSteady}
 use Rattle.sr_receive_gather.specs.Inner.Purges.{files_in}

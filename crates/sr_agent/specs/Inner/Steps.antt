@@ -4,6 +4,7 @@ use Rattle.std.specs.List.{AllByRecursion}
 use Rattle.sr_book.specs.Entries.{Name}
 use Rattle.sr_database.specs.Books.{book_in}
 use Rattle.sr_database.specs.Databases.{IsDatabase}
+use Rattle.sr_database.specs.InForce.{HasLogInForce}
 use Rattle.sr_database.specs.Views.{View}
 use Rattle.sr_database_history.specs.Folds.{state_of, end_of}
 use Rattle.sr_database_history.specs.Recorded.{Recorded}
@@ -146,6 +147,7 @@ pub record GatheringDone (old : View) (before now : Seen) (bag : List PartnerMai
   pub count_is : count ≡ alarms lines
   pub site : MailStays before now
   pub steady : now.mail_faults ≡ before.mail_faults
+  pub in_force : IsTrue before.observable → HasLogInForce old before → HasLogInForce old now
   pub did : IsTrue before.observable → (publisher : Name) (es : List Recorded) → IsDatabase old publisher es before → HasGatheredAll old before now publisher es bag lines
 
 -- a fault ended it

@@ -11,6 +11,7 @@ use Rattle.sr_logform.specs.declared.entry.Entry.{Entry}
 use Rattle.sr_book.specs.Entries.{Name}
 use Rattle.sr_site.specs.Causes.{Rose}
 use Rattle.sr_site.specs.Seen.{Seen}
+use Rattle.sr_survey_brief.specs.Inner.Briefs.{IsBrief}
 use Rattle.sr_database_meaning.specs.Standing.{bodies}
 use Rattle.sr_database.specs.Databases.{IsDatabase}
 use Rattle.sr_database.specs.Views.{View}
@@ -29,6 +30,17 @@ pub record IsNext (done left : List Recorded) (end : Offset) (entry : Entry) : T
 abbrev pub IsEntryAfter : List Recorded → List Recorded → Option (Offset × Entry) → Type 0
 IsEntryAfter done left None = left ≡ []
 IsEntryAfter done left (Some found) = IsNext done left found.0 found.1
+
+-- the first of those that are left, in brief, with the end of its record
+pub record IsNextBrief (done left : List Recorded) (end : Offset) (brief : Entry) : Type 0 where
+  pub entry : Entry
+  pub is : IsNext done left end entry
+  pub brief_is : IsBrief entry brief
+
+-- none exactly where none is left
+abbrev pub IsBriefAfter : List Recorded → List Recorded → Option (Offset × Entry) → Type 0
+IsBriefAfter done left None = left ≡ []
+IsBriefAfter done left (Some found) = IsNextBrief done left found.0 found.1
 
 -- the first of those that are left ends here
 pub record IsNextEnd (done left : List Recorded) (end : Offset) : Type 0 where

@@ -5,12 +5,13 @@ use Rattle.sr_base.specs.declared.offset.Offset.{Offset}
 use Rattle.sr_book.specs.Entries.{Name}
 use Rattle.sr_database.specs.Broken.{IsBroken}
 use Rattle.sr_database.specs.Causes.{IsTooFar, IsTooLong}
-use Rattle.sr_database.specs.Databases.{IsOf, IsDatabase}
+use Rattle.sr_database.specs.Advances.{Advances}
+use Rattle.sr_database.specs.Databases.{IsDatabase}
+use Rattle.sr_database.specs.InForce.{HasLogInForce}
 use Rattle.sr_database.specs.Rooms.{HaveRoom}
 use Rattle.sr_database.specs.Views.{View}
 use Rattle.sr_database_files.specs.declared.fault.DatabaseFault.{DatabaseFault}
 use Rattle.sr_database_files.specs.declared.fault.DatabaseFault.TheVariants.{Missing, Exists, Damaged, Disk, Full, Long, Memory}
-use Rattle.sr_database_history.specs.Folds.{end_of}
 use Rattle.sr_database_history.specs.Recorded.{Recorded, entry_of}
 use Rattle.sr_database_meaning.specs.Traces.{Went}
 use Rattle.sr_site.specs.Causes.{Rose, Stays}
@@ -32,20 +33,21 @@ HasCause (full r end need) db before now = IsTooFar db.log (entry_of r) end need
 HasCause (long r size limit) db before now = IsTooLong (entry_of r) size limit × (now.mail_faults ≡ before.mail_faults)
 HasCause (short hs) db before now = now.mail_faults ≡ before.mail_faults
 
--- where the site tells: the database is that of the history with the entries, its files went through the events, and just these calls of the mail were made
+-- where the site tells: the database is that of the history with the entries, and its files went through the events
 pub record DidTold (a b : PlaceView) (publisher : Name) (es : List Recorded) (effects : List Effect) (end : End) : Type 0 where
   pub database : b.db.log.usable ≡ true → IsDatabase b.db publisher (es ++ entries effects) b.seen
   pub went : Went a.seen b.seen publisher es (trace effects ++ begun end)
-  pub mail : mail_in b.seen.happened ≡ under_way end ++ mail_behind effects (mail_in a.seen.happened)
 
--- between two places these effects were done, one behind the other, and then it ended so
+-- between two places these effects were done, one behind the other, and then it ended so; just these calls of the mail were made
 pub record Did (a b : PlaceView) (effects : List Effect) (end : End) : Type 0 where
   pub stays : Stays a.seen b.seen
   pub state : IsBroken (broken end) b.db a.seen b.seen
   pub cause : HasCause end b.db a.seen b.seen
   pub pending : a.db.pending ≡ [] → b.db.pending ≡ []
-  pub room : (publisher : Name) (es : List Recorded) → IsOf a.db publisher es → HaveRoom a.db.log.base (end_of es) (entries effects)
-  pub value : b.db.log.usable ≡ true → (publisher : Name) (es : List Recorded) → IsOf a.db publisher es → IsOf b.db publisher (es ++ entries effects)
+  pub room : HaveRoom a.db.log.base a.db.log.end (entries effects)
+  pub value : b.db.log.usable ≡ true → Advances a.db b.db (entries effects)
+  pub in_force : IsTrue a.seen.observable → b.db.log.usable ≡ true → HasLogInForce a.db a.seen → HasLogInForce b.db b.seen
+  pub mail : IsTrue a.seen.observable → mail_in b.seen.happened ≡ under_way end ++ mail_behind effects (mail_in a.seen.happened)
   pub told : IsTrue a.seen.observable → (publisher : Name) (es : List Recorded) → IsDatabase a.db publisher es a.seen → DidTold a b publisher es effects end
 
 -- the commit of an entry was asked for

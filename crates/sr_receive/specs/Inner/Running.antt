@@ -26,7 +26,7 @@ use Rattle.sr_receive_gather.specs.declared.fault.ReceiveFault.{ReceiveFault}
 use Rattle.sr_receive_gather.specs.declared.report.Report.{Report}
 use Rattle.sr_receive_judged.specs.Judged.{AreDone}
 use Rattle.sr_receive.specs.Acts.{IsReadAs}
-use Rattle.sr_receive.specs.Entering.{IsReady}
+use Rattle.sr_receive.specs.Inner.Ready.{IsReady}
 use Rattle.sr_receive.specs.Inner.Noting.{NotAll}
 use Rattle.sr_receive.specs.Inner.Stands.{Stand, Acted, IsDueHere, IsResting, Ran, Stopped, publisher_in}
 use Rattle.sr_receive.specs.Passes.{gap_report, note_entries}

@@ -6,13 +6,12 @@ use Rattle.sr_base.specs.declared.value.Value.{Value as Cell}
 use Rattle.sr_book.specs.Entries.{Name}
 use Rattle.sr_exec_dml.specs.Holding.{with_change}
 use Rattle.sr_database_history.specs.Folds.{State}
-use Rattle.sr_database_history.specs.Recorded.{Recorded}
 use Rattle.sr_logform.specs.declared.change.Change.{Change}
 use Rattle.sr_logform.specs.declared.op.Op.{Op}
 use Rattle.sr_logform.specs.declared.op.Op.TheVariants as ops
 use Rattle.sr_logform.specs.declared.outcome.Outcome.{Outcome}
 use Rattle.sr_logform.specs.declared.outcome.Outcome.TheVariants as outcomes
-use Rattle.sr_database.specs.Databases.{IsOf}
+use Rattle.sr_database.specs.Advances.{Advances}
 use Rattle.sr_database.specs.Views.{View}
 use Rattle.sr_database.specs.Inner.Views.{present}
 use Rattle.sr_rows.specs.Marks.{RowMap}
@@ -50,19 +49,19 @@ is_exec (ops.Set table key columns) = false
 is_exec (ops.Clear table) = false
 is_exec (ops.Exec text) = true
 
--- the value is of the same history, with nothing pending
+-- the value is of the same entries, with nothing pending
 pub record IsAlike (old new : View) : Type 0 where
   pub idle : new.pending ≡ []
   pub catalog : new.catalog ≡ old.catalog
   pub log : new.log ≡ old.log
-  pub value : (publisher : Name) (es : List Recorded) → IsOf old publisher es → IsOf new publisher es
+  pub value : Advances old new []
 
 -- ops were judged and their changes are pending in the rows: the state with them is the one behind the ops
 pub record ArePendingAs (old new : View) (above : Bool) (asked : List Op) (ops : List (Op × Outcome)) : Type 0 where
   pub judged : AreJudgedAs (present old) (present new) above asked ops
   pub catalog : new.catalog ≡ old.catalog
   pub log : new.log ≡ old.log
-  pub value : (publisher : Name) (es : List Recorded) → IsOf old publisher es → IsOf new publisher es
+  pub value : Advances old new []
 
 -- a catalog and rows
 abbrev pub state_in : Lists → RowMap → State

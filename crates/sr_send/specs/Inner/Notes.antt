@@ -1,17 +1,21 @@
 -- The note that messages were sent, committed or not.
-use Rattle.std.specs.Prelude.{◌≡◌, ⊤, true, List, [], ◌∷◌, ◌++◌, Result, Ok, Err, IsTrue}
+use Rattle.std.specs.Prelude.{◌≡◌, ⊤, ℕ, true, List, [], ◌∷◌, ◌++◌, Result, Ok, Err, IsTrue}
 use Rattle.sr_base.specs.declared.offset.Offset.{Offset}
 use Rattle.sr_book.specs.Entries.{Name}
 use Rattle.sr_database.specs.Causes.{IsTooFar}
 use Rattle.sr_database.specs.Inner.Causes.{IsSame, IsSpent}
 use Rattle.sr_database.specs.Commits.{HasRoom}
-use Rattle.sr_database.specs.Databases.{IsOf, IsDatabase}
+use Rattle.sr_database.specs.Advances.{Advances}
+use Rattle.sr_database.specs.Databases.{IsDatabase}
+use Rattle.sr_database.specs.Inner.Without.{WasWithout}
+use Rattle.sr_database.specs.InForce.{HasLogInForce}
 use Rattle.sr_database.specs.Views.{View}
 use Rattle.sr_database_files.specs.declared.fault.DatabaseFault.{DatabaseFault}
 use Rattle.sr_database_files.specs.declared.fault.DatabaseFault.TheVariants as store
 use Rattle.sr_database_history.specs.Recorded.{Recorded, entry_of}
 use Rattle.sr_site.specs.Seen.{Seen}
 use Rattle.sr_database_meaning.specs.Events.{commit}
+use Rattle.sr_database_meaning.specs.Standing.{StandsFor}
 use Rattle.sr_database_meaning.specs.Traces.{Went}
 use Rattle.sr_send.specs.declared.fault.SendFault.{SendFault}
 use Rattle.sr_send.specs.declared.fault.SendFault.TheVariants.{Disk, Mail, Full, Long, Memory}
@@ -26,8 +30,10 @@ pub record Noted (old new : View) (before now : Seen) (r : Recorded) : Type 0 wh
   pub pending : new.pending ≡ []
   pub room : HasRoom old.log (entry_of r)
   pub steady : now.disk_faults ≡ before.disk_faults
-  pub value : (publisher : Name) (es : List Recorded) → IsOf old publisher es → IsOf new publisher (es ++ r ∷ [])
+  pub value : Advances old new (r ∷ [])
+  pub in_force : IsTrue before.observable → HasLogInForce new now
   pub database : IsTrue before.observable → (publisher : Name) (es : List Recorded) → IsDatabase old publisher es before → IsDatabase new publisher (es ++ r ∷ []) now
+  pub without : IsTrue before.observable → (publisher : Name) (es : List Recorded) (base : ℕ) → StandsFor publisher es base now.files → WasWithout old publisher es r before
   pub went : WentNote old before now r
 
 -- why it is not committed

@@ -16,12 +16,13 @@ use Rattle.sr_send.specs.declared.fault.SendFault.TheVariants.{Disk, Mail, Full,
 use Rattle.sr_send.specs.Posting.{PutAlone, LastMayFail, IsDeviceFault}
 
 -- between two moments of a site these files were put and nothing else was changed: a site that was settled on a history went through these
--- puts, and a crash leaves what it might have left before
+-- puts, and a crash leaves just what it might have left before
 pub record Posted (before now : Seen) (events : List Event) : Type 0 where
   pub stays : Stays before now
   pub files : IsTrue before.observable → now.files ≡ before.files
   pub went : IsTrue before.observable → (publisher : Name) (es : List Recorded) → IsSettled (StandsAs publisher es) before → Went before now publisher es events
   pub images : IsTrue before.observable → (image : Files) → IsImage now image → IsImage before image
+  pub images_too : IsTrue before.observable → (image : Files) → IsImage before image → IsImage now image
   pub mail : IsTrue before.observable → PutAlone events (mail_in before.happened) (mail_in now.happened)
 
 -- at a site that tells it

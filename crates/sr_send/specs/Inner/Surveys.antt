@@ -18,12 +18,11 @@ use Rattle.sr_send.specs.declared.way.Way.TheVariants.{Nothing, Places, Log}
 
 -- ---- what is known
 
--- a survey knows the first entries of the database's history, from the end of one of them on
-pub record Knows (db : View) (s : Survey) (seen : Seen) : Type 0 where
-  pub publisher : Name
+-- a survey knows the first entries of a history, from the end of one of them on
+pub record KnowsOf (publisher : Name) (es : List Recorded) (s : Survey) : Type 0 where
   pub done : List Recorded
   pub left : List Recorded
-  pub is : IsDatabase db publisher (done ++ left) seen
+  pub parts : es ≡ done ++ left
   pub has : HasSurveyed publisher done s
   pub before : List Recorded
   pub behind : List Recorded
@@ -31,15 +30,19 @@ pub record Knows (db : View) (s : Survey) (seen : Seen) : Type 0 where
   pub begin_is : s.begin ≡ end_of before
 
 -- all of them
-pub record KnowsAll (db : View) (s : Survey) (seen : Seen) : Type 0 where
-  pub publisher : Name
-  pub es : List Recorded
-  pub is : IsDatabase db publisher es seen
+pub record KnowsAllOf (publisher : Name) (es : List Recorded) (s : Survey) : Type 0 where
   pub has : HasSurveyed publisher es s
   pub before : List Recorded
   pub behind : List Recorded
   pub begins : es ≡ before ++ behind
   pub begin_is : s.begin ≡ end_of before
+
+-- a survey knows so of each history that the database is of
+abbrev pub Knows : View → Survey → Seen → Type 0
+Knows db s seen = (publisher : Name) (es : List Recorded) → IsDatabase db publisher es seen → KnowsOf publisher es s
+
+abbrev pub KnowsAll : View → Survey → Seen → Type 0
+KnowsAll db s seen = (publisher : Name) (es : List Recorded) → IsDatabase db publisher es seen → KnowsAllOf publisher es s
 
 -- a survey is one of the database, if it was not given up
 abbrev pub IsSurveyOf : View → Survey → Seen → Type 0

@@ -5,7 +5,8 @@ use Rattle.sr_ast.specs.declared.stmt.Passthrough.{Passthrough}
 use Rattle.sr_database_history.specs.Fitting.{Knows}
 use Rattle.sr_database_history.specs.Folds.{State}
 use Rattle.sr_logform.specs.Rules.{AreDistinct}
-use Rattle.sr_database.specs.Databases.{IsOfSome, HasDatabase}
+use Rattle.sr_database.specs.InForce.{HasLogInForce}
+use Rattle.sr_database.specs.Inner.Sound.{IsSound}
 use Rattle.sr_database.specs.Views.{View, committed}
 use Rattle.sr_session_script.specs.Works.{Work}
 use Rattle.sr_site.specs.Seen.{Seen}
@@ -19,8 +20,8 @@ abbrev pub AreUsers : State → Option Passthrough → Type 0
 AreUsers s None = ⊤
 AreUsers s (Some p) = AllByRecursion (Knows s) p.users × AreDistinct p.users
 
--- the database can be used, is that of a history, and its files hold it
+-- the database can be used and is sound, and its log is in force
 pub record IsReady (view : View) (seen : Seen) : Type 0 where
   pub usable : view.log.usable ≡ true
-  pub some : IsOfSome view
-  pub stands : IsTrue seen.observable → HasDatabase view seen
+  pub sound : IsSound view
+  pub stands : IsTrue seen.observable → HasLogInForce view seen

@@ -1,6 +1,10 @@
 use Rattle.dbremote_command.proofs.AgentRuns.{agent_tried, agent_stays, agent_stopped, agent_unopened}
 use Rattle.dbremote_command.proofs.Keeping.{agent_kept, kept_in}
+use Rattle.sr_database.proofs.InForce.{in_force}
 use Rattle.dbremote_command.proofs.agents.run_agent.Goals as goal
+
+pub agent-ran-requires-clause-stands : goal.agent-ran-requires-clause-stands
+agent-ran-requires-clause-stands g c told = in_force c.in-Ok.database (g.S.Held.seen c.open.new.site) (c.in-Ok.ensures.stands told)
 
 pub returns-in-Ok-ran-clause-tried : goal.returns-in-Ok-ran-clause-tried
 returns-in-Ok-ran-clause-tried g c = agent_tried c.args.name.now c.args.mail.now c.args.options.now (g.S.Held.seen c.args.site.now) (g.S.Held.seen c.open.new.site) (g.S.Held.seen c.agent-ran.new.site) (g.O.Sink.seen c.args.output.now) (g.O.Sink.seen c.agent-ran.new.sink)

@@ -6,8 +6,7 @@ use Rattle.dbremote_command.proofs.running.open_anew.Goals as goal
 
 pub returns-in-Ok-opened-clause-opened : goal.returns-in-Ok-opened-clause-opened
 returns-in-Ok-opened-clause-opened g c = opened c.args.name.now c.args.mail.now (g.S.Held.seen c.args.site.now) (g.S.Held.seen c.attach.new.site) (g.S.Held.seen c.open-opened.new.site) c.in-Ok-opened.database
-    c.in-Ok.ensures.attaches c.in-Ok.ensures.steady c.open-opened.ensures.stays c.open-opened.ensures.attached c.in-Ok-opened.ensures.steady c.open-opened.ensures.files c.open-opened.ensures.moments
-    (c.usable-usable.ensures.some c.in-Ok-opened.ensures.ready.0) c.in-Ok-opened.ensures.opened
+    c.in-Ok.ensures.attaches c.in-Ok.ensures.steady c.open-opened.ensures.stays c.open-opened.ensures.attached c.in-Ok-opened.ensures.steady c.open-opened.ensures.files c.open-opened.ensures.moments c.in-Ok-opened.ensures.opened
 
 pub returns-in-Ok-opened-clause-ready : goal.returns-in-Ok-opened-clause-ready
 returns-in-Ok-opened-clause-ready g c = c.in-Ok-opened.ensures.ready

@@ -1,6 +1,10 @@
 use Rattle.dbremote_command.proofs.Keeping.{script_kept}
 use Rattle.dbremote_command.proofs.Opened.{ran_attaches}
+use Rattle.sr_database.proofs.InForce.{in_force}
 use Rattle.dbremote_command.proofs.running.run_on.Goals as goal
+
+pub run_script-requires-clause-stands : goal.run_script-requires-clause-stands
+run_script-requires-clause-stands g c told = in_force c.args.database.now (g.S.Held.seen c.args.site.now) (c.requires.stands told)
 
 pub returns-in-Ok-clause-attached : goal.returns-in-Ok-clause-attached
 returns-in-Ok-clause-attached g c =

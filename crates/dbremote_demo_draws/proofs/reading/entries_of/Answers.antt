@@ -10,7 +10,7 @@ pub entries-init : goal.entries-init
 entries-init c =
     let first = seen_of c.args.site.now in
     subst (λ (items : List Entry). AreRead c.args.database.now items c.base-after.result first first) (sym c.new-entries.ensures.items)
-    (none_read c.args.database.now c.base-after.result first c.base-after.ensures.base (order c.args.database.now (c.usable-usable_here.ensures.some c.requires.usable)))
+    (none_read c.args.database.now c.base-after.result first c.base-after.ensures.base (order c.args.database.now (c.usable-usable_here.ensures.sound c.requires.usable)))
 
 pub entries-preserved : goal.entries-preserved
 entries-preserved c =

@@ -11,7 +11,7 @@ pub returns : goal.returns
 returns c =
     let db = c.args.db.now in
     let here : state_in c.catalog.result.now c.rows.result.now.rows ≡ committed db =
-    (λ i. state_in (c.catalog.ensures.catalog i) (c.rows.ensures.rows i).rows) ∙ nothing_pending db c.requires.some c.requires.pending in
+    (λ i. state_in (c.catalog.ensures.catalog i) (c.rows.ensures.rows i).rows) ∙ nothing_pending db c.requires.sound c.requires.pending in
     record {
       judged = ok_as c.judge_apart.result (λ judged found. (found.0, subst (λ (s : State). AreJudgedAs s found.0 c.args.above c.args.ops.now judged.items) here found.1))
           c.judge_apart.ensures.judged;

@@ -1,3 +1,5 @@
+use Rattle.std.proofs.Common.{[]}
+use Rattle.sr_database.proofs.Advancing.{advanced_then}
 use Rattle.sr_receive_judged.proofs.Pendings.{judged_from, pending_end, pending_on, pending_start}
 use Rattle.sr_receive_judged.proofs.judging.judge_pending.Goals as goal
 
@@ -13,4 +15,9 @@ ops-preserved c =
 pub returns-clause-judged : goal.returns-clause-judged
 returns-clause-judged c =
     let found = pending_end c.args.db.now c.ops.db c.args.above c.args.ops.now c.ops.left.now c.ops.judged.items c.ops.invariant c.in_default.ensures.cases in
-    (found.0, judged_from c.args.db.now found.0 c.args.above c.args.ops.now c.ops.judged.items c.requires.some c.requires.pending found.1)
+    (found.0, judged_from c.args.db.now found.0 c.args.above c.args.ops.now c.ops.judged.items c.requires.sound c.requires.pending found.1)
+
+pub returns-in_err-judge_next-clause-value : goal.returns-in_err-judge_next-clause-value
+returns-in_err-judge_next-clause-value c =
+    let so = c.ops.invariant in
+    advanced_then c.args.db.now c.ops.db c.judge_next.new.db [] [] so.value c.judge_next.ensures.value

@@ -8,7 +8,7 @@ use Rattle.sr_send.specs.PutFiles.{sent_note}
 use Rattle.sr_send.specs.Passes.{SendCause}
 use Rattle.sr_send.specs.Posting.{IsDeviceFault}
 use Rattle.sr_send.specs.declared.fault.SendFault.{SendFault}
-use Rattle.sr_send.proofs.PassEnds.{book_is, has_book, put_stopped, sent_none, sent_noted, note_stopped, pass_device, note_device, still_database}
+use Rattle.sr_send.proofs.PassEnds.{book_is, has_book, put_stopped, sent_none, sent_noted, note_stopped, pass_device, note_device, still_in_force}
 use Rattle.sr_send.proofs.Known.{shared_noted}
 use Rattle.sr_send.proofs.Posts.{of_disk}
 use Rattle.sr_send.proofs.Results.{if_fault}
@@ -51,7 +51,7 @@ returns-then-is_empty-clause-sent g c =
 
 pub note_sent-requires-clause-stands : goal.note_sent-requires-clause-stands
 note_sent-requires-clause-stands g c =
-    still_database c.args.db.now (g.S.Held.seen c.args.site.now) (g.S.Held.seen c.put_due.new.site) _ c.in_ok-sent.ensures.put.posted c.requires.stands
+    still_in_force c.args.db.now (g.S.Held.seen c.args.site.now) (g.S.Held.seen c.put_due.new.site) _ c.in_ok-sent.ensures.put.posted c.requires.stands
 
 pub returns-in_err-note_sent-clause-cause : goal.returns-in_err-note_sent-clause-cause
 returns-in_err-note_sent-clause-cause g c =

@@ -16,7 +16,7 @@ returns-in_err-is_still-clause-cause g c =
 pub returns-then-not-branch-clause-begun : goal.returns-then-not-branch-clause-begun
 returns-then-not-branch-clause-begun g c =
     begun_base c.args.db.now c.args.aim.now c.args.scanner.now c.args.aim.now.prev.0 c.in_ok-from.from c.base.result (g.S.Held.seen c.args.site.now) (g.S.Held.seen c.end_before.new.site) (g.S.Held.seen c.is_still.new.site)
-    (c.usable-usable_here.ensures.some c.requires.usable) c.in_ok-from.ensures.walked c.in_ok-is_still.ensures.posted c.in_ok-is_still.ensures.steady c.base.ensures.base c.requires.catalog
+    (c.usable-usable_here.ensures.sound c.requires.usable) c.in_ok-from.ensures.walked c.in_ok-is_still.ensures.posted c.in_ok-is_still.ensures.steady c.base.ensures.base c.requires.catalog
 
 pub returns-in_err-go_on_with-clause-cause : goal.returns-in_err-go_on_with-clause-cause
 returns-in_err-go_on_with-clause-cause g c =

@@ -9,7 +9,7 @@ use Rattle.sr_send.proofs.Starts.{walk_start, walk_on, walk_end, begin_stopped}
 use Rattle.sr_send.proofs.starting.end_before.Goals as goal
 
 pub ends-init : goal.ends-init
-ends-init g c = walk_start c.args.db.now c.args.sent.0 c.base-at.result (g.S.Held.seen c.args.site.now) (c.usable-usable_here.ensures.some c.requires.usable) c.base-at.ensures.base
+ends-init g c = walk_start c.args.db.now c.args.sent.0 c.base-at.result (g.S.Held.seen c.args.site.now) (c.usable-usable_here.ensures.sound c.requires.usable) c.base-at.ensures.base
 
 pub next_end-requires-clause-after : goal.next_end-requires-clause-after
 next_end-requires-clause-after g c = (c.ends.invariant.from_base, c.ends.invariant.within)

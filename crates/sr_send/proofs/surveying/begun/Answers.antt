@@ -23,7 +23,7 @@ returns-then-branch-clause-surveyed g c =
     let before = g.S.Held.seen c.end_before.new.site in
     let now = g.S.Held.seen c.is_still.new.site in
     begun_made c.args.db.now c.survey_from.result now (λ s. BeginsAt c.args.db.now.catalog c.in_ok-from.from.0 s)
-    (λ s begins. begun_behind c.args.db.now s first before now c.requires.stands c.args.latest.0 c.in_ok-from.from c.in_ok-from.ensures.walked c.in_ok-is_still.ensures.posted (c.in_ok-is_still.ensures.still c.if-branch.true) begins)
+    (λ s begins. begun_behind c.args.db.now s first before now c.args.latest.0 c.in_ok-from.from c.in_ok-from.ensures.walked c.in_ok-is_still.ensures.posted (c.in_ok-is_still.ensures.still c.if-branch.true) begins)
     (subst (λ (l : Lists). IfSome c.survey_from.result (λ s. BeginsAt l c.in_ok-from.from.0 s)) c.catalog.ensures.catalog c.survey_from.ensures.begins)
 
 pub returns-then-branch-clause-posted : goal.returns-then-branch-clause-posted
@@ -40,7 +40,7 @@ returns-clause-surveyed g c =
     let before = g.S.Held.seen c.end_before.new.site in
     let now = g.S.Held.seen c.is_still.new.site in
     begun_made c.args.db.now c.survey_from-2.result now (λ s. BeginsAt c.args.db.now.base_catalog c.base.result.0 s)
-    (λ s begins. begun_at_base c.args.db.now s first before now c.requires.stands c.args.latest.0 c.in_ok-from.from c.base.result c.in_ok-from.ensures.walked c.in_ok-is_still.ensures.posted c.base.ensures.base begins)
+    (λ s begins. begun_at_base c.args.db.now s first before now c.base.result c.base.ensures.base begins)
     (subst (λ (l : Lists). IfSome c.survey_from-2.result (λ s. BeginsAt l c.base.result.0 s)) c.base_catalog.ensures.catalog c.survey_from-2.ensures.begins)
 
 pub returns-clause-posted : goal.returns-clause-posted

@@ -1,7 +1,7 @@
 use Rattle.std.proofs.Common.{◌<◌, ◌≤◌, Option, subst}
 use Rattle.std.specs.Prelude.{IfSome}
 use Rattle.sr_base.specs.declared.offset.Offset.{Offset}
-use Rattle.sr_database.specs.Inner.Entries.{IsEntryAfter}
+use Rattle.sr_database.specs.Inner.Entries.{IsBriefAfter}
 use Rattle.sr_logform.specs.declared.entry.Entry.{Entry}
 use Rattle.sr_send.proofs.Known.{given_up_whole, took_all, took_next}
 use Rattle.sr_send.proofs.Posts.{posted_none, same_counts}
@@ -18,14 +18,14 @@ returns-then-is_given_up-clause-steady g c = same_counts (g.S.Held.seen c.args.s
 
 pub returns-in-None-clause-whole : goal.returns-in-None-clause-whole
 returns-in-None-clause-whole g c = λ none.
-    took_all c.args.db.now c.args.survey.now c.args.at (g.S.Held.seen c.args.site.now) (g.S.Held.seen c.entry_from.new.site) c.requires.surveyed c.entry_from.ensures.posted
-    (λ told publisher done left database at. subst (λ (found : Option (Offset × Entry)). IsEntryAfter done left found) c.in-None.is (c.in_ok-entry_from.ensures.entry told publisher done left database at))
+    took_all c.args.db.now c.args.survey.now c.args.at (g.S.Held.seen c.args.site.now) (g.S.Held.seen c.brief_from.new.site) c.requires.surveyed c.brief_from.ensures.posted
+    (λ told publisher done left database at. subst (λ (found : Option (Offset × Entry)). IsBriefAfter done left found) c.in-None.is (c.in_ok-brief_from.ensures.brief told publisher done left database at))
 
 pub returns-in-Some-clause-surveyed : goal.returns-in-Some-clause-surveyed
 returns-in-Some-clause-surveyed g c =
-    took_next c.args.db.now c.args.survey.now c.take.new.self c.args.at c.in-Some.end c.in-Some.entry (g.S.Held.seen c.args.site.now) (g.S.Held.seen c.entry_from.new.site) c.requires.surveyed c.entry_from.ensures.posted
-    (λ told publisher done left database at. subst (λ (found : Option (Offset × Entry)). IsEntryAfter done left found) c.in-Some.is (c.in_ok-entry_from.ensures.entry told publisher done left database at))
+    took_next c.args.db.now c.args.survey.now c.take.new.self c.args.at c.in-Some.end c.in-Some.entry (g.S.Held.seen c.args.site.now) (g.S.Held.seen c.brief_from.new.site) c.requires.surveyed c.brief_from.ensures.posted
+    (λ told publisher done left database at. subst (λ (found : Option (Offset × Entry)). IsBriefAfter done left found) c.in-Some.is (c.in_ok-brief_from.ensures.brief told publisher done left database at))
     c.take.ensures.taken
 
 pub returns-in-Some-clause-within : goal.returns-in-Some-clause-within
-returns-in-Some-clause-within g c = subst (λ (found : Option (Offset × Entry)). IfSome found (λ x. (c.args.at.0 < x.0.0) × (x.0.0 ≤ c.args.db.now.log.end))) c.in-Some.is c.in_ok-entry_from.ensures.within
+returns-in-Some-clause-within g c = subst (λ (found : Option (Offset × Entry)). IfSome found (λ x. (c.args.at.0 < x.0.0) × (x.0.0 ≤ c.args.db.now.log.end))) c.in-Some.is c.in_ok-brief_from.ensures.within

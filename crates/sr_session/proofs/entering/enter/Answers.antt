@@ -23,6 +23,7 @@ returns-in-Ok g c =
       offset_is = c.in-Ok.ensures.offset;
       ready = c.in-Ok.ensures.ready;
       value = c.in-Ok.ensures.value;
+      in_force = c.in-Ok.ensures.in_force;
       database = c.in-Ok.ensures.database;
       went = λ told publisher es r database can. c.in-Ok.ensures.went told publisher es r database can tt;
       room = c.in-Ok.ensures.room;

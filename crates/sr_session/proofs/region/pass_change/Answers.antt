@@ -18,7 +18,7 @@ returns-in_err-changes g c =
     let seen = g.S.Held.seen c.args.site.now in
     let lines = c.args.lines.now.items in
     let why = c.in_err-changes.field-0.0 in
-    let is : shown c.catalog.result.now c.rows.result.now ≡ committed view = shown_committed view c.catalog.result.now c.rows.result.now c.requires.ready.some c.requires.pending c.catalog.ensures.catalog c.rows.ensures.rows in
+    let is : shown c.catalog.result.now c.rows.result.now ≡ committed view = shown_committed view c.catalog.result.now c.rows.result.now c.requires.ready.sound c.requires.pending c.catalog.ensures.catalog c.rows.ensures.rows in
     record {
       took =
           took_err (passed region statement (catalog_changes region.only (committed view) statement) (work_of view (Some region))) view view seen seen lines lines (Some region) (fault_of_stop why) c.from_residual.result
@@ -30,21 +30,21 @@ returns-in_err-changes g c =
 pub pass-requires-clause-fit : goal.pass-requires-clause-fit
 pass-requires-clause-fit g c =
     let view = c.args.db.now in
-    let is : shown c.catalog.result.now c.rows.result.now ≡ committed view = shown_committed view c.catalog.result.now c.rows.result.now c.requires.ready.some c.requires.pending c.catalog.ensures.catalog c.rows.ensures.rows in
+    let is : shown c.catalog.result.now c.rows.result.now ≡ committed view = shown_committed view c.catalog.result.now c.rows.result.now c.requires.ready.sound c.requires.pending c.catalog.ensures.catalog c.rows.ensures.rows in
     (catalog_passes (committed view) c.args.region.now.only c.args.stmt.now c.in_ok-changes.changes c.requires.ddl
     (subst (λ (s : State). catalog_changes c.args.region.now.only s c.args.stmt.now ≡ Ok c.in_ok-changes.changes) is c.in_ok-changes.ensures.meant)).fit
 
 pub pass-requires-clause-accepted : goal.pass-requires-clause-accepted
 pass-requires-clause-accepted g c =
     let view = c.args.db.now in
-    let is : shown c.catalog.result.now c.rows.result.now ≡ committed view = shown_committed view c.catalog.result.now c.rows.result.now c.requires.ready.some c.requires.pending c.catalog.ensures.catalog c.rows.ensures.rows in
+    let is : shown c.catalog.result.now c.rows.result.now ≡ committed view = shown_committed view c.catalog.result.now c.rows.result.now c.requires.ready.sound c.requires.pending c.catalog.ensures.catalog c.rows.ensures.rows in
     (catalog_passes (committed view) c.args.region.now.only c.args.stmt.now c.in_ok-changes.changes c.requires.ddl
     (subst (λ (s : State). catalog_changes c.args.region.now.only s c.args.stmt.now ≡ Ok c.in_ok-changes.changes) is c.in_ok-changes.ensures.meant)).accepted
 
 pub pass-requires-clause-may : goal.pass-requires-clause-may
 pass-requires-clause-may g c =
     let view = c.args.db.now in
-    let is : shown c.catalog.result.now c.rows.result.now ≡ committed view = shown_committed view c.catalog.result.now c.rows.result.now c.requires.ready.some c.requires.pending c.catalog.ensures.catalog c.rows.ensures.rows in
+    let is : shown c.catalog.result.now c.rows.result.now ≡ committed view = shown_committed view c.catalog.result.now c.rows.result.now c.requires.ready.sound c.requires.pending c.catalog.ensures.catalog c.rows.ensures.rows in
     (catalog_passes (committed view) c.args.region.now.only c.args.stmt.now c.in_ok-changes.changes c.requires.ddl
     (subst (λ (s : State). catalog_changes c.args.region.now.only s c.args.stmt.now ≡ Ok c.in_ok-changes.changes) is c.in_ok-changes.ensures.meant)).may
 
@@ -53,7 +53,7 @@ returns g c =
     let view = c.args.db.now in
     let region = c.args.region.now in
     let statement = c.args.stmt.now in
-    let is : shown c.catalog.result.now c.rows.result.now ≡ committed view = shown_committed view c.catalog.result.now c.rows.result.now c.requires.ready.some c.requires.pending c.catalog.ensures.catalog c.rows.ensures.rows in
+    let is : shown c.catalog.result.now c.rows.result.now ≡ committed view = shown_committed view c.catalog.result.now c.rows.result.now c.requires.ready.sound c.requires.pending c.catalog.ensures.catalog c.rows.ensures.rows in
     record {
       took =
           passed_entry region statement (catalog_changes region.only (committed view) statement) c.in_ok-changes.changes view c.pass.new.db (g.S.Held.seen c.args.site.now) (g.S.Held.seen c.pass.new.site)

@@ -21,7 +21,7 @@ returns-in_err-changes c =
     record {
       took = λ seen region.
           took_err (executed (work_of view region) c.args.stmt.now) view view seen seen c.args.lines.now.items c.args.lines.now.items region (fault_of_stop why) c.from_residual.result c.from_residual.ensures.1
-          (executed_stop view seen c.args.lines.now.items c.args.lines.now.items region c.args.stmt.now why c.requires.usable c.requires.some (λ i. c.args.lines.now.items)
+          (executed_stop view seen c.args.lines.now.items c.args.lines.now.items region c.args.stmt.now why c.requires.usable c.requires.sound (λ i. c.args.lines.now.items)
           (subst (λ (s : State). IsStop (changes_by s c.args.stmt.now) why) is c.in_err-changes.ensures.meant));
     }
 
@@ -60,7 +60,7 @@ returns c =
     let is : shown c.catalog.result.now c.rows.result.now ≡ present view = shown_is view c.catalog.result.now c.rows.result.now c.catalog.ensures.catalog c.rows.ensures.rows in
     record {
       took = λ seen region.
-          executed_done view c.take_in.new.self seen c.args.lines.now.items c.push_count.new.out.items region c.args.stmt.now c.in_ok-changes.changes c.requires.usable c.requires.some
+          executed_done view c.take_in.new.self seen c.args.lines.now.items c.push_count.new.out.items region c.args.stmt.now c.in_ok-changes.changes c.requires.usable c.requires.sound
           (subst (λ (s : State). changes_by s c.args.stmt.now ≡ Ok c.in_ok-changes.changes) is c.in_ok-changes.ensures.meant) c.in_ok-take_in.ensures.database.1 c.in_ok-take_in.ensures.pending c.in_ok-take_in.ensures.value
           c.in_ok-push_count.ensures.ok;
     }

@@ -20,7 +20,7 @@ returns-in_err-rows c =
     record {
       took = λ seen region.
           took_err (answered (work_of view region) c.args.stmt.now) view view seen seen c.args.lines.now.items c.args.lines.now.items region (fault_of_stop why) c.from_residual.result c.from_residual.ensures.1
-          (answered_stop view seen c.args.lines.now.items c.args.lines.now.items region c.args.stmt.now why c.requires.usable c.requires.some (λ i. c.args.lines.now.items)
+          (answered_stop view seen c.args.lines.now.items c.args.lines.now.items region c.args.stmt.now why c.requires.usable c.requires.sound (λ i. c.args.lines.now.items)
           (subst (λ (s : State). IsStop (rows_by s c.args.stmt.now) why) is c.in_err-rows.ensures.meant));
     }
 
@@ -38,7 +38,7 @@ returns c =
     let is : shown c.catalog.result.now c.rows.result.now ≡ present view = shown_is view c.catalog.result.now c.rows.result.now c.catalog.ensures.catalog c.rows.ensures.rows in
     record {
       took = λ seen region.
-          answered_done view seen c.args.lines.now.items c.push_rows.new.out.items region c.args.stmt.now found c.requires.usable c.requires.some
+          answered_done view seen c.args.lines.now.items c.push_rows.new.out.items region c.args.stmt.now found c.requires.usable c.requires.sound
           (subst (λ (s : State). rows_by s c.args.stmt.now ≡ Ok found) is c.in_ok-rows.ensures.meant)
           (c.in_ok-push_rows.ensures.ok view.log.end ∙ ap (λ (l : List (List Cell)). c.args.lines.now.items ++ text_from view.log.end (listing l)) c.as_slice.ensures.value);
     }

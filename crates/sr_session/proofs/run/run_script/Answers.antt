@@ -12,7 +12,7 @@ pub returns-in_default : goal.returns-in_default
 returns-in_default g c = record { ran = ran_none c.args.db.now (g.S.Held.seen c.args.site.now) (g.O.Sink.seen c.args.sink.now) c.args.script.now c.requires.usable c.requires.pending }
 
 pub run_to_end-outcome-requires-clause-ready : goal.run_to_end-outcome-requires-clause-ready
-run_to_end-outcome-requires-clause-ready g c = record { usable = c.requires.usable; some = c.usable-usable_here.ensures.some c.requires.usable; stands = c.requires.stands }
+run_to_end-outcome-requires-clause-ready g c = record { usable = c.requires.usable; sound = c.usable-usable_here.ensures.sound c.requires.usable; stands = c.requires.stands }
 
 pub returns-then-is_of_sink : goal.returns-then-is_of_sink
 returns-then-is_of_sink g c =

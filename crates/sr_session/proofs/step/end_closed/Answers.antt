@@ -28,8 +28,8 @@ end-requires-clause-usable g c =
     let done : IsDoneStep (goes (closing old.pending) (closed (work_of old (c.args.session.now.region)))) old middle first second l0 l1 (c.args.session.now.region) = c.in_ok-close.ensures.took (c.args.session.now.region) in
     (closed_ready old middle first second l0 l1 (c.args.session.now.region) done c.requires.ready).usable
 
-pub end-requires-clause-some : goal.end-requires-clause-some
-end-requires-clause-some g c =
+pub end-requires-clause-sound : goal.end-requires-clause-sound
+end-requires-clause-sound g c =
     let old = c.args.db.now in
     let middle = c.close.new.db in
     let first = g.S.Held.seen c.args.site.now in
@@ -37,7 +37,7 @@ end-requires-clause-some g c =
     let l0 = c.args.session.now.lines.items in
     let l1 = c.close.new.lines.items in
     let done : IsDoneStep (goes (closing old.pending) (closed (work_of old (c.args.session.now.region)))) old middle first second l0 l1 (c.args.session.now.region) = c.in_ok-close.ensures.took (c.args.session.now.region) in
-    (closed_ready old middle first second l0 l1 (c.args.session.now.region) done c.requires.ready).some
+    (closed_ready old middle first second l0 l1 (c.args.session.now.region) done c.requires.ready).sound
 
 pub returns-clause-took : goal.returns-clause-took
 returns-clause-took g c =

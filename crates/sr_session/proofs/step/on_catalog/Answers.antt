@@ -73,7 +73,7 @@ pass_change-requires-clause-users g c =
     let l0 = c.args.session.now.lines.items in
     let l1 = c.close.new.lines.items in
     let done : IsDoneStep (goes (closing old.pending) (closed (work_of old (c.args.session.now.region)))) old middle first second l0 l1 (c.args.session.now.region) = c.in_ok-close.ensures.took (c.args.session.now.region) in
-    subst (λ (r : Option Passthrough). AreUsers (committed middle) r) c.in-Some.is (closed_users old middle first second l0 l1 c.args.session.now.region done c.requires.ready.some c.requires.users)
+    subst (λ (r : Option Passthrough). AreUsers (committed middle) r) c.in-Some.is (closed_users old middle first second l0 l1 c.args.session.now.region done c.requires.ready.sound c.requires.users)
 
 pub returns-in-None-clause-took : goal.returns-in-None-clause-took
 returns-in-None-clause-took g c =
@@ -116,4 +116,4 @@ returns-in-Some-clause-users g c =
     users_behind (on_catalog c.args.session.now.region c.args.stmt.now (work_of middle c.args.session.now.region)) middle c.pass_change.new.db second third l1 c.pass_change.new.lines.items c.args.session.now.region c.pass_change.result
     (subst (λ (r : Option Passthrough). Took (on_catalog r c.args.stmt.now (work_of middle r)) middle c.pass_change.new.db second third l1 c.pass_change.new.lines.items r c.pass_change.result) (sym c.in-Some.is)
     c.pass_change.ensures.took)
-    (closed_ready old middle first second l0 l1 (c.args.session.now.region) done c.requires.ready).some (closed_users old middle first second l0 l1 c.args.session.now.region done c.requires.ready.some c.requires.users)
+    (closed_ready old middle first second l0 l1 (c.args.session.now.region) done c.requires.ready).sound (closed_users old middle first second l0 l1 c.args.session.now.region done c.requires.ready.sound c.requires.users)

@@ -44,7 +44,7 @@ pass_rows-requires-clause-pending g c =
 pub pass_rows-requires-clause-users : goal.pass_rows-requires-clause-users
 pass_rows-requires-clause-users g c =
     closed_users c.args.db.now c.close.new.db (g.S.Held.seen c.args.site.now) (g.S.Held.seen c.close.new.site) c.args.session.now.lines.items c.close.new.lines.items (Some c.in-Some.region)
-    (c.in_ok-close-in-Some.ensures.took (Some c.in-Some.region)) c.requires.ready.some (subst (λ (r : Option Passthrough). AreUsers (committed c.args.db.now) r) c.in-Some.is c.requires.users)
+    (c.in_ok-close-in-Some.ensures.took (Some c.in-Some.region)) c.requires.ready.sound (subst (λ (r : Option Passthrough). AreUsers (committed c.args.db.now) r) c.in-Some.is c.requires.users)
 
 pub returns-in_ok-close-in-Some-clause-took : goal.returns-in_ok-close-in-Some-clause-took
 returns-in_ok-close-in-Some-clause-took g c =
@@ -79,5 +79,5 @@ returns-in_ok-close-in-Some-clause-users g c =
     let done : IsDoneStep (goes (closing old.pending) (closed (work_of old (Some p)))) old middle first second l0 l1 (Some p) = c.in_ok-close-in-Some.ensures.took (Some p) in
     subst (λ (r : Option Passthrough). OnOk c.pass_rows.result (AreUsers (committed new) r)) (sym c.in-Some.is)
     (users_behind (passed p c.args.stmt.now (row_changes p.only (committed middle) c.args.dml.now) (work_of middle (Some p))) middle new second third l1 l2 (Some p) c.pass_rows.result c.pass_rows.ensures.took
-    (closed_ready old middle first second l0 l1 (Some p) done c.requires.ready).some
-    (closed_users old middle first second l0 l1 (Some p) done c.requires.ready.some (subst (λ (r : Option Passthrough). AreUsers (committed old) r) c.in-Some.is c.requires.users)))
+    (closed_ready old middle first second l0 l1 (Some p) done c.requires.ready).sound
+    (closed_users old middle first second l0 l1 (Some p) done c.requires.ready.sound (subst (λ (r : Option Passthrough). AreUsers (committed old) r) c.in-Some.is c.requires.users)))

@@ -88,4 +88,4 @@ returns-in-Some-clause-users g c =
     let l0 = c.args.session.now.lines.items in
     let l1 = c.close.new.lines.items in
     let done : IsDoneStep (goes (closing old.pending) (closed (work_of old (c.args.session.now.region)))) old middle first second l0 l1 (c.args.session.now.region) = c.in_ok-close.ensures.took (c.args.session.now.region) in
-    in_any c.refuse.result (closed_users old middle first second l0 l1 c.args.session.now.region done c.requires.ready.some c.requires.users)
+    in_any c.refuse.result (closed_users old middle first second l0 l1 c.args.session.now.region done c.requires.ready.sound c.requires.users)

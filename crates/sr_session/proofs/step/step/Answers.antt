@@ -18,7 +18,7 @@ pub returns-in-Commit-clause-users : goal.returns-in-Commit-clause-users
 returns-in-Commit-clause-users g c =
     let region = c.args.session.now.region in
     users_behind (committed (work_of c.args.db.now region)) c.args.db.now c.commit.new.db (g.S.Held.seen c.args.site.now) (g.S.Held.seen c.commit.new.site) c.args.session.now.lines.items c.commit.new.lines.items region
-    c.commit.result (c.commit.ensures.took region) c.requires.ready.some c.requires.users
+    c.commit.result (c.commit.ensures.took region) c.requires.ready.sound c.requires.users
 
 pub returns-in-Rollback-clause-took : goal.returns-in-Rollback-clause-took
 unfolding done_by
@@ -33,7 +33,7 @@ returns-in-Rollback-clause-users g c =
     let region = c.args.session.now.region in
     let seen = g.S.Held.seen c.args.site.now in
     users_behind (rolled (work_of c.args.db.now region)) c.args.db.now c.roll_back.new.db seen seen c.args.session.now.lines.items c.roll_back.new.lines.items region c.roll_back.result
-    (c.roll_back.ensures.took seen region) c.requires.ready.some c.requires.users
+    (c.roll_back.ensures.took seen region) c.requires.ready.sound c.requires.users
 
 pub returns-in-Select-clause-took : goal.returns-in-Select-clause-took
 unfolding done_by

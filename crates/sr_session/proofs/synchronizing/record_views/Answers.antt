@@ -21,7 +21,7 @@ pub enter-requires-clause-entry : goal.enter-requires-clause-entry
 enter-requires-clause-entry g c =
     let view = c.args.db.now in
     can_sync_some view c.args.rule.now (shown c.catalog.result.now c.rows.result.now) c.in_ok-entry.entry c.requires.pending
-    (shown_committed view c.catalog.result.now c.rows.result.now c.requires.ready.some c.requires.pending c.catalog.ensures.catalog c.rows.ensures.rows) c.requires.accepted c.in_ok-entry.ensures.entry
+    (shown_committed view c.catalog.result.now c.rows.result.now c.requires.ready.sound c.requires.pending c.catalog.ensures.catalog c.rows.ensures.rows) c.requires.accepted c.in_ok-entry.ensures.entry
     c.in_ok-entry.ensures.short
 
 pub returns : goal.returns
@@ -31,6 +31,6 @@ returns g c =
       took = λ region.
           c.enter.ensures.took (sync c.args.rule.now.user (views_of (committed view) c.args.rule.now)) region
           (can_sync view c.args.rule.now (shown c.catalog.result.now c.rows.result.now) c.in_ok-entry.entry c.requires.pending
-          (shown_committed view c.catalog.result.now c.rows.result.now c.requires.ready.some c.requires.pending c.catalog.ensures.catalog c.rows.ensures.rows) c.requires.accepted c.in_ok-entry.ensures.entry
+          (shown_committed view c.catalog.result.now c.rows.result.now c.requires.ready.sound c.requires.pending c.catalog.ensures.catalog c.rows.ensures.rows) c.requires.accepted c.in_ok-entry.ensures.entry
           c.in_ok-entry.ensures.short);
     }

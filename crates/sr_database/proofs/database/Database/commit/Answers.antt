@@ -1,26 +1,29 @@
-use Rattle.std.proofs.Common.{◌≡◌, List, refl, sym, subst}
+use Rattle.std.proofs.Common.{◌≡◌, List, [], ◌∷◌, refl, sym, subst}
 use Rattle.sr_logform.specs.declared.change.Change.{Change}
 use Rattle.sr_database.specs.Commits.{IsPrepared}
 use Rattle.sr_database.specs.Inner.Commits.{CanCommit, CanCommitSome}
-use Rattle.sr_database.specs.Databases.{IsOf, IsOfSome, IsDatabase, HasDatabase}
+use Rattle.sr_database.specs.Advances.{Advances}
+use Rattle.sr_database.specs.Databases.{IsDatabase}
+use Rattle.sr_database.specs.Inner.Without.{WasWithout}
+use Rattle.sr_database.specs.InForce.{HasLogInForce}
 use Rattle.sr_database.specs.Inner.Taking.{Takes}
 use Rattle.sr_database.specs.Views.{View}
-use Rattle.sr_database.proofs.Added.{Added, value_added, some_added, database_added, went_longer, went_spent}
-use Rattle.sr_database.proofs.Commits.{has_log}
-use Rattle.sr_database.proofs.Pending.{some_of, some_fit}
+use Rattle.sr_database.proofs.Added.{Added, advanced_added, sound_added, without_added, in_force_added, database_added, went_longer, went_spent}
+use Rattle.sr_database.proofs.InForce.{has_log}
+use Rattle.sr_database.proofs.Pending.{sound_inside}
 use Rattle.sr_database.proofs.database.Database.commit.Goals as goal
 
 pub prepare-requires-clause-fit : goal.prepare-requires-clause-fit
 prepare-requires-clause-fit g c =
     let inside : View = record { catalog = c.self.inside.catalog; base_catalog = c.self.inside.base_catalog; rows = c.self.inside.rows; pending = c.self.inside.pending.items; books = c.self.inside.books; log = c.self.inside.log } in
     let view_is : inside ≡ c.args.self.now = c.self.view_is in
-    some_fit inside (subst IsOfSome (sym view_is) (some_of inside c.args.self.now view_is c.requires.usable c.self.invariant))
+    (sound_inside inside c.args.self.now view_is c.requires.usable c.self.invariant).holds.rows
 
 pub append-requires-clause-log : goal.append-requires-clause-log
 append-requires-clause-log g c told =
     let inside : View = record { catalog = c.self.inside.catalog; base_catalog = c.self.inside.base_catalog; rows = c.self.inside.rows; pending = c.self.inside.pending.items; books = c.self.inside.books; log = c.self.inside.log } in
     let view_is : inside ≡ c.args.self.now = c.self.view_is in
-    has_log inside (g.S.Held.seen c.args.site.now) (subst (λ (v : View). HasDatabase v (g.S.Held.seen c.args.site.now)) (sym view_is) (c.requires.stands told))
+    has_log inside.log (g.S.Held.seen c.args.site.now).files (subst (λ (v : View). HasLogInForce v (g.S.Held.seen c.args.site.now)) (sym view_is) (c.requires.stands told)).now
 
 pub returns-in_err-offset-clause-went : goal.returns-in_err-offset-clause-went
 returns-in_err-offset-clause-went g c told publisher es r database can begun =
@@ -53,11 +56,11 @@ invariant_of-self-2 g c usable =
       none = c.clear.ensures.items;
       base_catalog_is = refl;
     } in
-    let some : IsOfSome inside = subst IsOfSome (sym view_is) (some_of inside c.args.self.now view_is c.requires.usable c.self.invariant) in
-    some_added inside new entry framed added c.in_ok-offset.ensures.log some (subst (λ (v : View). CanCommitSome v entry) (sym view_is) c.requires.entry)
+    let sound = sound_inside inside c.args.self.now view_is c.requires.usable c.self.invariant in
+    sound_added inside new entry framed added c.in_ok-offset.ensures.log sound (subst (λ (v : View). CanCommitSome v entry) (sym view_is) c.requires.entry)
 
 pub returns-clause-value : goal.returns-clause-value
-returns-clause-value g c publisher es r is can =
+returns-clause-value g c r can =
     let entry = c.args.entry.now in
     let framed = c.as_slice-2.result.now in
     let inside : View = record { catalog = c.self.inside.catalog; base_catalog = c.self.inside.base_catalog; rows = c.self.inside.rows; pending = c.self.inside.pending.items; books = c.self.inside.books; log = c.self.inside.log } in
@@ -69,7 +72,46 @@ returns-clause-value g c publisher es r is can =
       none = c.clear.ensures.items;
       base_catalog_is = refl;
     } in
-    value_added inside new entry framed added c.in_ok-offset.ensures.log publisher es r (subst (λ (v : View). IsOf v publisher es) (sym view_is) is) (subst (λ (v : View). CanCommit v entry r) (sym view_is) can)
+    let sound = sound_inside inside c.args.self.now view_is c.requires.usable c.self.invariant in
+    subst (λ (v : View). Advances v new (r ∷ [])) view_is (advanced_added inside new entry framed added c.in_ok-offset.ensures.log r sound.pending (subst (λ (v : View). CanCommit v entry r) (sym view_is) can))
+
+pub returns-clause-in_force : goal.returns-clause-in_force
+returns-clause-in_force g c told =
+    let before = g.S.Held.seen c.args.site.now in
+    let now = g.S.Held.seen c.append.new.site in
+    let entry = c.args.entry.now in
+    let framed = c.as_slice-2.result.now in
+    let inside : View = record { catalog = c.self.inside.catalog; base_catalog = c.self.inside.base_catalog; rows = c.self.inside.rows; pending = c.self.inside.pending.items; books = c.self.inside.books; log = c.self.inside.log } in
+    let new : View = record { catalog = c.prepare.new.catalog; base_catalog = c.self.inside.base_catalog; rows = c.prepare.new.rows; pending = c.clear.new.self.items; books = c.prepare.new.books; log = c.append.new.log } in
+    let view_is : inside ≡ c.args.self.now = c.self.view_is in
+    let added : Added inside new entry framed = record {
+      takes = subst (λ (p : List Change). Takes inside.catalog new.catalog inside.rows new.rows inside.books new.books p entry) c.as_slice.ensures.value c.in_ok-framed.ensures.takes;
+      prepared = subst (λ f. IsPrepared inside.log entry f) (sym c.as_slice-2.ensures.value) c.in_ok-framed.ensures.ready;
+      none = c.clear.ensures.items;
+      base_catalog_is = refl;
+    } in
+    let can = subst (λ (v : View). CanCommitSome v entry) (sym view_is) c.requires.entry in
+    in_force_added inside new entry framed added c.in_ok-offset.ensures.log before now can.r _ (subst (λ (v : View). HasLogInForce v before) (sym view_is) (c.requires.stands told)) can.can (c.in_ok-offset.ensures.happened told) (c.in_ok-offset.ensures.others told)
+    (c.in_ok-offset.ensures.record told) (c.in_ok-offset.ensures.settled told) c.in_ok-offset.ensures.stays
+
+pub returns-clause-without : goal.returns-clause-without
+returns-clause-without g c told publisher es base r can stands =
+    let before = g.S.Held.seen c.args.site.now in
+    let now = g.S.Held.seen c.append.new.site in
+    let entry = c.args.entry.now in
+    let framed = c.as_slice-2.result.now in
+    let inside : View = record { catalog = c.self.inside.catalog; base_catalog = c.self.inside.base_catalog; rows = c.self.inside.rows; pending = c.self.inside.pending.items; books = c.self.inside.books; log = c.self.inside.log } in
+    let new : View = record { catalog = c.prepare.new.catalog; base_catalog = c.self.inside.base_catalog; rows = c.prepare.new.rows; pending = c.clear.new.self.items; books = c.prepare.new.books; log = c.append.new.log } in
+    let view_is : inside ≡ c.args.self.now = c.self.view_is in
+    let added : Added inside new entry framed = record {
+      takes = subst (λ (p : List Change). Takes inside.catalog new.catalog inside.rows new.rows inside.books new.books p entry) c.as_slice.ensures.value c.in_ok-framed.ensures.takes;
+      prepared = subst (λ f. IsPrepared inside.log entry f) (sym c.as_slice-2.ensures.value) c.in_ok-framed.ensures.ready;
+      none = c.clear.ensures.items;
+      base_catalog_is = refl;
+    } in
+    let has = without_added inside new entry framed added c.in_ok-offset.ensures.log before now r (subst (λ (v : View). HasLogInForce v before) (sym view_is) (c.requires.stands told)) (subst (λ (v : View). CanCommit v entry r) (sym view_is) can)
+    (c.in_ok-offset.ensures.others told) (c.in_ok-offset.ensures.record told) publisher es base stands in
+    subst (λ (v : View). WasWithout v publisher es r before) view_is has
 
 pub returns-clause-database : goal.returns-clause-database
 returns-clause-database g c told publisher es r database can =

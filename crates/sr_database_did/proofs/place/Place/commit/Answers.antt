@@ -10,6 +10,7 @@ returns-clause-did g c r can =
     let says : CommitSays a b c.args.entry.now c.commit.result = record {
       ready = c.commit.ensures.ready;
       value = c.commit.ensures.value;
+      in_force = c.commit.ensures.in_force;
       database = c.commit.ensures.database;
       went = c.commit.ensures.went;
       room = c.commit.ensures.room;

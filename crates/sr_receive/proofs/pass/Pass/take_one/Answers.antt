@@ -4,6 +4,9 @@ use Rattle.sr_receive.proofs.Acting.{ran_on}
 use Rattle.sr_receive.proofs.Taken.{ready_alike, alike_acted, alike_short, its_entry}
 use Rattle.sr_receive.proofs.pass.Pass.take_one.Goals as goal
 
+pub entry_of-requires-clause-sound : goal.entry_of-requires-clause-sound
+entry_of-requires-clause-sound g c = let ready = c.requires.ready.ready in ready.sound
+
 pub returns-in-Err-clause-ran : goal.returns-in-Err-clause-ran
 returns-in-Err-clause-ran g c inbox rest =
     alike_short c.args.self.now.place.db.now c.entry_of.new.db (g.S.Held.seen c.args.self.now.place.site.now) c.requires.ready.ready c.in-Err.ensures.alike (stand c.args.self.now inbox (c.args.transaction.now ∷ rest))

@@ -1,0 +1,18 @@
+use Rattle.sr_database.proofs.Alike.{database_alike, database_by_files, database_by_image, databases_alike}
+use Rattle.sr_database.proofs.InForce.{in_force}
+use Rattle.sr_database.proofs.alike_laws.a_database_is_of_alike_histories.Goals as goal
+
+pub returns-clause-alike : goal.returns-clause-alike
+returns-clause-alike c = λ db publisher es others seen database alike. database_alike db publisher es others alike seen database
+
+pub returns-clause-image : goal.returns-clause-image
+returns-clause-image c = database_by_image
+
+pub returns-clause-files : goal.returns-clause-files
+returns-clause-files c = database_by_files
+
+pub returns-clause-one : goal.returns-clause-one
+returns-clause-one c = databases_alike
+
+pub returns-clause-in_force : goal.returns-clause-in_force
+returns-clause-in_force c = in_force

@@ -1,0 +1,4 @@
+pub mod Generations
+pub mod Laws
+pub mod Restarting
+pub mod Writing

@@ -1,0 +1,4 @@
+pub mod Carried
+pub mod Copied
+pub mod Files
+pub mod Steps

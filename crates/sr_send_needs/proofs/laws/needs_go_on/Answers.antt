@@ -1,0 +1,8 @@
+use Rattle.sr_send_needs.proofs.Keeping.{first_keeps, needs_more}
+use Rattle.sr_send_needs.proofs.laws.needs_go_on.Goals as goal
+
+pub returns-clause-first : goal.returns-clause-first
+returns-clause-first c = first_keeps
+
+pub returns-clause-one_more : goal.returns-clause-one_more
+returns-clause-one_more c = needs_more

@@ -1,0 +1,6 @@
+pub mod Ends
+pub mod Needs
+pub mod Reading
+pub mod Searching
+pub mod Seeking
+pub mod Starting

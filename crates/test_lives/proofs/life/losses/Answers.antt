@@ -1,0 +1,4 @@
+use Rattle.test_lives.proofs.life.losses.Goals as goal
+
+pub returns : goal.returns
+returns c = record { places = c.do_deeds.ensures.places }
