@@ -53,10 +53,10 @@ complete_all() {
     completes '' demo ''
     completes 'c1 c2 east' agent ''
     completes 'c1 c2' agent c
-    completes '--mail -r -s -p -l' agent -
-    completes '--mail -r -s -p -l' agent c1 ''
+    completes '--mail -r -s -p -x -l' agent -
+    completes '--mail -r -s -p -x -l' agent c1 ''
     completes '--mail' agent c1 --
-    completes '-s -p -l' agent c1 --mail box -r ''
+    completes '-s -p -x -l' agent c1 --mail box -r ''
     completes 'box' agent c1 --mail b
     completes 'box/shop' agent c1 --mail = box/
     completes 'box east folder.root' agent c1 --mail =
@@ -68,8 +68,8 @@ complete_all() {
     completes 'c1 c2 east' agent -l = 10000 ''
     completes '' agent -l ''
     completes '' agent -rl ''
-    completes '--mail -p' agent c1 -rsl 10000 ''
-    completes '--mail -s -p' agent -r c1 -l = 10000 ''
+    completes '--mail -p -x' agent c1 -rsl 10000 ''
+    completes '--mail -s -p -x' agent -r c1 -l = 10000 ''
     completes 'c1 c2' agent --mail box -- c
     completes '' agent --mail box -- -
     completes '' agent --mail box -- c1 ''

@@ -48,7 +48,7 @@ def cases(program, names=()):
         yield from cases_of(program, os.path.join(HERE, path), path, with_modes)
 
 
-# ---- words.txt, refused.txt, damaged.txt
+# ---- words.txt, refused.txt, damaged.txt, restarted.txt
 
 
 def fault(met):
@@ -113,11 +113,11 @@ def span(text):
     return range(int(first), int(last or first) + 1)
 
 
-def damages():
-    """The damaged databases: each its name, its files, and what is said of them."""
+def damages(table):
+    """The damaged databases of a table: each its name, its files, and what is said of them."""
     files = {}
     single = {}
-    rows = [row.partition(": ") for row in rows_of("damaged.txt")]
+    rows = [row.partition(": ") for row in rows_of(table)]
     for left, _, verdict in rows:
         kind, name, *rest = left.split()
         if kind == "byte":
@@ -140,16 +140,16 @@ def damages():
     yield "whole", files, "stands"
 
 
-def damaged(program):
-    """Whether an empty script on each damaged database says what it is to say, and leaves the files."""
-    for name, files, verdict in damages():
+def damaged(program, table):
+    """Whether an empty script on each damaged database of a table says what it is to say, and leaves the files."""
+    for name, files, verdict in damages(table):
         lines = b"" if verdict == "stands" else b"database missing\n" if verdict == "missing" else b"database damaged %s\n" % verdict.encode()
         with tempfile.TemporaryDirectory() as folder:
             for file, data in files.items():
                 write(os.path.join(folder, f"c1.{file}"), data)
             told = run(program, ["sql", "c1"], folder) == (0 if verdict == "stands" else 3, lines)
             left = {f"c1.{file}": data for file, data in files.items() if data}
-            yield f"damaged.txt: {name}", fault(told and files_in(folder) == left)
+            yield f"{table}: {name}", fault(told and files_in(folder) == left)
 
 
 def demonstration(program):
@@ -169,8 +169,11 @@ def demonstration(program):
 
 def rows(program):
     """The rows of the tables, and the demonstration."""
-    for table in (words, refused, damaged, demonstration):
-        yield from table(program)
+    yield from words(program)
+    yield from refused(program)
+    for table in ("damaged.txt", "restarted.txt"):
+        yield from damaged(program, table)
+    yield from demonstration(program)
 
 
 def main(arguments):

@@ -66,7 +66,7 @@ _dbremote_pass() {
             awaits=mail
             ;;
         --mail=*) seen+=' --mail' ;;
-        -[rspl]*)
+        -[rspxl]*)
             _dbremote_flags "${1#-}"
             ;;
         *) named=1 ;;
@@ -89,7 +89,7 @@ _dbremote_flags() {
 _dbremote_next() {
     local option options=()
     if [ -z "$ended" ] && { [ -n "$named" ] || [ "${1:0:1}" = - ]; }; then
-        for option in --mail -r -s -p -l; do
+        for option in --mail -r -s -p -x -l; do
             [[ "$seen " == *" $option "* ]] || options+=("$option")
         done
         mapfile -t COMPREPLY < <(compgen -W "${options[*]}" -- "$1")

@@ -6,7 +6,7 @@ usage() {
     cat <<'END'
 usage: dbremote init NAME USER                 makes a database; USER is the name that partners know it by
        dbremote sql NAME < SCRIPT              runs the script that standard input has
-       dbremote agent NAME --mail FOLDER [-r] [-s] [-p] [-l N]
+       dbremote agent NAME --mail FOLDER [-r] [-s] [-p] [-x] [-l N]
                                                takes the mail of a database and sends what is due, once
        dbremote show NAME                      prints what the database is
        dbremote demo SEED COUNT                replicates four databases in memory

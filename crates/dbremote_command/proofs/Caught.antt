@@ -1,7 +1,7 @@
 -- That a run of the agent which came to its end caught up with each partner.
-use Rattle.std.proofs.Common.{◌≡◌, ℕ, ◌≤◌, Bool, true, List, Ok, ap, subst, ◌∙◌, inl, inr, arith}
+use Rattle.std.proofs.Common.{◌≡◌, ℕ, ◌≤◌, Bool, true, false, List, Ok, ap, subst, ◌∙◌, inl, inr, arith}
 use Rattle.std.specs.Prelude.{IsTrue}
-use Rattle.sr_agent.specs.Agents.{RanWhole}
+use Rattle.sr_agent.specs.Agents.{DidWhere, RanWhole}
 use Rattle.sr_agent.specs.Deliveries.{with_puts}
 use Rattle.sr_agent.specs.Lines.{Line}
 use Rattle.sr_agent.specs.Runs.{IsRun, Receives, Run, received_mail, sent_events}
@@ -77,13 +77,10 @@ each_partner publisher es options run is receives =
     let done : Receives true publisher es run = subst (λ (b : Bool). Receives b publisher es run) receives is.receives in
     done.whose
 
-whole_caught_up : (view : View) (before : Seen) (publisher : Name) (es : List Recorded) (options : Options) (lines : List Line) (old new : Outside) → IsTrue options.receive → StandsAs publisher es old.site.files
-    → mail_in before.happened ≡ mail_in old.site.happened → RanWhole view before new.site publisher es options lines → HasCaughtUp options old new
-whole_caught_up view before publisher es options lines old new receives stood no_mail whole = record {
-  publisher = publisher;
-  es = es;
+whole_caught_up : (base : ℕ) (view : View) (before : Seen) (publisher : Name) (es : List Recorded) (options : Options) (lines : List Line) (old new : Outside) → IsTrue options.receive
+    → mail_in before.happened ≡ mail_in old.site.happened → RanWhole base view before new.site publisher es options lines → HasCaughtUp publisher es options old new
+whole_caught_up base view before publisher es options lines old new receives no_mail whole = record {
   run = whole.run;
-  stood = stood;
   is = whole.is;
   mail = whole.came.mail ∙ ap (λ (l : List Happening). with_puts (sent_events publisher es whole.run) (received_mail publisher es options.purge whole.run l)) no_mail;
   each = each_partner publisher es options whole.run whole.is receives;
@@ -91,15 +88,22 @@ whole_caught_up view before publisher es options lines old new receives stood no
   stands = record { base = view.log.base; stands = whole.came.database.held.stands };
 }
 
-ran_caught_up : (name mail : List ℕ) (options : Options) (old new : Outside) (count : ℕ) → IsTrue old.site.observable → IsTrue options.receive → AgentRan name mail options old new (Ok count) → HasCaughtUp options old new
-ran_caught_up name mail options old new count told receives on =
-    let history = on.is.history told in
-    whole_caught_up on.view' on.opened history.publisher history.es options on.ran.lines old new receives history.stood on.is.no_mail.mail
-    (on.ran.did (on.is.no_mail.observable ∙ told) history.publisher history.es history.database)
+-- with a restart of the log, or without it
+all_caught_up_by : (b : Bool) (view view' : View) (before : Seen) (publisher : Name) (es : List Recorded) (options : Options) (lines : List Line) (old new : Outside) (count : ℕ) → IsTrue options.receive
+    → mail_in before.happened ≡ mail_in old.site.happened → DidWhere b view view' before new.site old.output new.output publisher es options lines (Ok count) → HasCaughtUp publisher es options old new
+all_caught_up_by false view view' before publisher es options lines old new count receives no_mail whole = whole_caught_up view.log.base view' before publisher es options lines old new receives no_mail whole
+all_caught_up_by true view view' before publisher es options lines old new count receives no_mail did =
+    whole_caught_up did.between.log.base view' did.middle publisher es options did.rest old new receives (did.restart.stays.mail ∙ no_mail) did.did
+
+ran_caught_up : (name mail : List ℕ) (options : Options) (old new : Outside) (count : ℕ) → IsTrue old.site.observable → IsTrue options.receive → AgentRan name mail options old new (Ok count)
+    → (publisher : Name) (es : List Recorded) → StandsAs publisher es old.site.files → HasCaughtUp publisher es options old new
+ran_caught_up name mail options old new count told receives on publisher es stood =
+    all_caught_up_by options.restart on.view on.view' on.opened publisher es options on.ran.lines old new count receives on.is.no_mail.mail
+    (on.ran.did (on.is.no_mail.observable ∙ told) publisher es ((on.is.history told).each publisher es stood))
 
 agent_caught_up : (name mail : List ℕ) (options : Options) (old new : Outside) (status : ℕ) → RanAgentOrder name mail options old new status → CatchesUp (Agent name mail options) old new status
-agent_caught_up name mail options old new status ran told receives low = elim ran.ended [
-  | inl done ↦ ran_caught_up name mail options old new done.count told receives done.ran
+agent_caught_up name mail options old new status ran told receives low publisher es stood = elim ran.ended [
+  | inl done ↦ ran_caught_up name mail options old new done.count told receives done.ran publisher es stood
   | inr by ↦ absurd (told_above by.fault by.between new.output status by.line low)
 ]
 

@@ -22,9 +22,8 @@ use Rattle.sr_session.specs.declared.fault.SessionFault.TheVariants as session
 use Rattle.sr_site.specs.Files.{Files}
 use Rattle.sr_site.specs.Seen.{Seen}
 use Rattle.sr_site.specs.Streams.{Output}
-use Rattle.sr_database_meaning.proofs.Alike.{alike, alike_state}
-use Rattle.sr_database_meaning.proofs.Standing.{missing_is_none, damaged_is_none}
-use Rattle.sr_database_meaning.specs.Damage.{IsMissing}
+use Rattle.sr_database_files.proofs.Damaged.{missing_is_none, damaged_is_none}
+use Rattle.sr_database_files.specs.Damage.{IsMissing}
 use Rattle.sr_database_meaning.specs.Standing.{StandsAs}
 use Rattle.dbremote_command.proofs.Spelled.{not_refused}
 use Rattle.dbremote_command.proofs.Statuses.{order_words, order_disk, order_stream, order_mail}
@@ -245,12 +244,6 @@ never_both number r end is done = let clash : refused number r ≡ finished = sy
 database_of : (publisher : Name) (es : List Recorded) (files : Files) → StandsAs publisher es files → AreDatabase files
 database_of publisher es files stand = record { publisher = publisher; es = es; stand = stand }
 
--- histories for which the same files stand come to one state
-same_state : (publisher other : Name) (es others : List Recorded) (files : Files) → StandsAs publisher es files → StandsAs other others files → state_of publisher es ≡ state_of other others
-same_state publisher other es others files one two =
-    let same = alike publisher other es others one.base two.base files one.stands two.stands in
-    alike_state publisher es others one.base same.2 ∙ ap (λ (p : Name). state_of p others) same.0
-
 module _ (name : List ℕ) (old : Outside) (told : IsTrue old.site.observable) (holds : HoldsAccepted old) where
   begin_refuses : (now : Outside) (f : Fault) → BeginCause name old now f → IsRefusal f → ⊥
   unfolding IsRefusal
@@ -268,9 +261,8 @@ module _ (name : List ℕ) (old : Outside) (told : IsTrue old.site.observable) (
   -- the script that ran is the one that the source held, and it ran on what the history comes to
   ran_accepted : (now : Outside) (why : SessionFault) (on : RanOn name old now (Err why)) → (ran (committed on.view) on.statements).end ≡ finished
   ran_accepted now why on =
-      let history = on.is.history told in
-      let state : committed on.view ≡ state_of holds.publisher holds.es =
-      committed_is on.view history.publisher history.es history.database.is ∙ same_state history.publisher holds.publisher history.es holds.es old.site.files history.stood holds.stand in
+      let database = (on.is.history told).each holds.publisher holds.es holds.stand in
+      let state : committed on.view ≡ state_of holds.publisher holds.es = committed_is on.view holds.publisher holds.es database.is in
       let script : on.statements ≡ holds.statements =
       written_once old.input.left on.statements holds.statements (subst (λ (l : List ℕ). IsWritten l on.statements) (sym (on.script.read.was holds.script.told)) on.script.written) holds.script.written in
       ap (λ (s : State). (ran s on.statements).end) state ∙ ap (λ (l : List Stmt). (ran (state_of holds.publisher holds.es) l).end) script ∙ holds.accepted

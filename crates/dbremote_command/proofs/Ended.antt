@@ -11,7 +11,7 @@ use Rattle.dbremote_command.specs.Agents.{AgentStopped}
 use Rattle.dbremote_command.specs.Inner.Agents.{AgentRanSome}
 use Rattle.dbremote_command.specs.Faults.{fault_line, status_of}
 use Rattle.dbremote_command.specs.Making.{created_line, IsGuarded, IsMade, MakeCause}
-use Rattle.dbremote_command.specs.Outside.{outside, IsAttachTried}
+use Rattle.dbremote_command.specs.Outside.{outside, IsAttachTried, IsAttachTriedForHistory}
 use Rattle.dbremote_command.specs.Reports.{HasNumbers, Wrote}
 use Rattle.dbremote_command.specs.Running.{IsUntouched, RanWhole, Stopped}
 use Rattle.dbremote_command.specs.Runs.{Told, RanInit, RanSql, RanShow, RanAgentOrder, IsRefused}
@@ -41,7 +41,7 @@ module _ (name : List ℕ) (before after : Seen) (input left : Input) (old new :
       → RanSql name (outside before input old) (outside after left new) status
   sql_ended fault between status stopped told = record { tried = tried; no_mail = mail; ended = inr (record { fault = fault; between = between; stopped = stopped; line = told }) }
 
-module _ (name mail : List ℕ) (options : Options) (before after : Seen) (input : Input) (old new : Output) (tried : IsAttachTried name mail before after) where
+module _ (name mail : List ℕ) (options : Options) (before after : Seen) (input : Input) (old new : Output) (tried : IsAttachTriedForHistory name mail before after) where
   pub agent_done : (status count : ℕ) → AgentRanSome name mail options (outside before input old) (outside after input new) count → (count ≡ 0 → status ≡ 0) → (count ≢ 0 → status ≡ 1)
       → RanAgentOrder name mail options (outside before input old) (outside after input new) status
   agent_done status count ran none some = record { tried = tried; input = refl; ended = inl (record { count = count; ran = ran; none = none; some = some }) }

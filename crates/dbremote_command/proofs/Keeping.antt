@@ -1,29 +1,28 @@
 -- What a database that was kept open is on the attached site, and what is kept of it after a run.
-use Rattle.std.proofs.Common.{◌≡◌, true, false, List, [], ◌++◌, ℕ, Option, Some, sym, subst, ◌∙◌}
+use Rattle.std.proofs.Common.{◌≡◌, true, false, List, [], ℕ, Option, Some, refl, sym, subst, ◌∙◌}
 use Rattle.std.specs.Prelude.{IfSome, IsTrue, Ok}
-use Rattle.sr_agent.specs.Agents.{RanAgent, RanWhole}
-use Rattle.sr_agent.specs.Runs.{after_run}
+use Rattle.sr_agent.specs.Agents.{RanAgent}
 use Rattle.sr_agent.specs.declared.options.Options.{Options}
 use Rattle.sr_ast.specs.declared.stmt.Stmt.{Stmt}
-use Rattle.sr_book.specs.Entries.{Name}
 use Rattle.sr_database.specs.Inner.Causes.{OpenCause}
-use Rattle.sr_database.specs.Databases.{IsDatabase, IsHeld, HasDatabase}
+use Rattle.sr_database.specs.InForce.{HasLogInForce}
 use Rattle.sr_database.specs.Views.{View}
+use Rattle.sr_database.proofs.Advancing.{none_advanced}
+use Rattle.sr_database.proofs.InForce.{in_force_still}
 use Rattle.sr_database_files.specs.declared.fault.DatabaseFault.{DatabaseFault}
 use Rattle.sr_database_files.specs.declared.fault.DatabaseFault.TheVariants as store
 use Rattle.sr_database_history.specs.Recorded.{Recorded}
-use Rattle.sr_session_script.specs.Acts.{entries_of}
 use Rattle.sr_database.specs.Broken.{IsBroken}
 use Rattle.sr_session.specs.Runs.{RanScript}
 use Rattle.sr_site.specs.Causes.{Rose}
 use Rattle.sr_site.specs.Files.{Files}
 use Rattle.sr_site.specs.Seen.{Seen}
 use Rattle.sr_site.specs.Streams.{Output}
-use Rattle.sr_database_meaning.specs.Damage.{IsMissing, IsDamagedAt}
+use Rattle.sr_database_files.specs.Damage.{IsMissing, IsDamagedAt}
 use Rattle.dbremote_command.specs.Inner.Attaching.{AttachCause, Attaches}
 use Rattle.dbremote_command.specs.Inner.Kept.{IsKept}
 use Rattle.dbremote_command.specs.Running.{IsOpened, OpenedCause}
-use Rattle.dbremote_command.proofs.Opened.{attached_still, settled_on, told_on, untouched_still}
+use Rattle.dbremote_command.proofs.Opened.{attached_still, history_of, images_before, told_on, untouched_still}
 
 -- ---- the attached site
 
@@ -48,34 +47,22 @@ not_opened name mail before middle now (store.Long size limit) attaches steady c
 not_opened name mail before middle now store.Memory attaches steady cause = cause ∙ steady
 
 module _ (name mail : List ℕ) (before now : Seen) (view : View) (attaches : Attaches name mail true before now) where
-  database_still : (publisher : Name) (es : List Recorded) → IsTrue before.observable → IsDatabase view publisher es before → IsDatabase view publisher es now
-  database_still publisher es told there = record {
-    is = there.is;
-    held = subst (λ (f : Files). IsHeld view publisher es f) (sym (attaches.files told)) there.held;
-    settled = settled_on (IsHeld view publisher es) name mail true before now told attaches there.settled;
+  -- its log is still in force
+  force_still : IsTrue before.observable → HasLogInForce view before → HasLogInForce view now
+  force_still told has = in_force_still view view before now refl (none_advanced view) (attaches.files told) (images_before name mail true before now told attaches) has
+
+  -- the database that was open is that of each history for which the files stand
+  pub opened_still : IsKept view before → now.disk_faults ≡ before.disk_faults → IsOpened name mail view before now
+  opened_still kept steady = record {
+    attached = attached_still name mail before now attaches;
+    steady = steady;
+    no_mail = attaches.stays;
+    history = λ told. history_of before now view (attaches.files told) (force_still told kept.has);
+    untouched = untouched_still name mail true before now attaches;
   }
 
-  -- the database that was open is the one that the files stand for
-  pub opened_still : IsKept view before → now.disk_faults ≡ before.disk_faults → IsOpened name mail view before now
-  opened_still kept steady =
-      let there = kept.has in
-      record {
-        attached = attached_still name mail before now attaches;
-        steady = steady;
-        no_mail = attaches.stays;
-        history = λ told. record {
-          publisher = there.publisher;
-          es = there.es;
-          stood = record { base = view.log.base; stands = there.is.held.stands };
-          database = database_still there.publisher there.es told there.is;
-        };
-        untouched = untouched_still name mail true before now attaches;
-      }
-
-  pub has_still : IsKept view before → IsTrue now.observable → HasDatabase view now
-  has_still kept told =
-      let there = kept.has in
-      record { publisher = there.publisher; es = there.es; is = database_still there.publisher there.es (sym attaches.stays.observable ∙ told) there.is }
+  pub has_still : IsKept view before → IsTrue now.observable → HasLogInForce view now
+  has_still kept told = force_still (sym attaches.stays.observable ∙ told) kept.has
 
 -- ---- after a run that no fault ended
 
@@ -83,37 +70,18 @@ module _ (name mail : List ℕ) (before now : Seen) (view : View) (attaches : At
 pub kept_in : (kept : Option View) (view : View) (seen : Seen) → kept ≡ Some view → (IsTrue seen.observable → IsKept view seen) → IsTrue seen.observable → IfSome kept (λ db. IsKept db seen)
 kept_in kept view seen is has told = subst (λ (k : Option View). IfSome k (λ db. IsKept db seen)) (sym is) (has told)
 
-pub still_kept : (view : View) (seen : Seen) → (view.log.usable ≡ true) × (view.pending ≡ []) → (IsTrue seen.observable → HasDatabase view seen) → IsTrue seen.observable → IsKept view seen
+pub still_kept : (view : View) (seen : Seen) → (view.log.usable ≡ true) × (view.pending ≡ []) → (IsTrue seen.observable → HasLogInForce view seen) → IsTrue seen.observable → IsKept view seen
 still_kept view seen ready has told = record { usable = ready.0; pending = ready.1; has = has told }
 
 pub script_kept : (old new : View) (before now : Seen) (written written' : Output) (statements : List Stmt) (count : ℕ) → RanScript old new before now written written' statements (Ok count)
-    → (IsTrue before.observable → HasDatabase old before) → IsTrue now.observable → IsKept new now
+    → (IsTrue before.observable → HasLogInForce old before) → IsTrue now.observable → IsKept new now
 script_kept old new before now written written' statements count ran has told =
     let usable : new.log.usable ≡ true = (subst (λ (l : List Recorded). IsBroken l new before now) ran.ends.0.none ran.reached.state).0 in
     let told_before : IsTrue before.observable = sym ran.reached.stays.observable ∙ told in
-    let there = has told_before in
-    record {
-      usable = usable;
-      pending = ran.pending;
-      has = record {
-        publisher = there.publisher;
-        es = there.es ++ entries_of ran.acts;
-        is = ran.reached.database told_before usable there.publisher there.es there.is;
-      };
-    }
+    record { usable = usable; pending = ran.pending; has = ran.reached.in_force told_before usable (has told_before) }
 
 pub agent_kept : (old new : View) (before now : Seen) (written written' : Output) (options : Options) (count : ℕ) → RanAgent old new before now written written' options (Ok count)
-    → (IsTrue before.observable → HasDatabase old before) → IsTrue now.observable → IsKept new now
+    → (IsTrue before.observable → HasLogInForce old before) → IsTrue now.observable → IsKept new now
 agent_kept old new before now written written' options count ran has told =
     let told_before : IsTrue before.observable = sym ran.ended.site.observable ∙ told in
-    let there = has told_before in
-    let whole : RanWhole new before now there.publisher there.es options ran.lines = ran.did told_before there.publisher there.es there.is in
-    record {
-      usable = ran.ended.usable;
-      pending = ran.ended.pending;
-      has = record {
-        publisher = there.publisher;
-        es = after_run there.publisher there.es whole.run;
-        is = whole.came.database;
-      };
-    }
+    record { usable = ran.ended.usable; pending = ran.ended.pending; has = ran.in_force told_before (has told_before) }

@@ -1,25 +1,18 @@
 -- What an attached site and an opened database are, from what their calls leave.
 use Rattle.std.proofs.Common.{◌≡◌, Bool, true, false, List, [], ◌∷◌, ◌++◌, ℕ, refl, sym, ap, ◌∙◌, subst, inl, inr}
-use Rattle.std.specs.Prelude.{IsTrue, Result, map}
-use Rattle.sr_ast.specs.declared.stmt.Stmt.{Stmt}
+use Rattle.std.specs.Prelude.{IsTrue}
 use Rattle.sr_book.specs.Entries.{Name}
-use Rattle.sr_database.specs.Databases.{HasDatabase}
 use Rattle.sr_database_files.specs.Fresh.{IsNoneOrNew, IsThere}
+use Rattle.sr_database.specs.InForce.{HasLogInForce}
 use Rattle.sr_database.specs.Views.{View}
-use Rattle.sr_database_history.specs.Recorded.{Recorded}
 use Rattle.sr_site.specs.Causes.{DiskStays}
 use Rattle.sr_site.specs.Files.{Files}
 use Rattle.sr_site.specs.Inner.Growing.{disk_stays_on, throughout_each}
 use Rattle.sr_site.specs.Happenings.{Grows, Happening, IsMoment, Throughout, attached}
 use Rattle.sr_site.specs.Images.{MayLeave, IsImage, IsSettled, RestsThroughout}
 use Rattle.sr_site.specs.Seen.{Seen}
-use Rattle.sr_session_script.specs.Acts.{entries_of}
-use Rattle.sr_session.specs.Runs.{RanScript}
-use Rattle.sr_session.specs.declared.fault.SessionFault.{SessionFault}
-use Rattle.sr_site.specs.Streams.{Output}
-use Rattle.sr_database_meaning.specs.Events.{commit, attaches_in}
+use Rattle.sr_database_meaning.specs.Events.{attaches_in}
 use Rattle.sr_database_meaning.specs.Standing.{StandsFor}
-use Rattle.sr_database_meaning.proofs.Going.{told_attaches}
 use Rattle.dbremote_command.specs.Inner.Attaching.{Attaches}
 use Rattle.dbremote_command.specs.Making.{IsGuarded, IsMade}
 use Rattle.dbremote_command.specs.Outside.{IsAttached, IsAttachTried}
@@ -148,18 +141,15 @@ untouched_on name mail before middle now attaches same rests = record {
   moments = λ told. images_on name mail before middle now told attaches (rests (told_on before middle attaches.stays told));
 }
 
--- the history of a value that was opened on the files that stood before
-history_of : (before now : Seen) (view : View) → now.files ≡ before.files → HasDatabase view now → HasHistory view before now
-history_of before now view same has =
-    record {
-      publisher = has.publisher;
-      es = has.es;
-      stood = record { base = view.log.base; stands = subst (λ (f : Files). StandsFor has.publisher has.es view.log.base f) same has.is.held.stands };
-      database = has.is;
-    }
+-- the histories of a value whose log is in force, of files that stood before
+pub history_of : (before now : Seen) (view : View) → now.files ≡ before.files → HasLogInForce view now → HasHistory view before now
+history_of before now view same has = record {
+  each = λ publisher es stood. has.each publisher es stood.base (subst (λ (f : Files). StandsFor publisher es stood.base f) (sym same) stood.stands);
+  in_force = has;
+}
 
 pub opened : (name mail : List ℕ) (before middle now : Seen) (view : View) → Attaches name mail true before middle → middle.disk_faults ≡ before.disk_faults → DiskStays middle now → AttachesStay middle now → now.disk_faults ≡ middle.disk_faults
-    → (IsTrue middle.observable → now.files ≡ middle.files) → (IsTrue middle.observable → RestsThroughout (IsImage middle) middle now) → (IsTrue middle.observable → HasDatabase view now)
+    → (IsTrue middle.observable → now.files ≡ middle.files) → (IsTrue middle.observable → RestsThroughout (IsImage middle) middle now) → (IsTrue middle.observable → HasLogInForce view now)
     → IsOpened name mail view before now
 opened name mail before middle now view attaches steady stays alone still same rests has =
     let told_there : IsTrue before.observable → IsTrue middle.observable = told_on before middle attaches.stays in
@@ -182,13 +172,6 @@ guarded_still name mail user before now attaches = record {
 pub tried_more : (name mail : List ℕ) (before middle now : Seen) → DiskStays before middle → IsAttached name mail before middle → Grows middle.happened now.happened → AttachesStay middle now → IsAttachTried name mail before now
 tried_more name mail before middle now first attached_there grows same =
     inl (λ told. record { first = grows (attached name mail true ∷ before.happened) (attached_there told).first; once = same (told_on before middle first told) ∙ (attached_there told).once })
-
--- a script that runs on a database attaches nothing
-pub ran_attaches : (old new : View) (before now : Seen) (written written' : Output) (statements : List Stmt) (result : Result ℕ SessionFault)
-    → RanScript old new before now written written' statements result → (IsTrue before.observable → HasDatabase old before) → AttachesStay before now
-ran_attaches old new before now written written' statements result ran has told =
-    let there = has told in
-    told_attaches before now there.publisher there.es (map commit (entries_of ran.acts ++ ran.broken)) (ran.reached.went told there.publisher there.es there.is)
 
 pub ruleset attaching = (tried_refused, tried_still)
 

@@ -36,22 +36,19 @@ abbrev pub AreCaughtUp : Name → List Recorded → List FetchedFile → List Pa
 AreCaughtUp publisher es fetched_files [] = ⊤
 AreCaughtUp publisher es fetched_files (t ∷ earlier) = AreCaughtUp publisher es fetched_files earlier × IsCaughtUp publisher (after_partner_passes publisher es fetched_files earlier) fetched_files t
 
--- the files stood for a history, and stand for that with what a run added, in which each partner had his pass and is caught up; just what the
--- run did happened to the mail
-pub record HasCaughtUp (options : Options) (old new : Outside) : Type 0 where
-  pub publisher : Name
-  pub es : List Recorded
+-- the files stand for a history with what a run added, in which each partner had his pass and is caught up; just what the run did happened to the mail
+pub record HasCaughtUp (publisher : Name) (es : List Recorded) (options : Options) (old new : Outside) : Type 0 where
   pub run : Run
-  pub stood : StandsAs publisher es old.site.files
   pub is : IsRun publisher es options run
   pub mail : MailDone publisher es options run old.site new.site
   pub each : users_in run.partner_passes ≡ partners publisher es
   pub caught_up : AreCaughtUp publisher es (fetched_files_of run.gathered) run.partner_passes
   pub stands : StandsAs publisher (after_run publisher es run) new.site.files
 
--- so it is where the agent received, and no fault ended it
+-- so it is where the agent received, and no fault ended it, of each history for which the files stood
 abbrev pub CatchesUp : Order → Outside → Outside → ℕ → Type 0
 CatchesUp (Init name user) old new status = ⊤
 CatchesUp (Sql name) old new status = ⊤
 CatchesUp (Show name) old new status = ⊤
-CatchesUp (Agent name mail options) old new status = IsTrue old.site.observable → IsTrue options.receive → status ≤ 1 → HasCaughtUp options old new
+CatchesUp (Agent name mail options) old new status =
+    IsTrue old.site.observable → IsTrue options.receive → status ≤ 1 → (publisher : Name) (es : List Recorded) → StandsAs publisher es old.site.files → HasCaughtUp publisher es options old new

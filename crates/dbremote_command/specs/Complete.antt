@@ -12,7 +12,7 @@ use Rattle.sr_session_script.specs.Scripts.{ran, finished}
 use Rattle.sr_site.specs.Causes.{Rose}
 use Rattle.sr_site.specs.Files.{Files}
 use Rattle.sr_site.specs.Streams.{Input, Output}
-use Rattle.sr_database_meaning.specs.Damage.{IsMissing}
+use Rattle.sr_database_files.specs.Damage.{IsMissing}
 use Rattle.sr_database_meaning.specs.Standing.{StandsAs}
 use Rattle.dbremote_command.specs.Agents.{AgentRan, AgentStopped}
 use Rattle.dbremote_command.specs.Outside.{Outside}

@@ -6,6 +6,7 @@ use Rattle.sr_base.specs.Refusals.{IsNotUtf8}
 use Rattle.sr_base.specs.declared.refusals.NotUtf8.TheVariants as utf8
 use Rattle.sr_book.specs.Entries.{Name}
 use Rattle.sr_database.specs.Databases.{IsDatabase}
+use Rattle.sr_database.specs.InForce.{HasLogInForce}
 use Rattle.sr_database.specs.Views.{View}
 use Rattle.sr_database_files.specs.declared.fault.DatabaseFault.{DatabaseFault}
 use Rattle.sr_database_files.specs.declared.fault.DatabaseFault.TheVariants as store
@@ -19,7 +20,7 @@ use Rattle.sr_site.specs.Causes.{DiskStays, Rose}
 use Rattle.sr_site.specs.Images.{IsImage, RestsThroughout}
 use Rattle.sr_site.specs.Seen.{Seen}
 use Rattle.sr_site.specs.Streams.{Input}
-use Rattle.sr_database_meaning.specs.Damage.{IsMissing, IsDamagedAt}
+use Rattle.sr_database_files.specs.Damage.{IsMissing, IsDamagedAt}
 use Rattle.sr_database_meaning.specs.Standing.{StandsAs}
 use Rattle.dbremote_command.specs.Limits.{most_script}
 use Rattle.dbremote_command.specs.Outside.{Outside, IsAttached, HasRead}
@@ -31,14 +32,12 @@ pub record IsUntouched (before now : Seen) : Type 0 where
   pub files : IsTrue before.observable → now.files ≡ before.files
   pub moments : IsTrue before.observable → RestsThroughout (IsImage before) before now
 
--- the value is the database of a history for which the files stood before
+-- the value is the database of each history for which the files stood before; and its log is in force, also where they stood for none
 pub record HasHistory (view : View) (before now : Seen) : Type 0 where
-  pub publisher : Name
-  pub es : List Recorded
-  pub stood : StandsAs publisher es before.files
-  pub database : IsDatabase view publisher es now
+  pub each : (publisher : Name) (es : List Recorded) → StandsAs publisher es before.files → IsDatabase view publisher es now
+  pub in_force : HasLogInForce view now
 
--- a database was opened: where its files tell, it is that of a history for which the files of this name stand, and every crash leaves it. The mail was left
+-- a database was opened: where its files tell, it is that of each history for which the files of this name stand, and every crash leaves it. The mail was left
 -- alone
 pub record IsOpened (name mail : List ℕ) (view : View) (before now : Seen) : Type 0 where
   pub attached : IsAttached name mail before now

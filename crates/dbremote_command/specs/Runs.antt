@@ -8,7 +8,7 @@ use Rattle.sr_site.specs.Streams.{Output, OutputStays}
 use Rattle.dbremote_command.specs.Agents.{AgentDone, AgentRan, AgentStopped}
 use Rattle.dbremote_command.specs.Faults.{fault_line, status_of}
 use Rattle.dbremote_command.specs.Making.{created_line, IsGuarded, IsMade, MakeCause}
-use Rattle.dbremote_command.specs.Outside.{Outside, IsAttachTried}
+use Rattle.dbremote_command.specs.Outside.{Outside, IsAttachTried, IsAttachTriedForHistory}
 use Rattle.dbremote_command.specs.Reports.{HasNumbers, Wrote}
 use Rattle.dbremote_command.specs.Running.{IsUntouched, RanWhole, Stopped}
 use Rattle.dbremote_command.specs.Showing.{HasShown, ShowCause}
@@ -78,7 +78,7 @@ pub record RanShow (name : List ℕ) (old new : Outside) (status : ℕ) : Type 0
 
 -- `agent NAME --mail FOLDER`, with these options
 pub record RanAgentOrder (name mail : List ℕ) (options : Options) (old new : Outside) (status : ℕ) : Type 0 where
-  pub tried : IsAttachTried name mail old.site new.site
+  pub tried : IsAttachTriedForHistory name mail old.site new.site
   pub input : new.input ≡ old.input
   pub ended : AgentDone name mail options old new status ⊎ EndedBy (AgentStopped name mail options old) new status
 

@@ -2,8 +2,8 @@
 use Rattle.std.specs.Prelude.{ℕ, Bool, true, false, ◌+◌, List, [], ◌∷◌, ◌++◌, length, codes}
 use Rattle.std.specs.Fmt.{decimal}
 use Rattle.sr_book.specs.declared.book.Book.{Book}
-use Rattle.sr_database.specs.Books.{BookMap, book_in}
 use Rattle.sr_database.specs.Views.{View}
+use Rattle.sr_database_files.specs.Books.{BookMap, book_in}
 use Rattle.sr_rows.specs.Marks.{RowMap}
 use Rattle.sr_rows.specs.Walks.{table_rows}
 use Rattle.sr_catalog_schema.specs.declared.table.Table.{Table}

@@ -1,14 +1,14 @@
-ghost use Rattle.std.specs.Prelude.{◌≡◌, ◌≢◌, ◌||◌, false, IfErr, IfOk, IfSome, IsTrue};
+ghost use Rattle.std.specs.Prelude.{◌≡◌, ◌≢◌, ◌||◌, IfErr, IfOk, IfSome, IsTrue};
 ghost use Rattle.sr_mail_cut.specs.Inner.Cuts.{IsMessageLimit};
 ghost use Rattle.dbremote_command.specs.Agents.{AgentStopped};
 ghost use Rattle.dbremote_command.specs.Inner.Agents.{AgentRanSome};
 ghost use Rattle.dbremote_command.specs.Inner.Kept.{IsKept};
-ghost use Rattle.dbremote_command.specs.Outside.{outside, IsAttachTried};
+ghost use Rattle.dbremote_command.specs.Outside.{outside, IsAttachTriedForHistory};
 ghost use Rattle.sr_site.specs.Causes.{Stays};
 ghost use Rattle.sr_site.specs.Streams.{Input};
 
 use crate::fault::Fault;
-use crate::running::{keep, open};
+use crate::running::{keep, open_for_agent};
 use sr_agent::Options;
 use sr_base::Text;
 use sr_database::Database;
@@ -29,16 +29,15 @@ pub fn run_agent<S: Site, O: Sink>(
     now: i64,
 ) -> Result<u32, Fault>
     requires some_pass { IsTrue (options.now.receive || options.now.send) }
-    requires no_restart { options.now.restart ≡ false }
     requires limit { IsMessageLimit options.now.length }
     requires kept { IfSome kept.old (λ db. IsKept db (S.seen site.old)) }
     ensures ran { (input : Input) → IfOk result (AgentRanSome name.now mail.now options.now (outside (S.seen site.old) input (O.seen output.old)) (outside (S.seen site.new) input (O.seen output.new))) }
     ensures stopped { (input : Input) → IfErr result (AgentStopped name.now mail.now options.now (outside (S.seen site.old) input (O.seen output.old)) (outside (S.seen site.new) input (O.seen output.new))) }
     ensures kept { IsTrue (S.seen site.new).observable → IfSome kept.new (λ db. IsKept db (S.seen site.new)) }
-    ensures tried { IsAttachTried name.now mail.now (S.seen site.old) (S.seen site.new) }
+    ensures tried { IsAttachTriedForHistory name.now mail.now (S.seen site.old) (S.seen site.new) }
     ensures stays { Stays (S.seen site.old) (S.seen site.new) }
 {
-    match open(alloc, name, mail, kept.take(), site) {
+    match open_for_agent(alloc, name, mail, options.restart, kept.take(), site) {
         Ok(mut database) => {
             let ran = agent(alloc, &mut database, site, options, now, output);
             match ran {

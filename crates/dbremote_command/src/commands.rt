@@ -1,4 +1,4 @@
-ghost use Rattle.std.specs.Prelude.{◌≡◌, ◌||◌, ℕ, List, [], false, None, IfSome, IsTrue};
+ghost use Rattle.std.specs.Prelude.{◌≡◌, ◌||◌, ℕ, List, [], None, IfSome, IsTrue};
 ghost use Rattle.sr_database_history.specs.Recorded.{Recorded};
 ghost use Rattle.sr_mail_cut.specs.Inner.Cuts.{IsMessageLimit};
 ghost use Rattle.sr_site.specs.Causes.{DiskStays, Stays};
@@ -179,7 +179,6 @@ fn command_agent<S: Site, O: Sink>(
     now: i64,
 ) -> u8
     requires some_pass { IsTrue (options.now.receive || options.now.send) }
-    requires no_restart { options.now.restart ≡ false }
     requires limit { IsMessageLimit options.now.length }
     requires kept { IfSome kept.old (λ db. IsKept db (S.seen site.old)) }
     ensures ran { (input : Input) → RanAgentOrder name.now mail.now options.now (outside (S.seen site.old) input (O.seen output.old)) (outside (S.seen site.new) input (O.seen output.new)) result }

@@ -1,6 +1,7 @@
 ghost use Rattle.std.specs.Prelude.{◌≡◌, [], true, ℕ, List, Some, IsTrue, IfOk, IfErr, IfSome, OnOk};
 ghost use Rattle.std.specs.List.{AllByRecursion};
-ghost use Rattle.sr_database.specs.Databases.{HasDatabase};
+ghost use Rattle.sr_database.specs.Databases.{HasBeginning};
+ghost use Rattle.sr_database.specs.InForce.{HasLogInForce};
 ghost use Rattle.sr_ast.specs.NormalForms.{IsNormal};
 ghost use Rattle.sr_site.specs.Causes.{DiskStays};
 ghost use Rattle.sr_site.specs.Seen.{Seen};
@@ -31,7 +32,7 @@ pub(crate) fn open<S: Site>(
     requires kept { IfSome kept (λ db. IsKept db (S.seen site.old)) }
     ensures opened { IfOk result (λ db. IsOpened name.now mail.now db (S.seen site.old) (S.seen site.new)) }
     ensures ready { IfOk result (λ db. (db.log.usable ≡ true) × (db.pending ≡ [])) }
-    ensures stands { IsTrue (S.seen site.new).observable → IfOk result (λ db. HasDatabase db (S.seen site.new)) }
+    ensures stands { IsTrue (S.seen site.new).observable → IfOk result (λ db. HasLogInForce db (S.seen site.new)) }
     ensures tried { IsAttachTried name.now mail.now (S.seen site.old) (S.seen site.new) }
     ensures untouched { IsUntouched (S.seen site.old) (S.seen site.new) }
     ensures stays { DiskStays (S.seen site.old) (S.seen site.new) }
@@ -55,7 +56,7 @@ fn go_on<S: Site>(
     requires kept { IsKept database (S.seen site.old) }
     ensures opened { IfOk result (λ db. IsOpened name.now mail.now db (S.seen site.old) (S.seen site.new)) }
     ensures ready { IfOk result (λ db. (db.log.usable ≡ true) × (db.pending ≡ [])) }
-    ensures stands { IsTrue (S.seen site.new).observable → IfOk result (λ db. HasDatabase db (S.seen site.new)) }
+    ensures stands { IsTrue (S.seen site.new).observable → IfOk result (λ db. HasLogInForce db (S.seen site.new)) }
     ensures tried { IsAttachTried name.now mail.now (S.seen site.old) (S.seen site.new) }
     ensures untouched { IsUntouched (S.seen site.old) (S.seen site.new) }
     ensures stays { DiskStays (S.seen site.old) (S.seen site.new) }
@@ -80,7 +81,8 @@ fn open_anew<S: Site>(
 ) -> Result<Database, DatabaseFault>
     ensures opened { IfOk result (λ db. IsOpened name.now mail.now db (S.seen site.old) (S.seen site.new)) }
     ensures ready { IfOk result (λ db. (db.log.usable ≡ true) × (db.pending ≡ [])) }
-    ensures stands { IsTrue (S.seen site.new).observable → IfOk result (λ db. HasDatabase db (S.seen site.new)) }
+    ensures stands { IsTrue (S.seen site.new).observable → IfOk result (λ db. HasLogInForce db (S.seen site.new)) }
+    ensures begins { IsTrue (S.seen site.new).observable → IfOk result (λ db. HasBeginning db (S.seen site.new)) }
     ensures tried { IsAttachTried name.now mail.now (S.seen site.old) (S.seen site.new) }
     ensures untouched { IsUntouched (S.seen site.old) (S.seen site.new) }
     ensures stays { DiskStays (S.seen site.old) (S.seen site.new) }
@@ -96,6 +98,32 @@ fn open_anew<S: Site>(
         }
         Err(fault) => Err(fault),
     }
+}
+
+/// Attaches the files of a name and opens the database for the agent: anew, whatever is kept open, where its log is to begin anew.
+pub(crate) fn open_for_agent<S: Site>(
+    alloc: Global,
+    name: &Text,
+    mail: &Text,
+    restart: bool,
+    kept: Option<Database>,
+    site: &mut S,
+) -> Result<Database, DatabaseFault>
+    requires kept { IfSome kept (λ db. IsKept db (S.seen site.old)) }
+    ensures opened { IfOk result (λ db. IsOpened name.now mail.now db (S.seen site.old) (S.seen site.new)) }
+    ensures ready { IfOk result (λ db. (db.log.usable ≡ true) × (db.pending ≡ [])) }
+    ensures stands { IsTrue (S.seen site.new).observable → IfOk result (λ db. HasLogInForce db (S.seen site.new)) }
+    ensures begins { IsTrue restart → IsTrue (S.seen site.new).observable → IfOk result (λ db. HasBeginning db (S.seen site.new)) }
+    ensures tried { IsAttachTried name.now mail.now (S.seen site.old) (S.seen site.new) }
+    ensures untouched { IsUntouched (S.seen site.old) (S.seen site.new) }
+    ensures stays { DiskStays (S.seen site.old) (S.seen site.new) }
+    ensures cause { IfErr result (OpenedCause (S.seen site.old) (S.seen site.new)) }
+{
+    if restart {
+        drop(kept);
+        return open_anew(alloc, name, mail, site);
+    }
+    open(alloc, name, mail, kept, site)
 }
 
 /// Keeps a database open for the next command.
@@ -119,7 +147,7 @@ pub(crate) fn open_alone<S: Site>(
     requires kept { IfSome kept (λ db. IsKept db (S.seen site.old)) }
     ensures opened { IfOk result (λ db. IsOpened name.now [] db (S.seen site.old) (S.seen site.new)) }
     ensures ready { IfOk result (λ db. (db.log.usable ≡ true) × (db.pending ≡ [])) }
-    ensures stands { IsTrue (S.seen site.new).observable → IfOk result (λ db. HasDatabase db (S.seen site.new)) }
+    ensures stands { IsTrue (S.seen site.new).observable → IfOk result (λ db. HasLogInForce db (S.seen site.new)) }
     ensures tried { IsAttachTried name.now [] (S.seen site.old) (S.seen site.new) }
     ensures untouched { IsUntouched (S.seen site.old) (S.seen site.new) }
     ensures stays { DiskStays (S.seen site.old) (S.seen site.new) }
@@ -139,7 +167,7 @@ fn run_on<S: Site, O: Sink>(
     requires usable { database.old.log.usable ≡ true }
     requires pending { database.old.pending ≡ [] }
     requires normal { AllByRecursion IsNormal script.now }
-    requires stands { IsTrue (S.seen site.old).observable → HasDatabase database.old (S.seen site.old) }
+    requires stands { IsTrue (S.seen site.old).observable → HasLogInForce database.old (S.seen site.old) }
     ensures done { OnOk result (RanToEnd database.old database.new (S.seen site.old) (S.seen site.new) (O.seen output.old) (O.seen output.new) script.now) }
     ensures stopped { IfErr result (RanToFault database.old database.new (S.seen site.old) (S.seen site.new) (O.seen output.old) (O.seen output.new) script.now) }
     ensures kept { IsTrue (S.seen site.new).observable → OnOk result (IsKept database.new (S.seen site.new)) }
@@ -163,7 +191,7 @@ fn read_and_run<S: Site, I: Source, O: Sink>(
 ) -> Result<(), Fault>
     requires usable { database.old.log.usable ≡ true }
     requires pending { database.old.pending ≡ [] }
-    requires stands { IsTrue (S.seen site.old).observable → HasDatabase database.old (S.seen site.old) }
+    requires stands { IsTrue (S.seen site.old).observable → HasLogInForce database.old (S.seen site.old) }
     ensures done { (name : List ℕ) (before : Seen) → IsOpened name [] database.old before (S.seen site.old) → OnOk result (RanWhole name (outside before (I.seen input.old) (O.seen output.old)) (outside (S.seen site.new) (I.seen input.new) (O.seen output.new))) }
     ensures stopped { (name : List ℕ) (before : Seen) → IsOpened name [] database.old before (S.seen site.old) → IfErr result (Stopped name (outside before (I.seen input.old) (O.seen output.old)) (outside (S.seen site.new) (I.seen input.new) (O.seen output.new))) }
     ensures kept { IsTrue (S.seen site.new).observable → OnOk result (IsKept database.new (S.seen site.new)) }

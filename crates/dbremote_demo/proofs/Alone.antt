@@ -37,11 +37,12 @@ use Rattle.sr_world_untouched.specs.Agreeing.{HasShown}
 use Rattle.sr_world_untouched.specs.Inner.Agreeing.{held_in}
 use Rattle.sr_world_untouched.specs.Untouched.{Agrees}
 use Rattle.sr_world.specs.Real.{IsGoodWorld}
-use Rattle.dbremote_demo.proofs.Worlds.{course_good}
+use Rattle.dbremote_demo.proofs.Worlds.{course_good, course_whole}
 use Rattle.dbremote_demo.specs.Courses.{Course}
 use Rattle.dbremote_demo.specs.Demonstrations.{CameTo}
 use Rattle.dbremote_demo.specs.LeftAlone.{AgreesWhereAlone, HasDemoHistories, IsLeftAlone, LeavesAlone, demo_history, demo_state, keys_touched}
 use Rattle.dbremote_demo_draws.specs.Agreement.{differs_above, differs_below, differing, is_among, is_same}
+use Rattle.dbremote_demo_draws.specs.Inner.Whole.{AreWhole}
 use Rattle.dbremote_demo_draws.specs.Lines.{summary_lines}
 use Rattle.dbremote_demo_draws.specs.Names.{text_of}
 use Rattle.dbremote_demo_draws.specs.Places.{disk_at}
@@ -180,15 +181,17 @@ agrees_where_alone statements demo_sites lost summary is w R3 good stands alone 
     below_nowhere w R3 demo_sites is.parts.of_cons.entries is.parts.above summary.parts.r3 good stands is.parts.of_cons.holds is.parts.of_r3 alone
 
 -- what all came to
-pub came_so : (seed statements lost : ℕ) (demo_sites : DemoSites) (summary : Summary) (lines : List ℕ) → Course seed statements demo_sites lost → IsSummary statements demo_sites lost summary
+pub came_so : (seed statements lost : ℕ) (demo_sites : DemoSites) (summary : Summary) (lines : List ℕ) → Course seed statements demo_sites lost → (AreWhole demo_sites → IsSummary statements demo_sites lost summary)
     → lines ≡ summary_lines summary → CameTo seed statements lines
-came_so seed statements lost demo_sites summary lines course counts lines_are = record {
-  demo_sites = demo_sites;
-  lost = lost;
-  course = course;
-  good = course_good seed statements demo_sites lost course;
-  summary = summary;
-  counts = counts;
-  agrees = agrees_where_alone statements demo_sites lost summary counts;
-  lines_are = lines_are;
-}
+came_so seed statements lost demo_sites summary lines course counted lines_are =
+    let counts : IsSummary statements demo_sites lost summary = counted (course_whole seed statements demo_sites lost course) in
+    record {
+      demo_sites = demo_sites;
+      lost = lost;
+      course = course;
+      good = course_good seed statements demo_sites lost course;
+      summary = summary;
+      counts = counts;
+      agrees = agrees_where_alone statements demo_sites lost summary counts;
+      lines_are = lines_are;
+    }

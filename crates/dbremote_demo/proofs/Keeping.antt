@@ -1,7 +1,8 @@
 -- What is known of a database that is open.
-use Rattle.std.proofs.Common.{◌≡◌, Option, Some, None, IfSome, sym, subst}
+use Rattle.std.proofs.Common.{◌≡◌, Option, Some, None, IfSome, refl, sym, subst}
 use Rattle.dbremote_command.specs.Inner.Kept.{IsKept}
-use Rattle.sr_database.specs.Databases.{IsHeld}
+use Rattle.sr_database.proofs.Advancing.{none_advanced}
+use Rattle.sr_database.proofs.InForce.{in_force_stays, in_force_still}
 use Rattle.sr_database.specs.Views.{View}
 use Rattle.dbremote_demo.specs.Inner.Branches.{AreKept, IsKeptAt, kept_at}
 use Rattle.dbremote_demo.specs.declared.kept.Kept.{Kept}
@@ -13,7 +14,6 @@ use Rattle.sr_memsite_mail.specs.Folders.{Folders, files_shown}
 use Rattle.sr_memsite.specs.Disks.{Disk}
 use Rattle.sr_memsite.specs.Handing.{handed}
 use Rattle.sr_memsite.specs.Meaning.{begun}
-use Rattle.sr_site.specs.Files.{Files}
 use Rattle.sr_site.specs.Seen.{Seen}
 use Rattle.dbremote_demo_draws.specs.Places.{disk_at}
 use Rattle.dbremote_demo_draws.specs.declared.demo_sites.DemoSites.{DemoSites}
@@ -35,15 +35,7 @@ kept_in : (view : View) (seen : Seen) → seen.files ≡ standing seen.first see
 kept_in view seen files k = record {
   usable = k.usable;
   pending = k.pending;
-  has = record {
-    publisher = k.has.publisher;
-    es = k.has.es;
-    is = record {
-      is = k.has.is.is;
-      held = subst (λ (f : Files). IsHeld view k.has.publisher k.has.es f) files k.has.is.held;
-      settled = k.has.is.settled;
-    };
-  };
+  has = in_force_stays view seen (begun (record { first = seen.first; happened = seen.happened })) refl (sym files) refl k.has;
 }
 
 -- what a run left open is what the files hold that its site was taken apart into
@@ -57,15 +49,7 @@ kept_over : (view : View) (disk : Disk) (mail : Folders) → IsKept view (begun 
 kept_over view disk mail k = record {
   usable = k.usable;
   pending = k.pending;
-  has = record {
-    publisher = k.has.publisher;
-    es = k.has.es;
-    is = record {
-      is = k.has.is.is;
-      held = subst (λ (f : Files). IsHeld view k.has.publisher k.has.es f) (sym (standing_handed_over disk.first disk.happened (files_shown mail.files) mail.puts)) k.has.is.held;
-      settled = k.has.is.settled;
-    };
-  };
+  has = in_force_still view view (begun disk) (begun (handed disk mail)) refl (none_advanced view) (standing_handed_over disk.first disk.happened (files_shown mail.files) mail.puts) (λ image there. there) k.has;
 }
 
 pub kept_handed : (one : Option View) (disk : Disk) (mail : Folders) (seen : Seen) → seen ≡ begun (handed disk mail) → IsKeptAt one disk → IfSome one (λ view. IsKept view seen)

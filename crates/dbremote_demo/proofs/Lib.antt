@@ -1,4 +1,5 @@
 mod Alone
+pub mod Bases
 mod Chains
 mod Counted
 mod Endings

@@ -4,9 +4,11 @@ use Rattle.std.proofs.lemmas.List.{append_cancel_right, map-append}
 use Rattle.std.proofs.lemmas.List.Elements.{Contains-append_left, Contains-append_right}
 use Rattle.std.specs.List.{AllByRecursion}
 use Rattle.std.specs.Prelude.{Contains}
-use Rattle.dbremote_command.proofs.Cases.{order_done, order_steps}
+use Rattle.dbremote_command.proofs.Cases.{AgentFinds, AsksFor, order_done, order_steps}
 use Rattle.dbremote_command.proofs.Statuses.{told_never_one, told_never_zero}
+use Rattle.dbremote_command.specs.Complete.{AreDatabase}
 use Rattle.dbremote_command.specs.Outside.{Outside}
+use Rattle.dbremote_demo.proofs.Bases.{IsAtZero, KeepsAll, KeepsLog, base_of, order_at_zero}
 use Rattle.dbremote_demo.proofs.Lying.{AllLie, IsOneOf, came_known, lies_since, noted_since}
 use Rattle.dbremote_demo.proofs.Tasks.{ended_task, other_disk, own_disk, task_as_happened, task_order, task_truthful, which}
 use Rattle.dbremote_demo.specs.GoodWorlds.{demo_begins, demo_names, demo_world, put_at}
@@ -20,7 +22,8 @@ use Rattle.sr_book.specs.Entries.{Name}
 use Rattle.sr_database_history.specs.Recorded.{Recorded}
 use Rattle.sr_database_meaning.proofs.Going.{none_put}
 use Rattle.sr_database_meaning.specs.Events.{PutFile, puts_in}
-use Rattle.sr_database_meaning.specs.Standing.{StandsAs}
+use Rattle.sr_database_meaning.specs.Standing.{StandsFor}
+use Rattle.sr_memsite_disk.proofs.Standing.{standing_is_image}
 use Rattle.sr_memsite.specs.Disks.{Disk}
 use Rattle.sr_memsite.specs.Handing.{AreAsHappened, IsTruthful, handing}
 use Rattle.sr_memsite.specs.Meaning.{begun}
@@ -30,12 +33,15 @@ use Rattle.sr_send.specs.Posting.{PutSucceeded}
 use Rattle.sr_site.specs.Causes.{Rose}
 use Rattle.sr_site.specs.Files.{Files}
 use Rattle.sr_site.specs.Happenings.{Happening}
-use Rattle.sr_site.specs.Images.{IsSettled, MayLeave}
+use Rattle.sr_site.specs.Images.{IsImage, IsSettled, MayLeave}
 use Rattle.sr_site.specs.Seen.{Seen}
 use Rattle.sr_world_model.specs.Runs.{WorldRun}
 use Rattle.sr_world_model.specs.Worlds.{World, IsNamed, acts_by, after_all, history}
 use Rattle.sr_world.specs.Real.{AreRunsIn, IsGoodWorld}
+use Rattle.sr_world_prefix.proofs.Kept.{as_it_stands}
+use Rattle.sr_world_prefix.specs.Kept.{StandsKeeping}
 use Rattle.sr_world_runs.proofs.Chaining.{contains_first, contains_later}
+use Rattle.sr_world_runs.proofs.Keeping.{new_keeps}
 use Rattle.sr_world_runs.proofs.Living.{are_more, files_more, first_of_fresh, named_runs, others_all, runs_more}
 use Rattle.sr_world_runs.proofs.NextRuns.{by_files, good_there, history_all, messages_there}
 use Rattle.sr_world_runs.proofs.Resting.{none_mail}
@@ -59,21 +65,23 @@ one_of_four R3 =
 
 -- a database was made, and all that a crash may leave of it stands for its history in the world; or it was not, and has none there
 abbrev pub Stands : World Recorded → Bool → DemoSite → Disk → Type 0
-Stands w true d disk = IsSettled (StandsAs (text_of d) (history w (text_of d))) (begun disk)
+Stands w true d disk = IsSettled (StandsKeeping (text_of d) (history w (text_of d))) (begun disk)
 Stands w false d disk = history w (text_of d) ≡ []
 
 pub stands_same : (w there : World Recorded) (b : Bool) (d : DemoSite) (disk other : Disk) → history there (text_of d) ≡ history w (text_of d) → other ≡ disk → Stands w b d disk → Stands there b d other
 stands_same w there true d disk other same is stands =
-    subst (λ (x : Disk). IsSettled (StandsAs (text_of d) (history there (text_of d))) (begun x)) (sym is)
-    (subst (λ (rs : List Recorded). IsSettled (StandsAs (text_of d) rs) (begun disk)) (sym same) stands)
+    subst (λ (x : Disk). IsSettled (StandsKeeping (text_of d) (history there (text_of d))) (begun x)) (sym is)
+    (subst (λ (rs : List Recorded). IsSettled (StandsKeeping (text_of d) rs) (begun disk)) (sym same) stands)
 stands_same w there false d disk other same is none = same ∙ none
 
--- the runs so far lead to a good world; those that were made stand for their histories there; and each file that lies in a folder is one of its messages
+-- the runs so far lead to a good world; those that were made stand for their histories there, in logs that begin at 0; and each file that lies in a folder is
+-- one of its messages
 pub record SoFar (made : DemoSite → Bool) (demo_sites : DemoSites) : Type 0 where
   pub runs : List (WorldRun Recorded)
   pub are : AreRunsIn demo_begins runs
   pub good : IsGoodWorld (demo_world runs)
   pub each : (d : DemoSite) → Stands (demo_world runs) (made d) d (disk_at d demo_sites)
+  pub zero : KeepsAll made demo_sites
   pub put_files : List PutFile
   pub put : AreFiles put_files (demo_world runs).messages
   pub lies : AllLie (IsOneOf (demo_world runs).messages) demo_sites.mail.files
@@ -84,9 +92,29 @@ pub all_lie_more : (P Q : List ℕ → Type 0) → ((bytes : List ℕ) → P byt
 all_lie_more P Q goes [] all = tt
 all_lie_more P Q goes (f ∷ files) all = (goes f.2 all.0, all_lie_more P Q goes files all.1)
 
+-- a read gives what a crash might leave
+pub read_there : (d : DemoSite) (demo_sites : DemoSites) → IsImage (begun_at d demo_sites) (begun_at d demo_sites).files
+read_there d demo_sites = standing_is_image (disk_at d demo_sites).first (handing demo_sites.mail ∷ (disk_at d demo_sites).happened)
+
+-- a database that was made is there
+module _ (made : DemoSite → Bool) (old : DemoSites) (d : DemoSite) (so : SoFar made old) (is : made d ≡ true) where
+  pub stood_there : IsSettled (StandsKeeping (text_of d) (history (demo_world so.runs) (text_of d))) (begun (disk_at d old))
+  stood_there = subst (λ (b : Bool). Stands (demo_world so.runs) b d (disk_at d old)) is (so.each d)
+
+  pub all_there : IsSettled AreDatabase (begun_at d old)
+  all_there = λ image left. record {
+    publisher = text_of d;
+    es = history (demo_world so.runs) (text_of d);
+    stand = as_it_stands (text_of d) (history (demo_world so.runs) (text_of d)) image (stood_there image left);
+  }
+
+  pub database_there : AreDatabase (begun_at d old).files
+  database_there = all_there (begun_at d old).files (read_there d old)
+
 -- ---- one task more
 
-module _ (made : DemoSite → Bool) (old new : DemoSites) (task : Task) (so : SoFar made old) (status : ℕ) (lines : List ℕ) (ran : RanTask task old new status lines) (well : (status ≡ 0) ⊎ (status ≡ 1)) where
+module _ (made : DemoSite → Bool) (old new : DemoSites) (task : Task) (so : SoFar made old) (status : ℕ) (lines : List ℕ) (ran : RanTask task old new status lines) (well : (status ≡ 0) ⊎ (status ≡ 1))
+    (finds : AgentFinds task.order (begun_at task.demo_site old).files) where
   abbrev d : DemoSite
   d = task.demo_site
 
@@ -106,19 +134,19 @@ module _ (made : DemoSite → Bool) (old new : DemoSites) (task : Task) (so : So
   ended = ended_task old new task status lines ran
 
   abbrev order : CallsInOrder before now
-  order = task_order old new task status lines ran
+  order = task_order old new task status lines ran finds
 
   abbrev since : List Happening
   since = order.more
 
   done : AllByRecursion PutSucceeded since
-  done = order_done (outside_of task old) ended refl task.order status ran.ran well since order.is
+  done = order_done (outside_of task old) ended refl task.order status ran.ran finds well since order.is
 
   as_happened : AreAsHappened (since ++ handing old.mail ∷ (disk_at d old).happened) new.mail
-  as_happened = task_as_happened old new task status lines ran
+  as_happened = task_as_happened old new task status lines ran finds
 
   truthful : IsTruthful (since ++ handing old.mail ∷ (disk_at d old).happened)
-  truthful = task_truthful old new task status lines ran
+  truthful = task_truthful old new task status lines ran finds
 
   lies_then : (P : List ℕ → Type 0) → AllLie P old.mail.files → AllByRecursion (λ (l : PutFile). P l.2) (puts_in since) → AllLie P new.mail.files
   lies_then P lies puts = lies_since P old.mail (disk_at d old).happened lies since order.calls puts new.mail as_happened
@@ -142,10 +170,14 @@ module _ (made : DemoSite → Bool) (old new : DemoSites) (task : Task) (so : So
 
   -- ---- on a database that was made
 
-  module _ (stood : IsSettled (StandsAs name (history w name)) (begun (disk_at d old))) where
+  module _ (is : made d ≡ true) (keeps : AsksFor KeepsLog task.order) where
+    stood : IsSettled (StandsKeeping name (history w name)) (begun (disk_at d old))
+    stood = stood_there made old d so is
+
     went : IsFaithfulThroughout w name before now
     went =
-        order_steps task.order (outside_of task old) ended status ran.ran ran.stays w name refl so.good named (on_one stood)
+        order_steps task.order (outside_of task old) ended status ran.ran ran.stays (read_there d old) w name refl so.good named
+        (on_one stood)
         (record {
           more = since;
           is = order.is;
@@ -156,7 +188,7 @@ module _ (made : DemoSite → Bool) (old new : DemoSites) (task : Task) (so : So
     same_since = append_cancel_right went.more since before.happened (sym went.is ∙ order.is)
 
     behind : SettlesBehind w.messages name (history w name) (puts_in went.more) (λ (image : Files). MayLeave before.first (went.more ++ before.happened) image)
-    behind = settled_behind w name before now ran.stays.first stood went steady
+    behind = settled_behind w name before now ran.stays.first (λ image left. as_it_stands name (history w name) image (stood image left)) went steady
 
     abbrev rest : RestsBehind w.messages name (history w name) (puts_in went.more) (λ (image : Files). MayLeave before.first (went.more ++ before.happened) image)
     rest = behind.rest
@@ -198,27 +230,41 @@ module _ (made : DemoSite → Bool) (old new : DemoSites) (task : Task) (so : So
     lies_there = lies_then (IsOneOf there.messages) (all_lie_more (IsOneOf w.messages) (IsOneOf there.messages) one_more _ so.lies) puts_one
 
     -- the files of each stand for its history there
-    own_stands : IsSettled (StandsAs name (history there name)) (begun (disk_at d new))
+    own_stands : IsSettled (StandsKeeping name (history there name)) (begun (disk_at d new))
     own_stands = λ image left.
         let at_now : MayLeave now.first now.happened image = subst (λ (x : Disk). MayLeave x.first x.happened image) (own_disk old new task status lines ran) left in
         let at_first : MayLeave before.first now.happened image = subst (λ (f : Files). MayLeave f now.happened image) ran.stays.first at_now in
-        subst (λ (rs : List Recorded). StandsAs name rs image) (sym (history_all w name rest.database_steps named))
+        subst (λ (rs : List Recorded). StandsKeeping name rs image) (sym (history_all w name rest.database_steps named))
         (behind.all image (subst (λ (h : List Happening). MayLeave before.first h image) went.is at_first))
 
-    each_there : (x : DemoSite) → made d ≡ true → Stands there (made x) x (disk_at x new)
-    each_there x is = elim (which x d) [
+    each_there : (x : DemoSite) → Stands there (made x) x (disk_at x new)
+    each_there x = elim (which x d) [
       | inl same ↦ subst (λ (y : DemoSite). Stands there (made y) y (disk_at y new)) (sym same) (subst (λ (b : Bool). Stands there b d (disk_at d new)) (sym is) own_stands)
       | inr another ↦ stands_same w there (made x) x (disk_at x old) (disk_at x new) (others_all w name (text_of x) rest.database_steps another.named) (other_disk old new task status lines ran x another) (so.each x)
     ]
 
-    stepped : made d ≡ true → SoFar made new
-    stepped is =
+    -- and its log begins where it began
+    own_zero : IsAtZero (begun (disk_at d new))
+    own_zero = λ image left.
+        order_at_zero (outside_of task old) ended refl ran.stays (read_there d old) (all_there made old d so is) (so.zero d is) task.order status keeps ran.ran image
+        (subst (λ (x : Disk). MayLeave x.first x.happened image) (own_disk old new task status lines ran) left)
+
+    zero_there : KeepsAll made new
+    zero_there x made_x = elim (which x d) [
+      | inl same ↦ subst (λ (y : DemoSite). IsAtZero (begun (disk_at y new))) (sym same) own_zero
+      | inr another ↦ subst (λ (k : Disk). IsAtZero (begun k)) (sym (other_disk old new task status lines ran x another)) (so.zero x made_x)
+    ]
+
+    -- a run on a database that was made
+    pub one_more_ran : SoFar made new
+    one_more_ran =
         let e : demo_world (so.runs ++ q ∷ []) ≡ there = runs_more demo_names demo_begins so.runs q in
         record {
           runs = so.runs ++ q ∷ [];
           are = are_more demo_names demo_begins so.runs q so.are (record { named = named; had_been_put = λ m has. has; can = rest.may }, tt);
           good = subst IsGoodWorld (sym e) (good_there w name (puts_in went.more) before.first (went.more ++ before.happened) rest so.good named);
-          each = λ x. subst (λ (v : World Recorded). Stands v (made x) x (disk_at x new)) (sym e) (each_there x is);
+          each = λ x. subst (λ (v : World Recorded). Stands v (made x) x (disk_at x new)) (sym e) (each_there x);
+          zero = zero_there;
           put_files = so.put_files ++ puts_in since;
           put = subst (λ (v : World Recorded). AreFiles (so.put_files ++ puts_in since) v.messages) (sym e)
               (files_more so.put_files (puts_in since) w.messages (put_in rest.database_steps) so.put
@@ -228,10 +274,6 @@ module _ (made : DemoSite → Bool) (old new : DemoSites) (task : Task) (so : So
           noted = noted_then;
         }
 
-  -- a run on a database that was made
-  pub one_more_ran : made d ≡ true → SoFar made new
-  one_more_ran is = stepped (subst (λ (b : Bool). Stands w b d (disk_at d old)) is (so.each d)) is
-
 -- ---- a database more
 
 module _ (made then : DemoSite → Bool) (old new : DemoSites) (d : DemoSite) (so : SoFar made old) (status : ℕ) (lines : List ℕ) (ran : RanTask (making_of d) old new status lines)
@@ -239,23 +281,29 @@ module _ (made then : DemoSite → Bool) (old new : DemoSites) (d : DemoSite) (s
   abbrev world : World Recorded
   world = demo_world so.runs
 
-  here : IsSettled (StandsAs (text_of d) []) (begun (disk_at d new))
-  here = elim ran.ran.ended [
+  made_here : IsSettled (StandsFor (text_of d) [] 0) (begun (disk_at d new))
+  made_here = elim ran.ran.ended [
     | inl all ↦ λ image left.
         let at_now : MayLeave ran.site.first ran.site.happened image
         = subst (λ (x : Disk). MayLeave x.first x.happened image) (own_disk old new (making_of d) status lines ran) left in
-        record { base = 0; stands = all.made.settled refl image at_now }
+        all.made.settled refl image at_now
     | inr by ↦ elim well [
       | inl zero_is ↦ absurd (told_never_zero by.fault by.between (having lines ran.faults) status by.line zero_is)
       | inr one_is ↦ absurd (told_never_one by.fault by.between (having lines ran.faults) status by.line one_is)
     ]
   ]
 
+  here : IsSettled (StandsKeeping (text_of d) []) (begun (disk_at d new))
+  here = λ image left. new_keeps (text_of d) image (record { base = 0; stands = made_here image left })
+
+  here_zero : IsAtZero (begun (disk_at d new))
+  here_zero = λ image left. base_of (text_of d) [] 0 image (made_here image left)
+
   pub one_more_made : made d ≡ false → then d ≡ true → ((x : DemoSite) → (x ≡ d) ⊎ (then x ≡ made x)) → SoFar then new
   one_more_made new_is then_is others =
-      let none : puts_in (task_order old new (making_of d) status lines ran).more ≡ []
-      = none_put (task_order old new (making_of d) status lines ran).more
-      (none_mail (begun_at d old) ran.site (task_order old new (making_of d) status lines ran).more (task_order old new (making_of d) status lines ran).is ran.ran.no_mail) in
+      let none : puts_in (task_order old new (making_of d) status lines ran tt).more ≡ []
+      = none_put (task_order old new (making_of d) status lines ran tt).more
+      (none_mail (begun_at d old) ran.site (task_order old new (making_of d) status lines ran tt).more (task_order old new (making_of d) status lines ran tt).is ran.ran.no_mail) in
       record {
         runs = so.runs;
         are = so.are;
@@ -264,17 +312,23 @@ module _ (made then : DemoSite → Bool) (old new : DemoSites) (d : DemoSite) (s
           | inl same ↦
               subst (λ (y : DemoSite). Stands world (then y) y (disk_at y new)) (sym same)
               (subst (λ (b : Bool). Stands world b d (disk_at d new)) (sym then_is)
-              (subst (λ (rs : List Recorded). IsSettled (StandsAs (text_of d) rs) (begun (disk_at d new)))
+              (subst (λ (rs : List Recorded). IsSettled (StandsKeeping (text_of d) rs) (begun (disk_at d new)))
               (sym (subst (λ (b : Bool). Stands world b d (disk_at d old)) new_is (so.each d))) here))
           | inr another ↦
               let stays : then x ≡ made x = elim (others x) [ inl same ↦ absurd (another.named (ap text_of same)) | inr is ↦ is ] in
               subst (λ (b : Bool). Stands world b x (disk_at x new)) (sym stays)
               (stands_same world world (made x) x (disk_at x old) (disk_at x new) refl (other_disk old new (making_of d) status lines ran x another) (so.each x))
         ];
+        zero = λ x then_x. elim (which x d) [
+          | inl same ↦ subst (λ (y : DemoSite). IsAtZero (begun (disk_at y new))) (sym same) here_zero
+          | inr another ↦
+              let stays : then x ≡ made x = elim (others x) [ inl same ↦ absurd (another.named (ap text_of same)) | inr is ↦ is ] in
+              subst (λ (k : Disk). IsAtZero (begun k)) (sym (other_disk old new (making_of d) status lines ran x another)) (so.zero x (sym stays ∙ then_x))
+        ];
         put_files = so.put_files;
         put = so.put;
-        lies = lies_then made old new (making_of d) so status lines ran well (IsOneOf world.messages) so.lies
+        lies = lies_then made old new (making_of d) so status lines ran well tt (IsOneOf world.messages) so.lies
             (subst (λ (l : List PutFile). AllByRecursion (λ (f : PutFile). IsOneOf world.messages f.2) l) (sym none) tt);
-        noted = noted_then made old new (making_of d) so status lines ran well
+        noted = noted_then made old new (making_of d) so status lines ran well tt
             ∙ ap (λ (l : List PutFile). map put_at (so.put_files ++ l)) none ∙ ap (map put_at) (append-nil so.put_files);
       }

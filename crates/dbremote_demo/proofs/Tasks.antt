@@ -1,6 +1,6 @@
 -- What is known of a task that was done, whatever came of it.
 use Rattle.std.proofs.Common.{◌≡◌, ◌≢◌, ◌⊎◌, ℕ, true, false, bytes_eq, List, ◌∷◌, ◌++◌, refl, sym, ap, subst, ◌∙◌, inl, inr}
-use Rattle.dbremote_command.proofs.Cases.{order_calls}
+use Rattle.dbremote_command.proofs.Cases.{AgentFinds, order_calls}
 use Rattle.dbremote_command.specs.Outside.{Outside, outside}
 use Rattle.dbremote_demo.specs.Runs.{RanTask, Task, begun_at, having, outside_of}
 use Rattle.dbremote_demo_draws.specs.Names.{text_of}
@@ -64,18 +64,6 @@ module _ (old new : DemoSites) (task : Task) (status : ℕ) (lines : List ℕ) (
   abbrev pub ended_task : Outside
   ended_task = outside ran.site ran.input (having lines ran.faults)
 
-  pub task_order : CallsInOrder (begun_at task.demo_site old) ran.site
-  task_order = order_calls (outside_of task old) ended_task refl task.order status ran.ran
-
-  abbrev folders_before : List Happening
-  folders_before = handing old.mail ∷ (disk_at task.demo_site old).happened
-
-  pub task_as_happened : AreAsHappened (task_order.more ++ folders_before) new.mail
-  task_as_happened = subst (λ (h : List Happening). AreAsHappened h new.mail) task_order.is ran.as_happened
-
-  pub task_truthful : IsTruthful (task_order.more ++ folders_before)
-  task_truthful = subst IsTruthful task_order.is ran.truthful
-
   pub own_disk : disk_at task.demo_site new ≡ record { first = ran.site.first; happened = ran.site.happened }
   own_disk =
       ap (disk_at task.demo_site) ran.files ∙ disk_there task.demo_site (record { first = ran.site.first; happened = ran.site.happened }) (record old { mail = new.mail })
@@ -84,3 +72,17 @@ module _ (old new : DemoSites) (task : Task) (status : ℕ) (lines : List ℕ) (
   other_disk x another =
       ap (disk_at x) ran.files ∙ another.stays (record { first = ran.site.first; happened = ran.site.happened }) (record old { mail = new.mail })
       ∙ disk_with_mail x new.mail old
+
+  -- where an agent finds a database
+  module _ (finds : AgentFinds task.order (begun_at task.demo_site old).files) where
+    pub task_order : CallsInOrder (begun_at task.demo_site old) ran.site
+    task_order = order_calls (outside_of task old) ended_task refl task.order status ran.ran finds
+
+    abbrev folders_before : List Happening
+    folders_before = handing old.mail ∷ (disk_at task.demo_site old).happened
+
+    pub task_as_happened : AreAsHappened (task_order.more ++ folders_before) new.mail
+    task_as_happened = subst (λ (h : List Happening). AreAsHappened h new.mail) task_order.is ran.as_happened
+
+    pub task_truthful : IsTruthful (task_order.more ++ folders_before)
+    task_truthful = subst IsTruthful task_order.is ran.truthful

@@ -3,7 +3,7 @@ use Rattle.std.proofs.Common.{◌≡◌, ◌∙◌, ℕ, zero, suc, ◌≤◌, �
 use Rattle.std.specs.Prelude.{nat_eq, if◌then◌else◌}
 use Rattle.std.proofs.lemmas.List.{append-nil}
 use Rattle.dbremote_demo_draws.specs.DrawnStatements.{all_drawn, drawn, script_at, state_behind, third_state, transaction}
-use Rattle.dbremote_demo_draws.specs.Names.{number_at}
+use Rattle.dbremote_demo_draws.specs.Names.{number_of_site}
 use Rattle.dbremote_demo_draws.specs.Inner.Scripts.{IsScripts, IsWithOne}
 use Rattle.dbremote_demo_draws.specs.declared.statements.Drawn.{Drawn}
 use Rattle.dbremote_demo_draws.specs.declared.drawing.Scripts.{Scripts}
@@ -31,7 +31,7 @@ chosen true text rest = ap (λ (t : List ℕ). t ++ rest) (sym (append-nil text)
 chosen false text rest = refl
 
 split_one : (o : DemoSite) (d : Drawn) (ds : List Drawn) → script_at o (d ∷ ds) ≡ script_at o (d ∷ []) ++ script_at o ds
-split_one o d ds = chosen (nat_eq (number_at d.at) (number_at o)) (transaction d.statement) (script_at o ds)
+split_one o d ds = chosen (nat_eq (number_of_site d.at) (number_of_site o)) (transaction d.statement) (script_at o ds)
 
 -- the script of a database, with one statement more
 demo_site_more : (o : DemoSite) (x' i m n : ℕ) (had has total : List ℕ) → n ≡ suc m → has ≡ had ++ script_at o (drawn x' i ∷ []) → had ++ script_at o (all_drawn x' i n) ≡ total

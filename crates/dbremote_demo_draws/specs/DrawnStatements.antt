@@ -2,7 +2,7 @@
 use Rattle.std.specs.Prelude.{ℕ, zero, suc, ◌+◌, ◌*◌, ◌%◌, ◌==◌, List, [], ◌∷◌, ◌++◌, codes, if◌then◌else◌}
 use Rattle.std.specs.Fmt.{decimal}
 use Rattle.dbremote_demo_draws.specs.Draws.{next_state, number_of}
-use Rattle.dbremote_demo_draws.specs.Names.{number_at, demo_site_at, text_of}
+use Rattle.dbremote_demo_draws.specs.Names.{number_of_site, demo_site_at, text_of}
 use Rattle.dbremote_demo_draws.specs.declared.statements.DrawnStatement.{DrawnStatement}
 use Rattle.dbremote_demo_draws.specs.declared.statements.DrawnStatement.TheVariants.{Insert, Raise, Move, Delete}
 use Rattle.dbremote_demo_draws.specs.declared.statements.Drawn.{Drawn}
@@ -29,7 +29,7 @@ gone R3 id rep = Delete id
 abbrev pub statement_on : DemoSite → ℕ → ℕ → DemoSite → ℕ → DrawnStatement
 statement_on at kind id rep i =
     if kind == 2 then Raise id
-    else (if kind == 3 then gone at id rep else Insert (4 * i + number_at at) (rep_at at rep))
+    else (if kind == 3 then gone at id rep else Insert (4 * i + number_of_site at) (rep_at at rep))
 
 -- the statement with the number i: `c` says which row, of those that may be there by then, and which representative
 abbrev pub statement_of : DemoSite → ℕ → ℕ → ℕ → DrawnStatement
@@ -83,4 +83,4 @@ transaction statement = statement_text statement ++ codes "; COMMIT; "
 -- the transactions at one database
 abbrev pub script_at : DemoSite → List Drawn → List ℕ
 script_at demo_site [] = []
-script_at demo_site (d ∷ ds) = if number_at d.at == number_at demo_site then transaction d.statement ++ script_at demo_site ds else script_at demo_site ds
+script_at demo_site (d ∷ ds) = if number_of_site d.at == number_of_site demo_site then transaction d.statement ++ script_at demo_site ds else script_at demo_site ds

@@ -1,3 +1,4 @@
 pub mod Agreement
 pub mod Parted
 pub mod Scripts
+pub mod Whole

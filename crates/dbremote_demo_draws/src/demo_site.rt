@@ -1,6 +1,6 @@
 ghost use Rattle.std.specs.Prelude.{◌≡◌, ◌<◌, ◌%◌, IfOk};
 ghost use Rattle.sr_base.specs.Names.{lowered};
-ghost use Rattle.dbremote_demo_draws.specs.Names.{number_at, demo_site_at, text_of};
+ghost use Rattle.dbremote_demo_draws.specs.Names.{number_of_site, demo_site_at, text_of};
 
 use sr_base::{Name, NoMemory, Text, name_of};
 use std::alloc::{AllocError, Global};
@@ -29,7 +29,7 @@ impl DemoSite {
 
     /// Its number.
     pub fn number(self) -> u32
-        ensures number { result ≡ number_at self }
+        ensures number { result ≡ number_of_site self }
         ensures small { result < 4 }
     {
         match self {

@@ -12,6 +12,7 @@ ghost use Rattle.sr_memsite.specs.Disks.{files_in};
 ghost use Rattle.sr_memsite.specs.Inner.Meaning.{seen_of};
 ghost use Rattle.sr_publish.specs.SubscribedTables.{subscribed_table_of};
 ghost use Rattle.dbremote_demo_draws.specs.Inner.Parted.{IsPartOf, IsPartOfAbove};
+ghost use Rattle.dbremote_demo_draws.specs.Inner.Whole.{AreWhole, StandWhole};
 ghost use Rattle.dbremote_demo_draws.specs.Summaries.{ArePartsOf, IsCounted, IsPartBelow, IsSummary, cust, keys_named};
 
 use crate::agreeing::{count_rows, differing};
@@ -28,14 +29,14 @@ use sr_logform::Entry;
 use sr_memsite::{MemoryDisk, MemorySite, SharedMail};
 use std::alloc::{AllocError, Global};
 
-/// What all came to: of each database, which is opened and whose log is read once, and of the mail.
+/// What all came to: of each database, which is opened and whose log, which has all of its history, is read once, and of the mail.
 pub fn summed(
     alloc: Global,
     demo_sites: DemoSites,
     statements: u32,
     lost: u64,
 ) -> Result<Summary, NoMemory>
-    ensures summary { IfOk result (IsSummary statements demo_sites lost) }
+    ensures summary { AreWhole demo_sites → IfOk result (IsSummary statements demo_sites lost) }
 {
     let DemoSites {
         cons,
@@ -65,7 +66,8 @@ fn parts_on(
     r2: MemoryDisk,
     r3: MemoryDisk,
 ) -> Result<Parts, NoMemory>
-    ensures parts { IfOk result (ArePartsOf (seen_of site.old).files (files_in r1) (files_in r2) (files_in r3)) }
+    ensures parts { StandWhole (seen_of site.old).files → StandWhole (files_in r1) → StandWhole (files_in r2) → StandWhole (files_in r3)
+        → IfOk result (ArePartsOf (seen_of site.old).files (files_in r1) (files_in r2) (files_in r3)) }
 {
     match Database::open(alloc, site) {
         Ok(above) => {
@@ -95,7 +97,7 @@ fn cust(alloc: Global) -> Result<Name, NoMemory>
 /// What is counted of the database above.
 fn part_above(alloc: Global, above: &Database, site: &mut MemorySite) -> Result<Part, NoMemory>
     requires usable { above.now.log.usable ≡ true }
-    ensures part { (publisher : AName) (es : List Recorded) → IsDatabase above.now publisher es (seen_of site.old) → IfOk result (IsPartOfAbove (present above.now) (map entry_of es)) }
+    ensures part { above.now.log.base ≡ 0 → (publisher : AName) (es : List Recorded) → IsDatabase above.now publisher es (seen_of site.old) → IfOk result (IsPartOfAbove (present above.now) (map entry_of es)) }
 {
     let entries = entries_of(alloc, above, site)?;
     let table = cust(alloc)?;
@@ -134,7 +136,7 @@ fn part_below(
     demo_site: DemoSite,
 ) -> Result<Part, NoMemory>
     requires usable { above.now.log.usable ≡ true }
-    ensures part { IfOk result (IsPartBelow (files_in disk) (present above.now) demo_site) }
+    ensures part { StandWhole (files_in disk) → IfOk result (IsPartBelow (files_in disk) (present above.now) demo_site) }
 {
     let mut site = MemorySite::with(disk, SharedMail::new(alloc));
     let part = part_on(alloc, above, &mut site, demo_site);
@@ -150,7 +152,7 @@ fn part_on(
     demo_site: DemoSite,
 ) -> Result<Part, NoMemory>
     requires usable { above.now.log.usable ≡ true }
-    ensures part { IfOk result (IsPartBelow (seen_of site.old).files (present above.now) demo_site) }
+    ensures part { StandWhole (seen_of site.old).files → IfOk result (IsPartBelow (seen_of site.old).files (present above.now) demo_site) }
 {
     match Database::open(alloc, site) {
         Ok(below) => {
@@ -172,7 +174,7 @@ fn part_of(
 ) -> Result<Part, NoMemory>
     requires usable { above.now.log.usable ≡ true }
     requires usable_below { below.now.log.usable ≡ true }
-    ensures part { (publisher : AName) (es : List Recorded) → IsDatabase below.now publisher es (seen_of site.old) → IfOk result (IsPartOf (present above.now) demo_site (present below.now) (map entry_of es)) }
+    ensures part { below.now.log.base ≡ 0 → (publisher : AName) (es : List Recorded) → IsDatabase below.now publisher es (seen_of site.old) → IfOk result (IsPartOf (present above.now) demo_site (present below.now) (map entry_of es)) }
 {
     let entries = entries_of(alloc, below, site)?;
     let table = cust(alloc)?;

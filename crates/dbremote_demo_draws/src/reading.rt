@@ -14,14 +14,14 @@ use sr_logform::Entry;
 use sr_memsite::MemorySite;
 use std::alloc::{AllocError, Global};
 
-/// All entries of the log of a database that was opened on a site, which is read once.
+/// All entries of the log of a database that was opened on a site, which is read once. Where the log begins at 0 they are those of the whole history.
 pub(crate) fn entries_of(
     alloc: Global,
     database: &Database,
     site: &mut MemorySite,
 ) -> Result<Vec<Entry>, NoMemory>
     requires usable { database.now.log.usable ≡ true }
-    ensures entries { (publisher : AName) (es : List Recorded) → IsDatabase database.now publisher es (seen_of site.old) → IfOk result (λ entries. entries.items ≡ map entry_of es) }
+    ensures entries { database.now.log.base ≡ 0 → (publisher : AName) (es : List Recorded) → IsDatabase database.now publisher es (seen_of site.old) → IfOk result (λ entries. entries.items ≡ map entry_of es) }
 {
     let usable_here = database.usable();
     prove!(usable_here);

@@ -46,7 +46,7 @@ order_wanting_ends : (order : Order) (old new : Outside) (status : ℕ) → IsRe
 order_wanting_ends (Init name user) old new status refused = tt
 order_wanting_ends (Sql name) old new status refused = tt
 order_wanting_ends (Show name) old new status refused = tt
-order_wanting_ends (Agent name mail options) old new status refused = λ told receives low. absurd (told_above (Database Memory) old.output new.output status refused.line low)
+order_wanting_ends (Agent name mail options) old new status refused = λ told receives low publisher es stood. absurd (told_above (Database Memory) old.output new.output status refused.line low)
 
 wanting_ends : (wanted : Asked) (old new : Outside) (status : ℕ) → IsRefused (Database Memory) old new status → CatchesUp (Some wanted) old new status
 wanting_ends (asked.Order order) old new status refused = order_wanting_ends order old new status refused

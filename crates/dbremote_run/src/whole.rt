@@ -47,7 +47,7 @@ use std::mem::forget;
 /// each key that a database below has not touched, this holds exactly the row of the view of the one above, as of the last transaction that it took. Between two
 /// of these steps, and at the return where no call of the disk failed, whatever a crash leaves is the same history; and behind a put nothing is done to
 /// the mail but further puts.
-#[tactic(auto, using(crate::proofs::Statuses::of_runs, crate::proofs::Completing::run_complete, crate::proofs::Completing::run_caught_up, crate::proofs::Partners::partners_kept, crate::proofs::Partners::puts_true, crate::proofs::Partners::decided_kept, crate::proofs::Partners::good_kept, crate::proofs::Partners::steps_made))]
+#[tactic(auto, using(crate::proofs::Statuses::of_runs, crate::proofs::Completing::run_complete, crate::proofs::Completing::run_caught_up))]
 pub fn run<S: Site, I: Source, O: Sink>(
     alloc: Global,
     words: &[Text],

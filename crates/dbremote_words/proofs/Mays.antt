@@ -47,11 +47,11 @@ some_pass false true = refl
 some_pass false false = refl
 
 options_may : (rows : List Row) → IfSome (options_from rows) MayRun
-options_may rows = go (is_set (codes "r") rows) (is_set (codes "s") rows) (is_set (codes "p") rows) (given_length rows) (usual_fits (first_of (codes "N") rows))
+options_may rows = go (is_set (codes "r") rows) (is_set (codes "s") rows) (is_set (codes "p") rows) (is_set (codes "x") rows) (given_length rows) (usual_fits (first_of (codes "N") rows))
   where
-    go : (receive send keep : Bool) (size : Option ℕ) → IfSome size Fits → IfSome (option_map (with_length receive send keep) size) MayRun
-    go receive send keep None fits = tt
-    go receive send keep (Some size) fits = record { some_pass = some_pass receive send; no_restart = refl; limit = record { least = fits.0; most = fits.1 } }
+    go : (receive send keep restart : Bool) (size : Option ℕ) → IfSome size Fits → IfSome (option_map (with_length receive send keep restart) size) MayRun
+    go receive send keep restart None fits = tt
+    go receive send keep restart (Some size) fits = record { some_pass = some_pass receive send; limit = record { least = fits.0; most = fits.1 } }
 
 agent_may : (rows : List Row) → IfSome (agent_from rows) MayOrder
 agent_may rows = go (given_place (codes "NAME") rows) (given_place (codes "FOLDER") rows) (options_from rows) (options_may rows)

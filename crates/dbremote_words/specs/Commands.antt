@@ -34,9 +34,9 @@ init_command = command_of (codes "init") (needed (codes "NAME") ∷ needed (code
 unfoldable pub sql_command : App
 sql_command = command_of (codes "sql") (needed (codes "NAME") ∷ [])
 
--- `agent NAME --mail FOLDER [-r] [-s] [-p] [-l N]`: the letters are r (114), s (115) and p (112)
+-- `agent NAME --mail FOLDER [-r] [-s] [-p] [-x] [-l N]`: the letters are r (114), s (115), p (112) and x (120)
 unfoldable pub agent_command : App
-agent_command = command_of (codes "agent") (needed (codes "NAME") ∷ folder ∷ flag (codes "r") 114 ∷ flag (codes "s") 115 ∷ flag (codes "p") 112 ∷ length ∷ [])
+agent_command = command_of (codes "agent") (needed (codes "NAME") ∷ folder ∷ flag (codes "r") 114 ∷ flag (codes "s") 115 ∷ flag (codes "p") 112 ∷ flag (codes "x") 120 ∷ length ∷ [])
 
 -- `show NAME`
 unfoldable pub show_command : App

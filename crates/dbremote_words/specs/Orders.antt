@@ -1,5 +1,5 @@
 -- What words ask for.
-use Rattle.std.specs.Prelude.{ℕ, Bool, false, not, List, [], ◌∷◌, ◌||◌, codes, if◌then◌else◌, Option, None, option_map}
+use Rattle.std.specs.Prelude.{ℕ, Bool, not, List, [], ◌∷◌, ◌||◌, codes, if◌then◌else◌, Option, None, option_map}
 use Rattle.std.specs.Option.{option_and_then}
 use Rattle.std.specs.Str.{bytes_eq}
 use Rattle.clap.specs.Words.{App, Row, Text}
@@ -22,17 +22,17 @@ abbrev pub show_from : List Row → Option Order
 show_from rows = option_map (λ name. Show name) (given_place (codes "NAME") rows)
 
 -- a pass is made where its flag is given, and where the other's is not
-abbrev pub with_length : Bool → Bool → Bool → ℕ → Options
-with_length receive send keep size = record {
+abbrev pub with_length : Bool → Bool → Bool → Bool → ℕ → Options
+with_length receive send keep restart size = record {
   receive = receive || not send;
   send = send || not receive;
   purge = not keep;
-  restart = false;
+  restart = restart;
   length = size;
 }
 
 abbrev pub options_from : List Row → Option Options
-options_from rows = option_map (with_length (is_set (codes "r") rows) (is_set (codes "s") rows) (is_set (codes "p") rows)) (given_length rows)
+options_from rows = option_map (with_length (is_set (codes "r") rows) (is_set (codes "s") rows) (is_set (codes "p") rows) (is_set (codes "x") rows)) (given_length rows)
 
 abbrev pub agent_from : List Row → Option Order
 agent_from rows = option_and_then (λ name. option_and_then (λ mail. option_map (λ options. Agent name mail options) (options_from rows)) (given_place (codes "FOLDER") rows)) (given_place (codes "NAME") rows)

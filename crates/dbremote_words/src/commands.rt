@@ -66,7 +66,7 @@ pub(crate) fn sql_command<'a>(alloc: Global) -> Result<Command<'a>, NoMemory>
     Ok(command)
 }
 
-/// `agent NAME --mail FOLDER [-r] [-s] [-p] [-l N]`.
+/// `agent NAME --mail FOLDER [-r] [-s] [-p] [-x] [-l N]`.
 pub(crate) fn agent_command<'a>(alloc: Global) -> Result<Command<'a>, NoMemory>
     ensures app { IfOk result (λ command. app_of command ≡ agent_command) }
 {
@@ -75,6 +75,7 @@ pub(crate) fn agent_command<'a>(alloc: Global) -> Result<Command<'a>, NoMemory>
     let command = command.arg(flag(alloc, "r", 'r'))?;
     let command = command.arg(flag(alloc, "s", 's'))?;
     let command = command.arg(flag(alloc, "p", 'p'))?;
+    let command = command.arg(flag(alloc, "x", 'x'))?;
     let command = command.arg(length(alloc))?;
     Ok(command)
 }

@@ -45,19 +45,20 @@ pub(crate) fn show_from(alloc: Global, matches: &ArgMatches<'_>) -> Result<Optio
     Ok(Some(Order::Show { name }))
 }
 
-/// The passes that the flags ask for, and the length of a message file. A pass is made where its flag is given, and where the other's is not.
+/// The passes that the flags ask for, whether the log is begun anew before them, and the length of a message file. A pass is made where its flag is given, and where the other's is not.
 fn options_from(matches: &ArgMatches<'_>) -> Option<Options>
     ensures options { result ≡ options_from (rows_in matches.now) }
 {
     let receive = is_set(matches, "r");
     let send = is_set(matches, "s");
     let keep = is_set(matches, "p");
+    let restart = is_set(matches, "x");
     let length = given_length(matches)?;
     Some(Options {
         receive: receive || !send,
         send: send || !receive,
         purge: !keep,
-        restart: false,
+        restart,
         length,
     })
 }

@@ -108,7 +108,7 @@ fn asked_by(alloc: Global, first: &Text, words: &[&str]) -> Result<Option<Asked>
 /// NAME or FOLDER is empty or longer than 255 bytes, where USER is no name, and where N is no number of 10,000 to 1,048,576, SEED none of 64 bits
 /// or COUNT none of 0 to 100,000, in decimal digits without a sign or a leading zero.
 ///
-/// `init NAME USER`, `sql NAME`, `agent NAME --mail FOLDER [-r] [-s] [-p] [-l N]`, `show NAME`, `demo SEED COUNT`. Options stand anywhere behind the
+/// `init NAME USER`, `sql NAME`, `agent NAME --mail FOLDER [-r] [-s] [-p] [-x] [-l N]`, `show NAME`, `demo SEED COUNT`. Options stand anywhere behind the
 /// first word, and as clap reads them: `--mail=FOLDER`, `-l10000`, `-l=10000`, `-rs`, `--` before what is no option. One that is given twice is
 /// refused.
 pub fn asked_of(alloc: Global, words: &[Text]) -> Result<Option<Asked>, NoMemory>

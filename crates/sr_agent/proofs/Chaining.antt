@@ -53,17 +53,19 @@ with_puts-append [] more before = refl
 with_puts-append (commit r ∷ events) more before = with_puts-append events more before
 with_puts-append (put address name bytes ∷ events) more before = with_puts-append events more (sent address name bytes true ∷ before)
 
-abbrev pub deliveries_more : (middle new : View) (before seen now : Seen) (publisher : Name) (es : List Recorded) (limit : ℕ) (done : List Partner) (partner : Partner) (earlier lines : List Line)
-    (took : TookDeliveries middle before seen publisher es limit done earlier) → TookDelivery new seen now publisher (after_deliveries publisher es took.deliveries) limit partner lines
-    → TookDeliveries new before now publisher es limit (done ++ partner ∷ []) (earlier ++ lines)
-deliveries_more middle new before seen now publisher es limit done partner earlier lines took one =
+abbrev pub deliveries_more : (base : ℕ) (middle new : View) (before seen now : Seen) (publisher : Name) (es : List Recorded) (limit : ℕ) (done : List Partner) (partner : Partner) (earlier lines : List Line)
+    (took : TookDeliveries base middle before seen publisher es limit done earlier) → TookDelivery middle.log.base new seen now publisher (after_deliveries publisher es took.deliveries) limit partner lines
+    → TookDeliveries base new before now publisher es limit (done ++ partner ∷ []) (earlier ++ lines)
+deliveries_more base middle new before seen now publisher es limit done partner earlier lines took one =
     let added = deliveries_events publisher es took.deliveries in
     let more = delivery_events publisher (es ++ commits added) one.delivery in
     record {
       deliveries = one.delivery ∷ took.deliveries;
+      based = (took.based, one.based ∙ took.base_is);
       whom = ap (λ (ps : List Partner). ps ++ one.delivery.partner ∷ []) took.whom ∙ ap (λ (p : Partner). done ++ p ∷ []) one.whom;
       are = (took.are, one.is);
       database = subst (λ (rs : List Recorded). IsDatabase new publisher rs now) (append_assoc es (commits added) (commits more) ∙ ap (λ (rs : List Recorded). es ++ rs) (sym (commits-append added more))) one.database;
+      base_is = one.base_is ∙ took.base_is;
       steady = steady_on before seen now took.steady one.steady;
       went = joined before seen now publisher es added more took.went one.went;
       mail = one.mail ∙ ap (λ (l : List Happening). with_puts more l) took.mail ∙ sym (with_puts-append added more (mail_in before.happened));

@@ -5,8 +5,8 @@ use Rattle.std.proofs.lemmas.List.{append-nil}
 use Rattle.sr_base.specs.declared.offset.Offset.{Offset}
 use Rattle.sr_book.specs.Entries.{Name}
 use Rattle.sr_book.specs.declared.book.Book.{Book}
+use Rattle.sr_database_files.specs.Books.{book_in}
 use Rattle.sr_mail_cut.specs.Bodies.{first_long}
-use Rattle.sr_database.specs.Books.{book_in}
 use Rattle.sr_database.specs.Databases.{IsDatabase}
 use Rattle.sr_database.specs.Inner.Sound.{IsSound}
 use Rattle.sr_database.proofs.Advancing.{advanced_sound}
@@ -71,34 +71,44 @@ keeps_then old new before now user limit ask sent ready has = elim (is_put sent.
 
 -- ---- a pass, said of the history
 
-abbrev delivery_of : Partner → List Message → Delivery
-delivery_of partner messages = record { partner = partner; messages = messages }
+abbrev delivery_of : ℕ → Partner → List Message → Delivery
+delivery_of base partner messages = record { base = base; partner = partner; messages = messages }
+
+-- the log begins where it did
+base_then : (old new : View) (before now : Seen) (user : Name) (limit : ℕ) (ask : Bool) (sent : Sent) → HasSent old new before now user limit ask sent → new.log.base ≡ old.log.base
+base_then old new before now user limit ask sent has = elim (is_put sent.put) [
+  | inl none ↦ ap (λ (v : View). v.log.base) (has.idle none)
+  | inr some ↦ (has.value some).base
+]
 
 pub took_delivery : (old new : View) (before now : Seen) (publisher : Name) (es : List Recorded) (limit : ℕ) (partner : Partner) (sent : Sent) → IsTrue before.observable → IsDatabase old publisher es before
-    → HasSent old new before now partner.user limit partner.ask sent → TookDelivery new before now publisher es limit partner (line_of partner sent ∷ [])
+    → HasSent old new before now partner.user limit partner.ask sent → TookDelivery old.log.base new before now publisher es limit partner (line_of partner sent ∷ [])
 took_delivery old new before now publisher es limit partner sent told database has =
     let user = partner.user in
     let passed = has.passed told publisher es database in
     let messages : List Message = passed.messages in
-    let d = delivery_of partner messages in
+    let base = old.log.base in
+    let d = delivery_of base partner messages in
     let book = book_in old.books user in
     let folder = address_in old.catalog user in
     let book_is : book ≡ books_of user es = database.is.books user in
     let folder_is : folder ≡ folder_of publisher es user = ap (λ (c : Lists). address_in c user) database.is.catalog in
-    let end_is : sent.end ≡ sent_end publisher es user (books_of user es) = passed.end_is ∙ ap (λ (b : Book). sent_end publisher es user b) book_is in
+    let end_is : sent.end ≡ sent_end base publisher es user (books_of user es) = passed.end_is ∙ ap (λ (b : Book). sent_end base publisher es user b) book_is in
     let events_are : noted_put_files folder user book sent.end messages ≡ delivery_events publisher es d =
     ap (λ (a : Name). noted_put_files a user book sent.end messages) folder_is
     ∙ ap (λ (b : Book). noted_put_files (folder_of publisher es user) user b sent.end messages) book_is
     ∙ ap (λ (e : Offset). noted_put_files (folder_of publisher es user) user (books_of user es) e messages) end_is in
     record {
       delivery = d;
+      based = refl;
       whom = refl;
       is = record {
-        are = subst (λ (b : Book). AreAll publisher es user b partner.ask limit messages) book_is passed.are;
+        are = subst (λ (b : Book). AreAll base publisher es user b partner.ask limit messages) book_is passed.are;
         spelled = passed.spelled;
-        fits = subst (λ (b : Book). first_long (waiting publisher es user b) ≡ None) book_is passed.fits;
+        fits = subst (λ (b : Book). first_long (waiting base publisher es user b) ≡ None) book_is passed.fits;
       };
       database = subst (λ (events : List Event). IsDatabase new publisher (es ++ commits events) now) events_are passed.database;
+      base_is = base_then old new before now user limit partner.ask sent has;
       steady = record { disk = has.steady.disk; mail = has.steady.mail };
       went = subst (λ (events : List Event). Went before now publisher es events) events_are passed.went;
       mail = puts_done (noted_put_files folder user book sent.end messages) (mail_in before.happened) (mail_in now.happened) passed.mail (has.steady.done told) ∙ ap (λ (events : List Event). with_puts events (mail_in before.happened)) events_are;
@@ -128,7 +138,7 @@ part_of old new before now publisher es limit partner why database cause devices
         fault_is = refl;
         messages = messages;
         left = part.left;
-        are = subst (λ (b : Book). AreAll publisher es user b partner.ask limit (messages ++ part.left)) book_is part.are;
+        are = subst (λ (b : Book). AreAll old.log.base publisher es user b partner.ask limit (messages ++ part.left)) book_is part.are;
         spelled = part.spelled;
         notes = [];
         note = tt;
@@ -140,7 +150,7 @@ part_of old new before now publisher es limit partner why database cause devices
 
 note_of : (old new : View) (before now : Seen) (publisher : Name) (es : List Recorded) (limit : ℕ) (partner : Partner) (why : SendFault) (sent : Offset) (count : ℕ) → IsDatabase old publisher es before
     → SendCause old new before now partner.user limit partner.ask why → IsDeviceFault before now why
-    → PutAndBegan before now (address_in old.catalog partner.user) publisher es partner.user (book_in old.books partner.user) limit partner.ask sent count
+    → PutAndBegan old.log.base before now (address_in old.catalog partner.user) publisher es partner.user (book_in old.books partner.user) limit partner.ask sent count
     (commit (sent_note partner.user (book_in old.books partner.user) sent count) ∷ [])
     → BrokeInDelivery old new before now publisher es limit partner [] (fault_of_send why)
 note_of old new before now publisher es limit partner why sent count database cause devices part =
@@ -149,7 +159,8 @@ note_of old new before now publisher es limit partner why sent count database ca
     let book_is : book ≡ books_of user es = database.is.books user in
     let messages : List Message = part.messages in
     let note = sent_note user book sent count in
-    let end_is : sent ≡ sent_end publisher es user (books_of user es) = part.end_is ∙ ap (λ (b : Book). sent_end publisher es user b) book_is in
+    let base = old.log.base in
+    let end_is : sent ≡ sent_end base publisher es user (books_of user es) = part.end_is ∙ ap (λ (b : Book). sent_end base publisher es user b) book_is in
     let events_are : put_files (address_in old.catalog user) book.send_count messages ≡ put_files (folder_of publisher es user) (books_of user es).send_count messages =
     ap (λ (c : Lists). put_files (address_in c user) book.send_count messages) database.is.catalog
     ∙ ap (λ (b : Book). put_files (folder_of publisher es user) b.send_count messages) book_is in
@@ -162,14 +173,14 @@ note_of old new before now publisher es limit partner why sent count database ca
         fault_is = refl;
         messages = messages;
         left = [];
-        are = subst (λ (ms : List Message). AreAll publisher es user (books_of user es) partner.ask limit ms) (sym (append-nil messages))
-            (subst (λ (b : Book). AreAll publisher es user b partner.ask limit messages) book_is part.are);
+        are = subst (λ (ms : List Message). AreAll base publisher es user (books_of user es) partner.ask limit ms) (sym (append-nil messages))
+            (subst (λ (b : Book). AreAll base publisher es user b partner.ask limit messages) book_is part.are);
         spelled = part.spelled;
         notes = note ∷ [];
         note = (
           refl,
           ap (λ (b : Book). sent_note user b sent count) book_is ∙ ap (λ (e : Offset). sent_note user (books_of user es) e count) end_is
-              ∙ ap (λ (n : ℕ). sent_note user (books_of user es) (sent_end publisher es user (books_of user es)) n) part.count_is,
+              ∙ ap (λ (n : ℕ). sent_note user (books_of user es) (sent_end base publisher es user (books_of user es)) n) part.count_is,
         );
         events_are = ap (λ (events : List Event). events ++ commit note ∷ []) events_are;
       };

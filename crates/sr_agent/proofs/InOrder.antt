@@ -49,14 +49,14 @@ done_on old middle new before seen now limit done partner a b c first one = reco
   stays = stays_on before seen now first.stays one.stays;
   did = λ tells publisher es database.
       let took = first.did tells publisher es database in
-      deliveries_more middle new before seen now publisher es limit done partner first.lines one.lines took
+      deliveries_more old.log.base middle new before seen now publisher es limit done partner first.lines one.lines took
       (one.did (told_then before seen first.stays tells) publisher (after_deliveries publisher es took.deliveries) took.database);
 }
 
 -- a delivery after others was broken
 broke_on : (middle new : View) (old : View) (before seen now : Seen) (publisher : Name) (es : List Recorded) (limit : ℕ) (done : List Partner) (partner : Partner) (others : List Partner) (earlier lines : List Line)
-    (fault : AgentFault) (took : TookDeliveries middle before seen publisher es limit done earlier)
-    → UntoldDelivery new seen now publisher (after_deliveries publisher es took.deliveries) limit partner lines fault ⊎ BrokeInDelivery middle new seen now publisher (after_deliveries publisher es took.deliveries) limit partner lines fault
+    (fault : AgentFault) (took : TookDeliveries old.log.base middle before seen publisher es limit done earlier)
+    → UntoldDelivery middle.log.base new seen now publisher (after_deliveries publisher es took.deliveries) limit partner lines fault ⊎ BrokeInDelivery middle new seen now publisher (after_deliveries publisher es took.deliveries) limit partner lines fault
     → BrokeInDeliveries old new before now publisher es limit (done ++ partner ∷ others) (earlier ++ lines) fault
 broke_on middle new old before seen now publisher es limit done partner others earlier lines fault took (inl untold) = record {
   done = done ++ partner ∷ [];
@@ -65,7 +65,7 @@ broke_on middle new old before seen now publisher es limit done partner others e
   db = new;
   seen = now;
   earlier = earlier ++ lines;
-  took = deliveries_more middle new before seen now publisher es limit done partner earlier lines took untold.took;
+  took = deliveries_more old.log.base middle new before seen now publisher es limit done partner earlier lines took untold.took;
   told = [];
   stop = inl (record { last = untold.took.delivery; earlier = took.deliveries; put = refl; same = refl; still = refl; none = refl; why = untold.why });
   lines_are = sym (append-nil (earlier ++ lines));
@@ -119,9 +119,11 @@ walk_begins old before limit all written ready may = record {
     stays = same_seen before;
     did = λ tells publisher es database. record {
       deliveries = [];
+      based = tt;
       whom = refl;
       are = tt;
       database = subst (λ (rs : List Recorded). IsDatabase old publisher rs before) (sym (append-nil es)) database;
+      base_is = refl;
       steady = record { disk = refl; mail = refl };
       went = nothing before publisher es (settled_as old publisher es before database);
       mail = refl;

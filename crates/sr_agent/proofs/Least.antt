@@ -1,8 +1,8 @@
 -- The least offset up to which a log was sent to partners.
 use Rattle.std.proofs.Common.{◌≡◌, ℕ, ◌≤◌, List, [], ◌∷◌, length, sym, subst, arith}
 use Rattle.std.specs.List.{AllByRecursion}
-use Rattle.sr_database.specs.Books.{book_in}
 use Rattle.sr_database.specs.Views.{View}
+use Rattle.sr_database_files.specs.Books.{book_in}
 use Rattle.sr_agent.specs.Inner.Sharing.{IsSentUpTo, SentUpToBut}
 use Rattle.sr_agent.specs.declared.partner.Partner.{Partner}
 

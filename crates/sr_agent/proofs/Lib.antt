@@ -1,6 +1,8 @@
 pub mod Values
 pub mod Once
 pub mod Joints
+pub mod Images
+pub mod Based
 pub mod Removing
 pub mod Unremoved
 pub mod DoneWith
@@ -19,6 +21,9 @@ pub mod PutDone
 pub mod Delivering
 pub mod InOrder
 pub mod Ending
+pub mod BegunAt
+pub mod Anew
+pub mod Restarted
 pub mod Gathered
 pub mod MessageFiles
 pub mod All

@@ -9,6 +9,7 @@ use Rattle.sr_database.specs.Views.{View}
 use Rattle.sr_database_history.specs.Folds.{state_of}
 use Rattle.sr_database_history.specs.Recorded.{Recorded}
 use Rattle.sr_database_history.proofs.Kept.{stored_holds}
+use Rattle.sr_database_meaning.specs.Events.{commit}
 use Rattle.sr_receive.specs.Passes.{AreSteady as IsSteady}
 use Rattle.sr_catalog_schema.specs.Catalogs.{Lists}
 use Rattle.sr_catalog_schema.specs.Members.{user_name}
@@ -18,12 +19,13 @@ use Rattle.sr_site.specs.Causes.{Stays}
 use Rattle.sr_site.specs.Seen.{Seen}
 use Rattle.sr_site.specs.Streams.{Output}
 use Rattle.sr_agent.specs.Lines.{Line, alarms, lines_text}
-use Rattle.sr_agent.specs.Runs.{Receives, asked, nothing_done, quiet}
+use Rattle.sr_agent.specs.Runs.{Receives, after_receiving, asked, nothing_done, quiet, taken_entries}
 use Rattle.sr_agent.specs.Inner.Steps.{AreOnce, IsQuietPass, IsUser, MadeWhere, MaySendTo, TookAll, Told}
 use Rattle.sr_agent.specs.PartnerPasses.{gathering_lines, partners}
 use Rattle.sr_agent.specs.declared.options.Options.{Options}
 use Rattle.sr_agent.specs.declared.partner.Partner.{Partner}
 use Rattle.sr_agent.specs.declared.progress.Progress.{Progress}
+use Rattle.sr_agent.proofs.Based.{base_stays}
 use Rattle.sr_agent.proofs.Once.{users_once}
 use Rattle.sr_agent.proofs.Reaching.{gathered_run, reaches_none, reaches_partner_passes}
 use Rattle.sr_agent.proofs.Wholes.{Received}
@@ -70,11 +72,11 @@ pub record HasMade (old new : View) (before now : Seen) (options : Options) (use
   pub steady : IsSteady before now
   pub stays : Stays before now
   pub did : IsTrue before.observable → (publisher : Name) (es : List Recorded) → IsDatabase old publisher es before → users ≡ partners publisher es → AreOnce users
-      → Received new before now publisher es options asks lines
+      → Received old.log.base new before now publisher es options asks lines
 
 -- left out
 received_off : (view : View) (seen : Seen) (publisher : Name) (es : List Recorded) (options : Options) (users : List Name) (asks : List Partner) → options.receive ≡ false → IsDatabase view publisher es seen
-    → users ≡ partners publisher es → asks ≡ map quiet users → Received view seen seen publisher es options asks []
+    → users ≡ partners publisher es → asks ≡ map quiet users → Received view.log.base view seen seen publisher es options asks []
 received_off view seen publisher es options users asks off database users_are asks_are =
     let reaches = reaches_none view seen publisher es options database in
     record {
@@ -82,6 +84,7 @@ received_off view seen publisher es options users asks off database users_are as
       none = refl;
       receives = subst (λ (b : Bool). Receives b publisher es nothing_done) (sym off) (record { gathered_is = refl; none = refl });
       database = reaches.database;
+      base_is = refl;
       went = reaches.went;
       mail = reaches.mail;
       steady = reaches.steady;
@@ -100,15 +103,15 @@ made_off old new before now options users written written' progress are off pass
   steady = subst (λ (s : Seen). IsSteady before s) (sym pass.still) (still_steady before);
   stays = subst (λ (s : Seen). Stays before s) (sym pass.still) (still_site before);
   did = λ told publisher es database users_are once.
-      subst (λ (v : View). Received v before now publisher es options progress.partners.items []) (sym pass.same)
-      (subst (λ (s : Seen). Received old before s publisher es options progress.partners.items []) (sym pass.still)
+      subst (λ (v : View). Received old.log.base v before now publisher es options progress.partners.items []) (sym pass.same)
+      (subst (λ (s : Seen). Received old.log.base old before s publisher es options progress.partners.items []) (sym pass.still)
       (received_off old before publisher es options users progress.partners.items off database users_are pass.partners_are));
 }
 
 -- made
-received_on : (new : View) (before now : Seen) (publisher : Name) (es : List Recorded) (options : Options) (users : List Name) (asks : List Partner) (lines : List Line) → options.receive ≡ true
-    → users ≡ partners publisher es → TookAll new before now publisher es options.purge users asks lines → Received new before now publisher es options asks lines
-received_on new before now publisher es options users asks lines on users_are all =
+received_on : (old new : View) (before now : Seen) (publisher : Name) (es : List Recorded) (options : Options) (users : List Name) (asks : List Partner) (lines : List Line) → options.receive ≡ true
+    → users ≡ partners publisher es → IsDatabase old publisher es before → TookAll new before now publisher es options.purge users asks lines → Received old.log.base new before now publisher es options asks lines
+received_on old new before now publisher es options users asks lines on users_are database all =
     let g = all.gathered.gathering in
     let run = gathered_run g all.took.partner_passes in
     let reaches = reaches_partner_passes all.view new before all.seen now publisher es options all.bag all.first users asks all.behind all.gathered all.took in
@@ -118,6 +121,7 @@ received_on new before now publisher es options users asks lines on users_are al
       receives = subst (λ (b : Bool). Receives b publisher es run) (sym on)
           (record { gathering = g; gathered_is = refl; is = all.gathered.is; are = all.took.are; whose = all.took.whose ∙ users_are });
       database = reaches.database;
+      base_is = base_stays old new before now publisher es (after_receiving publisher es run) (map commit (taken_entries publisher es run)) database reaches.went reaches.database;
       went = reaches.went;
       mail = reaches.mail;
       steady = reaches.steady;
@@ -138,5 +142,5 @@ made_where true old new before now options users written written' progress are o
   may = pass.may;
   steady = pass.steady;
   stays = pass.stays;
-  did = λ told publisher es database users_are once. received_on new before now publisher es options users progress.partners.items pass.lines on users_are (pass.did told publisher es database once);
+  did = λ told publisher es database users_are once. received_on old new before now publisher es options users progress.partners.items pass.lines on users_are database (pass.did told publisher es database once);
 }

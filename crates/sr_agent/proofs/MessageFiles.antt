@@ -7,10 +7,10 @@ use Rattle.sr_book.specs.Entries.{Name, booked}
 use Rattle.sr_book.specs.declared.book.Book.{Book}
 use Rattle.sr_book.specs.declared.note.Note.TheVariants.{Raised}
 use Rattle.sr_book.proofs.Folds.{book_from-append, same_name}
-use Rattle.sr_database.specs.Books.{book_in}
 use Rattle.sr_database.specs.Databases.{IsDatabase}
 use Rattle.sr_book.specs.Histories.{book_from}
 use Rattle.sr_database.specs.Views.{View}
+use Rattle.sr_database_files.specs.Books.{book_in}
 use Rattle.sr_database_history.specs.Folds.{sees}
 use Rattle.sr_database_history.specs.Recorded.{Recorded, note}
 use Rattle.sr_mail.specs.declared.window.Window.{Window}

@@ -10,7 +10,7 @@ use Rattle.sr_book.specs.Entries.{Name}
 use Rattle.sr_book.proofs.Folds.{name_test, same_name}
 use Rattle.sr_catalog_change.specs.Changes.{refusal}
 use Rattle.sr_catalog_ddl.specs.Users.{grant_causes}
-use Rattle.sr_catalog_script_laws.specs.Inner.Scripts.{IsMade, grant_of, grant_rule}
+use Rattle.sr_catalog_script_laws.specs.Scripts.{IsMadeByStatements, grant_of, grant_rule}
 use Rattle.sr_catalog_script_laws.proofs.ReplayCauses.{NoCause, no_cause_of, where_true-None}
 use Rattle.sr_catalog_script_laws.proofs.ReplayNexts.{made_stands}
 use Rattle.sr_catalog_script_laws.proofs.Standing.{InOrder, UserStands}
@@ -76,5 +76,5 @@ once_from publisher before (u ∷ users) stands = (
 )
 
 -- the users of a catalog that statements have made
-pub users_once : (c : Lists) → IsMade c → AreOnce (map user_name c.users)
+pub users_once : (c : Lists) → IsMadeByStatements c → AreOnce (map user_name c.users)
 users_once c made = once_from c.publisher [] c.users (made_stands c made).users

@@ -2,9 +2,9 @@
 use Rattle.std.proofs.Common.{ℕ, List, [], ◌∷◌, ◌++◌, inl, inr}
 use Rattle.std.specs.Prelude.{Bool, IsTrue}
 use Rattle.sr_book.specs.Entries.{Name}
-use Rattle.sr_database.specs.Books.{book_in}
 use Rattle.sr_database.specs.Databases.{IsDatabase}
 use Rattle.sr_database.specs.Views.{View}
+use Rattle.sr_database_files.specs.Books.{book_in}
 use Rattle.sr_database_history.specs.Recorded.{Recorded}
 use Rattle.sr_send.specs.PutFiles.{address_in, put_files, sent_note}
 use Rattle.sr_send.specs.Passes.{SendCause, Unnoted, NoteRefused}

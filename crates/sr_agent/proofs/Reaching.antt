@@ -15,7 +15,7 @@ use Rattle.sr_database_meaning.specs.Traces.{Went}
 use Rattle.sr_database_meaning.proofs.Going.{nothing, told_same}
 use Rattle.sr_database_meaning.proofs.Joining.{joined}
 use Rattle.sr_agent.specs.Agents.{CameSoFar}
-use Rattle.sr_agent.specs.Deliveries.{Delivery, deliveries_events, with_puts}
+use Rattle.sr_agent.specs.Deliveries.{AreBased, Delivery, deliveries_events, with_puts}
 use Rattle.sr_agent.specs.Lines.{Line}
 use Rattle.sr_agent.specs.Removals.{RemovesInRun}
 use Rattle.sr_agent.specs.Runs.{Run, after_receiving, nothing_done, received_mail, taken_entries}
@@ -88,22 +88,24 @@ reaches_partner_passes old new before seen now publisher es options bag first us
 
 -- ---- and the send pass
 
-abbrev pub took_none : (view : View) (seen : Seen) (publisher : Name) (es : List Recorded) (limit : ℕ) → IsDatabase view publisher es seen → TookDeliveries view seen seen publisher es limit [] []
+abbrev pub took_none : (view : View) (seen : Seen) (publisher : Name) (es : List Recorded) (limit : ℕ) → IsDatabase view publisher es seen → TookDeliveries view.log.base view seen seen publisher es limit [] []
 took_none view seen publisher es limit database = record {
   deliveries = [];
+  based = tt;
   whom = refl;
   are = tt;
   database = nothing_more view publisher es seen database;
+  base_is = refl;
   steady = record { disk = refl; mail = refl };
   went = nothing seen publisher es (settled_as view publisher es seen database);
   mail = refl;
   lines_are = refl;
 }
 
-pub came_behind : (middle new : View) (before seen now : Seen) (publisher : Name) (es : List Recorded) (options : Options) (run : Run) (limit : ℕ) (to : List Partner) (lines : List Line)
-    → Reaches middle before seen publisher es options run → (took : TookDeliveries new seen now publisher (after_receiving publisher es run) limit to lines)
-    → CameSoFar new before now publisher es options (with_deliveries run took.deliveries)
-came_behind middle new before seen now publisher es options run limit to lines reaches took =
+pub came_behind : (base : ℕ) (middle new : View) (before seen now : Seen) (publisher : Name) (es : List Recorded) (options : Options) (run : Run) (limit : ℕ) (to : List Partner) (lines : List Line)
+    → Reaches middle before seen publisher es options run → middle.log.base ≡ base → (took : TookDeliveries middle.log.base new seen now publisher (after_receiving publisher es run) limit to lines)
+    → CameSoFar base new before now publisher es options (with_deliveries run took.deliveries)
+came_behind base middle new before seen now publisher es options run limit to lines reaches same took =
     let added = taken_entries publisher es run in
     let events = deliveries_events publisher (es ++ added) took.deliveries in
     record {
@@ -114,10 +116,12 @@ came_behind middle new before seen now publisher es options run limit to lines r
       steady = steady_on before seen now reaches.steady took.steady;
       removals = removes_on before.first seen.first publisher before.happened before.happened seen.happened now.happened (told_same before seen publisher es (map commit added) reaches.went).1 reaches.removals
           (none_removed seen.first before.happened seen now publisher (es ++ added) events took.went (ap removals_in took.mail ∙ puts_same events (mail_in seen.happened)));
+      base_is = took.base_is ∙ same;
+      based = subst (λ (n : ℕ). AreBased n took.deliveries) same took.based;
     }
 
 -- nothing was sent
-pub came_alone : (view : View) (before now : Seen) (publisher : Name) (es : List Recorded) (options : Options) (run : Run) → Reaches view before now publisher es options run
-    → CameSoFar view before now publisher es options (with_deliveries run [])
-came_alone view before now publisher es options run reaches =
-    came_behind view view before now now publisher es options run 0 [] [] reaches (took_none view now publisher (after_receiving publisher es run) 0 reaches.database)
+pub came_alone : (base : ℕ) (view : View) (before now : Seen) (publisher : Name) (es : List Recorded) (options : Options) (run : Run) → Reaches view before now publisher es options run → view.log.base ≡ base
+    → CameSoFar base view before now publisher es options (with_deliveries run [])
+came_alone base view before now publisher es options run reaches same =
+    came_behind base view view before now now publisher es options run 0 [] [] reaches same (took_none view now publisher (after_receiving publisher es run) 0 reaches.database)

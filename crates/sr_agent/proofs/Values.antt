@@ -8,11 +8,11 @@ use Rattle.sr_book.specs.Histories.{book_from}
 use Rattle.sr_book.specs.declared.book.Book.{Book}
 use Rattle.sr_book.specs.declared.note.Note.{Note}
 use Rattle.sr_book.specs.declared.note.Note.TheVariants.{Confirmed, Asked, Raised, Sent}
-use Rattle.sr_database.specs.Books.{book_in}
 use Rattle.sr_database.specs.Databases.{IsOf}
 use Rattle.sr_database.specs.Advances.{Advances}
 use Rattle.sr_database.specs.Views.{View, committed}
 use Rattle.sr_database.proofs.Commits.{committed_is}
+use Rattle.sr_database_files.specs.Books.{book_in}
 use Rattle.sr_database_history.specs.Fitting.{Knows}
 use Rattle.sr_database_history.specs.Folds.{State, after_done, after_dones, after_pass, fresh, next, sees, state_from, state_of, with_changes, with_statement}
 use Rattle.sr_database_history.specs.Recorded.{Done}

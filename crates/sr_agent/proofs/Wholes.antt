@@ -1,5 +1,5 @@
 -- A whole run, from its passes.
-use Rattle.std.proofs.Common.{◌≡◌, List, [], ◌++◌, map, sym, ap, ◌∙◌, append_assoc}
+use Rattle.std.proofs.Common.{◌≡◌, ℕ, List, [], ◌++◌, map, sym, ap, ◌∙◌, append_assoc}
 use Rattle.sr_book.specs.Entries.{Name}
 use Rattle.sr_database.specs.Databases.{IsDatabase}
 use Rattle.sr_database.specs.Views.{View}
@@ -17,13 +17,14 @@ use Rattle.sr_agent.specs.declared.options.Options.{Options}
 use Rattle.sr_agent.specs.declared.partner.Partner.{Partner}
 use Rattle.sr_agent.proofs.Joints.{commits-append, commits_of}
 
--- ---- after the receive pass
+-- ---- after the receive pass, where the log began at a base
 
-pub record Received (new : View) (before now : Seen) (publisher : Name) (es : List Recorded) (options : Options) (asks : List Partner) (lines : List Line) : Type 0 where
+pub record Received (base : ℕ) (new : View) (before now : Seen) (publisher : Name) (es : List Recorded) (options : Options) (asks : List Partner) (lines : List Line) : Type 0 where
   pub run : Run
   pub none : run.deliveries ≡ []
   pub receives : Receives options.receive publisher es run
   pub database : IsDatabase new publisher (after_receiving publisher es run) now
+  pub base_is : new.log.base ≡ base
   pub went : Went before now publisher es (map commit (taken_entries publisher es run))
   pub mail : mail_in now.happened ≡ received_mail publisher es options.purge run (mail_in before.happened)
   pub steady : IsSteady before now

@@ -1,6 +1,6 @@
 -- What was written, and how a run ends, of steps after steps that were told whole.
 use Rattle.std.proofs.Common.{◌≡◌, ◌+◌, ℕ, Bool, true, cond, List, [], ◌++◌, refl, sym, ap, subst, ◌∙◌, append_assoc, le_refl}
-use Rattle.std.specs.Prelude.{IsTrue, Err}
+use Rattle.std.specs.Prelude.{IsTrue, Result, Ok, Err}
 use Rattle.std.proofs.lemmas.List.{append-nil}
 use Rattle.std.proofs.lemmas.Grind.{flat_map-append}
 use Rattle.std.proofs.lemmas.List.Sums.{sum_by-append}
@@ -111,6 +111,19 @@ ended_behind new before seen now written between written' first behind fault tol
   site = stays_on before seen now stays ended.site;
   sink = outputs_on written between written' told.stays ended.sink;
 }
+
+-- a step that came to its end or that a fault ended, after steps that were told whole
+pub ended_after : (result : Result ℕ AgentFault) (new : View) (before seen now : Seen) (written between written' : Output) (first behind : List Line) → Told (lines_text first) written between → IsSteady before seen
+    → Stays before seen → Ended new seen now between written' behind result → Ended new before now written written' (first ++ behind) result
+ended_after (Ok count) new before seen now written between written' first behind told steady stays ended = record {
+  wrote = λ tells. all_behind first behind written.taken between.taken written'.taken (told.taken tells) (ended.wrote (told_output written between told.stays tells));
+  counts = (ended.counts.0 ∙ steady.disk, ended.counts.1 ∙ steady.mail, ended.counts.2 ∙ told.steady);
+  usable = ended.usable;
+  pending = ended.pending;
+  site = stays_on before seen now stays ended.site;
+  sink = outputs_on written between written' told.stays ended.sink;
+}
+ended_after (Err fault) new before seen now written between written' first behind told steady stays ended = ended_behind new before seen now written between written' first behind fault told steady stays ended
 
 pub told_on : (first behind : List Line) (written between written' : Output) → Told (lines_text first) written between → Told (lines_text behind) between written' → Told (lines_text (first ++ behind)) written written'
 told_on first behind written between written' one two = record {

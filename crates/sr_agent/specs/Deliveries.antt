@@ -22,16 +22,17 @@ with_puts (put address name bytes ∷ events) before = with_puts events (sent_fi
 
 -- ---- one partner
 
--- a partner, and the messages that were put for him, in order
+-- a partner, where the log that was sent from begins, and the messages that were put for him, in order
 pub record Delivery : Type 0 where
+  pub base : ℕ
   pub partner : Partner
   pub messages : List Message
 
--- the one cut of what the history gives him past what he was sent, where a message is due, and else none; each message can be read again
+-- the one cut of what the history gives him past what he was sent, behind the base of the log, where a message is due, and else none; each message can be read again
 pub record IsDelivery (publisher : Name) (es : List Recorded) (limit : ℕ) (d : Delivery) : Type 0 where
-  pub are : AreAll publisher es d.partner.user (books_of d.partner.user es) d.partner.ask limit d.messages
+  pub are : AreAll d.base publisher es d.partner.user (books_of d.partner.user es) d.partner.ask limit d.messages
   pub spelled : AllByRecursion IsMessage d.messages
-  pub fits : first_long (waiting publisher es d.partner.user (books_of d.partner.user es)) ≡ None
+  pub fits : first_long (waiting d.base publisher es d.partner.user (books_of d.partner.user es)) ≡ None
 
 -- the folder that his messages are put into, by the catalog as it is then
 abbrev pub folder_of : Name → List Recorded → Name → Name
@@ -40,10 +41,10 @@ folder_of publisher es user = address_in (state_of publisher es).catalog user
 -- what it adds to the trace: the files of the messages, and then their note; nothing where there is none
 abbrev pub delivery_events : Name → List Recorded → Delivery → List Event
 delivery_events publisher es d =
-    noted_put_files (folder_of publisher es d.partner.user) d.partner.user (books_of d.partner.user es) (sent_end publisher es d.partner.user (books_of d.partner.user es)) d.messages
+    noted_put_files (folder_of publisher es d.partner.user) d.partner.user (books_of d.partner.user es) (sent_end d.base publisher es d.partner.user (books_of d.partner.user es)) d.messages
 
 abbrev pub delivery_line : Name → List Recorded → Delivery → Line
-delivery_line publisher es d = sent d.partner.user (length d.messages) (sent_end publisher es d.partner.user (books_of d.partner.user es)).0
+delivery_line publisher es d = sent d.partner.user (length d.messages) (sent_end d.base publisher es d.partner.user (books_of d.partner.user es)).0
 
 -- ---- partners, each on the history with the notes of those before him
 
@@ -66,6 +67,11 @@ AreDeliveries publisher es limit (d ∷ earlier) = AreDeliveries publisher es li
 abbrev pub deliveries_lines : Name → List Recorded → List Delivery → List Line
 deliveries_lines publisher es [] = []
 deliveries_lines publisher es (d ∷ earlier) = deliveries_lines publisher es earlier ++ delivery_line publisher (after_deliveries publisher es earlier) d ∷ []
+
+-- each is from a log that begins there
+abbrev pub AreBased : ℕ → List Delivery → Type 0
+AreBased base [] = ⊤
+AreBased base (d ∷ earlier) = AreBased base earlier × (d.base ≡ base)
 
 -- to whom, in order, and whether an ask was due
 abbrev pub sent_to : List Delivery → List Partner

@@ -6,5 +6,6 @@ pub mod Runs
 pub mod Ends
 pub mod Removals
 pub mod Stops
+pub mod Restarts
 pub mod Agents
 pub mod Inner

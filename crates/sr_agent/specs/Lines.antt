@@ -10,6 +10,8 @@ use Rattle.sr_receive_gather.specs.declared.report.Report.TheVariants.{More, Jun
 use Rattle.sr_session_script.specs.Acts.{line}
 
 pub data Line : Type 0 where
+  -- the log was begun anew: it begins at this offset
+  restarted : ℕ → Line
   -- what a pass reports
   report : Report → Line
   -- so many transactions were taken from a partner, and up to this offset of his log all is taken
@@ -51,6 +53,7 @@ report_text (Torn user prev upto) = codes "torn " ++ numbers_behind user prev.0 
 report_text (Gap user from upto) = codes "gap " ++ numbers_behind user from.0 upto.0
 
 abbrev pub line_text : Line → List ℕ
+line_text (restarted base) = line (codes "restarted " ++ decimal base)
 line_text (report r) = line (report_text r)
 line_text (received user took end) = line (codes "from " ++ user ++ codes " took " ++ decimal took ++ codes " up to " ++ decimal end)
 line_text (sent user put end) = line (codes "to " ++ user ++ codes " put " ++ decimal put ++ codes " up to " ++ decimal end)
@@ -74,6 +77,7 @@ is_alarm (Torn user prev upto) = true
 is_alarm (Gap user from upto) = true
 
 abbrev pub is_alarm_line : Line → Bool
+is_alarm_line (restarted base) = false
 is_alarm_line (report r) = is_alarm r
 is_alarm_line (received user took end) = false
 is_alarm_line (sent user put end) = false

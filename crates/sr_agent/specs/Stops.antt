@@ -93,11 +93,11 @@ pub data PartnerPassStop (publisher : Name) (es : List Recorded) (fetched_files 
   in_message_files : ReceivingStop publisher es fetched_files user db new seen now events lines fault → PartnerPassStop publisher es fetched_files user db new seen now events lines fault purge whole
   behind_message_files : BehindPartnerPassStop publisher es fetched_files user new seen now events lines fault purge whole → PartnerPassStop publisher es fetched_files user db new seen now events lines fault purge whole
 
--- the note of messages was begun, which comes after the last of them, or not
-abbrev pub IsBegunNote : Name → List Recorded → Name → List Message → List Message → List Recorded → Type 0
-IsBegunNote publisher es user messages left [] = ⊤
-IsBegunNote publisher es user messages left (r ∷ []) = (left ≡ []) × (r ≡ sent_note user (books_of user es) (sent_end publisher es user (books_of user es)) (length messages))
-IsBegunNote publisher es user messages left (r ∷ other ∷ rs) = ⊥
+-- the note of messages was begun, which comes after the last of them, or not; the log begins at a base
+abbrev pub IsBegunNote : ℕ → Name → List Recorded → Name → List Message → List Message → List Recorded → Type 0
+IsBegunNote base publisher es user messages left [] = ⊤
+IsBegunNote base publisher es user messages left (r ∷ []) = (left ≡ []) × (r ≡ sent_note user (books_of user es) (sent_end base publisher es user (books_of user es)) (length messages))
+IsBegunNote base publisher es user messages left (r ∷ other ∷ rs) = ⊥
 
 -- messages were being put for a partner, each of which can be read again, or their note was being committed
 pub record DeliveryStop (publisher : Name) (es : List Recorded) (limit : ℕ) (partner : Partner) (db new : View) (seen now : Seen) (events : List Event) (fault : AgentFault) : Type 0 where
@@ -107,10 +107,10 @@ pub record DeliveryStop (publisher : Name) (es : List Recorded) (limit : ℕ) (p
   pub fault_is : fault ≡ fault_of_send why
   pub messages : List Message
   pub left : List Message
-  pub are : AreAll publisher es partner.user (books_of partner.user es) partner.ask limit (messages ++ left)
+  pub are : AreAll db.log.base publisher es partner.user (books_of partner.user es) partner.ask limit (messages ++ left)
   pub spelled : AllByRecursion IsMessage messages
   pub notes : List Recorded
-  pub note : IsBegunNote publisher es partner.user messages left notes
+  pub note : IsBegunNote db.log.base publisher es partner.user messages left notes
   pub events_are : events ≡ put_files (folder_of publisher es partner.user) (books_of partner.user es).send_count messages ++ map commit notes
 
 -- ---- which entries its lines tell of

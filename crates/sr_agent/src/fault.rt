@@ -23,8 +23,9 @@ pub enum AgentFault {
     /// the gate after it.
     #[error("log full: {need} bytes at {end}")]
     Full { end: u64, need: u64 },
-    /// The record of a transaction that was taken, or the encoding of one that was to be sent, has `length` bytes, more than the `limit`.
-    #[error("transaction too long: {length} bytes, limit {limit}")]
+    /// The record of a transaction that was taken, the encoding of one that was to be sent, or the snapshot of a log that was to begin anew has `length`
+    /// bytes, more than the `limit`.
+    #[error("too long: {length} bytes, limit {limit}")]
     Long { length: u64, limit: u64 },
     /// There is no memory. The lines of what was done are written all the same.
     #[error("out of memory")]

@@ -7,7 +7,7 @@ pub struct Options {
     pub send: bool,
     /// Message files that are done with are removed.
     pub purge: bool,
-    /// The log is restarted first.
+    /// The log is begun anew first, where the least need of all partners lies.
     pub restart: bool,
     /// How many bytes a message file may have: 10,000 to 1,048,576.
     pub length: u32,

@@ -2,14 +2,14 @@
 
 ghost use Rattle.std.specs.Prelude.{◌≡◌, ◌++◌, ◌∷◌, [], List, IfOk, OnErr, OnOk};
 ghost use Rattle.std.specs.Fmt.{decimal};
-ghost use Rattle.sr_agent.specs.Lines.{alarms, line_text, lines_text, received as received_line, report_lines, sent as sent_line};
+ghost use Rattle.sr_agent.specs.Lines.{alarms, line_text, lines_text, received as received_line, report_lines, restarted as restarted_line, sent as sent_line};
 ghost use Rattle.sr_agent.specs.Inner.Steps.{Added, IsParted, Told, ToldInPart};
 ghost use Rattle.sr_receive_gather.specs.declared.report.Report.{Report as AReport};
 ghost use Rattle.sr_session_script.specs.Acts.{line};
 
-use crate::adding::{add, add_name, add_number};
+use crate::adding::{add, add_name, add_number, add_numbered};
 use crate::reporting::{add_reports, count_alarms};
-use sr_base::{Name, NoMemory};
+use sr_base::{Name, NoMemory, Offset};
 use sr_receive::Received;
 use sr_receive_gather::Report;
 use sr_send::Sent;
@@ -23,6 +23,28 @@ fn tell<O: Sink>(sink: &mut O, held: &[u8]) -> Result<(), Failed>
     ensures failed { OnErr result (ToldInPart held.now (O.seen sink.old) (O.seen sink.new)) }
 {
     say(sink, held)?;
+    Ok(())
+}
+
+/// Adds where the log begins: `restarted OFFSET`.
+#[tactic(auto, using(crate::proofs::Additions::adding))]
+fn add_restart<O: Sink>(held: &mut Vec<u8>, sink: &mut O, base: Offset) -> Result<(), Failed>
+    ensures added { OnOk result (Added (line_text (restarted_line base.0)) held.old.items held.new.items (O.seen sink.old) (O.seen sink.new)) }
+    ensures failed { OnErr result (ToldInPart (held.old.items ++ line_text (restarted_line base.0)) (O.seen sink.old) (O.seen sink.new)) }
+{
+    add_numbered(held, sink, b"restarted ", base.0)?;
+    add(held, sink, b"\n")?;
+    Ok(())
+}
+
+/// Tells where the log begins.
+pub(crate) fn tell_restart<O: Sink>(alloc: Global, sink: &mut O, base: Offset) -> Result<(), Failed>
+    ensures told { OnOk result (Told (lines_text (restarted_line base.0 ∷ [])) (O.seen sink.old) (O.seen sink.new)) }
+    ensures failed { OnErr result (ToldInPart (lines_text (restarted_line base.0 ∷ [])) (O.seen sink.old) (O.seen sink.new)) }
+{
+    let mut held = Vec::new(alloc);
+    add_restart(&mut held, sink, base)?;
+    tell(sink, held.as_slice())?;
     Ok(())
 }
 

@@ -3,8 +3,7 @@ use Rattle.std.proofs.Common.{◌≡◌, ℕ, suc, ◌-◌, ◌+◌, ◌≤◌, 
 use Rattle.std.proofs.lemmas.List.{append-nil}
 use Rattle.sr_base.specs.declared.broken.Broken.{Broken}
 use Rattle.sr_base.specs.declared.broken.Broken.TheVariants as broken
-use Rattle.sr_base.specs.Inner.Fields.{items_at}
-use Rattle.sr_base.specs.Reading.{Read, ◌>>=◌}
+use Rattle.sr_base.specs.Reading.{Read, ◌>>=◌, items_at}
 use Rattle.sr_base.specs.Inner.Reading.{Fails}
 
 -- what was read before, and what is still read

@@ -2,7 +2,7 @@
 
 ghost use Rattle.std.specs.Prelude.{◌≡◌, ◌++◌, ◌<◌, ◌^◌, length, OnOk, OnErr};
 ghost use Rattle.sr_base.specs.Fields.{list_spelling, IsListOf};
-ghost use Rattle.sr_base.specs.Inner.Fields.{list_at, items_at};
+ghost use Rattle.sr_base.specs.Reading.{list_at, items_at};
 ghost use Rattle.sr_base.specs.Inner.ListLaws.{list_format};
 ghost use Rattle.sr_base.specs.Inner.Reading.{Gives};
 
@@ -44,7 +44,7 @@ impl<T: Field> Field for Seq<T> {
 
     ghost format = { list_format T.format };
 
-    #[tactic(auto, unfolding(crate::specs::Inner::Fields::list_at))]
+    #[tactic(auto, unfolding(crate::specs::Reading::list_at))]
     fn read(alloc: Global, bytes: &[u8]) -> Result<(Seq<T>, &[u8]), Broken> {
         let (count, rest) = u32::read(alloc, bytes)?;
         let (items, rest) = items_of::<T>(alloc, count, rest)?;

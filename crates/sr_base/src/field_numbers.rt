@@ -3,7 +3,7 @@
 ghost use Rattle.std.specs.Prelude.{ℕ, ◌^◌, ◌<◌, [], ◌∷◌, ⊤, FitsSigned};
 ghost use Rattle.std.specs.Int.{w32, w64, to_be_bytes};
 ghost use Rattle.sr_base.specs.Fields.{byte_at, signed_spelling};
-ghost use Rattle.sr_base.specs.Inner.Fields.{number_at, signed_at};
+ghost use Rattle.sr_base.specs.Reading.{number_at, signed_at};
 ghost use Rattle.sr_base.specs.Inner.NumberLaws.{byte_format, format32, format64, signed_format32, signed_format64};
 
 use crate::broken::Broken;
@@ -98,7 +98,7 @@ impl Field for i32 {
 
     ghost format = { signed_format32 };
 
-    #[tactic(auto, unfolding(crate::specs::Inner::Fields::signed_at))]
+    #[tactic(auto, unfolding(crate::specs::Reading::signed_at))]
     fn read(alloc: Global, bytes: &[u8]) -> Result<(i32, &[u8]), Broken> {
         let (number, rest) = u32::read(alloc, bytes)?;
         Ok((number.cast_signed(), rest))
@@ -120,7 +120,7 @@ impl Field for i64 {
 
     ghost format = { signed_format64 };
 
-    #[tactic(auto, unfolding(crate::specs::Inner::Fields::signed_at))]
+    #[tactic(auto, unfolding(crate::specs::Reading::signed_at))]
     fn read(alloc: Global, bytes: &[u8]) -> Result<(i64, &[u8]), Broken> {
         let (number, rest) = u64::read(alloc, bytes)?;
         Ok((number.cast_signed(), rest))

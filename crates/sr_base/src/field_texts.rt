@@ -2,7 +2,7 @@
 
 ghost use Rattle.std.specs.Prelude.{◌<◌, ◌^◌, ⊤, length};
 ghost use Rattle.sr_base.specs.Fields.{bytes_spelling, IsText, name_spelling, name_at, IsName};
-ghost use Rattle.sr_base.specs.Inner.Fields.{text_at};
+ghost use Rattle.sr_base.specs.Reading.{text_at};
 ghost use Rattle.sr_base.specs.Inner.TextLaws.{text_format, name_format};
 
 use crate::broken::Broken;
@@ -25,7 +25,7 @@ impl Field for Text {
 
     ghost format = { text_format };
 
-    #[tactic(auto, using(crate::proofs::Utf8::utf8_tests), unfolding(crate::specs::Inner::Fields::text_at))]
+    #[tactic(auto, using(crate::proofs::Utf8::utf8_tests), unfolding(crate::specs::Reading::text_at))]
     fn read(alloc: Global, bytes: &[u8]) -> Result<(Text, &[u8]), Broken> {
         let (size, behind) = u32::read(alloc, bytes)?;
         let size = size as usize;

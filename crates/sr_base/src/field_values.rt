@@ -7,7 +7,8 @@ ghost use Rattle.sr_base.specs.Fields.{signed_spelling, IsListOf};
 ghost use Rattle.sr_base.specs.Inner.ListLaws.{list_format};
 ghost use Rattle.sr_base.specs.Inner.ValueLaws.{day_format, offset_format, value_format};
 ghost use Rattle.sr_base.specs.Values.{offset_spelling, IsOffset, value_spelling, IsValue, IsShort, row_spelling};
-ghost use Rattle.sr_base.specs.Inner.Values.{day_at, offset_at, value_at, row_at, IsRow};
+ghost use Rattle.sr_base.specs.Inner.Values.{offset_at, row_at, IsRow};
+ghost use Rattle.sr_base.specs.Reading.{day_at, value_at};
 
 use crate::broken::Broken;
 use crate::copied::NoMemory;
@@ -34,7 +35,7 @@ impl Field for Day {
 
     ghost format = { day_format };
 
-    #[tactic(auto, unfolding(crate::specs::Inner::Values::day_at))]
+    #[tactic(auto, unfolding(crate::specs::Reading::day_at))]
     fn read(alloc: Global, bytes: &[u8]) -> Result<(Day, &[u8]), Broken> {
         let (days, rest) = i32::read(alloc, bytes)?;
         match Day::new(days) {
@@ -80,7 +81,7 @@ impl Field for Value {
 
     ghost format = { value_format };
 
-    #[tactic(auto, unfolding(crate::specs::Inner::Values::value_at))]
+    #[tactic(auto, unfolding(crate::specs::Reading::value_at))]
     fn read(alloc: Global, bytes: &[u8]) -> Result<(Value, &[u8]), Broken> {
         match bytes {
             [] => Err(Broken::Left(0)),
@@ -128,7 +129,7 @@ impl Field for Row {
 
     ghost format = { list_format value_format };
 
-    #[tactic(auto, unfolding(crate::specs::Inner::Fields::list_at, crate::specs::Inner::Fields::items_at))]
+    #[tactic(auto, unfolding(crate::specs::Reading::list_at, crate::specs::Reading::items_at))]
     fn read(alloc: Global, bytes: &[u8]) -> Result<(Row, &[u8]), Broken> {
         let (count, rest) = u32::read(alloc, bytes)?;
         if count == 2 {

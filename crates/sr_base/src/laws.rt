@@ -3,10 +3,10 @@
 ghost use Rattle.std.specs.Prelude.{◌<◌, ◌^◌};
 ghost use Rattle.std.specs.Int.{w32, w64, to_be_bytes};
 ghost use Rattle.sr_base.specs.Fields.{name_at, name_spelling, IsName, bytes_spelling, IsText};
-ghost use Rattle.sr_base.specs.Inner.Fields.{number_at, text_at};
+ghost use Rattle.sr_base.specs.Reading.{number_at, text_at, value_at};
 ghost use Rattle.sr_base.specs.Inner.Laws.{ReadsSpellings, ReadsAgain, BeginsNoOther};
 ghost use Rattle.sr_base.specs.Values.{value_spelling, IsValue, row_spelling};
-ghost use Rattle.sr_base.specs.Inner.Values.{value_at, row_at, IsRow};
+ghost use Rattle.sr_base.specs.Inner.Values.{row_at, IsRow};
 
 /// What is read is spelled so, each byte of it.
 pub fn what_is_read_is_spelled_so()

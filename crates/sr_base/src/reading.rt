@@ -4,10 +4,10 @@ ghost use Rattle.std.specs.Prelude.{◌≡◌, ◌++◌, ◌<◌, ◌≤◌, ◌
 ghost use Rattle.std.specs.Int.{w32, w64, to_be_bytes};
 ghost use Rattle.sr_base.specs.declared.value.Value.{Value as Cell};
 ghost use Rattle.sr_base.specs.Fields.{name_at, name_spelling, IsName, bytes_spelling, IsText};
-ghost use Rattle.sr_base.specs.Inner.Fields.{text_at};
+ghost use Rattle.sr_base.specs.Reading.{text_at, value_at};
 ghost use Rattle.sr_base.specs.Inner.Reading.{BeginsWith, IsReadAs, IsBad};
 ghost use Rattle.sr_base.specs.Values.{value_spelling, IsValue, row_spelling};
-ghost use Rattle.sr_base.specs.Inner.Values.{value_at, row_at, IsRow};
+ghost use Rattle.sr_base.specs.Inner.Values.{row_at, IsRow};
 
 use crate::broken::{Bad, Broken};
 use crate::field::Field;

@@ -4,7 +4,7 @@ ghost use Rattle.sr_catalog_change.specs.Changes.{next, refusal};
 ghost use Rattle.sr_catalog_change.specs.Inner.Changes.{IsChange};
 ghost use Rattle.sr_catalog_ddl.specs.Subscriptions.{is_started};
 ghost use Rattle.sr_ast.specs.NormalForms.{IsNormal};
-ghost use Rattle.sr_catalog_script_laws.specs.Inner.Scripts.{IsSpelled};
+ghost use Rattle.sr_catalog_script_laws.specs.Scripts.{IsSpellable};
 ghost use Rattle.sr_catalog_schema.specs.Catalogs.{nothing_but};
 ghost use Rattle.sr_catalog_schema.specs.Members.{publication_name, table_name, user_name};
 ghost use Rattle.sr_catalog_schema.specs.Names.{named};
@@ -38,9 +38,9 @@ impl Model for Catalog {
 
     ghost view = { λ c. c.schema };
 
-    ghost use Rattle.sr_catalog_script_laws.specs.Inner.Scripts.{IsSpelled};
+    ghost use Rattle.sr_catalog_script_laws.specs.Scripts.{IsSpellable};
 
-    ghost invariant = { λ c. IsSpelled c.schema };
+    ghost invariant = { λ c. IsSpellable c.schema };
 }
 
 impl Catalog {
@@ -71,7 +71,7 @@ impl Catalog {
 
     /// That statements in normal form have made this catalog of a new one, each accepted where it stands, as of every catalog. It does nothing.
     pub fn is_made(&self)
-        ensures made { IsSpelled self.now }
+        ensures made { IsSpellable self.now }
     {
         let _ = &self.schema;
     }
@@ -176,7 +176,7 @@ impl Catalog {
 fn changed(schema: &Schema, alloc: Global, stmt: &Stmt) -> Result<Catalog, NoMemory>
     requires normal { IsNormal stmt.now }
     requires accepted { refusal schema.now stmt.now ≡ None }
-    requires spelled { IsSpelled schema.now }
+    requires spelled { IsSpellable schema.now }
     ensures { IfOk result (λ after. after ≡ next schema.now stmt.now) }
 {
     let mut after = schema.copy(alloc)?;

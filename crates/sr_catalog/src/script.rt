@@ -6,7 +6,7 @@ ghost use Rattle.sr_ast.specs.Layout.{printed};
 ghost use Rattle.sr_ast.specs.NormalForms.{IsNormal};
 ghost use Rattle.sr_ast.specs.declared.stmt.Stmt.{Stmt};
 ghost use Rattle.sr_catalog_schema.specs.Catalogs.{nothing_but};
-ghost use Rattle.sr_catalog_script_laws.specs.Inner.Scripts.{given_address, grant_rule, grant_of, column_rule, create_table_of, article_rule, create_publication_of, subscription_rule, create_subscription_of, start_of, set_options_of, verifies_rule, trigger_stmt, statements, replayed};
+ghost use Rattle.sr_catalog_script_laws.specs.Scripts.{given_address, grant_rule, grant_of, column_rule, create_table_of, article_rule, create_publication_of, subscription_rule, create_subscription_of, start_of, set_options_of, verifies_rule, trigger_stmt, statements, replayed};
 
 use crate::catalog::Catalog;
 use sr_ast::{
@@ -107,7 +107,7 @@ fn add_starts(
     Ok(())
 }
 
-#[tactic(auto, unfolding(sr_catalog_script_laws::specs::Inner::Scripts::start_of))]
+#[tactic(auto, unfolding(sr_catalog_script_laws::specs::Scripts::start_of))]
 fn start_text(alloc: Global, subscription: &Subscription) -> Result<Text, NoMemory>
     ensures { IfOk result (λ text. text ≡ printed (start_of subscription.now)) }
 {
@@ -157,7 +157,7 @@ fn subscription_rule(
 impl Made for Subscription {
     ghost stmt_of = { create_subscription_of };
 
-    #[tactic(auto, unfolding(sr_catalog_script_laws::specs::Inner::Scripts::create_subscription_of))]
+    #[tactic(auto, unfolding(sr_catalog_script_laws::specs::Scripts::create_subscription_of))]
     fn stmt(&self, alloc: Global) -> Result<Stmt, NoMemory> {
         Ok(Stmt::CreateSubscription(subscription_rule(alloc, self)?))
     }
@@ -174,7 +174,7 @@ impl Made for Trigger {
 impl Made for User {
     ghost stmt_of = { grant_of };
 
-    #[tactic(auto, unfolding(sr_catalog_script_laws::specs::Inner::Scripts::grant_of))]
+    #[tactic(auto, unfolding(sr_catalog_script_laws::specs::Scripts::grant_of))]
     fn stmt(&self, alloc: Global) -> Result<Stmt, NoMemory> {
         let rule = grant_rule(alloc, self)?;
         if self.above {
@@ -210,7 +210,7 @@ fn given_address(alloc: Global, user: &User) -> Result<Option<Text>, NoMemory>
 impl Made for Table {
     ghost stmt_of = { create_table_of };
 
-    #[tactic(auto, unfolding(sr_catalog_script_laws::specs::Inner::Scripts::create_table_of))]
+    #[tactic(auto, unfolding(sr_catalog_script_laws::specs::Scripts::create_table_of))]
     fn stmt(&self, alloc: Global) -> Result<Stmt, NoMemory> {
         Ok(Stmt::CreateTable(CreateTable {
             name: self.name.copy(alloc)?,
@@ -239,7 +239,7 @@ fn column_rules(alloc: Global, columns: &[Column]) -> Result<Seq<ColumnRule>, No
 impl Made for Publication {
     ghost stmt_of = { create_publication_of };
 
-    #[tactic(auto, unfolding(sr_catalog_script_laws::specs::Inner::Scripts::create_publication_of))]
+    #[tactic(auto, unfolding(sr_catalog_script_laws::specs::Scripts::create_publication_of))]
     fn stmt(&self, alloc: Global) -> Result<Stmt, NoMemory> {
         Ok(Stmt::CreatePublication(CreatePublication {
             name: self.name.copy(alloc)?,

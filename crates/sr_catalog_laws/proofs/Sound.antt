@@ -21,7 +21,7 @@ use Rattle.sr_logform.specs.Rules.{AreDistinct}
 use Rattle.sr_publish.specs.Inner.Laws.{HasKey}
 use Rattle.sr_publish.proofs.Orderly.{distinct_from, table_has_key}
 use Rattle.sr_publish.proofs.Sources.{one_source}
-use Rattle.sr_catalog_script_laws.specs.Inner.Scripts.{IsMade, article_rule, grant_of, grant_rule}
+use Rattle.sr_catalog_script_laws.specs.Scripts.{IsMadeByStatements, article_rule, grant_of, grant_rule}
 use Rattle.sr_catalog_script_laws.proofs.ReplayCauses.{NoCause, no_cause_of, all_there, first_of-None, option_map-None, where_true-None}
 use Rattle.sr_catalog_script_laws.proofs.ReplayLists.{AllByRecursion-step}
 use Rattle.sr_catalog_script_laws.proofs.ReplayNexts.{made_stands}
@@ -240,7 +240,7 @@ sound_trigger tables t stands =
 
 -- ---- catalogs
 
-pub sound_catalog : (c : Lists) → IsMade c → IsSoundCatalog c
+pub sound_catalog : (c : Lists) → IsMadeByStatements c → IsSoundCatalog c
 sound_catalog c made =
     let stands = made_stands c made in
     let keys : (name : List ℕ) (t : Table) → named table_name name c.tables ≡ Some t → HasKey t = λ name t e. table_has_key c name t made e in

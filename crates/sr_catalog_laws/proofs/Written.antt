@@ -12,7 +12,7 @@ use Rattle.sr_catalog_laws.specs.Inner.Making.{IsTableOf}
 use Rattle.sr_catalog_script_laws.proofs.Normals.{table_again}
 use Rattle.sr_catalog_script_laws.proofs.ReplayLists.{AllByRecursion-step}
 use Rattle.sr_catalog_script_laws.proofs.Spelled.{script_normal}
-use Rattle.sr_catalog_script_laws.specs.Inner.Scripts.{statements, IsSpelled}
+use Rattle.sr_catalog_script_laws.specs.Scripts.{statements, IsSpellable}
 use Rattle.sr_catalog_schema.specs.Catalogs.{Lists}
 
 -- an accepted CREATE TABLE makes what it writes
@@ -22,5 +22,5 @@ table_written c t h =
     record { name = ap (λ (r : CreateTable). r.name) again; columns = ap (λ (r : CreateTable). r.columns) again; key = ap (λ (r : CreateTable). r.key) again }
 
 -- each statement of a script is written in its text
-pub script_written : (c : Lists) → IsSpelled c → AllByRecursion (λ s. IsWritten (printed s) (s ∷ [])) (statements c)
+pub script_written : (c : Lists) → IsSpellable c → AllByRecursion (λ s. IsWritten (printed s) (s ∷ [])) (statements c)
 script_written c spelled = AllByRecursion-step _ _ printed-is_written (statements c) (script_normal c spelled)

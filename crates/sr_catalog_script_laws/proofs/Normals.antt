@@ -22,7 +22,7 @@ use Rattle.sr_catalog_ddl.specs.Tables.{rule_name, column_of, table_of, create_t
 use Rattle.sr_catalog_ddl.specs.Users.{is_bad_address, address_of, grant_causes, user_of}
 use Rattle.sr_ast.specs.Normal.{IsPlain, IsNoneOr, IsSomeOf}
 use Rattle.sr_ast.specs.NormalForms.{IsNormalRule, IsNormalTable, IsNormalArticle, IsNormalPublication, IsNormalGrant, IsNormalSubscription, IsNormal}
-use Rattle.sr_catalog_script_laws.specs.Inner.Scripts.{column_rule, article_rule, grant_rule, subscription_rule}
+use Rattle.sr_catalog_script_laws.specs.Scripts.{column_rule, article_rule, grant_rule, subscription_rule}
 use Rattle.sr_catalog_script_laws.proofs.ReplayCauses.{NoCause, no_cause_of, all_there, where_true-None}
 use Rattle.sr_catalog_script_laws.proofs.ReplayLists.{AllByRecursion-append, AllByRecursion-filter, AllByRecursion-map, AllByRecursion-unmap}
 use Rattle.sr_catalog_script_laws.proofs.ReplayStarts.{marked_rules}

@@ -17,7 +17,7 @@ use Rattle.sr_catalog_schema.specs.Names.{named, without}
 use Rattle.sr_catalog_schema.specs.Members.{publication_name, table_name, trigger_name}
 use Rattle.sr_catalog_ddl.specs.Options.{options_set}
 use Rattle.sr_catalog_ddl.specs.Publications.{publication_of, drop_publication_causes}
-use Rattle.sr_catalog_script_laws.specs.Inner.Scripts.{subscription_rule, unless_refused, replayed, IsMade}
+use Rattle.sr_catalog_script_laws.specs.Scripts.{subscription_rule, unless_refused, replayed, IsMadeByStatements}
 use Rattle.sr_catalog_ddl.specs.Subscriptions.{is_of, marked, articles_of, subscription_of, twice_subscribed, start_causes}
 use Rattle.sr_catalog_ddl.specs.Tables.{table_of}
 use Rattle.sr_catalog_triggers.specs.Triggers.{trigger_names, trigger_of}
@@ -363,5 +363,5 @@ stands_after : (c d : Lists) (ss : List Stmt) → Stands c → replayed c ss ≡
 stands_after c d [] stands h = subst (λ (x : Lists). Stands x) (same_Some c d h) stands
 stands_after c d (s ∷ ss) stands h = stands_unless (refusal c s) (next c s) d ss (λ accepted rest. stands_after (next c s) d ss (stands_next c s stands accepted) rest) h
 
-pub made_stands : (c : Lists) → IsMade c → Stands c
+pub made_stands : (c : Lists) → IsMadeByStatements c → Stands c
 made_stands c made = stands_after (nothing_but c.publisher) c made.history (new_stands c.publisher) made.makes

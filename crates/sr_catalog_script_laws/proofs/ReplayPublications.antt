@@ -16,7 +16,7 @@ use Rattle.sr_catalog_schema.specs.Firsts.{first_among, where_true, has, first_t
 use Rattle.sr_catalog_schema.specs.Names.{named, taken, without}
 use Rattle.sr_catalog_schema.specs.Members.{publication_name, key_names, table_name, column_name, has_column, column_names}
 use Rattle.sr_catalog_ddl.specs.Publications.{twice_in_articles, absent_in, is_bad_article, key_outside, table_in, create_publication_causes, columns_of, article_of, publication_of}
-use Rattle.sr_catalog_script_laws.specs.Inner.Scripts.{article_rule, create_publication_of}
+use Rattle.sr_catalog_script_laws.specs.Scripts.{article_rule, create_publication_of}
 use Rattle.sr_catalog_schema.specs.declared.table.Table.{Table}
 use Rattle.sr_catalog_schema.specs.declared.table.Column.{Column}
 use Rattle.sr_catalog_schema.specs.declared.publication.Publication.{Publication}

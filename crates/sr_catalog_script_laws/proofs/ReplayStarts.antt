@@ -9,7 +9,7 @@ use Rattle.sr_catalog_schema.specs.Catalogs.{Lists}
 use Rattle.sr_catalog_schema.specs.Firsts.{where_true, first_among}
 use Rattle.sr_catalog_schema.specs.Names.{named}
 use Rattle.sr_catalog_schema.specs.Members.{publication_name}
-use Rattle.sr_catalog_script_laws.specs.Inner.Scripts.{subscription_rule}
+use Rattle.sr_catalog_script_laws.specs.Scripts.{subscription_rule}
 use Rattle.sr_catalog_ddl.specs.Subscriptions.{is_of, articles_in, has_article, is_elsewhere, twice_subscribed, marked}
 use Rattle.sr_catalog_schema.specs.declared.publication.Publication.{Publication}
 use Rattle.sr_catalog_schema.specs.declared.publication.Article.{Article}

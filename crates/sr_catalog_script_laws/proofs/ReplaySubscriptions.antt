@@ -18,7 +18,7 @@ use Rattle.sr_catalog_change.specs.Changes.{refusal, next}
 use Rattle.sr_catalog_schema.specs.Firsts.{where_true}
 use Rattle.sr_catalog_schema.specs.Names.{named, taken}
 use Rattle.sr_catalog_schema.specs.Members.{publication_name, table_name, user_name}
-use Rattle.sr_catalog_script_laws.specs.Inner.Scripts.{subscription_rule}
+use Rattle.sr_catalog_script_laws.specs.Scripts.{subscription_rule}
 use Rattle.sr_catalog_ddl.specs.Subscriptions.{is_same_value, is_of, is_there, has_both, missing_either, articles_of, articles_in, differs, is_bad_value, create_subscription_causes, subscription_of}
 use Rattle.sr_catalog_schema.specs.declared.user.User.{User}
 use Rattle.sr_catalog_schema.specs.declared.table.Table.{Table}

@@ -13,7 +13,7 @@ use Rattle.sr_catalog_change.specs.Changes.{refusal, next}
 use Rattle.sr_catalog_schema.specs.Firsts.{where_true, first_twice, first_absent}
 use Rattle.sr_catalog_schema.specs.Names.{taken, place_of}
 use Rattle.sr_catalog_schema.specs.Members.{key_names, table_name, column_name, has_column, column_names}
-use Rattle.sr_catalog_script_laws.specs.Inner.Scripts.{column_rule, create_table_of}
+use Rattle.sr_catalog_script_laws.specs.Scripts.{column_rule, create_table_of}
 use Rattle.sr_catalog_ddl.specs.Tables.{rule_name, column_of, table_of, create_table_causes}
 use Rattle.sr_catalog_schema.specs.declared.table.Table.{Table}
 use Rattle.sr_catalog_schema.specs.declared.table.Column.{Column}

@@ -11,7 +11,7 @@ use Rattle.sr_catalog_schema.specs.Catalogs.{Lists}
 use Rattle.sr_catalog_change.specs.Changes.{refusal, next}
 use Rattle.sr_catalog_schema.specs.Firsts.{first_of, first_among, where_true, first_absent, first_twice}
 use Rattle.sr_catalog_schema.specs.Names.{named, taken, without}
-use Rattle.sr_catalog_script_laws.specs.Inner.Scripts.{trigger_stmt}
+use Rattle.sr_catalog_script_laws.specs.Scripts.{trigger_stmt}
 use Rattle.sr_catalog_schema.specs.Members.{table_name, has_column, trigger_name}
 use Rattle.sr_catalog_triggers.specs.Triggers.{Part, Scope, variable_name, trigger_scope, first_in, absent_of, absent_columns, absent_in_part, is_bad_part, absent_in_trigger, bad_in_trigger, create_trigger_causes, trigger_of, inserts_into, trigger_names}
 use Rattle.sr_catalog_triggers.specs.Triggers.Part.{assigned, inserted, tested}

@@ -12,7 +12,8 @@ use Rattle.sr_ast.specs.declared.create.Grant.{Grant}
 use Rattle.sr_ast.specs.declared.stmt.Stmt.TheVariants as stmt
 use Rattle.sr_catalog_schema.specs.Catalogs.{Lists, nothing_but}
 use Rattle.sr_catalog_change.specs.Changes.{causes, refusal, next}
-use Rattle.sr_catalog_script_laws.specs.Inner.Scripts.{grant_rule, grant_of, user_at}
+use Rattle.sr_catalog_script_laws.specs.Inner.Scripts.{user_at}
+use Rattle.sr_catalog_script_laws.specs.Scripts.{grant_rule, grant_of}
 use Rattle.sr_catalog_ddl.specs.Users.{is_bad_address, address_of, grant_causes, user_of}
 use Rattle.sr_catalog_schema.specs.declared.user.User.{User}
 use Rattle.sr_catalog_script_laws.proofs.ReplayCauses.{NoCause, no_cause_of, refused_alike, where_true-None}

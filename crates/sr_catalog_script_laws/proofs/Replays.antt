@@ -11,7 +11,7 @@ use Rattle.sr_ast.specs.declared.stmt.Stmt.TheVariants as stmt
 use Rattle.sr_catalog_schema.specs.Catalogs.{Lists, nothing_but, unset}
 use Rattle.sr_catalog_schema.specs.Causes.{first_fault}
 use Rattle.sr_catalog_change.specs.Changes.{refusal, next}
-use Rattle.sr_catalog_script_laws.specs.Inner.Scripts.{grant_of, create_table_of, create_publication_of, trigger_stmt, create_subscription_of, start_of, subscription_rule, verifies_rule, statements, unless_refused, replayed}
+use Rattle.sr_catalog_script_laws.specs.Scripts.{grant_of, create_table_of, create_publication_of, trigger_stmt, create_subscription_of, start_of, subscription_rule, verifies_rule, statements, unless_refused, replayed}
 use Rattle.sr_catalog_ddl.specs.Options.{set_option_causes}
 use Rattle.sr_catalog_ddl.specs.Subscriptions.{is_of, is_there, twice_subscribed, start_causes, marked, subscription_of}
 use Rattle.sr_catalog_schema.specs.declared.fault.DdlFault.{DdlFault}

@@ -10,7 +10,7 @@ use Rattle.sr_ast.specs.declared.stmt.Stmt.TheVariants as stmt
 use Rattle.sr_catalog_ddl.specs.Options.{verify_all_columns}
 use Rattle.sr_catalog_change.specs.Changes.{refusal, next}
 use Rattle.sr_ast.specs.NormalForms.{IsNormal, IsNormalGrant, IsNormalOption, IsNormalPublication, IsNormalSubscription, IsNormalTable}
-use Rattle.sr_catalog_script_laws.specs.Inner.Scripts.{create_publication_of, create_subscription_of, create_table_of, grant_of, grant_rule, replayed, set_options_of, start_of, statements, subscription_rule, trigger_stmt, unless_refused, verifies_rule, IsSpelled}
+use Rattle.sr_catalog_script_laws.specs.Scripts.{create_publication_of, create_subscription_of, create_table_of, grant_of, grant_rule, replayed, set_options_of, start_of, statements, subscription_rule, trigger_stmt, unless_refused, verifies_rule, IsSpellable}
 use Rattle.sr_catalog_script_laws.proofs.Made.{again, makes_next}
 use Rattle.sr_catalog_script_laws.proofs.ReplayLists.{AllByRecursion-append, AllByRecursion-filter, AllByRecursion-map, AllByRecursion-step}
 use Rattle.sr_catalog_script_laws.proofs.Standing.{publication_rule, table_rule}
@@ -37,7 +37,7 @@ normal_after c d [] each all h = let same : c ≡ d = cc in subst (λ (x : Lists
 normal_after c d (s ∷ ss) each all h =
     normal_unless (refusal c s) (next c s) d ss (λ accepted rest. normal_after (next c s) d ss (next_normal c s each all.0 accepted) all.1 rest) h
 
-each_of : (c : Lists) → IsSpelled c → EachNormal c
+each_of : (c : Lists) → IsSpellable c → EachNormal c
 each_of c spelled = normal_after (nothing_but c.publisher) c spelled.made.history (new_normal c.publisher) spelled.normal spelled.made.makes
 
 -- ---- the statements of a catalog
@@ -83,7 +83,7 @@ options_normal o = elim o.verifies as (λ (b : Bool). AllByRecursion IsNormal (c
   | false ↦ tt
 ]
 
-pub script_normal : (c : Lists) → IsSpelled c → AllByRecursion IsNormal (statements c)
+pub script_normal : (c : Lists) → IsSpellable c → AllByRecursion IsNormal (statements c)
 script_normal c spelled =
     let each = each_of c spelled in
     let started = AllByRecursion-filter (λ s. IsNormalSubscription (subscription_rule s)) (λ s. s.started) c.subscriptions each.subscriptions in
@@ -99,22 +99,22 @@ script_normal c spelled =
     (options_normal c.options))))))
 
 -- they make it again
-pub script_again : (c : Lists) → IsSpelled c → replayed (nothing_but c.publisher) (statements c) ≡ Some c
+pub script_again : (c : Lists) → IsSpellable c → replayed (nothing_but c.publisher) (statements c) ≡ Some c
 script_again c spelled = again c spelled.made
 
 -- ---- such catalogs
 
 -- a new one is one
-pub new_spelled : (publisher : List ℕ) → IsSpelled (nothing_but publisher)
+pub new_spelled : (publisher : List ℕ) → IsSpellable (nothing_but publisher)
 new_spelled publisher = record { made = record { history = []; makes = refl }; normal = tt }
 
 -- an accepted statement in normal form makes such a catalog of it
-pub still_spelled : (c : Lists) (s : Stmt) → IsSpelled c → IsNormal s → refusal c s ≡ None → IsSpelled (next c s)
+pub still_spelled : (c : Lists) (s : Stmt) → IsSpellable c → IsNormal s → refusal c s ≡ None → IsSpellable (next c s)
 still_spelled c s spelled normal accepted = record {
   made = record { history = spelled.made.history ++ s ∷ []; makes = makes_next c spelled.made.history s spelled.made.makes accepted };
   normal = AllByRecursion-append IsNormal spelled.made.history s spelled.normal normal;
 }
 
 -- what is the catalog after an accepted statement in normal form is one
-pub spelled_after : (c after : Lists) (s : Stmt) → refusal c s ≡ None → IsNormal s → after ≡ next c s → IsSpelled c → IsSpelled after
-spelled_after c after s accepted normal is spelled = subst (λ (x : Lists). IsSpelled x) (sym is) (still_spelled c s spelled normal accepted)
+pub spelled_after : (c after : Lists) (s : Stmt) → refusal c s ≡ None → IsNormal s → after ≡ next c s → IsSpellable c → IsSpellable after
+spelled_after c after s accepted normal is spelled = subst (λ (x : Lists). IsSpellable x) (sym is) (still_spelled c s spelled normal accepted)

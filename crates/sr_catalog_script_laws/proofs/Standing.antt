@@ -12,7 +12,7 @@ use Rattle.sr_catalog_change.specs.Changes.{refusal}
 use Rattle.sr_catalog_schema.specs.Names.{named, taken}
 use Rattle.sr_catalog_schema.specs.Members.{publication_name, key_names, table_name, trigger_name}
 use Rattle.sr_catalog_ddl.specs.Publications.{publication_of}
-use Rattle.sr_catalog_script_laws.specs.Inner.Scripts.{grant_rule, grant_of, column_rule, article_rule, subscription_rule}
+use Rattle.sr_catalog_script_laws.specs.Scripts.{grant_rule, grant_of, column_rule, article_rule, subscription_rule}
 use Rattle.sr_catalog_ddl.specs.Subscriptions.{is_of, subscription_of, has_article}
 use Rattle.sr_catalog_ddl.specs.Tables.{table_of}
 use Rattle.sr_catalog_triggers.specs.Triggers.{trigger_of}

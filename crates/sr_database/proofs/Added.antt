@@ -26,7 +26,7 @@ use Rattle.sr_site.specs.Files.{bytes_of, OthersStay}
 use Rattle.sr_site.specs.Inner.Happenings.{Made}
 use Rattle.sr_site.specs.Images.{IsSettled, RestsThroughout}
 use Rattle.sr_site.specs.Seen.{Seen}
-use Rattle.sr_database_meaning.specs.Events.{commit}
+use Rattle.sr_database_meaning.specs.Events.{attaches_in, commit}
 use Rattle.sr_database_meaning.specs.Standing.{bodies, StandsFor}
 use Rattle.sr_database_meaning.specs.Traces.{Went}
 use Rattle.sr_database_meaning.proofs.Standing.{some_byte, size_is}
@@ -39,6 +39,7 @@ use Rattle.sr_database.specs.InForce.{HasLogInForce}
 use Rattle.sr_database.specs.Inner.Taking.{at_last_commit, Takes}
 use Rattle.sr_database.specs.Inner.Sound.{IsSound}
 use Rattle.sr_database.specs.Views.{View}
+use Rattle.sr_database_files.proofs.Attaches.{on_attaches}
 use Rattle.sr_database_files.proofs.Beside.{made_on, something}
 use Rattle.sr_database.proofs.Advancing.{advanced_of, advanced_sound}
 use Rattle.sr_database.proofs.Commits.{may_stand, may_stand_on, log_of_held, log_settled, went, database_after}
@@ -63,6 +64,14 @@ short_is_body e body is short = (omega (arith, some_byte e, ap length is), omega
 
 pub framed_length : (log : Log) (entry : Entry) (framed : List ℕ) → IsPrepared log entry framed → length framed ≡ framed_size entry
 framed_length log entry framed prepared = omega (arith, length-framed framed prepared.framed_is, ap length prepared.body_is)
+
+-- ---- its calls
+
+-- they attach nothing
+pub attaches_added : (log : Log) (framed : List ℕ) (before now : Seen) (done : Bool) → Made (commit_calls log.file (gate_of log) framed) before.happened now.happened done
+    → attaches_in now.happened ≡ attaches_in before.happened
+attaches_added log framed before now done made =
+    on_attaches log.file before.happened now.happened (made_on log.file (commit_calls log.file (gate_of log) framed) before.happened now.happened done (refl, (refl, (refl, (refl, tt)))) made)
 
 -- ---- behind a commit
 

@@ -1,7 +1,6 @@
 -- How a value advances by entries: one after the other, and what holds of it then.
-use Rattle.std.proofs.Common.{◌≡◌, ℕ, ◌+◌, ◌≤◌, ◌^◌, Bool, true, false, List, [], ◌∷◌, ◌++◌, refl, sym, ◌∙◌, ap, subst, arith, append_assoc}
+use Rattle.std.proofs.Common.{◌≡◌, ℕ, ◌≤◌, ◌^◌, List, [], ◌++◌, refl, sym, ◌∙◌, ap, subst, arith, append_assoc}
 use Rattle.std.proofs.lemmas.List.{append-nil}
-use Rattle.sr_ast.specs.declared.stmt.Stmt.{Stmt}
 use Rattle.sr_base.specs.Fields.{IsName}
 use Rattle.sr_book.specs.Books.{new_book}
 use Rattle.sr_book.specs.Entries.{Name}
@@ -9,62 +8,21 @@ use Rattle.sr_book.specs.Histories.{book_from}
 use Rattle.sr_book.specs.declared.book.Book.{Book}
 use Rattle.sr_book.proofs.Folds.{book_from-append}
 use Rattle.sr_catalog_schema.specs.Catalogs.{Lists}
-use Rattle.sr_catalog_script_laws.specs.Inner.Scripts.{IsSpelled}
-use Rattle.sr_catalog_script_laws.proofs.ReplayNexts.{publisher_next}
+use Rattle.sr_catalog_script_laws.specs.Scripts.{IsSpellable}
+use Rattle.sr_database_files.specs.Books.{book_in}
 use Rattle.sr_database_history.specs.Fitting.{Stored, stored_from}
-use Rattle.sr_database_history.specs.Folds.{State, fresh, with_changes, with_statement, after_done, after_dones, after_pass, next, state_from, state_of, size, end_from, end_of, sees}
+use Rattle.sr_database_history.specs.Folds.{State, fresh, state_from, state_of, end_from, end_of, sees}
 use Rattle.sr_database_history.specs.Inner.Laws.{Holds}
-use Rattle.sr_database_history.specs.Recorded.{Done, plain, ran, conflict, clash}
-use Rattle.sr_database_history.specs.Recorded.{Recorded, own, taken, ddl, sync, pass, note}
+use Rattle.sr_database_history.specs.Recorded.{Recorded}
 use Rattle.sr_database_history.proofs.Joined.{state_from-append, end_from-append, le-end_from, stored_from-append}
 use Rattle.sr_database_history.proofs.Kept.{held_from, stored_holds}
-use Rattle.sr_logform.specs.declared.change.Change.{Change}
+use Rattle.sr_database_meaning.proofs.Beginnings.{publisher_from, ends_within}
 use Rattle.sr_database.specs.Advances.{Advances}
-use Rattle.sr_database.specs.Books.{book_in}
 use Rattle.sr_database.specs.Databases.{IsBased, IsOf}
 use Rattle.sr_database.specs.Inner.Sound.{IsSound}
 use Rattle.sr_database.specs.Views.{View, committed}
 use Rattle.sr_database.proofs.Based.{base_within}
 use Rattle.sr_database.proofs.Commits.{committed_is}
-
--- ---- the publisher stays
-
-statement_keeps : (s : State) (statement : Stmt) → (with_statement statement s).catalog.publisher ≡ s.catalog.publisher
-unfolding with_statement
-statement_keeps s statement = publisher_next s.catalog statement
-
-done_keeps : (d : Done) (s : State) → (after_done d s).catalog.publisher ≡ s.catalog.publisher
-done_keeps (plain op changes) s = refl
-done_keeps (ran statement changes) s = statement_keeps (with_changes changes s) statement
-done_keeps (conflict op inserts before after) s = refl
-done_keeps (clash op why) s = refl
-
-dones_keep : (dones : List Done) (s : State) → (after_dones dones s).catalog.publisher ≡ s.catalog.publisher
-dones_keep [] s = refl
-dones_keep (d ∷ dones) s = dones_keep dones (after_done d s) ∙ done_keeps d s
-
-pass_keeps : (only : Bool) (statement : Stmt) (changes : List Change) (s : State) → (after_pass only statement changes s).catalog.publisher ≡ s.catalog.publisher
-pass_keeps true statement changes s = refl
-pass_keeps false statement changes s = statement_keeps (with_changes changes s) statement
-
-next_keeps : (s : State) (r : Recorded) → (next s r).catalog.publisher ≡ s.catalog.publisher
-unfolding next
-next_keeps s (own changes) = refl
-next_keeps s (taken user at dones) = dones_keep dones s
-next_keeps s (ddl statement) = statement_keeps s statement
-next_keeps s (sync user tables) = refl
-next_keeps s (pass users only statement changes) = pass_keeps only statement changes s
-next_keeps s (note user what) = refl
-
-pub publisher_from : (s : State) (rs : List Recorded) → (state_from s rs).catalog.publisher ≡ s.catalog.publisher
-publisher_from s [] = refl
-publisher_from s (r ∷ rs) = publisher_from (next s r) rs ∙ next_keeps s r
-
--- ---- the last offset
-
-pub ends_within : (s : State) (place : ℕ) (rs : List Recorded) → place ≤ 2 ^ 62 → stored_from s place rs → end_from place rs ≤ 2 ^ 62
-ends_within s place [] within stored = within
-ends_within s place (r ∷ rs) within stored = let ends : place + (size r + 5) ≤ 2 ^ 62 = stored.0.ends in ends_within (next s r) (place + (size r + 5)) rs ends stored.1
 
 -- ---- one after the other
 
@@ -95,7 +53,7 @@ advanced_sound old new es on sound =
       name = subst (λ (n : Name). IsName n) (sym (ap (λ (s : State). s.catalog.publisher) on.state ∙ publisher_from (committed old) es)) sound.name;
       holds = subst (λ (s : State). Holds s) (sym on.state) (held_from (committed old) old.log.end es sound.holds on.fit);
       pending = on.pending sound.pending;
-      base_catalog = subst (λ (c : Lists). IsSpelled c) (sym on.base_catalog) sound.base_catalog;
+      base_catalog = subst (λ (c : Lists). IsSpellable c) (sym on.base_catalog) sound.base_catalog;
       order = record {
         order = omega (arith, sound.order.order, on.base, on.end, le-end_from old.log.end es);
         limit = omega (arith, on.end, ends_within (committed old) old.log.end es limit on.fit);
@@ -147,7 +105,7 @@ sound_of view publisher es is =
       name = subst (λ (n : Name). IsName n) (sym (ap (λ (c : Lists). c.publisher) is.catalog ∙ publisher_from (fresh publisher) es)) is.name;
       holds = subst (λ (s : State). Holds s) (sym (committed_is view publisher es is)) (stored_holds publisher es is.stored);
       pending = is.pending;
-      base_catalog = subst (λ (c : Lists). IsSpelled c) (sym based.catalog_is) base_holds.catalog;
+      base_catalog = subst (λ (c : Lists). IsSpellable c) (sym based.catalog_is) base_holds.catalog;
       order = record {
         order = omega (arith, base_within view.log.base view.base_catalog publisher es based, is.end);
         limit = omega (arith, is.end, ends_within (fresh publisher) 0 es zero is.stored);

@@ -5,9 +5,9 @@ use Rattle.std.proofs.lemmas.List.{map-append}
 use Rattle.sr_base.specs.declared.offset.Offset.{Offset}
 use Rattle.sr_book.specs.Entries.{Name}
 use Rattle.sr_database_history.specs.Fitting.{Stored}
-use Rattle.sr_database_history.specs.Folds.{fresh, end_from, end_of, size}
+use Rattle.sr_database_history.specs.Folds.{fresh, end_of, size}
 use Rattle.sr_database_history.specs.Recorded.{Recorded, entry_of}
-use Rattle.sr_database_history.proofs.Joined.{end_from-append, end_from-more, le-end_from, stored_from-append}
+use Rattle.sr_database_history.proofs.Joined.{end_from-append, end_from-more, stored_from-append}
 use Rattle.sr_logfile.specs.Inner.Faults.{NextCause, RecordAfterCause}
 use Rattle.sr_logfile.specs.Log.{Log}
 use Rattle.sr_logfile.specs.Inner.Logs.{IsLog, IsAt}
@@ -30,30 +30,16 @@ use Rattle.sr_site.specs.declared.file.File.{File}
 use Rattle.sr_survey_brief.specs.Inner.Briefs.{IsBrief}
 use Rattle.sr_database_meaning.specs.Standing.{body, bodies}
 use Rattle.sr_database_meaning.proofs.Standing.{ends_are, size_is}
+use Rattle.sr_database_replay.proofs.Fronts.{parted}
 use Rattle.sr_database.specs.Inner.Causes.{EntryCause, IsRecordFault}
 use Rattle.sr_database.specs.Databases.{IsHeld, IsDatabase}
 use Rattle.sr_database.specs.Inner.Entries.{IsNext, IsNextBrief, IsNextEnd, IsNextKind, BeginWith, Parts, BehindCause}
 use Rattle.sr_database_files.specs.Inner.Openings.{IsLogFault}
-use Rattle.sr_database.specs.Inner.Replays.{SpellingCause}
+use Rattle.sr_database_replay.specs.Inner.Replays.{SpellingCause}
 use Rattle.sr_database.specs.Views.{View}
 use Rattle.sr_database_files.specs.declared.fault.DatabaseFault.{DatabaseFault}
 use Rattle.sr_database_files.specs.declared.fault.DatabaseFault.TheVariants.{Missing, Exists, Damaged, Disk, Full, Long, Memory}
 use Rattle.sr_database.proofs.Commits.{log_of_held}
-
--- of one history, entries that end no later than others are the first of these
-record Middle (first others done left : List Recorded) : Type 0 where
-  more : List Recorded
-  done_is : done ≡ first ++ more
-  others_are : others ≡ more ++ left
-
-parted : (place : ℕ) (first others done left : List Recorded) → first ++ others ≡ done ++ left → end_from place first ≤ end_from place done → Middle first others done left
-parted place [] others done left same order = record { more = done; done_is = refl; others_are = same }
-parted place (x ∷ first) others [] left same order = absurd (omega (arith, order, le-end_from (place + (size x + 5)) first))
-parted place (x ∷ first) others (y ∷ done) left same order =
-    let heads : x ≡ y = cc in
-    let tails : first ++ others ≡ done ++ left = cc in
-    let rest = parted (place + (size y + 5)) first others done left tails (subst (λ (r : Recorded). end_from (place + (size r + 5)) first ≤ end_from (place + (size y + 5)) done) heads order) in
-    record { more = rest.more; done_is = λ i. sym heads i ∷ rest.done_is i; others_are = rest.others_are }
 
 -- the position parts the log as the offset parts the history
 record PartsLog (log : Log) (after : ℕ) (left : List Recorded) (files : Files) : Type 0 where

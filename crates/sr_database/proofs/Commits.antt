@@ -1,13 +1,13 @@
 -- What a commit makes of a database.
 use Rattle.std.proofs.Common.{◌≡◌, ◌≢◌, ◌⊎◌, inl, inr, ℕ, ◌+◌, ◌≤◌, ◌<◌, ◌^◌, List, [], ◌∷◌, ◌++◌, length, refl, sym, ◌∙◌, ap, subst, arith, append_assoc}
 use Rattle.std.proofs.lemmas.Bool.{cases_lt}
-use Rattle.std.proofs.lemmas.List.{map-append}
 use Rattle.sr_book.specs.Entries.{Name}
 use Rattle.sr_exec_dml.specs.FittingChanges.{ChangesFit}
 use Rattle.sr_database_history.specs.Fitting.{FitsState, Fits, Stored}
 use Rattle.sr_database_history.specs.Folds.{State, state_of, size, end_of}
 use Rattle.sr_database_history.specs.Recorded.{Recorded, own, taken, ddl, sync, pass, note}
 use Rattle.sr_database_history.proofs.Joined.{end_from-append}
+use Rattle.sr_database_replay.proofs.Records.{bodies_more}
 use Rattle.sr_logfile.specs.Inner.Logs.{IsLog}
 use Rattle.sr_logfile.specs.Inner.Moments.{HasOrLacks, IsAsRead}
 use Rattle.sr_logfile.specs.Records.{HasHeader, Spells, body_of}
@@ -31,7 +31,8 @@ use Rattle.sr_database_meaning.specs.Standing.{body, bodies, IsSnapshotAt, Stand
 use Rattle.sr_database_meaning.specs.Traces.{Went}
 use Rattle.sr_database_meaning.proofs.Going.{one_commit}
 use Rattle.sr_database_meaning.proofs.Resting.{rests_end}
-use Rattle.sr_database_meaning.proofs.Standing.{one_generation, one_part, same_base, size_is, ends_are}
+use Rattle.sr_database_meaning.proofs.Standing.{one_generation, one_part, size_is, ends_are}
+use Rattle.sr_database_files.proofs.Damaged.{same_base}
 use Rattle.sr_database.specs.Commits.{framed_size, HasRoom}
 use Rattle.sr_database.specs.Inner.Commits.{MayFollow, CanCommit}
 use Rattle.sr_database.specs.Databases.{ArePending, IsOf, IsHeld, IsDatabase}
@@ -85,9 +86,6 @@ may_stand view publisher es entry r is can spelled room =
     subst (λ (s : State). Fits s (end_of es) r) (committed_is view publisher es is) (subst (λ (n : ℕ). Fits (committed view) n r) is.end (may_stand_on view entry r is.pending can spelled room))
 
 -- ---- the files
-
-pub bodies_more : (es : List Recorded) (r : Recorded) → bodies (es ++ r ∷ []) ≡ bodies es ++ body r ∷ []
-bodies_more es r = map-append body es (r ∷ [])
 
 -- the history is parted at the base in one way, in whatever files
 one_log : (view : View) (publisher : Name) (es : List Recorded) (files other : Files) → (h : IsHeld view publisher es files) → (k : IsHeld view publisher es other) → (h.stands.done ≡ k.stands.done) × (h.stands.left ≡ k.stands.left)

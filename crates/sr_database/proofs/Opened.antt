@@ -1,34 +1,38 @@
 -- How a database is opened.
-use Rattle.std.proofs.Common.{◌≡◌, ℕ, ◌+◌, List, [], ◌∷◌, ◌++◌, length, drop, sym, ◌∙◌, ap, subst, arith}
-use Rattle.std.proofs.lemmas.List.{append-nil, drop_at}
+use Rattle.std.proofs.Common.{◌≡◌, ℕ, ◌+◌, List, ◌++◌, refl, sym, ◌∙◌, ap, subst, arith}
+use Rattle.sr_base.specs.Fields.{IsName}
+use Rattle.sr_book.specs.Books.{new_book}
 use Rattle.sr_book.specs.Entries.{Name}
-use Rattle.sr_database_history.specs.Fitting.{Fits, Stored}
-use Rattle.sr_database_history.specs.Folds.{state_of, end_of}
+use Rattle.sr_book.specs.Histories.{book_from}
+use Rattle.sr_book.specs.declared.book.Book.{Book}
+use Rattle.sr_book.proofs.Folds.{book_from-append}
+use Rattle.sr_database_history.specs.Fitting.{Stored}
+use Rattle.sr_database_history.specs.Folds.{State, fresh, end_of, sees}
 use Rattle.sr_database_history.specs.Recorded.{Recorded}
-use Rattle.sr_database_history.proofs.Joined.{end_from-append}
-use Rattle.sr_logfile.specs.Inner.Heads.{IsClosed, HasWhole, IsBroken}
+use Rattle.sr_database_history.proofs.Joined.{state_from-append, end_from-append}
 use Rattle.sr_logfile.specs.Inner.Moments.{IsAsRead}
-use Rattle.sr_logfile.specs.Records.{header, open_records, HasHeader, Spells, place_in}
-use Rattle.sr_logfile.proofs.Records.{prefix-push}
-use Rattle.sr_logfile.proofs.Commits.{length-prefix}
-use Rattle.sr_logfile.proofs.Uniqueness.{same_record}
+use Rattle.sr_logfile.specs.Records.{Spells}
+use Rattle.sr_site.specs.Files.{Files, bytes_of}
 use Rattle.sr_site.specs.Images.{IsSettled}
 use Rattle.sr_site.specs.Seen.{Seen}
+use Rattle.sr_site.specs.declared.file.File.{File}
 use Rattle.sr_site.specs.declared.file.File.TheVariants.{Root}
-use Rattle.sr_database_meaning.specs.Damage.{BeginsEntry}
+use Rattle.sr_snapshot.specs.Beginnings.{Beginning, beginning_behind}
+use Rattle.sr_snapshot.specs.Snapshots.{IsSnapshot}
 use Rattle.sr_database_meaning.specs.Generations.{generation_in, snapshot_of, log_of}
-use Rattle.sr_database_meaning.specs.Standing.{body, bodies, IsSnapshotAt, StandsFor}
-use Rattle.sr_database_meaning.proofs.Standing.{ends_are, within, is_body, bodies_behind, size_is}
-use Rattle.sr_database.specs.Databases.{IsOf, IsDatabase}
-use Rattle.sr_database.specs.Inner.Replays.{BeginsWith, HasRead, LacksNext}
+use Rattle.sr_database_meaning.specs.Standing.{bodies, IsSnapshotAt, StandsFor, StandFrom}
+use Rattle.sr_database_meaning.proofs.Alike.{stored_front}
+use Rattle.sr_database_meaning.proofs.Standing.{ends_are, at_beginning, stand_behind, one_standing}
+use Rattle.sr_database.specs.Databases.{IsOf, IsHeld, IsDatabase, IsFrom, IsHeldFrom, IsDatabaseFrom, HasBeginning}
+use Rattle.sr_database.specs.InForce.{IsInForce, HasLogInForce}
 use Rattle.sr_database.specs.Views.{View}
-use Rattle.sr_database.proofs.Commits.{bodies_more}
+use Rattle.sr_database_replay.proofs.Booked.{listed_books}
 
 -- ---- an opened database
 
-pub opened : (db : View) (publisher : Name) (es : List Recorded) (seen : Seen) → IsOf db publisher es → (stands : StandsFor publisher es db.log.base seen.files) → log_of stands.generation ≡ db.log.file
-    → IsSettled (IsAsRead Root seen) seen → IsSettled (IsAsRead (snapshot_of stands.generation) seen) seen → IsSettled (IsAsRead (log_of stands.generation) seen) seen → IsDatabase db publisher es seen
-opened db publisher es seen is stands file root snapshot log =
+pub opened : (db : View) (b : Beginning) (es : List Recorded) (seen : Seen) → IsFrom db b es → (stands : StandFrom b es seen.files) → log_of stands.generation ≡ db.log.file
+    → IsSettled (IsAsRead Root seen) seen → IsSettled (IsAsRead (snapshot_of stands.generation) seen) seen → IsSettled (IsAsRead (log_of stands.generation) seen) seen → IsDatabaseFrom db b es seen
+opened db b es seen is stands file root snapshot log =
     record {
       is = is;
       held = record { stands = stands; log_is = file };
@@ -36,94 +40,85 @@ opened db publisher es seen is stands file root snapshot log =
         stands = record {
           generation = stands.generation;
           root = ap generation_in (root image there) ∙ stands.root;
-          name = stands.name;
+          snapshot = subst (λ (l : List ℕ). IsSnapshot b l) (sym (snapshot image there)) stands.snapshot;
           stored = stands.stored;
-          done = stands.done;
-          left = stands.left;
-          parts = stands.parts;
-          base_is = stands.base_is;
-          snapshot = subst (λ (l : List ℕ). IsSnapshotAt publisher stands.done l) (sym (snapshot image there)) stands.snapshot;
-          log = subst (λ (l : List ℕ). Spells db.log.base (bodies stands.left) l) (sym (log image there)) stands.log;
+          log = subst (λ (l : List ℕ). Spells b.place (bodies es) l) (sym (log image there)) stands.log;
         };
         log_is = file;
       };
     }
 
--- ---- records, one after the other
-
--- the place of a position, where these entries were read behind others
-prefix_length : (done es : List Recorded) (position : ℕ) → position ≡ end_of (done ++ es) → length (header (end_of done) ++ open_records (bodies es)) ≡ place_in (end_of done) position
-prefix_length done es position is = omega (arith, is, length-prefix (end_of done) (bodies es), end_from-append 0 done es, ends_are (end_of done) es)
-
-pub read_none : (base : ℕ) (bytes : List ℕ) → HasHeader base bytes → HasRead base [] base bytes
-read_none base bytes has =
-    record {
-      prefix = has.bytes_are ∙ ap (λ (l : List ℕ). l ++ has.gate ∷ has.rest) (sym (append-nil (header base))) ∙ ap (λ (l : List ℕ). (header base ++ []) ++ l) (sym behind);
-      some = omega (arith, ap length behind);
-    }
-  where
-    behind : drop (place_in base base) bytes ≡ has.gate ∷ has.rest
-    behind = ap (drop (place_in base base)) has.bytes_are ∙ drop_at (header base) (has.gate ∷ has.rest) (place_in base base) (let e : 16 ≡ place_in base base = omega arith in e)
-
-pub read_more : (done es : List Recorded) (r : Recorded) (base position end : ℕ) (bytes : List ℕ) → base ≡ end_of done → end ≡ end_of (done ++ (es ++ r ∷ [])) → HasRead base es position bytes → BeginsWith r (drop (place_in base position) bytes) → HasRead base (es ++ r ∷ []) end bytes
-read_more done es r base position end bytes at is read begins = record { prefix = whole ∙ ap (λ (l : List ℕ). prefix ++ l) (sym behind); some = omega (arith, ap length behind) }
-  where
-    prefix : List ℕ
-    prefix = header base ++ open_records (bodies (es ++ r ∷ []))
-
-    whole : bytes ≡ (header base ++ open_records (bodies (es ++ r ∷ []))) ++ begins.gate ∷ begins.more
-    whole = read.prefix ∙ ap (λ (l : List ℕ). (header base ++ open_records (bodies es)) ++ l) begins.is ∙ prefix-push base (bodies es) (body r) (begins.gate ∷ begins.more)
-        ∙ ap (λ (l : List (List ℕ)). (header base ++ open_records l) ++ begins.gate ∷ begins.more) (sym (bodies_more es r))
-
-    long : length (header base ++ open_records (bodies (es ++ r ∷ []))) ≡ place_in base end
-    long = subst (λ (b : ℕ). length (header b ++ open_records (bodies (es ++ r ∷ []))) ≡ place_in b end) (sym at) (prefix_length done (es ++ r ∷ []) end is)
-
-    behind : drop (place_in base end) bytes ≡ begins.gate ∷ begins.more
-    behind = ap (drop (place_in base end)) whole ∙ drop_at (header base ++ open_records (bodies (es ++ r ∷ []))) (begins.gate ∷ begins.more) (place_in base end) long
-
-pub read_all : (publisher : Name) (done es : List Recorded) (base position : ℕ) (bytes : List ℕ) → base ≡ end_of done → Stored publisher (done ++ es) → HasRead base es position bytes → IsClosed (drop (place_in base position) bytes) → Spells (end_of done) (bodies es) bytes
-read_all publisher done es base position bytes at stored read closed =
-    record {
-      gate = closed.gate;
-      rest = closed.rest;
-      bytes_are = subst (λ (b : ℕ). bytes ≡ (header b ++ open_records (bodies es)) ++ closed.gate ∷ closed.rest) at (read.prefix ∙ ap (λ (l : List ℕ). (header base ++ open_records (bodies es)) ++ l) closed.bytes_are);
-      closed = closed.closed;
-      all_bodies = bodies_behind publisher done es stored;
-      limit = within publisher done es stored;
-    }
-
--- ---- a record that may not stand there
-
-module _ (publisher : Name) (done es : List Recorded) (base position place : ℕ) (bytes : List ℕ) (stored : Stored publisher (done ++ es)) (base_is : base ≡ end_of done) (at : position ≡ end_of (done ++ es)) (is : place ≡ place_in base position)
-    (read : HasRead base es position bytes) where
-  lacking : (rest : List ℕ) → drop (place_in base position) bytes ≡ 1 ∷ rest → ((r : Recorded) → BeginsEntry publisher (done ++ es) r rest → ⊥) → LacksNext publisher done bytes place
-  lacking rest open_gate broken =
+-- of a history for which the files stand, the value is the database
+module _ (db : View) (publisher : Name) (name : IsName publisher) (done left : List Recorded) (stored : Stored publisher (done ++ left)) (snapshot : List ℕ) (kept : IsSnapshotAt publisher done snapshot) where
+  of_history : IsFrom db (beginning_behind publisher done) left → IsOf db publisher (done ++ left)
+  of_history is =
       record {
-        es = es;
-        rest = rest;
-        bytes_are = subst (λ (b : ℕ). bytes ≡ (header b ++ open_records (bodies es)) ++ 1 ∷ rest) base_is (read.prefix ∙ ap (λ (l : List ℕ). (header base ++ open_records (bodies es)) ++ l) open_gate);
-        place_is = is ∙ ap (λ (b : ℕ). place_in b position) base_is ∙ sym (prefix_length done es position at);
+        name = name;
         stored = stored;
-        broken = broken;
+        catalog = is.catalog ∙ ap (λ (s : State). s.catalog) (sym (state_from-append (fresh publisher) done left));
+        marked = is.marked ∙ ap (λ (s : State). s.rows) (sym (state_from-append (fresh publisher) done left));
+        pending = is.pending;
+        books = λ user.
+            is.books user
+            ∙ ap (λ (k : Book). book_from sees user k left) (listed_books publisher done (stored_front publisher done left stored) user)
+            ∙ sym (book_from-append sees user new_book done left);
+        based = record { done = done; left = left; parts = refl; base_is = is.base; catalog_is = is.base_catalog; snapshot = snapshot; is_snapshot = kept };
+        end = is.end ∙ sym (end_from-append 0 done left);
       }
 
-  -- no whole record
-  pub broken_record : IsBroken position (drop (place_in base position) bytes) → LacksNext publisher done bytes place
-  broken_record broken =
-      lacking (drop 1 (drop (place_in base position) bytes)) (broken.some read.some)
-      (λ r begins. broken.broken (body r) (record {
-        gate = begins.gate;
-        more = begins.more;
-        rest_is = begins.rest_is;
-        is_body = is_body (state_of publisher (done ++ es)) (end_of (done ++ es)) r begins.fits;
-        limit = omega (arith, begins.fits.ends, size_is r, at);
-      }))
+  held_history : (files : Files) → db.log.base ≡ end_of done → IsHeldFrom db (beginning_behind publisher done) left files → IsHeld db publisher (done ++ left) files
+  held_history files base held =
+      let stands : StandsFor publisher (done ++ left) db.log.base files = record {
+        generation = held.stands.generation;
+        root = held.stands.root;
+        name = name;
+        stored = stored;
+        done = done;
+        left = left;
+        parts = refl;
+        base_is = base;
+        snapshot = at_beginning publisher done (bytes_of files (snapshot_of held.stands.generation)) held.stands.snapshot;
+        log = subst (λ (n : ℕ). Spells n (bodies left) (bytes_of files (log_of held.stands.generation))) (sym base) held.stands.log;
+      } in
+      record { stands = stands; log_is = held.log_is }
 
-  -- a whole record of another body than that of an entry that may stand there
-  pub other_record : (end : ℕ) → (whole : HasWhole position (drop (place_in base position) bytes) end) → ((r : Recorded) → body r ≡ whole.body → ¬ (Fits (state_of publisher (done ++ es)) (end_of (done ++ es)) r)) → LacksNext publisher done bytes place
-  other_record end whole none =
-      lacking whole.rest whole.bytes_are (λ r begins. none r (same_body r begins) begins.fits)
-    where
-      same_body : (r : Recorded) → BeginsEntry publisher (done ++ es) r whole.rest → body r ≡ whole.body
-      same_body r begins =
-          (same_record (body r) whole.body (begins.gate ∷ begins.more) (whole.begins.gate ∷ whole.begins.more) (is_body (state_of publisher (done ++ es)) (end_of (done ++ es)) r begins.fits) whole.begins.is_body (sym begins.rest_is ∙ whole.begins.rest_is)).0
+  pub database_history : (seen : Seen) → IsDatabaseFrom db (beginning_behind publisher done) left seen → IsDatabase db publisher (done ++ left) seen
+  database_history seen database =
+      record {
+        is = of_history database.is;
+        held = held_history seen.files database.is.base database.held;
+        settled = λ image there. held_history image database.is.base (database.settled image there);
+      }
+
+-- what is opened is that of each beginning behind which the files stand, and of each history for which they do
+pub its_beginning : (db : View) (b : Beginning) (es : List Recorded) (files : Files) (seen : Seen) → HasBeginning db seen → seen.files ≡ files → StandFrom b es files → IsDatabaseFrom db b es seen
+its_beginning db b es files seen has same stands =
+    let here : StandFrom has.beginning has.es files = subst (λ (f : Files). StandFrom has.beginning has.es f) same has.is.held.stands in
+    let both = one_standing has.beginning b has.es es files here stands in
+    subst (λ (c : Beginning). IsDatabaseFrom db c es seen) both.0 (subst (λ (l : List Recorded). IsDatabaseFrom db has.beginning l seen) both.1 has.is)
+
+pub its_history : (db : View) (publisher : Name) (es : List Recorded) (base : ℕ) (files : Files) (seen : Seen) → HasBeginning db seen → seen.files ≡ files → StandsFor publisher es base files → IsDatabase db publisher es seen
+its_history db publisher es base files seen has same stands =
+    let from : IsDatabaseFrom db (beginning_behind publisher stands.done) stands.left seen = its_beginning db (beginning_behind publisher stands.done) stands.left files seen has same (stand_behind publisher es base files stands) in
+    subst (λ (l : List Recorded). IsDatabase db publisher l seen) (sym stands.parts)
+    (database_history db publisher stands.name stands.done stands.left (subst (λ (l : List Recorded). Stored publisher l) stands.parts stands.stored) (bytes_of files (snapshot_of stands.generation)) stands.snapshot seen from)
+
+-- its log is in force
+in_force_held : (db : View) (b : Beginning) (es : List Recorded) (files : Files) → IsFrom db b es → IsHeldFrom db b es files → IsInForce db.log files
+in_force_held db b es files is held =
+    record {
+      generation = held.stands.generation;
+      root = held.stands.root;
+      log_is = held.log_is;
+      bodies = bodies es;
+      spells = subst (λ (n : ℕ). Spells n (bodies es) (bytes_of files db.log.file)) (sym is.base) (subst (λ (f : File). Spells b.place (bodies es) (bytes_of files f)) held.log_is held.stands.log);
+      end_is = omega (arith, is.end, is.base, ends_are b.place es);
+    }
+
+pub in_force_from : (db : View) (seen : Seen) → HasBeginning db seen → HasLogInForce db seen
+in_force_from db seen has =
+    record {
+      now = in_force_held db has.beginning has.es seen.files has.is.is has.is.held;
+      settled = λ image there. in_force_held db has.beginning has.es image has.is.is (has.is.settled image there);
+      each = λ publisher es base stands. its_history db publisher es base seen.files seen has refl stands;
+    }

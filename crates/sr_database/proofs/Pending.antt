@@ -2,6 +2,7 @@
 use Rattle.std.proofs.Common.{◌≡◌, Bool, true, false, nat_eq, List, [], ◌++◌, length, refl, sym, ◌∙◌, ap, subst}
 use Rattle.std.specs.Prelude.{IsTrue}
 use Rattle.std.specs.List.{AllByRecursion}
+use Rattle.sr_database_files.specs.Books.{BookMap}
 use Rattle.sr_exec_dml.specs.Applying.{applied}
 use Rattle.sr_exec_dml.specs.FittingChanges.{ChangesFit}
 use Rattle.sr_database_history.specs.Folds.{State}
@@ -11,7 +12,6 @@ use Rattle.sr_logform.specs.declared.change.Change.{Change}
 use Rattle.sr_rows.specs.Marks.{Marked, RowMap}
 use Rattle.sr_rows.specs.Inner.Steps.{at_mark}
 use Rattle.sr_catalog_schema.specs.Catalogs.{Lists}
-use Rattle.sr_database.specs.Books.{BookMap}
 use Rattle.sr_database.specs.Advances.{Advances}
 use Rattle.sr_database.specs.Databases.{ArePending}
 use Rattle.sr_database.specs.Inner.Sound.{IsSound}

@@ -3,8 +3,9 @@ use Rattle.std.proofs.Common.{◌≡◌, List, [], Option, refl, sym, ◌∙◌,
 use Rattle.std.specs.FinMap.{get, insert}
 use Rattle.sr_book.specs.Entries.{Name}
 use Rattle.sr_book.specs.declared.book.Book.{Book}
+use Rattle.sr_database_files.specs.Books.{BookMap}
 use Rattle.sr_exec_dml.specs.Applying.{applied}
-use Rattle.sr_exec_dml.specs.Inner.Conditions.{RowsFit}
+use Rattle.sr_exec_dml.specs.Fitting.{RowsFit}
 use Rattle.sr_database_fold.specs.Inner.Readings.{state_in, FitsAs}
 use Rattle.sr_database_history.specs.Fitting.{FitsState}
 use Rattle.sr_database_history.specs.Folds.{State, next}
@@ -15,12 +16,11 @@ use Rattle.sr_logform.specs.declared.entry.Entry.TheVariants as entries
 use Rattle.sr_rows.specs.Marks.{Marked, RowMap}
 use Rattle.sr_rows.specs.Inner.Steps.{at_mark}
 use Rattle.sr_catalog_schema.specs.Catalogs.{Lists}
-use Rattle.sr_database.specs.Books.{BookMap}
-use Rattle.sr_database.specs.Inner.Books.{with_held}
+use Rattle.sr_database_replay.specs.Inner.Books.{with_held}
 use Rattle.sr_database.specs.Inner.Commits.{Follows, FollowsAsSome}
 use Rattle.sr_database.specs.Databases.{ArePending}
 use Rattle.sr_database.specs.Inner.Taking.{at_last_commit, IsNoOwn, StaysAll, StaysState, Takes, TakesState}
-use Rattle.sr_database.proofs.Booked.{follow_own, put_back}
+use Rattle.sr_database_replay.proofs.Booked.{follow_own, put_back}
 use Rattle.sr_database.proofs.Commits.{fits_state}
 
 -- ---- an entry of another kind than Own

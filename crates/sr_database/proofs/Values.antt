@@ -3,8 +3,9 @@ use Rattle.std.proofs.Common.{◌≡◌, List, [], ◌∷◌, ◌++◌, refl, sy
 use Rattle.std.specs.List.{AllByRecursion}
 use Rattle.sr_book.specs.Entries.{Name, booked}
 use Rattle.sr_book.proofs.Folds.{book_more}
+use Rattle.sr_database_files.specs.Books.{BookMap, book_in}
 use Rattle.sr_exec_dml.specs.Applying.{applied, applied_in}
-use Rattle.sr_exec_dml.specs.Inner.Conditions.{RowsFit}
+use Rattle.sr_exec_dml.specs.Fitting.{RowsFit}
 use Rattle.sr_exec_dml.specs.FittingChanges.{ChangesFit}
 use Rattle.sr_exec_dml.specs.Statements.{table_named}
 use Rattle.sr_exec_dml.proofs.Applied.{fitting_changes_keep}
@@ -18,9 +19,8 @@ use Rattle.sr_logform.specs.declared.change.Change.{Change}
 use Rattle.sr_rows.specs.Marks.{Marked, RowMap}
 use Rattle.sr_rows.specs.Inner.Steps.{at_mark}
 use Rattle.sr_catalog_schema.specs.Catalogs.{Lists}
-use Rattle.sr_database.specs.Books.{BookMap, book_in}
 use Rattle.sr_database.specs.Databases.{ArePending}
-use Rattle.sr_database.specs.Inner.Taking.{BooksFollow}
+use Rattle.sr_database_replay.specs.Inner.Books.{BooksFollow}
 use Rattle.sr_database.specs.Inner.Sound.{IsSound}
 use Rattle.sr_database.specs.Views.{View}
 use Rattle.sr_database.specs.Inner.Views.{present}

@@ -2,10 +2,10 @@
 use Rattle.std.specs.Prelude.{◌≡◌, List}
 use Rattle.sr_book.specs.Entries.{Name}
 use Rattle.sr_book.specs.Histories.{book_from}
+use Rattle.sr_database_files.specs.Books.{book_in}
 use Rattle.sr_database_history.specs.Fitting.{stored_from}
 use Rattle.sr_database_history.specs.Folds.{state_from, end_from, sees}
 use Rattle.sr_database_history.specs.Recorded.{Recorded}
-use Rattle.sr_database.specs.Books.{book_in}
 use Rattle.sr_database.specs.Databases.{ArePending}
 use Rattle.sr_database.specs.Views.{View, committed}
 

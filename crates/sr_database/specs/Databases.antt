@@ -3,10 +3,12 @@ use Rattle.std.specs.Prelude.{◌≡◌, ℕ, List, [], ◌∷◌, ◌++◌}
 use Rattle.std.specs.List.{AllByRecursion}
 use Rattle.sr_base.specs.Fields.{IsName}
 use Rattle.sr_book.specs.Entries.{Name}
+use Rattle.sr_database_files.specs.Books.{book_in, listed}
 use Rattle.sr_exec_dml.specs.Applying.{applied}
 use Rattle.sr_exec_dml.specs.FittingChanges.{ChangesFit}
-use Rattle.sr_database_history.specs.Fitting.{Stored}
-use Rattle.sr_database_history.specs.Folds.{state_of, end_of, books_of}
+use Rattle.sr_book.specs.Histories.{book_from}
+use Rattle.sr_database_history.specs.Fitting.{Stored, stored_from}
+use Rattle.sr_database_history.specs.Folds.{state_from, state_of, end_from, end_of, sees, books_of}
 use Rattle.sr_database_history.specs.Recorded.{Recorded}
 use Rattle.sr_logform.specs.Outcomes.{IsShortChange}
 use Rattle.sr_logform.specs.declared.change.Change.{Change}
@@ -16,8 +18,8 @@ use Rattle.sr_site.specs.Files.{Files}
 use Rattle.sr_site.specs.Images.{IsSettled}
 use Rattle.sr_site.specs.Seen.{Seen}
 use Rattle.sr_database_meaning.specs.Generations.{log_of}
-use Rattle.sr_database_meaning.specs.Standing.{IsSnapshotAt, StandsFor}
-use Rattle.sr_database.specs.Books.{book_in}
+use Rattle.sr_database_meaning.specs.Standing.{IsSnapshotAt, StandsFor, StandFrom}
+use Rattle.sr_snapshot.specs.Beginnings.{Beginning, IsBeginning}
 use Rattle.sr_database.specs.Views.{View}
 
 -- changes are pending: they fit the rows of the last commit, at which the mark stands, and are applied to them; where there are none, nothing
@@ -67,3 +69,34 @@ pub record HasDatabase (view : View) (seen : Seen) : Type 0 where
   pub publisher : Name
   pub es : List Recorded
   pub is : IsDatabase view publisher es seen
+
+-- ---- behind a beginning, whether a history leads to it or not
+
+-- the value is that of these entries behind a beginning, at which its log begins: catalog, rows and books are what they come to from there
+pub record IsFrom (view : View) (b : Beginning) (es : List Recorded) : Type 0 where
+  pub begins : IsBeginning b
+  pub stored : stored_from b.state b.place es
+  pub catalog : view.catalog ≡ (state_from b.state es).catalog
+  pub marked : view.rows.marked ≡ (state_from b.state es).rows
+  pub pending : ArePending view.catalog view.rows view.pending
+  pub books : (user : Name) → book_in view.books user ≡ book_from sees user (listed b.books user) es
+  pub base : view.log.base ≡ b.place
+  pub base_catalog : view.base_catalog ≡ b.state.catalog
+  pub end : view.log.end ≡ end_from b.place es
+
+-- the files stand for these entries behind the beginning, and the log of the value is the one that is in force
+pub record IsHeldFrom (view : View) (b : Beginning) (es : List Recorded) (files : Files) : Type 0 where
+  pub stands : StandFrom b es files
+  pub log_is : log_of stands.generation ≡ view.log.file
+
+-- the value is that of these entries behind the beginning, the files hold them, and every crash leaves files that do
+pub record IsDatabaseFrom (view : View) (b : Beginning) (es : List Recorded) (seen : Seen) : Type 0 where
+  pub is : IsFrom view b es
+  pub held : IsHeldFrom view b es seen.files
+  pub settled : IsSettled (IsHeldFrom view b es) seen
+
+-- it is that of some entries behind some beginning
+pub record HasBeginning (view : View) (seen : Seen) : Type 0 where
+  pub beginning : Beginning
+  pub es : List Recorded
+  pub is : IsDatabaseFrom view beginning es seen

@@ -1,8 +1,8 @@
-pub mod Books
 pub mod Causes
 pub mod Commits
 pub mod Entries
-pub mod Replays
+pub mod Opened
+pub mod Restarts
 pub mod Sound
 pub mod Taking
 pub mod Views

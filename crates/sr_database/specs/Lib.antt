@@ -1,10 +1,10 @@
 pub mod Advances
-pub mod Books
 pub mod Broken
 pub mod Causes
 pub mod Commits
 pub mod Databases
 pub mod InForce
+pub mod Restarts
 pub mod Rooms
 pub mod Views
 pub mod Inner

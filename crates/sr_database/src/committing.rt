@@ -12,7 +12,7 @@ ghost use Rattle.sr_site.specs.Causes.{DiskStays, Rose};
 ghost use Rattle.sr_site.specs.Inner.Happenings.{Made};
 ghost use Rattle.sr_site.specs.Images.{IsSettled, RestsThroughout};
 ghost use Rattle.sr_site.specs.Files.{OthersStay};
-ghost use Rattle.sr_database_meaning.specs.Events.{commit};
+ghost use Rattle.sr_database_meaning.specs.Events.{attaches_in, commit};
 ghost use Rattle.sr_database_meaning.specs.Standing.{StandsFor};
 ghost use Rattle.sr_database_meaning.specs.Traces.{Went};
 ghost use Rattle.sr_database.specs.Inner.Causes.{CommitCause, FramingCause, IsBegun};
@@ -23,15 +23,15 @@ ghost use Rattle.sr_database.specs.Databases.{ArePending, IsDatabase};
 ghost use Rattle.sr_database.specs.Inner.Without.{WasWithout};
 ghost use Rattle.sr_database.specs.InForce.{HasLogInForce};
 ghost use Rattle.sr_database.specs.Inner.Taking.{at_last_commit, StaysAll, Takes};
-ghost use Rattle.sr_exec_dml.specs.Inner.Conditions.{RowsFit};
+ghost use Rattle.sr_exec_dml.specs.Fitting.{RowsFit};
 ghost use Rattle.sr_database_files.specs.declared.fault.DatabaseFault.TheVariants.{Disk};
 
-use crate::bookkeeping::Books;
 use crate::database::Database;
 use crate::settling::settle;
 use sr_base::{FARTHEST_OFFSET, Offset};
 use sr_catalog::Catalog;
 use sr_database_files::DatabaseFault;
+use sr_database_replay::Books;
 use sr_logfile::{LogFile, frame, place_in};
 use sr_logform::{Change, Entry, farthest_end, longest_body, write_entry};
 use sr_rows::Rows;
@@ -67,6 +67,7 @@ impl Database {
         ensures went { IsTrue (S.seen site.old).observable → (publisher : AName) (es : List Recorded) (r : Recorded) → IsDatabase self.old publisher es (S.seen site.old) → CanCommit self.old entry.now r
             → IsBegun result → Went (S.seen site.old) (S.seen site.new) publisher es (commit r ∷ []) }
         ensures others { IsTrue (S.seen site.old).observable → OthersStay self.old.log.file (S.seen site.old).files (S.seen site.new).files }
+        ensures attached { IsTrue (S.seen site.old).observable → attaches_in (S.seen site.new).happened ≡ attaches_in (S.seen site.old).happened }
         ensures stays { DiskStays (S.seen site.old) (S.seen site.new) }
         ensures steady { OnOk result ((S.seen site.new).disk_faults ≡ (S.seen site.old).disk_faults) }
         ensures cause { IfErr result (CommitCause self.old self.new entry.now (S.seen site.old) (S.seen site.new)) }

@@ -1,5 +1,6 @@
 ghost use Rattle.std.specs.Prelude.{◌≡◌, [], ◌∷◌, ◌++◌, true, List, IfOk, OnOk, OnErr, option_map};
 ghost use Rattle.std.specs.List.{AllByRecursion};
+ghost use Rattle.sr_database_files.specs.Books.{book_in};
 ghost use Rattle.sr_exec_dml.specs.Applying.{applied};
 ghost use Rattle.sr_exec_dml.specs.FittingChanges.{ChangesFit};
 ghost use Rattle.sr_database_history.specs.Inner.Laws.{Holds};
@@ -7,15 +8,14 @@ ghost use Rattle.sr_logform.specs.Outcomes.{IsShortChange};
 ghost use Rattle.sr_rows.specs.Inner.Steps.{at_mark};
 ghost use Rattle.sr_catalog_schema.specs.Members.{user_name};
 ghost use Rattle.sr_catalog_schema.specs.Names.{named};
-ghost use Rattle.sr_database.specs.Books.{book_in};
 ghost use Rattle.sr_database.specs.Advances.{Advances};
 ghost use Rattle.sr_database.specs.Inner.Sound.{IsSound};
 ghost use Rattle.sr_database.specs.Inner.Views.{present};
 
-use crate::bookkeeping::Books;
 use sr_base::{Copied, Name, NoMemory, Offset};
 use sr_book::Book;
 use sr_catalog::Catalog;
+use sr_database_replay::Books;
 use sr_exec::apply;
 use sr_exec_dml::Changes;
 use sr_logfile::LogFile;
@@ -27,7 +27,7 @@ use std::mem;
 
 /// A database that was opened: the catalog, the rows and the books that its history comes to, the changes that are pending, and its log.
 ///
-/// Its five files are to stand, at each call, as the calls of this value left them. After `commit` answered `Disk` the value is not used
+/// Its five files are to stand, at each call, as the calls of this value left them. After `commit` or `restart_log` answered `Disk` the value is not used
 /// again: the database is opened anew. No list of entries is kept: they are read again from the log.
 #[derive(Drop)]
 pub struct Database {
@@ -45,7 +45,7 @@ impl Model for Database {
     ghost use Rattle.sr_ast.specs.Inner.Terms.{term_code};
     ghost use Rattle.sr_ast.specs.Inner.Chains.{chain_code};
     ghost use Rattle.sr_rows.specs.Inner.Marks.{coded_marked};
-    ghost use Rattle.sr_database.specs.Inner.Books.{coded_books};
+    ghost use Rattle.sr_database_replay.specs.Inner.Books.{coded_books};
     ghost use Rattle.sr_database.specs.Views.{View};
 
     ghost Value = { View };
@@ -60,7 +60,7 @@ impl Model for Database {
 }
 
 impl Database {
-    /// Whether the value can be used: not after `commit` answered `Disk`. One that can be used is sound.
+    /// Whether the value can be used: not after `commit` or `restart_log` answered `Disk`. One that can be used is sound.
     pub fn usable(&self) -> bool
         ensures usable { result ≡ self.now.log.usable }
         ensures sound { self.now.log.usable ≡ true → IsSound self.now }

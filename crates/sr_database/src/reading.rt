@@ -11,9 +11,9 @@ ghost use Rattle.sr_database_files.specs.declared.fault.DatabaseFault.TheVariant
 ghost use Rattle.sr_database_files.specs.Inner.Openings.{ReadAlone};
 
 use crate::database::Database;
-use crate::replaying::{brief_in, entry_in};
 use sr_base::Offset;
 use sr_database_files::{DatabaseFault, log_fault};
+use sr_database_replay::{brief_in, entry_in};
 use sr_logfile::{LogFault, LogFile, RecordFault, Step, place_in};
 use sr_logform::Entry;
 use sr_site::{File, Site};

@@ -2,16 +2,16 @@
 
 ghost use Rattle.std.specs.Prelude.{OnOk, OnErr};
 ghost use Rattle.std.specs.FinMap as map;
-ghost use Rattle.sr_exec_dml.specs.Inner.Conditions.{RowsFit};
+ghost use Rattle.sr_exec_dml.specs.Fitting.{RowsFit};
 ghost use Rattle.sr_database.specs.Inner.Commits.{FollowsAsSome};
 ghost use Rattle.sr_database.specs.Databases.{ArePending};
 ghost use Rattle.sr_database.specs.Inner.Taking.{at_last_commit, IsNoOwn, StaysAll, StaysState, Takes, TakesBooks, TakesState};
 
-use crate::bookkeeping::Books;
 use sr_base::{Name, NoMemory};
 use sr_book::Book;
 use sr_catalog::Catalog;
 use sr_database_fold::takes_effect;
+use sr_database_replay::Books;
 use sr_logform::{Change, Entry};
 use sr_rows::Rows;
 use std::alloc::Global;

@@ -1,9 +1,10 @@
 pub mod Attaches
 pub mod Beside
+pub mod Damaged
 pub mod Images
 pub mod Making
 pub mod Quiet
 pub mod Shapes
-pub mod SnapshotBytes
+pub mod SnapshotRead
 pub mod Syncs
 pub mod Unchanged

@@ -14,7 +14,7 @@ use Rattle.sr_site.specs.Seen.{Seen}
 use Rattle.sr_site.specs.declared.file.File.{File}
 use Rattle.sr_site.specs.declared.file.File.TheVariants.{Root, Log0, Log1, Snap0, Snap1}
 use Rattle.sr_database_meaning.specs.Generations.{Generation, even, odd, generation_in}
-use Rattle.sr_database_meaning.specs.Snapshots.{fresh_snapshot}
+use Rattle.sr_database_meaning.specs.Inner.Snapshots.{fresh_snapshot}
 use Rattle.sr_database_meaning.specs.Standing.{StandsFor}
 use Rattle.sr_database_meaning.proofs.Standing.{stands_for}
 use Rattle.sr_database_files.specs.Fresh.{IsNoneOrNew}

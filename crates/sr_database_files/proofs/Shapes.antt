@@ -16,7 +16,7 @@ use Rattle.sr_site.specs.Reads.{HasRead}
 use Rattle.sr_site.specs.Seen.{Seen}
 use Rattle.sr_site.specs.declared.file.File.{File}
 use Rattle.sr_site.specs.declared.file.File.TheVariants.{Root}
-use Rattle.sr_database_meaning.specs.Damage.{HasOtherBase}
+use Rattle.sr_database_files.specs.Damage.{HasOtherBase}
 use Rattle.sr_database_meaning.specs.Generations.{generation_in, snapshot_of, log_of}
 use Rattle.sr_database_files.specs.Inner.Openings.{BeginsWithByte, named_by, AreInForce, IsDamagedHeader, BaseCause, IsWholeLog, IsDamagedShape, ShapeCause, IsLogFault, HasRefused, HasFoundDamage, ShapeRefusal}
 use Rattle.sr_database_files.specs.declared.fault.DatabaseFault.{DatabaseFault}

@@ -2,5 +2,4 @@ pub mod Fresh
 pub mod Making
 pub mod Openings
 pub mod Refusing
-pub mod SnapshotFaults
 pub mod Touching

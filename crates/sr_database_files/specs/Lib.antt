@@ -1,2 +1,4 @@
+pub mod Books
+pub mod Damage
 pub mod Fresh
 pub mod Inner

@@ -4,7 +4,7 @@ ghost use Rattle.sr_logfile.specs.Inner.Records.{fresh_bytes};
 ghost use Rattle.sr_site.specs.Causes.{DiskStays, Rose};
 ghost use Rattle.sr_site.specs.Images.{IsImage, IsSettled, RestsThroughout};
 ghost use Rattle.sr_database_meaning.specs.Events.{attaches_in};
-ghost use Rattle.sr_database_meaning.specs.Snapshots.{fresh_snapshot as snapshot_of_new};
+ghost use Rattle.sr_database_meaning.specs.Inner.Snapshots.{fresh_snapshot as snapshot_of_new};
 ghost use Rattle.sr_database_meaning.specs.Standing.{StandsFor};
 ghost use Rattle.sr_database_files.specs.Inner.Refusing.{CreateCause};
 ghost use Rattle.sr_database_files.specs.Fresh.{IsNoneOrNew, IsThere};
@@ -60,12 +60,12 @@ fn make_new<S: Site>(site: &mut S, snapshot: &[u8]) -> Result<(), Failed>
 }
 
 /// The bytes before the publisher's name in a snapshot without entries: SRSNP001 and the offset 0.
-pub(crate) const SNAPSHOT_PREFIX: [u8; 16] = [
+const SNAPSHOT_PREFIX: [u8; 16] = [
     b'S', b'R', b'S', b'N', b'P', b'0', b'0', b'1', 0, 0, 0, 0, 0, 0, 0, 0,
 ];
 
 /// The bytes behind it: no statement, no table, no book.
-pub(crate) const NO_LISTS: [u8; 12] = [0, 0, 0, 0, 0, 0, 0, 0, 0, 0, 0, 0];
+const NO_LISTS: [u8; 12] = [0, 0, 0, 0, 0, 0, 0, 0, 0, 0, 0, 0];
 
 /// The snapshot of a database of this publisher that has no entry.
 fn fresh_snapshot(alloc: Global, publisher: &Name) -> Result<Vec<u8>, NoMemory>

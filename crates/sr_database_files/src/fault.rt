@@ -24,8 +24,8 @@ pub enum DatabaseFault {
     /// gate behind it.
     #[error("log full: {need} bytes at {end}")]
     Full { end: u64, need: u64 },
-    /// The record's body has `length` bytes, more than its kind may have.
-    #[error("record too long: {length} bytes, limit {limit}")]
+    /// The record's body has `length` bytes, more than its kind may have; or so many has the snapshot that a log would be begun anew behind.
+    #[error("too long: {length} bytes, limit {limit}")]
     Long { length: u64, limit: u64 },
     /// There is no memory.
     #[error("out of memory")]

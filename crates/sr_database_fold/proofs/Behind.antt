@@ -9,7 +9,7 @@ use Rattle.sr_book.specs.Entries.{Name}
 use Rattle.sr_book.specs.declared.note.Note.{Note}
 use Rattle.sr_catalog_change.specs.Changes.{refusal, next as catalog_after}
 use Rattle.sr_exec_dml.specs.Applying.{applied}
-use Rattle.sr_exec_dml.specs.Inner.Conditions.{RowsFit}
+use Rattle.sr_exec_dml.specs.Fitting.{RowsFit}
 use Rattle.sr_exec_dml.specs.FittingChanges.{ChangesFit}
 use Rattle.sr_exec_dml.proofs.Applied.{fitting_changes_keep}
 use Rattle.sr_database_history.specs.Fitting.{IsAccepted, IsAcceptedPass, FitsState}

@@ -5,7 +5,7 @@ use Rattle.std.specs.List.{find as find_in}
 use Rattle.sr_base.specs.declared.value.Value.{Value as Cell}
 use Rattle.sr_book.specs.Entries.{Name}
 use Rattle.sr_exec_dml.specs.Applying.{place_of, with_row, without_row, applied_in, applied}
-use Rattle.sr_exec_dml.specs.Inner.Conditions.{RowsFit}
+use Rattle.sr_exec_dml.specs.Fitting.{RowsFit}
 use Rattle.sr_exec_fits.specs.Rows.{IsRow}
 use Rattle.sr_exec_dml.specs.FittingChanges.{FitsAt, IsFitChange, ChangesFit}
 use Rattle.sr_exec_where.specs.Keys.{key_of}

@@ -5,7 +5,7 @@ use Rattle.sr_ast.specs.declared.query.Dml.{Dml}
 use Rattle.sr_book.specs.Entries.{Name}
 use Rattle.sr_exec_dml.specs.declared.changes.Changes.{Changes}
 use Rattle.sr_exec_dml.specs.Applying.{applied}
-use Rattle.sr_exec_dml.specs.Inner.Conditions.{RowsFit}
+use Rattle.sr_exec_dml.specs.Fitting.{RowsFit}
 use Rattle.sr_exec_dml.specs.Inner.RowsAfter.{rows_after, after_move, in_table, where_Ok, replaced}
 use Rattle.sr_exec_dml.specs.Sequences.{front}
 use Rattle.sr_exec_dml.specs.Statements.{done, effect_of, effects_of, staying, becoming, entry_of, deleted, on_table, table_named}

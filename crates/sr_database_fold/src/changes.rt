@@ -7,7 +7,7 @@ ghost use Rattle.std.specs.Prelude.{◌≡◌, ◌↔◌, Some, IfOk, IsTrue};
 ghost use Rattle.std.specs.Option.{option_copied};
 ghost use Rattle.std.specs.List.{AllByRecursion};
 ghost use Rattle.sr_exec_dml.specs.Applying.{with_row, without_row};
-ghost use Rattle.sr_exec_dml.specs.Inner.Conditions.{RowsFit};
+ghost use Rattle.sr_exec_dml.specs.Fitting.{RowsFit};
 ghost use Rattle.sr_exec_where.specs.Keys.{key_of as key_at};
 ghost use Rattle.sr_exec_dml.specs.Statements.{table_named};
 ghost use Rattle.sr_rows.specs.Inner.Steps.{at_mark};

@@ -2,7 +2,7 @@
 
 ghost use Rattle.std.specs.Prelude.{◌≡◌, ◌↔◌, IfOk, IsTrue};
 ghost use Rattle.std.specs.List.{AllByRecursion};
-ghost use Rattle.sr_exec_dml.specs.Inner.Conditions.{RowsFit};
+ghost use Rattle.sr_exec_dml.specs.Fitting.{RowsFit};
 ghost use Rattle.sr_exec_where.specs.Keys.{key_of};
 ghost use Rattle.sr_database_history.specs.Fitting.{IsInsertion, AreNamedRows};
 ghost use Rattle.sr_rows.specs.Inner.Steps.{at_mark};

@@ -7,7 +7,7 @@ ghost use Rattle.sr_ast.specs.NormalForms.{IsNormal};
 ghost use Rattle.sr_base.specs.declared.offset.Offset.{Offset as Place};
 ghost use Rattle.sr_book.specs.Entries.{Name as AName};
 ghost use Rattle.sr_catalog_change.specs.Changes.{refusal};
-ghost use Rattle.sr_exec_dml.specs.Inner.Conditions.{RowsFit};
+ghost use Rattle.sr_exec_dml.specs.Fitting.{RowsFit};
 ghost use Rattle.sr_database_history.specs.Folds.{next};
 ghost use Rattle.sr_database_history.specs.Recorded.{Recorded};
 ghost use Rattle.sr_logform.specs.declared.entry.Entry.{Entry as Body};

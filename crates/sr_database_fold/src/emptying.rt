@@ -1,7 +1,7 @@
 //! A table without its rows, step by step.
 
 ghost use Rattle.std.specs.Prelude.{◌≡◌, IfOk, OnOk};
-ghost use Rattle.sr_exec_dml.specs.Inner.Conditions.{RowsFit};
+ghost use Rattle.sr_exec_dml.specs.Fitting.{RowsFit};
 ghost use Rattle.sr_rows.specs.Steps.{without_table};
 ghost use Rattle.sr_rows.specs.Inner.Steps.{GoesOn};
 ghost use Rattle.sr_database_fold.specs.Inner.Reached.{IsExecuted, deletion_of};

@@ -4,7 +4,7 @@ ghost use Rattle.std.specs.Prelude.{◌≡◌, IfOk};
 ghost use Rattle.std.specs.List.{AllByRecursion};
 ghost use Rattle.sr_ast.specs.NormalForms.{IsNormal};
 ghost use Rattle.sr_base.specs.declared.offset.Offset.{Offset as Place};
-ghost use Rattle.sr_exec_dml.specs.Inner.Conditions.{RowsFit};
+ghost use Rattle.sr_exec_dml.specs.Fitting.{RowsFit};
 ghost use Rattle.sr_database_history.specs.Folds.{next};
 ghost use Rattle.sr_logform.specs.declared.entry.Entry.{Entry as Body};
 ghost use Rattle.sr_logform.specs.Entries.{IsEntry};

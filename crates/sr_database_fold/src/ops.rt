@@ -4,7 +4,7 @@ ghost use Rattle.std.specs.Prelude.{◌≡◌, ◌↔◌, ℕ, false, IfOk, IsTr
 ghost use Rattle.std.specs.List.{AllByRecursion};
 ghost use Rattle.sr_ast.specs.NormalForms.{IsNormal};
 ghost use Rattle.sr_ast.specs.Statements.{is_carried};
-ghost use Rattle.sr_exec_dml.specs.Inner.Conditions.{RowsFit};
+ghost use Rattle.sr_exec_dml.specs.Fitting.{RowsFit};
 ghost use Rattle.sr_database_history.specs.Fitting.{MayHaveChanges};
 ghost use Rattle.sr_logform.specs.declared.outcome.Outcome.{Outcome as AnOutcome};
 ghost use Rattle.sr_rows.specs.Inner.Steps.{at_mark};

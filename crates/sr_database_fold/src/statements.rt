@@ -4,7 +4,7 @@ ghost use Rattle.std.specs.Prelude.{◌≡◌, ◌≢◌, ◌↔◌, IfOk, IfSom
 ghost use Rattle.sr_ast.specs.NormalForms.{IsNormal};
 ghost use Rattle.sr_ast.specs.Statements.{is_ddl as is_ddl_stmt, is_carried as is_carried_stmt};
 ghost use Rattle.sr_catalog_change.specs.Changes.{refusal};
-ghost use Rattle.sr_exec_dml.specs.Inner.Conditions.{RowsFit};
+ghost use Rattle.sr_exec_dml.specs.Fitting.{RowsFit};
 ghost use Rattle.sr_exec_dml.specs.Statements.{done};
 ghost use Rattle.sr_database_history.specs.Fitting.{HasChanges, IsAccepted, RowsAllow};
 ghost use Rattle.sr_database_history.specs.Folds.{with_statement, rows_left};

@@ -83,7 +83,7 @@ books_not s (sync other tables) user book fits unknown = refl
 books_not s (pass users only statement changes) user book fits unknown = refl
 books_not s (note other what) user book fits unknown = unbooked s user other book (with_note book what) unknown fits
 
-book_waits : (s : State) (place : ℕ) (rs : List Recorded) (user : Name) (book : Book) → stored_from s place rs → ¬ (Knows (state_from s rs) user)
+pub book_waits : (s : State) (place : ℕ) (rs : List Recorded) (user : Name) (book : Book) → stored_from s place rs → ¬ (Knows (state_from s rs) user)
     → book_from sees user book rs ≡ book
 book_waits s place [] user book stored unknown = refl
 book_waits s place (r ∷ rs) user book stored unknown =

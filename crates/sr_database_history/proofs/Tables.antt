@@ -13,7 +13,7 @@ use Rattle.sr_ast.specs.declared.stmt.Stmt.{Stmt}
 use Rattle.sr_ast.specs.declared.stmt.Stmt.TheVariants as stmt
 use Rattle.sr_catalog_change.specs.Changes.{refusal, next}
 use Rattle.sr_catalog_ddl.specs.Tables.{table_of}
-use Rattle.sr_exec_dml.specs.Inner.Conditions.{TableFits, RowsFit}
+use Rattle.sr_exec_dml.specs.Fitting.{TableFits, RowsFit}
 use Rattle.sr_exec_dml.specs.Statements.{table_named}
 use Rattle.sr_exec_where.proofs.Fixed.{same_name}
 use Rattle.sr_catalog_script_laws.proofs.ReplayLists.{found_as_taken, named-without}

@@ -1,6 +1,5 @@
 -- Histories for which the same files stand are alike, and come to the same.
 use Rattle.std.proofs.Common.{◌≡◌, ℕ, ◌+◌, List, [], ◌∷◌, ◌++◌, refl, sym, ◌∙◌, ap, subst, arith, append_assoc}
-use Rattle.sr_base.specs.Fields.{IsName}
 use Rattle.sr_book.specs.Books.{new_book}
 use Rattle.sr_book.specs.Entries.{Name}
 use Rattle.sr_book.specs.Histories.{book_from}
@@ -16,8 +15,11 @@ use Rattle.sr_site.specs.Files.{Files, bytes_of}
 use Rattle.sr_database_meaning.specs.Inner.Alike.{AreAlike, ComeToSame}
 use Rattle.sr_database_meaning.specs.Generations.{Generation, snapshot_of, log_of}
 use Rattle.sr_database_meaning.specs.Standing.{bodies, IsSnapshotAt, StandsFor}
-use Rattle.sr_database_meaning.proofs.Snapshots.{fresh_once}
-use Rattle.sr_database_meaning.proofs.Standing.{behind, bodies_once, from_beginning, one_generation, one_part}
+use Rattle.sr_database_meaning.proofs.Beginnings.{one_publisher, same_books}
+use Rattle.sr_database_meaning.proofs.Standing.{behind, bodies_once, of_beginning, one_generation, one_part}
+use Rattle.sr_snapshot.specs.Beginnings.{Beginning, beginning_behind}
+use Rattle.sr_snapshot.specs.Snapshots.{IsSnapshot}
+use Rattle.sr_snapshot.proofs.Uniqueness.{one_beginning}
 
 -- ---- what one snapshot keeps
 
@@ -25,20 +27,33 @@ come_itself : (publisher : Name) (done : List Recorded) (base : ℕ) → base �
 come_itself publisher done base at =
     record { end = at; end_too = at; state = refl; books = λ user. refl; snapshots = λ bytes is. is; snapshots_too = λ bytes is. is }
 
--- two histories of which one snapshot is kept are of one publisher, and come to the same. Here alone is it said what a snapshot is
-same_snapshot : (publisher other : Name) (done dones : List Recorded) (bytes : List ℕ) → IsName publisher → IsName other → Stored publisher done → Stored other dones
+-- two histories that come to one beginning come to the same
+come_to_same : (publisher : Name) (done dones : List Recorded) (base : ℕ) → Stored publisher done → Stored publisher dones → beginning_behind publisher done ≡ beginning_behind publisher dones → base ≡ end_of done → ComeToSame publisher done dones base
+unfolding IsSnapshotAt
+come_to_same publisher done dones base stored stored' same at =
+    record {
+      end = at;
+      end_too = at ∙ ap (λ (b : Beginning). b.place) same;
+      state = ap (λ (b : Beginning). b.state) same;
+      books = same_books publisher done dones stored stored' same;
+      snapshots = λ bytes is. subst (λ (b : Beginning). IsSnapshot b bytes) same is;
+      snapshots_too = λ bytes is. subst (λ (b : Beginning). IsSnapshot b bytes) (sym same) is;
+    }
+
+-- two histories of which one snapshot is kept are of one publisher, and come to the same: a snapshot is of one beginning
+same_snapshot : (publisher other : Name) (done dones : List Recorded) (bytes : List ℕ) → Stored publisher done → Stored other dones
     → IsSnapshotAt publisher done bytes → IsSnapshotAt other dones bytes → (publisher ≡ other) × ((base : ℕ) → base ≡ end_of done → ComeToSame publisher done dones base)
-same_snapshot publisher other done dones bytes name named stored stored' one two =
-    let first = from_beginning publisher done bytes one in
-    let second = from_beginning other dones bytes two in
-    let same : done ≡ dones = first.0 ∙ sym second.0 in (
-      fresh_once publisher other name named (sym first.1 ∙ second.1),
-      λ base at. subst (λ (ds : List Recorded). ComeToSame publisher done ds base) same (come_itself publisher done base at),
+same_snapshot publisher other done dones bytes stored stored' one two =
+    let same : beginning_behind publisher done ≡ beginning_behind other dones
+    = one_beginning (beginning_behind publisher done) (beginning_behind other dones) bytes (of_beginning publisher done bytes one) (of_beginning other dones bytes two) in
+    let its : publisher ≡ other = one_publisher publisher other done dones same in (
+      its,
+      λ base at. come_to_same publisher done dones base stored (subst (λ (p : Name). Stored p dones) (sym its) stored') (same ∙ ap (λ (p : Name). beginning_behind p dones) (sym its)) at,
     )
 
 -- ---- files
 
-stored_front : (publisher : Name) (done left : List Recorded) → Stored publisher (done ++ left) → Stored publisher done
+pub stored_front : (publisher : Name) (done left : List Recorded) → Stored publisher (done ++ left) → Stored publisher done
 stored_front publisher done left stored = ((stored_from-append (fresh publisher) 0 done left).0 stored).0
 
 stored_parts : (publisher : Name) (es : List Recorded) (base : ℕ) (files : Files) → (s : StandsFor publisher es base files) → Stored publisher (s.done ++ s.left)
@@ -101,7 +116,7 @@ same_files publisher other es others base place files s t =
     let kept : IsSnapshotAt other t.done snapshot = subst (λ (x : Generation). IsSnapshotAt other t.done (bytes_of files (snapshot_of x))) g t.snapshot in
     let spells : Spells place (bodies t.left) log = subst (λ (x : Generation). Spells place (bodies t.left) (bytes_of files (log_of x))) g t.log in
     let spelled = one_spelling log base place (bodies s.left) (bodies t.left) s.log spells in
-    let both = same_snapshot publisher other s.done t.done snapshot s.name t.name (stored_front publisher s.done s.left (stored_parts publisher es base files s)) (stored_front other t.done t.left (stored_parts other others place files t)) s.snapshot kept in
+    let both = same_snapshot publisher other s.done t.done snapshot (stored_front publisher s.done s.left (stored_parts publisher es base files s)) (stored_front other t.done t.left (stored_parts other others place files t)) s.snapshot kept in
     record { base_is = spelled.0; one = both.0; begins = both.1 base s.base_is; same = spelled.1 }
 
 -- histories for which the same files stand are alike from the log's base on

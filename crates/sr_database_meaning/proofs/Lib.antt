@@ -1,6 +1,6 @@
 pub mod Alike
+pub mod Beginnings
 pub mod Going
 pub mod Joining
 pub mod Resting
-pub mod Snapshots
 pub mod Standing

@@ -1,3 +1,4 @@
 pub mod Alike
 pub mod Events
 pub mod Going
+pub mod Snapshots

@@ -1,8 +1,7 @@
 pub mod Bases
-pub mod Damage
 pub mod Generations
 pub mod Events
-pub mod Snapshots
+pub mod Restarts
 pub mod Standing
 pub mod Traces
 pub mod Inner

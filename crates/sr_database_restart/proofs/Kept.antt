@@ -2,10 +2,10 @@
 use Rattle.std.proofs.Common.{◌≡◌, ◌≢◌, List, [], ◌++◌, Bool, ℕ, refl, sym, ◌∙◌, ap, subst}
 use Rattle.std.specs.Prelude.{IsTrue}
 use Rattle.sr_database_meaning.proofs.Resting.{rests_end, rests_on}
-use Rattle.sr_database_meaning.specs.Generations.{Generation, even, odd, snapshot_of, log_of}
+use Rattle.sr_database_meaning.specs.Generations.{Generation, even, odd, snapshot_of, log_of, generation_of, other_of}
 use Rattle.sr_database_restart.proofs.Beside.{beside, rests_each, stays_settled}
 use Rattle.sr_database_restart.proofs.Quiet.{quiet, quiet_on}
-use Rattle.sr_database_restart.specs.Inner.Generations.{IsLogFile, generation_of, other_of}
+use Rattle.sr_database_restart.specs.Inner.Generations.{IsLogFile}
 use Rattle.sr_database_restart.specs.Inner.Restarting.{AgreesOn, KeepsInForce}
 use Rattle.sr_database_restart.specs.Inner.Writing.{HasWritten, Touches, TouchesOther}
 use Rattle.sr_logfile.specs.Inner.Logs.{IsAt}
@@ -19,7 +19,7 @@ use Rattle.sr_site.specs.Images.{KeepsOthers, RestsThroughout}
 use Rattle.sr_site.specs.Inner.Growing.{disk_stays_on}
 use Rattle.sr_site.specs.Seen.{Seen}
 use Rattle.sr_site.specs.declared.file.File.{File}
-use Rattle.sr_site.specs.declared.file.File.TheVariants.{Root}
+use Rattle.sr_site.specs.declared.file.File.TheVariants.{Root, Log0, Log1, Snap0, Snap1}
 
 -- ---- files of two generations
 
@@ -36,6 +36,14 @@ snapshot_apart odd = record { root = λ e. cc; snapshot = λ e. cc; log = λ e. 
 pub log_apart : (generation : Generation) → IsApart generation (log_of (other_of generation))
 log_apart even = record { root = λ e. cc; snapshot = λ e. cc; log = λ e. cc }
 log_apart odd = record { root = λ e. cc; snapshot = λ e. cc; log = λ e. cc }
+
+-- the log of the other generation is another file than the log, whichever that is
+pub other_log : (file : File) → file ≢ log_of (other_of (generation_of file))
+other_log Root = λ e. cc
+other_log Log0 = λ e. cc
+other_log Log1 = λ e. cc
+other_log Snap0 = λ e. cc
+other_log Snap1 = λ e. cc
 
 pub log_not_snapshot : (generation : Generation) → log_of generation ≢ snapshot_of generation
 log_not_snapshot even = λ e. cc

@@ -1,10 +1,9 @@
 -- The root while a byte is put into its first place.
 use Rattle.std.proofs.Common.{◌≡◌, ◌≢◌, ◌⊎◌, inl, inr, Bool, true, false, List, [], ◌∷◌, drop, length-drop, ℕ, refl, sym, ◌∙◌, ap, subst, arith}
 use Rattle.sr_database_meaning.proofs.Resting.{rests_end}
-use Rattle.sr_database_meaning.specs.Generations.{Generation, even, odd, snapshot_of, log_of}
+use Rattle.sr_database_meaning.specs.Generations.{Generation, even, odd, snapshot_of, log_of, byte_of, named, other_of}
 use Rattle.sr_database_restart.proofs.Beside.{rests_each}
 use Rattle.sr_database_restart.proofs.Kept.{snapshot_apart, log_apart}
-use Rattle.sr_database_restart.specs.Inner.Generations.{byte_of, named, other_of}
 use Rattle.sr_database_restart.specs.Inner.Restarting.{HasBoth, IsRestarted, KeepsInForce, WentOver}
 use Rattle.sr_database_restart.specs.Inner.Writing.{HasWritten, IsNamedInPart, named_by}
 use Rattle.sr_logfile_carry.proofs.Files.{stays, other_bytes}

@@ -1,7 +1,7 @@
 -- Calls of the disk attach nothing and put nothing.
 use Rattle.std.proofs.Common.{List, [], ◌∷◌, ◌++◌, refl, ap, ◌∙◌}
 use Rattle.sr_database_meaning.specs.Events.{attaches_in, puts_in}
-use Rattle.sr_database_restart.specs.Inner.Restarting.{IsQuiet}
+use Rattle.sr_database_meaning.specs.Restarts.{IsQuiet}
 use Rattle.sr_logfile_carry.specs.Inner.Touching.{AreOn, HappenedOn}
 use Rattle.sr_site.specs.Happenings.{Happening, attached, wrote, cut_to, synced, listed, fetched, sent, removed, handed_over}
 use Rattle.sr_site.specs.declared.file.File.{File}

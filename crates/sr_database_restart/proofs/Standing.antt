@@ -4,12 +4,13 @@ use Rattle.std.specs.Prelude.{◌%◌, ◌==◌, if◌then◌else◌}
 use Rattle.sr_book.specs.Entries.{Name}
 use Rattle.sr_database_history.specs.Recorded.{Recorded}
 use Rattle.sr_database_meaning.proofs.Resting.{rests_on}
-use Rattle.sr_database_meaning.specs.Generations.{Generation, even, odd, generation_in, snapshot_of, log_of}
+use Rattle.sr_database_meaning.specs.Generations.{Generation, even, odd, generation_in, snapshot_of, log_of, generation_of, named, other_of}
+use Rattle.sr_database_meaning.specs.Restarts.{StandsAtBoth, StandsAtEither}
 use Rattle.sr_database_meaning.specs.Standing.{IsSnapshotAt, StandsFor, bodies}
 use Rattle.sr_database_restart.proofs.Beside.{rests_each}
 use Rattle.sr_database_restart.proofs.Named.{root_not_snapshot, root_not_log}
-use Rattle.sr_database_restart.specs.Inner.Generations.{IsLogFile, generation_of, named, other_of}
-use Rattle.sr_database_restart.specs.Inner.Laws.{HoldsHistory, Names, StandsAtBoth, StandsAtEither}
+use Rattle.sr_database_restart.specs.Inner.Generations.{IsLogFile}
+use Rattle.sr_database_restart.specs.Inner.Laws.{HoldsHistory, Names}
 use Rattle.sr_database_restart.specs.Inner.Restarting.{AgreesOn, HasBoth, HasParts, IsRestarted, KeepsInForce, WentOn}
 use Rattle.sr_logfile.specs.Records.{Spells}
 use Rattle.sr_logfile_carry.proofs.Files.{other_bytes}

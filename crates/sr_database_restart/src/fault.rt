@@ -2,7 +2,7 @@ ghost use Rattle.std.specs.Prelude.{◌≡◌, ◌≤◌, ℕ};
 ghost use Rattle.sr_database_restart.specs.Inner.Restarting.{RestartCause};
 ghost use Rattle.sr_logfile_carry.specs.Inner.Carrying.{CarryCause};
 ghost use Rattle.sr_site.specs.Seen.{Seen};
-ghost use Rattle.sr_snapshot.specs.Inner.Parts.{longest};
+ghost use Rattle.sr_snapshot.specs.Parts.{longest};
 ghost use Rattle.sr_snapshot.specs.Inner.Writing.{WriteCause};
 ghost use Rattle.sr_database_restart.specs.declared.fault.RestartFault.TheVariants.{Disk};
 

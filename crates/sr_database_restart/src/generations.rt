@@ -1,5 +1,6 @@
 ghost use Rattle.std.specs.Prelude.{◌≡◌};
-ghost use Rattle.sr_database_restart.specs.Inner.Generations.{generation_of, other_of, parts_of};
+ghost use Rattle.sr_database_meaning.specs.Generations.{generation_of, other_of};
+ghost use Rattle.sr_database_restart.specs.Inner.Generations.{parts_of};
 
 use sr_site::File;
 

@@ -3,10 +3,11 @@
 ghost use Rattle.std.specs.Prelude.{◌≡◌, ℕ, List, Some};
 ghost use Rattle.sr_book.specs.Entries.{Name};
 ghost use Rattle.sr_database_history.specs.Recorded.{Recorded};
-ghost use Rattle.sr_database_meaning.specs.Generations.{Generation, generation_in, log_of};
+ghost use Rattle.sr_database_meaning.specs.Generations.{Generation, generation_in, log_of, generation_of, named};
+ghost use Rattle.sr_database_meaning.specs.Restarts.{StandsAtBoth, StandsAtEither};
 ghost use Rattle.sr_database_meaning.specs.Standing.{StandsFor};
-ghost use Rattle.sr_database_restart.specs.Inner.Generations.{IsLogFile, generation_of, named};
-ghost use Rattle.sr_database_restart.specs.Inner.Laws.{HoldsHistory, Names, StandsAtBoth, StandsAtEither};
+ghost use Rattle.sr_database_restart.specs.Inner.Generations.{IsLogFile};
+ghost use Rattle.sr_database_restart.specs.Inner.Laws.{HoldsHistory, Names};
 ghost use Rattle.sr_database_restart.specs.Inner.Restarting.{HasBoth, IsRestarted, KeepsInForce, WentOn};
 ghost use Rattle.sr_site.specs.Images.{IsSettled, RestsThroughout};
 ghost use Rattle.sr_site.specs.Seen.{Seen};

@@ -1,15 +1,17 @@
 ghost use Rattle.std.specs.Prelude.{◌≡◌, ◌≢◌, ◌≤◌, List, ℕ, length, true, IsTrue, IfOk, OnOk, IfErr};
-ghost use Rattle.sr_database_meaning.specs.Generations.{log_of};
-ghost use Rattle.sr_database_restart.specs.Inner.Generations.{IsLogFile, generation_of, other_of};
-ghost use Rattle.sr_database_restart.specs.Inner.Restarting.{IsQuiet, IsRestarted, KeepsInForce, RestartCause, WentOn};
+ghost use Rattle.sr_database_meaning.specs.Generations.{log_of, generation_of, other_of};
+ghost use Rattle.sr_database_meaning.specs.Restarts.{IsQuiet};
+ghost use Rattle.sr_logfile_carry.specs.Carried.{carried};
+ghost use Rattle.sr_database_restart.specs.Inner.Generations.{IsLogFile};
+ghost use Rattle.sr_database_restart.specs.Inner.Restarting.{IsRestarted, KeepsInForce, RestartCause, WentOn};
 ghost use Rattle.sr_database_restart.specs.declared.fault.RestartFault.TheVariants.{Disk as no_disk};
 ghost use Rattle.sr_logfile.specs.Inner.Logs.{IsAt, IsLog};
-ghost use Rattle.sr_logfile_carry.specs.Inner.Carrying.{IsParted, carried, log_of_records};
+ghost use Rattle.sr_logfile_carry.specs.Inner.Carrying.{IsParted, log_of_records};
 ghost use Rattle.sr_site.specs.Causes.{DiskStays};
 ghost use Rattle.sr_site.specs.Images.{RestsThroughout};
 ghost use Rattle.sr_snapshot.specs.Inner.Beginnings.{beginning_in};
-ghost use Rattle.sr_snapshot.specs.Inner.Parts.{longest};
-ghost use Rattle.sr_snapshot.specs.Inner.Snapshots.{snapshot_spelling};
+ghost use Rattle.sr_snapshot.specs.Parts.{longest};
+ghost use Rattle.sr_snapshot.specs.Snapshots.{snapshot_spelling};
 
 use crate::fault::RestartFault;
 use crate::generations::other_than;
@@ -31,7 +33,7 @@ pub fn restart_files<S: Disk>(
     log: &LogFile,
     state: &State,
 ) -> Result<LogFile, RestartFault>
-    requires file { IsLogFile log.now.file }
+    requires file { IsTrue (S.seen site.old).observable → IsLogFile log.now.file }
     requires usable { log.now.usable ≡ true }
     requires order { (log.now.base ≤ state.now.offset.0) × (state.now.offset.0 ≤ log.now.end) }
     requires parted { IsTrue (S.seen site.old).observable → IsParted log.now state.now.offset.0 (S.seen site.old).files }

@@ -1,16 +1,17 @@
 //! The two files of the generation that is not in force.
 
 ghost use Rattle.std.specs.Prelude.{◌≡◌, ◌≢◌, ◌≤◌, List, ℕ, length, true, IsTrue, IfOk, OnOk, IfErr};
-ghost use Rattle.sr_database_meaning.specs.Generations.{log_of};
-ghost use Rattle.sr_database_restart.specs.Inner.Generations.{IsLogFile, generation_of, other_of, parts_of};
+ghost use Rattle.sr_database_meaning.specs.Generations.{log_of, generation_of, other_of};
+ghost use Rattle.sr_logfile_carry.specs.Carried.{carried};
+ghost use Rattle.sr_database_restart.specs.Inner.Generations.{IsLogFile, parts_of};
 ghost use Rattle.sr_database_restart.specs.Inner.Restarting.{RestartCause};
 ghost use Rattle.sr_database_restart.specs.Inner.Writing.{HasWritten, Touches, TouchesOther};
 ghost use Rattle.sr_logfile.specs.Inner.Logs.{IsAt};
-ghost use Rattle.sr_logfile_carry.specs.Inner.Carrying.{IsParted, IsReplaced, carried, log_of_records};
+ghost use Rattle.sr_logfile_carry.specs.Inner.Carrying.{IsParted, IsReplaced, log_of_records};
 ghost use Rattle.sr_site.specs.declared.file.File.{File as AFile};
 ghost use Rattle.sr_snapshot.specs.Inner.Beginnings.{beginning_in};
-ghost use Rattle.sr_snapshot.specs.Inner.Parts.{longest};
-ghost use Rattle.sr_snapshot.specs.Inner.Snapshots.{snapshot_spelling};
+ghost use Rattle.sr_snapshot.specs.Parts.{longest};
+ghost use Rattle.sr_snapshot.specs.Snapshots.{snapshot_spelling};
 
 use crate::fault::{RestartFault, log_fault, snapshot_fault};
 use crate::generations::Other;
@@ -29,7 +30,7 @@ pub(crate) fn write_generation<S: Disk>(
     state: &State,
     other: Other,
 ) -> Result<LogFile, RestartFault>
-    requires file { IsLogFile log.now.file }
+    requires file { IsTrue (S.seen site.old).observable → IsLogFile log.now.file }
     requires usable { log.now.usable ≡ true }
     requires order { (log.now.base ≤ state.now.offset.0) × (state.now.offset.0 ≤ log.now.end) }
     requires parted { IsTrue (S.seen site.old).observable → IsParted log.now state.now.offset.0 (S.seen site.old).files }

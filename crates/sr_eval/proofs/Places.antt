@@ -11,7 +11,7 @@ use Rattle.sr_ast.specs.Terms.{Term}
 use Rattle.sr_ast.specs.Terms.Term.{literal, column, unary, binary}
 use Rattle.sr_eval.specs.Inner.Bounds.{values_of}
 use Rattle.sr_eval.specs.declared.bound.Bound.{Bound}
-use Rattle.sr_eval.specs.Meanings.{meaning, unary_meaning, binary_meaning, of_one, of_both, value_at, found_at}
+use Rattle.sr_eval.specs.Meanings.{meaning, unary_meaning, binary_meaning, of_one, of_both, value_meant, found_at}
 use Rattle.sr_eval.specs.Meanings.Meaning.{value}
 use Rattle.sr_eval.specs.Inner.Resolutions.{at_place, resolved, meaning_at}
 
@@ -47,7 +47,7 @@ or_null true v w o e = refl
 or_null false v w o e = e
 
 pub value_found : (columns : List (Option (List ℕ) × List ℕ × Kind)) (row : List Value) (table : Option (List ℕ)) (name : List ℕ)
-    → value_at columns row table name ≡ unwrap_or (found_at columns row table name) Null
+    → value_meant columns row table name ≡ unwrap_or (found_at columns row table name) Null
 value_found [] row table name = refl
 value_found (c ∷ columns) [] table name = refl
 value_found (c ∷ columns) (v ∷ row) table name = or_null (is_meant c.0 c.1 table name) v _ _ (value_found columns row table name)

@@ -8,14 +8,14 @@ use Rattle.sr_ast.specs.Classes.{is_meant}
 use Rattle.sr_eval.specs.Bounds.{IsRowOf}
 use Rattle.sr_eval.specs.Inner.Bounds.{AreRows, columns_of, values_of}
 use Rattle.sr_eval.specs.declared.bound.Bound.{Bound}
-use Rattle.sr_eval.specs.Meanings.{value_at, found_at}
+use Rattle.sr_eval.specs.Meanings.{value_meant, found_at}
 
 met : (b : Bool) (v w : Cell) (o : Option Cell) (u : Cell) → w ≡ unwrap_or o u → cond b v w ≡ unwrap_or (cond b (Some v) o) u
 met true v w o u e = refl
 met false v w o u e = e
 
 -- a name means a column of the first source, or else one of the sources behind it
-pub value_at-append : (columns more : List (Option (List ℕ) × List ℕ × Kind)) (values others : List Cell) (table : Option (List ℕ)) (name : List ℕ) → IsRowOf columns values → value_at (columns ++ more) (values ++ others) table name ≡ unwrap_or (found_at columns values table name) (value_at more others table name)
+pub value_at-append : (columns more : List (Option (List ℕ) × List ℕ × Kind)) (values others : List Cell) (table : Option (List ℕ)) (name : List ℕ) → IsRowOf columns values → value_meant (columns ++ more) (values ++ others) table name ≡ unwrap_or (found_at columns values table name) (value_meant more others table name)
 value_at-append [] more [] others table name fits = refl
 value_at-append [] more (v ∷ values) others table name fits = absurd fits
 value_at-append (c ∷ columns) more [] others table name fits = absurd fits
@@ -23,7 +23,7 @@ value_at-append (c ∷ columns) more (v ∷ values) others table name fits =
     met (is_meant c.0 c.1 table name) v _ _ _ (value_at-append columns more values others table name fits.1)
 
 -- the same, of sources that begin with this one
-pub value_among : (sources : List Bound) (source : Bound) (after : List Bound) (table : Option (List ℕ)) (name : List ℕ) → sources ≡ source ∷ after → AreRows sources → value_at (columns_of sources) (values_of sources) table name ≡ unwrap_or (found_at source.scope.now source.values.now table name) (value_at (columns_of after) (values_of after) table name)
+pub value_among : (sources : List Bound) (source : Bound) (after : List Bound) (table : Option (List ℕ)) (name : List ℕ) → sources ≡ source ∷ after → AreRows sources → value_meant (columns_of sources) (values_of sources) table name ≡ unwrap_or (found_at source.scope.now source.values.now table name) (value_meant (columns_of after) (values_of after) table name)
 value_among sources source after table name begins fit =
     let rows : AreRows (source ∷ after) = subst AreRows begins fit in
     rw begins (value_at-append source.scope.now (columns_of after) source.values.now (values_of after) table name rows.0)

@@ -21,7 +21,7 @@ use Rattle.sr_ast.specs.Uses.{gives_value}
 use Rattle.sr_eval.specs.Bounds.{IsRowOf}
 use Rattle.sr_eval.specs.declared.truth.Truth.{Truth as Known}
 use Rattle.sr_eval.specs.Numbers.{negated, arithmetic}
-use Rattle.sr_eval.specs.Meanings.{Meaning, meaning, unary_meaning, binary_meaning, of_one, of_both, value_at, cell_of}
+use Rattle.sr_eval.specs.Meanings.{Meaning, meaning, unary_meaning, binary_meaning, of_one, of_both, value_meant, cell_of}
 use Rattle.sr_eval.specs.Meanings.Meaning.{value, truth}
 use Rattle.sr_eval.specs.Inner.Laws.{IsOf, HaveTheirClass}
 
@@ -53,10 +53,10 @@ met : (b : Bool) (v w : Cell) (k : Kind) (o : Option Kind) (name : List ℕ) (c 
 met true v w k o name c fits later e = let same : kind_class k ≡ c = cc in elim (fits-class v k fits) [ inl p ↦ inl p | inr p ↦ inr (p ∙ same) ]
 met false v w k o name c fits later e = later e
 
-of_column : (columns : List (Option (List ℕ) × List ℕ × Kind)) (values : List Cell) (table : Option (List ℕ)) (name : List ℕ) (c : Class) → IsRowOf columns values → known_class (column_typing name (kind_of columns table name)) ≡ Some c → IsOf c (value (value_at columns values table name))
+of_column : (columns : List (Option (List ℕ) × List ℕ × Kind)) (values : List Cell) (table : Option (List ℕ)) (name : List ℕ) (c : Class) → IsRowOf columns values → known_class (column_typing name (kind_of columns table name)) ≡ Some c → IsOf c (value (value_meant columns values table name))
 of_column [] values table name c fits e = cc
 of_column (k ∷ columns) [] table name c fits e = absurd fits
-of_column (k ∷ columns) (v ∷ values) table name c fits e = met (is_meant k.0 k.1 table name) v (value_at columns values table name) k.2 (kind_of columns table name) name c fits.0 (of_column columns values table name c fits.1) e
+of_column (k ∷ columns) (v ∷ values) table name c fits e = met (is_meant k.0 k.1 table name) v (value_meant columns values table name) k.2 (kind_of columns table name) name c fits.0 (of_column columns values table name c fits.1) e
 
 -- a test that gave a class gave that one
 gave : (b : Bool) (d c : Class) → cond b (Some d) None ≡ Some c → c ≡ d

@@ -34,10 +34,10 @@ truth_of (value v) = Unknown
 truth_of (truth t) = t
 
 -- the value of the first column that a reference means
-abbrev pub value_at : List (Option (List ℕ) × List ℕ × Kind) → List Cell → Option (List ℕ) → List ℕ → Cell
-value_at [] values table reference = Null
-value_at (c ∷ columns) [] table reference = Null
-value_at (c ∷ columns) (v ∷ values) table reference = cond (is_meant c.0 c.1 table reference) v (value_at columns values table reference)
+abbrev pub value_meant : List (Option (List ℕ) × List ℕ × Kind) → List Cell → Option (List ℕ) → List ℕ → Cell
+value_meant [] values table reference = Null
+value_meant (c ∷ columns) [] table reference = Null
+value_meant (c ∷ columns) (v ∷ values) table reference = cond (is_meant c.0 c.1 table reference) v (value_meant columns values table reference)
 
 -- the same value, where these columns have one that the reference means
 abbrev pub found_at : List (Option (List ℕ) × List ℕ × Kind) → List Cell → Option (List ℕ) → List ℕ → Option Cell
@@ -79,7 +79,7 @@ of_both f (Some a) (Some b) = f a b
 -- what an expression gives over columns and their values: nothing where a number passes its type's end
 abbrev pub meaning : List (Option (List ℕ) × List ℕ × Kind) → List Cell → Term → Option Meaning
 meaning columns values (literal v) = Some (value v)
-meaning columns values (column table name) = Some (value (value_at columns values table name))
+meaning columns values (column table name) = Some (value (value_meant columns values table name))
 meaning columns values (unary op a) = of_one (unary_meaning op) (meaning columns values a)
 meaning columns values (binary op a b) = of_both (binary_meaning op) (meaning columns values a) (meaning columns values b)
 

@@ -2,7 +2,7 @@ ghost use Rattle.std.specs.Prelude.{◌≡◌, Some, IfSome, unwrap_or};
 ghost use Rattle.std.specs.Option.{option_map, option_copied};
 ghost use Rattle.sr_ast.specs.Exprs.{term_of};
 ghost use Rattle.sr_eval.specs.Inner.Bounds.{AreRows, columns_of, values_of};
-ghost use Rattle.sr_eval.specs.Meanings.{meaning, unary_meaning, binary_meaning, cell_of, value_at, found_at};
+ghost use Rattle.sr_eval.specs.Meanings.{meaning, unary_meaning, binary_meaning, cell_of, value_meant, found_at};
 ghost use Rattle.sr_eval.specs.Meanings.Meaning.{value as a_value, truth as a_truth};
 ghost use Rattle.sr_eval.specs.Comparisons.{comparison};
 ghost use Rattle.sr_eval.specs.Inner.Comparisons.{test_of};
@@ -50,7 +50,7 @@ fn operand_meaning<'a>(operand: &'a Operand, sources: &[Bound<'a>]) -> Option<Wo
 /// The value of the first column that a name means; NULL where none is meant.
 fn column_worth<'a>(sources: &[Bound<'a>], table: &Option<Name>, name: &Name) -> Worth<'a>
     requires { AreRows sources.now }
-    ensures { meant result ≡ a_value (value_at (columns_of sources.now) (values_of sources.now) table.now name.now) }
+    ensures { meant result ≡ a_value (value_meant (columns_of sources.now) (values_of sources.now) table.now name.now) }
 {
     match column_value(sources, table, name) {
         Some(value) => Worth::Held(value),
@@ -61,7 +61,7 @@ fn column_worth<'a>(sources: &[Bound<'a>], table: &Option<Name>, name: &Name) ->
 /// The value of the first column that a name means, where it lies: one pass over the columns.
 fn column_value<'a>(sources: &[Bound<'a>], table: &Option<Name>, name: &Name) -> Option<&'a Value>
     requires { AreRows sources.now }
-    ensures value { value_at (columns_of sources.now) (values_of sources.now) table.now name.now ≡ unwrap_or (option_copied result) Value.Null }
+    ensures value { value_meant (columns_of sources.now) (values_of sources.now) table.now name.now ≡ unwrap_or (option_copied result) Value.Null }
 {
     let Some((source, after)) = sources.split_first() else {
         return None;

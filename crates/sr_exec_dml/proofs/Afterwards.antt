@@ -16,7 +16,7 @@ use Rattle.sr_logform.specs.declared.change.Change.{Change}
 use Rattle.sr_catalog_schema.specs.Catalogs.{Lists}
 use Rattle.sr_catalog_schema.specs.declared.table.Table.{Table}
 use Rattle.sr_exec_dml.specs.Applying.{place_of, without_row, with_row, applied_in, applied}
-use Rattle.sr_exec_dml.specs.Inner.Conditions.{TableFits}
+use Rattle.sr_exec_dml.specs.Fitting.{TableFits}
 use Rattle.sr_exec_dml.specs.Holding.{under, one_of, keys_of, doubled, changes_at, changes_of}
 use Rattle.sr_logform.specs.Outcomes.{is_same_row}
 use Rattle.sr_exec_dml.specs.Inner.Laws.{StandUnderKeys, RowsBecome, OthersStay}

@@ -15,7 +15,7 @@ use Rattle.sr_exec_dml.specs.declared.changes.Changes.{Changes}
 use Rattle.sr_exec_dml.specs.declared.edit.Edit.TheVariants.{Gone, Moved}
 use Rattle.sr_exec_dml.specs.declared.effect.RowEffect.{RowEffect}
 use Rattle.sr_exec_dml.specs.declared.effect.RowEffect.TheVariants.{Stays, Goes, Becomes}
-use Rattle.sr_exec_dml.specs.Inner.Conditions.{TableFits}
+use Rattle.sr_exec_dml.specs.Fitting.{TableFits}
 use Rattle.sr_exec_dml.specs.Inner.Edits.{AreEdits, edit_at, with_pick, with_edit, picks_of, one_pick}
 use Rattle.sr_exec_where.specs.Inner.Fixing.{only_key}
 use Rattle.sr_exec_dml.specs.Holding.{with_change}

@@ -21,7 +21,7 @@ use Rattle.sr_exec_dml.specs.declared.changes.Changes.{Changes}
 use Rattle.sr_exec_dml.specs.Applying.{place_of, without_row, with_row, applied_in, applied}
 use Rattle.sr_exec_where.specs.Checks.{unknown_condition, bad_condition, unknown_in_insert, bad_in_insert, unknown_in_update, bad_in_update}
 use Rattle.sr_catalog_schema.specs.Members.{scope_of}
-use Rattle.sr_exec_dml.specs.Inner.Conditions.{TableFits, RowsFit}
+use Rattle.sr_exec_dml.specs.Fitting.{TableFits, RowsFit}
 use Rattle.sr_exec_fits.specs.Rows.{IsRow}
 use Rattle.sr_exec_dml.specs.Holding.{held}
 use Rattle.sr_exec_dml.specs.FittingChanges.{FitsAt, ChangesFit}

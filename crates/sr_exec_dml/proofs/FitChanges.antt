@@ -13,7 +13,7 @@ use Rattle.sr_catalog_schema.specs.declared.table.Table.{Table}
 use Rattle.sr_exec_dml.specs.declared.effect.RowEffect.{RowEffect}
 use Rattle.sr_exec_dml.specs.declared.effect.RowEffect.TheVariants.{Stays, Goes, Becomes}
 use Rattle.sr_exec_dml.specs.Applying.{applied_in}
-use Rattle.sr_exec_dml.specs.Inner.Conditions.{TableFits}
+use Rattle.sr_exec_dml.specs.Fitting.{TableFits}
 use Rattle.sr_exec_fits.specs.Rows.{IsRow}
 use Rattle.sr_exec_dml.specs.FittingChanges.{FitsAt, ChangesFit}
 use Rattle.sr_exec_dml.specs.Holding.{under, one_of, keys_of, doubled, changes_at, changes_of, held}

@@ -21,7 +21,7 @@ use Rattle.sr_exec_where.specs.Inner.Fixing.{fixed_key, only_key}
 use Rattle.sr_exec_where.specs.Keys.{key_of}
 use Rattle.sr_exec_where.proofs.Fixed.{key_is}
 use Rattle.sr_exec_dml.specs.declared.effect.RowEffect.TheVariants.{Stays}
-use Rattle.sr_exec_dml.specs.Inner.Conditions.{TableFits}
+use Rattle.sr_exec_dml.specs.Fitting.{TableFits}
 use Rattle.sr_exec_dml.specs.Inner.Edits.{with_pick, picks_of, one_pick}
 use Rattle.sr_exec_dml.specs.Holding.{under, one_of}
 use Rattle.sr_exec_dml.specs.Sequences.{followed}

@@ -22,7 +22,7 @@ use Rattle.sr_exec_dml.specs.declared.changes.Changes.{Changes}
 use Rattle.sr_exec_dml.specs.Applying.{applied}
 use Rattle.sr_exec_where.specs.Checks.{unknown_condition, bad_condition, unknown_in_insert, bad_in_insert, unknown_in_update, bad_in_update}
 use Rattle.sr_catalog_schema.specs.Members.{scope_of}
-use Rattle.sr_exec_dml.specs.Inner.Conditions.{TableFits}
+use Rattle.sr_exec_dml.specs.Fitting.{TableFits}
 use Rattle.sr_exec_dml.specs.Holding.{under, one_of, held}
 use Rattle.sr_exec_dml.specs.Inner.Laws.{StandUnderKeys, RowsAreThoseAfter}
 use Rattle.sr_exec_dml.specs.Inner.RowsAfter.{replaced, where_Ok, after_insert, after_move, in_table}

@@ -4,4 +4,5 @@ pub mod Holding
 pub mod Sequences
 pub mod Statements
 pub mod Storing
+pub mod Fitting
 pub mod Inner

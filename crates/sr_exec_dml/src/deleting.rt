@@ -1,4 +1,5 @@
-ghost use Rattle.sr_exec_dml.specs.Inner.Conditions.{Answers, TableFits};
+ghost use Rattle.sr_exec_dml.specs.Inner.Conditions.{Answers};
+ghost use Rattle.sr_exec_dml.specs.Fitting.{TableFits};
 ghost use Rattle.sr_exec_dml.specs.Statements.{deleted};
 ghost use Rattle.sr_rows.specs.Walks.{table_rows};
 

@@ -2,7 +2,8 @@
 
 ghost use Rattle.std.specs.Prelude.{◌≡◌, Ok, IfOk, OnOk, IsTrue};
 ghost use Rattle.std.specs.Option.{option_copied};
-ghost use Rattle.sr_exec_dml.specs.Inner.Conditions.{MayAnswer, TableFits};
+ghost use Rattle.sr_exec_dml.specs.Inner.Conditions.{MayAnswer};
+ghost use Rattle.sr_exec_dml.specs.Fitting.{TableFits};
 ghost use Rattle.sr_exec_where.specs.Inner.Preparing.{IsPrepared};
 ghost use Rattle.sr_exec_dml.specs.Statements.{moved_selected};
 ghost use Rattle.sr_exec_dml.specs.Inner.Unmoving.{Counted, and_change, with_effect, behind, KeepsKey};

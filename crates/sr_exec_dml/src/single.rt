@@ -2,7 +2,8 @@
 
 ghost use Rattle.std.specs.Prelude.{◌≡◌, [], Some, IfOk};
 ghost use Rattle.std.specs.Option.{option_copied};
-ghost use Rattle.sr_exec_dml.specs.Inner.Conditions.{Answers, TableFits};
+ghost use Rattle.sr_exec_dml.specs.Inner.Conditions.{Answers};
+ghost use Rattle.sr_exec_dml.specs.Fitting.{TableFits};
 ghost use Rattle.sr_exec_where.specs.Inner.Fixing.{only_key};
 ghost use Rattle.sr_exec_dml.specs.Holding.{with_change};
 ghost use Rattle.sr_exec_where.specs.Inner.Preparing.{IsPrepared};

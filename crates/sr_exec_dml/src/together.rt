@@ -3,7 +3,8 @@
 
 ghost use Rattle.std.specs.Prelude.{◌≡◌, ◌≢◌, [], length, Ok, Err, IsSome, OnOk, IsTrue, MatchResult, map};
 ghost use Rattle.std.specs.Option.{option_copied};
-ghost use Rattle.sr_exec_dml.specs.Inner.Conditions.{MayAnswer, TableFits, Tells};
+ghost use Rattle.sr_exec_dml.specs.Inner.Conditions.{MayAnswer, Tells};
+ghost use Rattle.sr_exec_dml.specs.Fitting.{TableFits};
 ghost use Rattle.sr_exec_dml.specs.Inner.Edits.{prefixed};
 ghost use Rattle.sr_exec_dml.specs.Inner.Pending.{pended, Adds, AreWhole, Awaits};
 ghost use Rattle.sr_exec_where.specs.Inner.Preparing.{IsPrepared, resolution_in};

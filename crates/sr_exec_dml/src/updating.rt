@@ -1,6 +1,7 @@
 ghost use Rattle.std.specs.Prelude.{map, None};
 ghost use Rattle.sr_exec_where.specs.Checks.{unknown_in_update, bad_in_update};
-ghost use Rattle.sr_exec_dml.specs.Inner.Conditions.{Answers, TableFits};
+ghost use Rattle.sr_exec_dml.specs.Inner.Conditions.{Answers};
+ghost use Rattle.sr_exec_dml.specs.Fitting.{TableFits};
 ghost use Rattle.sr_exec_dml.specs.Statements.{updated};
 ghost use Rattle.sr_exec_dml.specs.Inner.Making.{new_row, new_value};
 ghost use Rattle.sr_exec_where.specs.Inner.Preparing.{resolution_in};

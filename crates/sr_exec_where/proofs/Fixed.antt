@@ -23,7 +23,7 @@ use Rattle.sr_ast.specs.declared.operator.Binary.{Binary}
 use Rattle.sr_ast.specs.declared.operator.Binary.TheVariants as op
 use Rattle.sr_eval.specs.Comparisons.{tested}
 use Rattle.sr_eval.specs.Inner.Laws.{AndIsBoth}
-use Rattle.sr_eval.specs.Meanings.{meaning, value_at, is_true}
+use Rattle.sr_eval.specs.Meanings.{meaning, value_meant, is_true}
 use Rattle.sr_eval.specs.Meanings.Meaning.{truth}
 use Rattle.sr_catalog_schema.specs.declared.table.Column.{Column}
 use Rattle.sr_catalog_schema.specs.declared.table.Table.{Table}
@@ -110,18 +110,18 @@ abbrev named_before : Column → List Column → Bool
 named_before c columns = list_any (λ (d : Column). bytes_eq c.name d.name) columns
 
 value_at-place : (table : List ℕ) (alias : Option (List ℕ)) (c : Column) → is_alias (Some table) alias ≡ true → (columns : List Column) (row : List Value) (place : ℕ) → IsRow columns row
-    → slice_get columns place ≡ Some c → named_before c (take place columns) ≡ false → value_at (scoped table columns) row alias c.name ≡ at_place row place
+    → slice_get columns place ≡ Some c → named_before c (take place columns) ≡ false → value_meant (scoped table columns) row alias c.name ≡ at_place row place
 value_at-place table alias c al [] row place f g h = cc
 value_at-place table alias c al (d ∷ columns) [] place f g h = cc
 value_at-place table alias c al (d ∷ columns) (v ∷ row) zero f g h =
     let is : d ≡ c = cc in
     let meant : is_meant (Some table) d.name alias c.name ≡ true = with_first (bytes_eq d.name c.name) (is_alias (Some table) alias) al ∙ ap (λ (x : Column). bytes_eq x.name c.name) is ∙ bytes_itself c.name in
-    ap (λ b. cond b v (value_at (scoped table columns) row alias c.name)) meant
+    ap (λ b. cond b v (value_meant (scoped table columns) row alias c.name)) meant
 value_at-place table alias c al (d ∷ columns) (v ∷ row) (suc place) f g h = go (bytes_eq d.name c.name) refl (either_false (bytes_eq c.name d.name) (named_before c (take place columns)) h) (value_at-place table alias c al columns row place (row_parts d columns v row f).2 g) where
-  go : (b : Bool) → bytes_eq d.name c.name ≡ b → (bytes_eq c.name d.name ≡ false) × (named_before c (take place columns) ≡ false) → (named_before c (take place columns) ≡ false → value_at (scoped table columns) row alias c.name ≡ at_place row place)
-      → cond (bytes_eq d.name c.name && is_alias (Some table) alias) v (value_at (scoped table columns) row alias c.name) ≡ at_place row place
+  go : (b : Bool) → bytes_eq d.name c.name ≡ b → (bytes_eq c.name d.name ≡ false) × (named_before c (take place columns) ≡ false) → (named_before c (take place columns) ≡ false → value_meant (scoped table columns) row alias c.name ≡ at_place row place)
+      → cond (bytes_eq d.name c.name && is_alias (Some table) alias) v (value_meant (scoped table columns) row alias c.name) ≡ at_place row place
   go true e k rest = let here : bytes_eq c.name d.name ≡ true = ap (bytes_eq c.name) (same_name d.name c.name e) ∙ bytes_itself c.name in let gone = k.0 in cc
-  go false e k rest = ap (λ b. cond (b && is_alias (Some table) alias) v (value_at (scoped table columns) row alias c.name)) e ∙ rest k.1
+  go false e k rest = ap (λ b. cond (b && is_alias (Some table) alias) v (value_meant (scoped table columns) row alias c.name)) e ∙ rest k.1
 
 fits_at : (columns : List Column) (row : List Value) (place : ℕ) (c : Column) → IsRow columns row → slice_get columns place ≡ Some c → fitted (at_place row place) c.kind ≡ Some (at_place row place)
 fits_at [] row place c f g = cc
@@ -139,11 +139,11 @@ module _ (table : List ℕ) (columns : List Column) (row : List Value) (fits : I
     held_as v w same is = let e : Some (at_place row place) ≡ Some w = sym (fits_at columns row place c fits there) ∙ same ∙ is in cc
 
     meant_value : (alias : Option (List ℕ)) (name : List ℕ) (v w : Value) (b : Bool) → is_meant (Some table) c.name alias name ≡ b → cond b (fitted v c.kind) None ≡ Some w
-        → (value_at (scoped table columns) row alias name ≡ at_place row place) × (fitted v c.kind ≡ Some w)
+        → (value_meant (scoped table columns) row alias name ≡ at_place row place) × (fitted v c.kind ≡ Some w)
     meant_value alias name v w false e h = cc
     meant_value alias name v w true e h =
         let both = both_true (bytes_eq c.name name) (is_alias (Some table) alias) e in
-        (ap (value_at (scoped table columns) row alias) (sym (same_name c.name name both.0)) ∙ value_at-place table alias c both.1 columns row place fits there first, h)
+        (ap (value_meant (scoped table columns) row alias) (sym (same_name c.name name both.0)) ∙ value_at-place table alias c both.1 columns row place fits there first, h)
 
     left_side : (a b : Term) (w : Value) → fixed_side table c a b ≡ Some w → IsTrueHere (binary op.Equal a b) → at_place row place ≡ w
     left_side (literal u) b w h t = cc
@@ -154,7 +154,7 @@ module _ (table : List ℕ) (columns : List Column) (row : List Value) (fits : I
     left_side (column alias name) (binary o b d) w h t = cc
     left_side (column alias name) (literal v) w h t =
         let m = meant_value alias name v w (is_meant (Some table) c.name alias name) refl h in
-        held_as v w (fitted_alike (at_place row place) v c.kind (ap (λ x. compared x v) (sym m.0) ∙ equal_order (compared (value_at (scoped table columns) row alias name) v) t)) m.1
+        held_as v w (fitted_alike (at_place row place) v c.kind (ap (λ x. compared x v) (sym m.0) ∙ equal_order (compared (value_meant (scoped table columns) row alias name) v) t)) m.1
 
     right_side : (a b : Term) (w : Value) → fixed_side table c b a ≡ Some w → IsTrueHere (binary op.Equal a b) → at_place row place ≡ w
     right_side a (literal u) w h t = cc
@@ -165,7 +165,7 @@ module _ (table : List ℕ) (columns : List Column) (row : List Value) (fits : I
     right_side (binary o a d) (column alias name) w h t = cc
     right_side (literal v) (column alias name) w h t =
         let m = meant_value alias name v w (is_meant (Some table) c.name alias name) refl h in
-        held_as v w (sym (fitted_alike v (at_place row place) c.kind (ap (compared v) (sym m.0) ∙ equal_order (compared v (value_at (scoped table columns) row alias name)) t))) m.1
+        held_as v w (sym (fitted_alike v (at_place row place) c.kind (ap (compared v) (sym m.0) ∙ equal_order (compared v (value_meant (scoped table columns) row alias name)) t))) m.1
 
     either : (x y : Option Value) (w : Value) → first_of x y ≡ Some w → (x ≡ Some w → at_place row place ≡ w) → (y ≡ Some w → at_place row place ≡ w) → at_place row place ≡ w
     either None y w h f g = g h

@@ -7,7 +7,7 @@ ghost use Rattle.sr_site.specs.Causes.{DiskStays};
 ghost use Rattle.sr_site.specs.Files.{OthersStay};
 ghost use Rattle.sr_logfile.specs.Inner.Faults.{CommitCause};
 ghost use Rattle.sr_logfile.specs.Logs.{IsFull, gate_of};
-ghost use Rattle.sr_logfile.specs.Inner.Logs.{IsLog, HasLog, longer};
+ghost use Rattle.sr_logfile.specs.Inner.Logs.{IsLog, HasLog, longer, spent};
 ghost use Rattle.sr_logfile.specs.Inner.Log.{InOrder};
 ghost use Rattle.sr_logfile.specs.Records.{IsFramed, body_of};
 ghost use Rattle.sr_logfile.specs.declared.fault.LogFault.TheVariants.{Full};
@@ -78,11 +78,18 @@ impl LogFile {
         Offset(self.end)
     }
 
-    /// Whether the value can be used: not after `commit` answered `Disk`.
+    /// Whether the value can be used: not after `commit` answered `Disk`, and not after `spend`.
     pub fn usable(&self) -> bool
         ensures usable { result ≡ self.now.usable }
     {
         self.usable
+    }
+
+    /// Has the value not used again: for a call beside it that the disk refused.
+    pub fn spend(&mut self)
+        ensures spent { self.new ≡ spent self.old }
+    {
+        self.usable = false;
     }
 
     /// Puts a framed record behind the last, and answers its offset: the stream position behind its body.

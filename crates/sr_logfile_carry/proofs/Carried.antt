@@ -8,7 +8,8 @@ use Rattle.sr_logfile.specs.Inner.Logs.{IsAt, IsLog}
 use Rattle.sr_logfile.specs.Log.{Log}
 use Rattle.sr_logfile.specs.Records.{header, record_of, open_records, IsBody, Spells, place_in}
 use Rattle.sr_logfile_carry.proofs.Steps.{its_bytes}
-use Rattle.sr_logfile_carry.specs.Inner.Carrying.{HasSettled, IsReplaced, bytes_in, carried, log_of_records, part_of}
+use Rattle.sr_logfile_carry.specs.Carried.{carried}
+use Rattle.sr_logfile_carry.specs.Inner.Carrying.{HasSettled, IsReplaced, bytes_in, log_of_records, part_of}
 use Rattle.sr_site.specs.Files.{Files, bytes_of, with_bytes}
 use Rattle.sr_site.specs.Seen.{Seen}
 use Rattle.sr_site.specs.declared.file.File.{File}

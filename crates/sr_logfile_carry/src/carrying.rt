@@ -1,7 +1,8 @@
 ghost use Rattle.std.specs.Prelude.{◌≡◌, ◌≢◌, ◌^◌, ◌≤◌, ◌<◌, [], ◌∷◌, ◌++◌, List, ℕ, length, true, IsTrue, IfOk, OnOk, IfErr};
 ghost use Rattle.sr_logfile.specs.Inner.Logs.{IsAt, IsLog};
 ghost use Rattle.sr_logfile.specs.Records.{header};
-ghost use Rattle.sr_logfile_carry.specs.Inner.Carrying.{CarryCause, HasNow, HasSettled, IsParted, IsReplaced, StepCause, bytes_in, carried, log_of_records, part_of};
+ghost use Rattle.sr_logfile_carry.specs.Carried.{carried};
+ghost use Rattle.sr_logfile_carry.specs.Inner.Carrying.{CarryCause, HasNow, HasSettled, IsParted, IsReplaced, StepCause, bytes_in, log_of_records, part_of};
 ghost use Rattle.sr_logfile_carry.specs.Inner.Touching.{HappenedOn};
 ghost use Rattle.sr_logfile_carry.specs.declared.fault.CarryFault.TheVariants.{Memory};
 ghost use Rattle.sr_site.specs.Causes.{DiskStays};

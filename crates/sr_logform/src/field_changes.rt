@@ -2,7 +2,7 @@
 
 ghost use Rattle.std.specs.Prelude.{◌≡◌, Ok, List, ℕ, IfSome};
 ghost use Rattle.sr_base.specs.Fields.{name_at};
-ghost use Rattle.sr_base.specs.Inner.Fields.{items_at};
+ghost use Rattle.sr_base.specs.Reading.{items_at};
 ghost use Rattle.sr_base.specs.Inner.Reading.{Gives};
 ghost use Rattle.sr_logform.specs.Inner.Outcomes.{change_at};
 ghost use Rattle.sr_logform.specs.Inner.Rules.{filled_at};
@@ -16,7 +16,7 @@ use std::alloc::Global;
 const FIRST_ROOM: usize = 16;
 
 /// A list of changes that is not empty.
-#[tactic(auto, unfolding(sr_base::specs::Inner::Fields::list_at, crate::specs::Inner::Rules::filled_at, crate::specs::Inner::Rules::checked_at))]
+#[tactic(auto, unfolding(sr_base::specs::Reading::list_at, crate::specs::Inner::Rules::filled_at, crate::specs::Inner::Rules::checked_at))]
 pub(crate) fn filled_changes(alloc: Global, bytes: &[u8]) -> Result<(Seq<Change>, &[u8]), Broken>
     ensures { Gives (λ x. (x.0, x.1.now)) result (filled_at change_at bytes.now) }
 {
@@ -77,7 +77,7 @@ fn behind_name<'a>(bytes: &'a [u8], name: &Name) -> Option<&'a [u8]>
 }
 
 /// The change of this table whose rows stand at the front.
-#[tactic(auto, unfolding(crate::specs::Inner::Outcomes::change_at, sr_base::specs::Inner::Fields::pair_at, sr_base::specs::Inner::Fields::mapped_at))]
+#[tactic(auto, unfolding(crate::specs::Inner::Outcomes::change_at, sr_base::specs::Inner::Fields::pair_at, sr_base::specs::Reading::mapped_at))]
 fn change_of_table<'a>(
     alloc: Global,
     table: &Name,

@@ -3,7 +3,8 @@
 ghost use Rattle.std.specs.Prelude.{◌≡◌, ⊤, List};
 ghost use Rattle.sr_base.specs.declared.value.Value.TheVariants.{Null};
 ghost use Rattle.sr_base.specs.Fields.{IsName, list_spelling, name_at};
-ghost use Rattle.sr_base.specs.Inner.Fields.{items_at, list_at, pair_at};
+ghost use Rattle.sr_base.specs.Inner.Fields.{pair_at};
+ghost use Rattle.sr_base.specs.Reading.{items_at, list_at};
 ghost use Rattle.sr_base.specs.Inner.Reading.{Gives};
 ghost use Rattle.sr_base.specs.Values.{value_spelling, IsValue, IsShort};
 ghost use Rattle.sr_logform.specs.Inner.OpLaws.{present_format, values_format};
@@ -118,7 +119,7 @@ fn present_items(
 }
 
 /// A list of columns of which none is NULL.
-#[tactic(auto, unfolding(sr_base::specs::Inner::Fields::list_at))]
+#[tactic(auto, unfolding(sr_base::specs::Reading::list_at))]
 fn present_list(alloc: Global, bytes: &[u8]) -> Result<(Seq<(Name, Value)>, &[u8]), Broken>
     ensures { Gives (λ x. (x.0, x.1.now)) result (list_at (pair_at name_at present_at) bytes.now) }
 {

@@ -2,8 +2,8 @@
 use Rattle.std.proofs.Common.{◌≡◌, ℕ, List, Ok, Err, refl}
 use Rattle.sr_base.specs.declared.broken.Broken.{Broken}
 use Rattle.sr_base.specs.declared.broken.Broken.TheVariants as broken
-use Rattle.sr_base.specs.Inner.Fields.{triple_at, mapped_at}
-use Rattle.sr_base.specs.Reading.{Read}
+use Rattle.sr_base.specs.Inner.Fields.{triple_at}
+use Rattle.sr_base.specs.Reading.{Read, mapped_at}
 use Rattle.sr_base.specs.Inner.Reading.{Fails}
 
 module _ {A B C D : Type 0} (first : List ℕ → Read A) (second : List ℕ → Read B) (third : List ℕ → Read C) (to : A × B × C → D) where

@@ -9,7 +9,7 @@ use Rattle.sr_base.specs.declared.value.Value.{Value as Cell}
 use Rattle.sr_base.proofs.Truths.{some_is}
 use Rattle.sr_catalog_ddl.specs.Subscriptions.{articles_of}
 use Rattle.sr_exec_dml.specs.Statements.{table_named}
-use Rattle.sr_catalog_script_laws.specs.Inner.Scripts.{IsMade}
+use Rattle.sr_catalog_script_laws.specs.Scripts.{IsMadeByStatements}
 use Rattle.sr_catalog_script_laws.proofs.ReplayCauses.{first_of-None}
 use Rattle.sr_catalog_script_laws.proofs.ReplayLists.{AllByRecursion-step}
 use Rattle.sr_catalog_schema.specs.Catalogs.{Lists}
@@ -192,7 +192,7 @@ seen_as_shared : (c : Lists) (user table : List ℕ) (t : Table) (row : List Cel
 unfolding subscribed_table_of
 seen_as_shared c user table t row e = ap (λ o. shown_in (subscribed_table_in c user o (source_of c user table)) row) e
 
-pub seen_so : (c : Lists) (user table : List ℕ) (t : Table) (row : List Cell) → IsMade c → table_named c table ≡ Some t
+pub seen_so : (c : Lists) (user table : List ℕ) (t : Table) (row : List Cell) → IsMadeByStatements c → table_named c table ≡ Some t
     → is_some (seen c user table row) ≡ (is_row t.columns row && list_any (holds c user table t row) c.subscriptions)
 seen_so c user table t row made named = ap is_some (seen_as_shared c user table t row named)
     ∙ by_source c user table t row (source_of c user table) refl (one_source c user table made)

@@ -16,7 +16,7 @@ use Rattle.sr_catalog_ddl.specs.Subscriptions.{articles_of}
 use Rattle.sr_catalog_ddl.specs.Tables.{rule_name, table_of, create_table_causes}
 use Rattle.sr_exec_dml.specs.Statements.{table_named}
 use Rattle.sr_logform.specs.Rules.{AreDistinct}
-use Rattle.sr_catalog_script_laws.specs.Inner.Scripts.{IsMade, column_rule, article_rule}
+use Rattle.sr_catalog_script_laws.specs.Scripts.{IsMadeByStatements, column_rule, article_rule}
 use Rattle.sr_catalog_script_laws.proofs.ReplayCauses.{NoCause, no_cause_of, where_true-None, first_of-None, option_map-None}
 use Rattle.sr_catalog_script_laws.proofs.ReplayLists.{found_as_taken}
 use Rattle.sr_catalog_script_laws.proofs.ReplayNexts.{made_stands}
@@ -357,7 +357,7 @@ in_order c user t p a stands facts =
 
 -- ---- the laws
 
-pub table_has_key : (c : Lists) (name : List ℕ) (t : Table) → IsMade c → table_named c name ≡ Some t → HasKey t
+pub table_has_key : (c : Lists) (name : List ℕ) (t : Table) → IsMadeByStatements c → table_named c name ≡ Some t → HasKey t
 table_has_key c name t made e = has_key t (found_in TableStands (λ (x : Table). bytes_eq name x.name) c.tables t (made_stands c made).each_table e)
 
 article_source : (c : Lists) (user table : List ℕ) (xs : List Subscription) (q : List ℕ × Article) → first_among (source_in c user table) xs ≡ Some q
@@ -371,7 +371,7 @@ article_source c user table (s ∷ xs) q e = go (source_in c user table s) refl 
       let parts = source_parts c user table s v is in
       (s, parts.2 ∙ ap (λ (x : List ℕ × Article). Some x.1) (sym parts.3 ∙ some_is h))
 
-stands_found : (c : Lists) (table : List ℕ) (s : Subscription) (a : Article) (t : Table) → IsMade c → article_in c table s ≡ Some a → table_named c table ≡ Some t → ArticleFacts t a
+stands_found : (c : Lists) (table : List ℕ) (s : Subscription) (a : Article) (t : Table) → IsMadeByStatements c → article_in c table s ≡ Some a → table_named c table ≡ Some t → ArticleFacts t a
 stands_found c table s a t made e is_named = go (named publication_name s.publication c.publications) refl where
   go : (o : Option Publication) → named publication_name s.publication c.publications ≡ o → ArticleFacts t a
   go None f = let none : article_in c table s ≡ None = ap (λ (x : Option Publication). find (λ (y : Article). bytes_eq table y.table) (articles_of x)) f in absurd (cc (e, none))
@@ -379,7 +379,7 @@ stands_found c table s a t made e is_named = go (named publication_name s.public
       (found_in (PublicationStands c.tables) (λ (x : Publication). bytes_eq s.publication (publication_name x)) c.publications p (made_stands c made).each_publication f)
       (ap (λ (x : Option Publication). find (λ (y : Article). bytes_eq table y.table) (articles_of x)) (sym f) ∙ e) is_named
 
-pub subscribed_table_in_order : (c : Lists) (user table : List ℕ) (s : SubscribedTable) → IsMade c → subscribed_table_of c user table ≡ Some s → IsInOrder s
+pub subscribed_table_in_order : (c : Lists) (user table : List ℕ) (s : SubscribedTable) → IsMadeByStatements c → subscribed_table_of c user table ≡ Some s → IsInOrder s
 unfolding subscribed_table_of
 subscribed_table_in_order c user table s made e = go (table_named c table) refl (source_of c user table) refl e where
   go : (o : Option Table) → table_named c table ≡ o → (q : Option (List ℕ × Article)) → source_of c user table ≡ q → subscribed_table_in c user o q ≡ Some s → IsInOrder s

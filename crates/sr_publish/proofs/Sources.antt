@@ -8,7 +8,7 @@ use Rattle.sr_base.proofs.Truths.{some_is}
 use Rattle.sr_catalog_change.specs.Changes.{publication_names, is_used, drop_table_causes, refusal}
 use Rattle.sr_catalog_ddl.specs.Subscriptions.{articles_of, has_article}
 use Rattle.sr_exec_dml.specs.Statements.{table_named}
-use Rattle.sr_catalog_script_laws.specs.Inner.Scripts.{IsMade, subscription_rule}
+use Rattle.sr_catalog_script_laws.specs.Scripts.{IsMadeByStatements, subscription_rule}
 use Rattle.sr_catalog_script_laws.proofs.ReplayCauses.{where_true-None, no_cause_of}
 use Rattle.sr_catalog_script_laws.proofs.ReplayLists.{AllByRecursion-step, AllByRecursion-both, found_as_taken}
 use Rattle.sr_catalog_script_laws.proofs.ReplayNexts.{made_stands}
@@ -111,7 +111,7 @@ module _ (c : Lists) (user table : List ℕ) where
             sym parts.2 ∙ (ap (λ (n : List ℕ). find (λ (x : Article). bytes_eq table x.table) (articles_of (named publication_name n c.publications))) (sym publication) ∙ art) in
             parts.3 ∙ ap₂ (λ (n : List ℕ) (x : Article). (n, x)) (sym publication) (some_is article)
 
-  pub one_source : IsMade c → AllByRecursion (IsTheSource c user table) c.subscriptions
+  pub one_source : IsMadeByStatements c → AllByRecursion (IsTheSource c user table) c.subscriptions
   one_source made = AllByRecursion-both
       (λ (s : Subscription). s.started ≡ true → IsFree c.publications (subscription_rule s) c.subscriptions)
       (λ (s : Subscription). (q : List ℕ × Article) → f s ≡ Some q → (w : List ℕ × Article) × (first_among f c.subscriptions ≡ Some w))

@@ -8,7 +8,7 @@ use Rattle.sr_ast.specs.declared.query.OrderBy.{OrderBy}
 use Rattle.sr_ast.specs.Inner.Classes.{place_of}
 use Rattle.sr_eval.specs.Inner.Bounds.{values_of}
 use Rattle.sr_eval.specs.declared.bound.Bound.{Bound}
-use Rattle.sr_eval.specs.Meanings.{value_at}
+use Rattle.sr_eval.specs.Meanings.{value_meant}
 use Rattle.sr_eval.proofs.Places.{found_at-place, value_found}
 use Rattle.sr_exec_where.specs.Checks.{Scope}
 use Rattle.sr_query.specs.Orders.{rank_of, ranks_of}
@@ -48,7 +48,7 @@ pub ruleset next_rules = (next_first, next_behind)
 
 -- the value of a column is the one at its place, or NULL
 value_placed : (columns : Scope) (row : Key) (table : Option (List ℕ)) (name : List ℕ)
-    → value_at columns row table name ≡ at_place row (place_of columns table name)
+    → value_meant columns row table name ≡ at_place row (place_of columns table name)
 value_placed columns row table name = value_found columns row table name ∙ ap (λ o. unwrap_or o Null) (found_at-place columns row table name)
 
 -- the ranks by places are those by names

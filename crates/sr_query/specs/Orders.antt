@@ -8,7 +8,7 @@ use Rattle.sr_base.specs.declared.value.Value.{Value as Cell}
 use Rattle.sr_base.specs.declared.value.Value.TheVariants.{Null}
 use Rattle.sr_base.specs.Order.{value_cmp}
 use Rattle.sr_ast.specs.declared.query.OrderBy.{OrderBy}
-use Rattle.sr_eval.specs.Meanings.{value_at}
+use Rattle.sr_eval.specs.Meanings.{value_meant}
 use Rattle.sr_exec_where.specs.Checks.{Scope}
 use Rattle.sr_query.specs.declared.rank.Rank.{Rank}
 use Rattle.sr_query.specs.declared.rank.Listed.{Listed}
@@ -26,7 +26,7 @@ falling r = cond r.descending r.value Null
 
 -- the ranks of a combination: its values of the columns of ORDER BY
 abbrev pub ranks_of : Scope → List OrderBy → List Cell → List Rank
-ranks_of scope order values = map (λ (o : OrderBy). rank_of o.descending (value_at scope values o.table o.column)) order
+ranks_of scope order values = map (λ (o : OrderBy). rank_of o.descending (value_meant scope values o.table o.column)) order
 
 -- ascending by value, NULL first; descending the other way round, NULL last
 abbrev pub rank_cmp : Rank → Rank → Ordering

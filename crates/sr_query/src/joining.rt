@@ -1,5 +1,6 @@
 ghost use Rattle.std.specs.Prelude.{◌≡◌, ◌≢◌, ◌++◌, map, Ok, Err, List, IfOk, OnOk, MatchResult};
-ghost use Rattle.sr_exec_dml.specs.Inner.Conditions.{Answers, RowsFit};
+ghost use Rattle.sr_exec_dml.specs.Inner.Conditions.{Answers};
+ghost use Rattle.sr_exec_dml.specs.Fitting.{RowsFit};
 ghost use Rattle.sr_query.specs.Sources.{scope_under, alias_of, sources_of, origins_of, table_of, as_origin};
 ghost use Rattle.sr_query.specs.Inner.Walks.{AreJoined, IsJoined, columns_left, seen};
 

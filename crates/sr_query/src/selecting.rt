@@ -1,5 +1,6 @@
 ghost use Rattle.std.specs.Prelude.{◌≡◌, map, None};
-ghost use Rattle.sr_exec_dml.specs.Inner.Conditions.{AnswersBy, RowsFit, Tells};
+ghost use Rattle.sr_exec_dml.specs.Inner.Conditions.{AnswersBy, Tells};
+ghost use Rattle.sr_exec_dml.specs.Fitting.{RowsFit};
 ghost use Rattle.sr_catalog_schema.specs.Firsts.{first_among};
 ghost use Rattle.sr_exec_dml.specs.Sequences.{each, followed};
 ghost use Rattle.sr_query.specs.Inner.Preparing.{IsPrepared};

@@ -7,7 +7,7 @@ use Rattle.sr_database.specs.Inner.Sound.{IsSound}
 use Rattle.sr_database.specs.Views.{View, committed}
 use Rattle.sr_database_history.specs.Folds.{State, with_changes, with_statement, after_done, after_dones, size, end_from}
 use Rattle.sr_database_history.specs.Recorded.{Recorded, Done, plain, ran, conflict, clash, taken}
-use Rattle.sr_database.proofs.Advancing.{ends_within}
+use Rattle.sr_database_meaning.proofs.Beginnings.{ends_within}
 use Rattle.sr_catalog_script_laws.proofs.ReplayNexts.{publisher_next}
 use Rattle.sr_site.specs.Happenings.{Happening, attached, wrote, cut_to, synced, listed, fetched, sent, removed, handed_over}
 use Rattle.sr_database_meaning.specs.Inner.Events.{AreQuiet}

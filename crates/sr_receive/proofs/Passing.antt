@@ -7,12 +7,12 @@ use Rattle.sr_book.specs.Entries.{Name}
 use Rattle.sr_book.specs.declared.book.Book.{Book}
 use Rattle.sr_book.specs.declared.note.Note.{Note}
 use Rattle.sr_catalog_schema.specs.declared.user.User.{User}
-use Rattle.sr_database.specs.Books.{book_in}
 use Rattle.sr_database.specs.Advances.{Advances}
 use Rattle.sr_database.specs.Views.{committed}
 use Rattle.sr_database_did.specs.Inner.Did.{PlaceView, Did}
 use Rattle.sr_database_did.specs.Inner.Effects.{Effect, entered, End, whole, asked, entries, mail_behind, trace, under_way}
 use Rattle.sr_database_did.proofs.Joins.{did_on, entries_on, mail_on, trace_then}
+use Rattle.sr_database_files.specs.Books.{book_in}
 use Rattle.sr_database_history.specs.Folds.{State, next, state_from}
 use Rattle.sr_database_history.specs.Recorded.{Recorded, note}
 use Rattle.sr_database_history.proofs.Joined.{state_from-append}

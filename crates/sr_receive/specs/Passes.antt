@@ -4,9 +4,9 @@ use Rattle.sr_base.specs.Values.{offset_from}
 use Rattle.sr_book.specs.Entries.{Name}
 use Rattle.sr_book.specs.declared.book.Book.{Book}
 use Rattle.sr_book.specs.declared.note.Note.{Note}
-use Rattle.sr_database.specs.Books.{book_in}
 use Rattle.sr_database.specs.Causes.{IsTooFar, IsTooLong}
 use Rattle.sr_database.specs.Views.{View, committed}
+use Rattle.sr_database_files.specs.Books.{book_in}
 use Rattle.sr_database_history.specs.Recorded.{Recorded, Done, note, taken, entry_of}
 use Rattle.sr_logform.specs.declared.op.Transaction.{Transaction}
 use Rattle.sr_mail.specs.declared.piece.Piece.{Piece}

@@ -3,8 +3,8 @@
 ghost use Rattle.std.specs.Prelude.{true, option_map, ◌≡◌, ◌++◌, [], List, None, IsSome, IfErr, IfOk, OnErr};
 ghost use Rattle.sr_catalog_schema.specs.Members.{user_name};
 ghost use Rattle.sr_catalog_schema.specs.Names.{named};
-ghost use Rattle.sr_database.specs.Books.{book_in};
 ghost use Rattle.sr_database_did.specs.Inner.Places.{IsLent, at};
+ghost use Rattle.sr_database_files.specs.Books.{book_in};
 ghost use Rattle.sr_receive.specs.Inner.Ready.{IsReady};
 ghost use Rattle.sr_receive_gather.specs.Greatest.{asks, confirms, has_gap, raises};
 ghost use Rattle.sr_receive_gather.specs.Bags.{partner_mail_of};

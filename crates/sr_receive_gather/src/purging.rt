@@ -1,9 +1,9 @@
 //! Dead files removed.
 
 ghost use Rattle.std.specs.Prelude.{◌≡◌, ◌∷◌, [], true, IsSome, IfOk, IfErr};
-ghost use Rattle.sr_database.specs.Books.{book_in};
 ghost use Rattle.sr_catalog_schema.specs.Members.{user_name};
 ghost use Rattle.sr_catalog_schema.specs.Names.{named};
+ghost use Rattle.sr_database_files.specs.Books.{book_in};
 ghost use Rattle.sr_receive_gather.specs.Bags.{partner_mail_of};
 ghost use Rattle.sr_receive_gather.specs.Purges.{is_dead, PurgeCause};
 ghost use Rattle.sr_receive_gather.specs.Inner.Purges.{files_in, HasPurged, RemovesNext};

@@ -8,7 +8,7 @@ use Rattle.std.specs.FinMap.{get, insert, empty, find, same_map, get-empty, get-
 use Rattle.sr_base.specs.Order.{key_cmp}
 use Rattle.sr_base.specs.declared.value.Value.{Value as Cell}
 use Rattle.sr_book.specs.Entries.{Name}
-use Rattle.sr_exec_dml.specs.Inner.Conditions.{RowsFit}
+use Rattle.sr_exec_dml.specs.Fitting.{RowsFit}
 use Rattle.sr_exec_dml.specs.Statements.{table_named}
 use Rattle.sr_exec_dml.proofs.Afterwards.{same_place}
 use Rattle.sr_exec_where.proofs.Fixed.{same_name, bytes_itself}

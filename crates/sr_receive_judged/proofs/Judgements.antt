@@ -3,7 +3,7 @@ use Rattle.std.proofs.Common.{◌≡◌, ℕ, ◌<◌, ◌^◌, Bool, List, [], 
 use Rattle.std.proofs.lemmas.List.{length-map, map-append}
 use Rattle.sr_book.specs.Entries.{Name}
 use Rattle.sr_mail_cut.proofs.Lists.{AllByRecursion-append}
-use Rattle.sr_exec_dml.specs.Inner.Conditions.{RowsFit}
+use Rattle.sr_exec_dml.specs.Fitting.{RowsFit}
 use Rattle.sr_database_history.specs.Fitting.{DoneFits, DonesFit}
 use Rattle.sr_database_history.specs.Folds.{State, after_done, after_dones}
 use Rattle.sr_database_history.specs.Recorded.{Done, done_of, IsLawfulDone}

@@ -17,7 +17,7 @@ use Rattle.sr_database.proofs.Advancing.{none_advanced, advanced_then}
 use Rattle.sr_database.specs.Views.{View, committed}
 use Rattle.sr_database.specs.Inner.Views.{present}
 use Rattle.sr_exec_dml.specs.Applying.{applied, applied_in}
-use Rattle.sr_exec_dml.specs.Inner.Conditions.{RowsFit}
+use Rattle.sr_exec_dml.specs.Fitting.{RowsFit}
 use Rattle.sr_exec_dml.specs.FittingChanges.{IsFitChange, ChangesFit}
 use Rattle.sr_exec_where.specs.Keys.{key_of}
 use Rattle.sr_exec_dml.specs.Statements.{table_named}

@@ -5,7 +5,7 @@ use Rattle.std.specs.List.{AllByRecursion}
 use Rattle.sr_base.specs.Values.{offset_from}
 use Rattle.sr_book.specs.Entries.{Name}
 use Rattle.sr_mail_cut.proofs.Lists.{AllByRecursion-back}
-use Rattle.sr_exec_dml.specs.Inner.Conditions.{RowsFit}
+use Rattle.sr_exec_dml.specs.Fitting.{RowsFit}
 use Rattle.sr_database_fold.specs.Inner.Readings.{FitsAs}
 use Rattle.sr_database_fold.proofs.Taking.{done_keeps}
 use Rattle.sr_database_history.specs.Fitting.{DoneFits, FitsState, Knows}

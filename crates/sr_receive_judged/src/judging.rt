@@ -7,7 +7,7 @@ ghost use Rattle.sr_database.specs.Inner.Sound.{IsSound};
 ghost use Rattle.sr_database.specs.Views.{committed};
 ghost use Rattle.sr_database.specs.Inner.Views.{present};
 ghost use Rattle.sr_exec_dml.specs.Applying.{applied};
-ghost use Rattle.sr_exec_dml.specs.Inner.Conditions.{RowsFit};
+ghost use Rattle.sr_exec_dml.specs.Fitting.{RowsFit};
 ghost use Rattle.sr_exec_dml.specs.FittingChanges.{ChangesFit};
 ghost use Rattle.sr_database_history.specs.Folds.{State};
 ghost use Rattle.sr_logform.specs.Ops.{IsShortOp};

@@ -5,7 +5,7 @@ ghost use Rattle.std.specs.FinMap.{insert};
 ghost use Rattle.std.specs.List.{AllByRecursion};
 ghost use Rattle.sr_base.specs.Values.{offset_from};
 ghost use Rattle.sr_base.specs.declared.value.Value.{Value as Cell};
-ghost use Rattle.sr_exec_dml.specs.Inner.Conditions.{RowsFit};
+ghost use Rattle.sr_exec_dml.specs.Fitting.{RowsFit};
 ghost use Rattle.sr_database_history.specs.Fitting.{DoneFits};
 ghost use Rattle.sr_database_history.specs.Folds.{State, after_done};
 ghost use Rattle.sr_database_history.specs.Recorded.{Done, done_of, IsLawfulDone};

@@ -9,7 +9,7 @@ use Rattle.sr_base.specs.declared.value.Value.{Value as Cell}
 use Rattle.sr_book.specs.Entries.{Name}
 use Rattle.sr_eval.specs.Comparisons.{is_null}
 use Rattle.sr_exec_dml.specs.Applying.{place_of, without_row, with_row, applied_in, applied}
-use Rattle.sr_exec_dml.specs.Inner.Conditions.{TableFits, RowsFit}
+use Rattle.sr_exec_dml.specs.Fitting.{TableFits, RowsFit}
 use Rattle.sr_logform.specs.Outcomes.{is_same_row}
 use Rattle.sr_catalog_schema.specs.Firsts.{first_of}
 use Rattle.sr_exec_where.specs.Keys.{key_of}

@@ -17,7 +17,7 @@ use Rattle.sr_book.specs.Entries.{Name}
 use Rattle.sr_catalog_change.specs.Changes.{refusal}
 use Rattle.sr_eval.specs.Comparisons.{is_null}
 use Rattle.sr_exec_dml.specs.Applying.{place_of, applied_in, applied}
-use Rattle.sr_exec_dml.specs.Inner.Conditions.{RowsFit}
+use Rattle.sr_exec_dml.specs.Fitting.{RowsFit}
 use Rattle.sr_exec_fits.specs.Rows.{IsRow}
 use Rattle.sr_exec_dml.specs.FittingChanges.{IsFitChange, ChangesFit}
 use Rattle.sr_logform.specs.Outcomes.{is_same_row}

@@ -2,7 +2,7 @@
 
 ghost use Rattle.std.specs.Prelude.{◌≡◌, IfOk};
 ghost use Rattle.sr_catalog_change.specs.Changes.{refusal};
-ghost use Rattle.sr_exec_dml.specs.Inner.Conditions.{RowsFit};
+ghost use Rattle.sr_exec_dml.specs.Fitting.{RowsFit};
 ghost use Rattle.sr_exec_dml.specs.Statements.{done};
 ghost use Rattle.sr_logform.specs.declared.outcome.Clash.TheVariants.{Statement};
 ghost use Rattle.sr_logform.specs.declared.outcome.Outcome.TheVariants.{Plain};

@@ -1,7 +1,7 @@
 //! The outcome of an op.
 
 ghost use Rattle.std.specs.Prelude.{◌≡◌, None, Ok, IfOk};
-ghost use Rattle.sr_exec_dml.specs.Inner.Conditions.{RowsFit};
+ghost use Rattle.sr_exec_dml.specs.Fitting.{RowsFit};
 ghost use Rattle.sr_resolve.specs.Judging.{judged, judged_exec, IsPrintedBy, IsStatementOf, IsJudged};
 
 use crate::clearing::judge_clear;

@@ -6,7 +6,7 @@ ghost use Rattle.sr_base.specs.declared.offset.Offset.{Offset as Place};
 ghost use Rattle.sr_base.specs.declared.value.Value.{Value as Cell};
 ghost use Rattle.sr_ast.specs.declared.stmt.Stmt.{Stmt as Statement};
 ghost use Rattle.sr_book.specs.Entries.{Name};
-ghost use Rattle.sr_exec_dml.specs.Inner.Conditions.{RowsFit};
+ghost use Rattle.sr_exec_dml.specs.Fitting.{RowsFit};
 ghost use Rattle.sr_database_history.specs.Fitting.{Knows, DoneFits, DonesFit, FitsState};
 ghost use Rattle.sr_database_history.specs.Folds.{State, after_done, after_dones, next};
 ghost use Rattle.sr_database_history.specs.Recorded.{Done, taken, done_of, IsLawfulDone, IsNoExec, IsRecorded};

@@ -1,7 +1,7 @@
 //! Set: an update of a row, and what triggers make of it where it met another value than it took for the stored one.
 
 ghost use Rattle.std.specs.Prelude.{◌≡◌, Some, IfOk};
-ghost use Rattle.sr_exec_dml.specs.Inner.Conditions.{RowsFit, TableFits};
+ghost use Rattle.sr_exec_dml.specs.Fitting.{RowsFit, TableFits};
 ghost use Rattle.sr_exec_dml.specs.Statements.{table_named};
 ghost use Rattle.sr_resolve_triggers.specs.Firing.{fired};
 ghost use Rattle.sr_logform.specs.declared.outcome.Clash.TheVariants as why;

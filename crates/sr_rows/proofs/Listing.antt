@@ -14,8 +14,8 @@ use Rattle.std.proofs.lemmas.Map.Lookups.{exact_bytes}
 use Rattle.std.proofs.lemmas.Map.Text.{is_eq-slice_cmp}
 use Rattle.sr_base.proofs.Exact.{exact_keys}
 use Rattle.sr_rows.specs.Marks.{Place, place_cmp, RowMap, rows_of_table}
-use Rattle.sr_rows.specs.Inner.Marks.{IsPast, IsNext, IsLast}
-use Rattle.sr_rows.specs.Walks.{Entry, of_table, table_rows}
+use Rattle.sr_rows.specs.Inner.Marks.{IsNext, IsLast}
+use Rattle.sr_rows.specs.Walks.{Entry, of_table, table_rows, IsPast}
 use Rattle.sr_rows.specs.Inner.Walks.{is_past, past, Rises}
 
 abbrev Key : Type 0

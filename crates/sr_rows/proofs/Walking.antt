@@ -17,7 +17,8 @@ use Rattle.std.specs.Option.{option_map, MatchOption}
 use Rattle.std.specs.Map.Iter.{deref_pair}
 use Rattle.std.specs.FinMap.{FinMap, from_entries, get}
 use Rattle.sr_rows.specs.Inner.Gathered.{first_of, first_filled, row_of}
-use Rattle.sr_rows.specs.Inner.Marks.{IsPast, IsNext, IsLast}
+use Rattle.sr_rows.specs.Inner.Marks.{IsNext, IsLast}
+use Rattle.sr_rows.specs.Walks.{IsPast}
 use Rattle.sr_rows.proofs.Entries.{get-lookup}
 
 abbrev pub Key : Type 0

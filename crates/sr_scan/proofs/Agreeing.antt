@@ -11,7 +11,7 @@ use Rattle.sr_base.specs.declared.offset.Offset.{Offset as Place}
 use Rattle.sr_book.specs.Entries.{Name}
 use Rattle.sr_catalog_change.specs.Changes.{refusal, next as catalog_next}
 use Rattle.sr_exec_dml.specs.Applying.{applied_in, applied}
-use Rattle.sr_exec_dml.specs.Inner.Conditions.{RowsFit}
+use Rattle.sr_exec_dml.specs.Fitting.{RowsFit}
 use Rattle.sr_exec_dml.specs.FittingChanges.{ChangesFit}
 use Rattle.sr_exec_where.specs.Keys.{key_of}
 use Rattle.sr_exec_dml.specs.Statements.{table_named}

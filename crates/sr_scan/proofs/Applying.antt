@@ -6,7 +6,7 @@ use Rattle.std.specs.Ordering.{eq_by_cmp}
 use Rattle.sr_base.specs.declared.value.Value.{Value as Cell}
 use Rattle.sr_book.specs.Entries.{Name}
 use Rattle.sr_exec_dml.specs.Applying.{without_row, with_row, applied_in, applied}
-use Rattle.sr_exec_dml.specs.Inner.Conditions.{RowsFit}
+use Rattle.sr_exec_dml.specs.Fitting.{RowsFit}
 use Rattle.sr_exec_fits.specs.Rows.{IsRow}
 use Rattle.sr_exec_dml.specs.FittingChanges.{FitsAt, IsFitChange, ChangesFit}
 use Rattle.sr_exec_where.specs.Keys.{key_of}

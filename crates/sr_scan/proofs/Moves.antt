@@ -5,7 +5,7 @@ use Rattle.sr_base.specs.Order.{value_cmp}
 use Rattle.sr_base.specs.declared.value.Value.{Value as Cell}
 use Rattle.sr_book.specs.Entries.{Name}
 use Rattle.sr_exec_dml.specs.Applying.{applied_in, without_row, with_row}
-use Rattle.sr_exec_dml.specs.Inner.Conditions.{RowsFit}
+use Rattle.sr_exec_dml.specs.Fitting.{RowsFit}
 use Rattle.sr_exec_fits.specs.Rows.{IsRow}
 use Rattle.sr_exec_dml.specs.FittingChanges.{IsFitChange, ChangesFit}
 use Rattle.sr_exec_where.specs.Keys.{key_of}

@@ -23,7 +23,7 @@ use Rattle.sr_database_history.specs.Recorded.{Recorded, own, taken, ddl, sync, 
 use Rattle.sr_logform.specs.declared.change.Change.{Change}
 use Rattle.sr_publish.specs.SubscribedTables.{SubscribedTable, subscribed_table_of}
 use Rattle.sr_publish.proofs.Orderly.{table_has_key, subscribed_table_in_order, found_in, find_passes}
-use Rattle.sr_catalog_script_laws.specs.Inner.Scripts.{IsMade}
+use Rattle.sr_catalog_script_laws.specs.Scripts.{IsMadeByStatements}
 use Rattle.sr_catalog_script_laws.proofs.Made.{new_made, still_made}
 use Rattle.sr_catalog_script_laws.proofs.ReplayLists.{AllByRecursion-append, AllByRecursion-filter}
 use Rattle.sr_catalog_script_laws.proofs.ReplayTables.{slice_get-map}
@@ -40,7 +40,7 @@ use Rattle.sr_scan.proofs.Spelled.{IsStrict, IsProper}
 
 -- accepted statements have made the catalog, and its tables are as statements in normal form make them
 pub record IsGood (c : Lists) : Type 0 where
-  pub made : IsMade c
+  pub made : IsMadeByStatements c
   pub strict : AllByRecursion IsStrict c.tables
 
 -- ---- CREATE TABLE

@@ -1,6 +1,6 @@
 -- The messages that are still due once the log was read.
 use Rattle.std.proofs.Common.{◌≡◌, ℕ, ◌+◌, ◌≤◌, List, [], ◌∷◌, ◌++◌, length, Result, Ok, Err, refl, sym, ap, subst, ◌∙◌, arith, append_assoc, length-append, inl, inr}
-use Rattle.std.specs.Prelude.{IsTrue, Bool, true, false, IfErr, OnOk, ◌↔◌, ◌⊎◌}
+use Rattle.std.specs.Prelude.{IsTrue, Bool, true, false, max, IfErr, OnOk, ◌↔◌, ◌⊎◌}
 use Rattle.std.specs.List.{AllByRecursion}
 use Rattle.std.proofs.lemmas.Bool.{cases_lt}
 use Rattle.std.proofs.lemmas.List.{append-nil}
@@ -293,7 +293,7 @@ not_begun db aim user seen good = record {
   prefix = record { begins = λ rest. cut_there aim.head aim.limit (has_room aim good) aim.prev rest };
   posted = posted_none seen;
   spelled = tt;
-  begins = λ told publisher es database. record { rest = unsent publisher es user aim.prev.0; parts = refl };
+  begins = λ told publisher es database. record { rest = unsent publisher es user (max db.log.base aim.prev.0); parts = refl };
   cause = (refl, refl);
   ends = ends_same seen;
 }

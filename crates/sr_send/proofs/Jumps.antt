@@ -29,9 +29,8 @@ use Rattle.sr_send.specs.Inner.Steps.{newer, IsBehind}
 use Rattle.sr_send.specs.Inner.Stops.{IsPrefixOf}
 use Rattle.sr_send.specs.Inner.Surveys.{CanTell, IsShownNow}
 use Rattle.sr_send.specs.Unsent.{unsent}
-use Rattle.sr_send.proofs.Histories.{unsent_more, unsent_prefix}
+use Rattle.sr_send.proofs.Histories.{none_unsent, unsent_more, unsent_prefix}
 use Rattle.sr_send.proofs.Pushes.{none_newer}
-use Rattle.sr_send.proofs.Starts.{none_unsent}
 
 -- ---- two splits of one list
 
@@ -49,6 +48,22 @@ split_two {A} (y ∷ done) left (z ∷ first) rest x e = go (split_two done left
   go : ((between : List A) × (first ≡ done ++ between)) ⊎ ((more : List A) × (done ≡ first ++ x ∷ more)) → ((between : List A) × (z ∷ first ≡ y ∷ (done ++ between))) ⊎ ((more : List A) × (y ∷ done ≡ z ∷ (first ++ x ∷ more)))
   go (inl h) = inl (h.0, (let whole : z ∷ first ≡ y ∷ (done ++ h.0) = cc in whole))
   go (inr h) = inr (h.0, (let whole : y ∷ done ≡ z ∷ (first ++ x ∷ h.0) = cc in whole))
+
+-- a place that ends behind entries begins no sooner than they end
+pub starts_behind : (es before behind : List Recorded) (place : Place) → es ≡ before ++ behind → (there : IsPlace es place) → end_of before < place.end → end_of before ≤ place.start
+starts_behind es before behind place parts there late = go (split_two before behind there.first there.rest there.entry (sym parts ∙ there.parts))
+  where
+    starts : place.start ≡ end_of there.first
+    starts = ap (λ (p : Place). p.start) there.is
+
+    ends : place.end ≡ end_of (there.first ++ there.entry ∷ [])
+    ends = ap (λ (p : Place). p.end) there.is
+
+    go : ((between : List Recorded) × (there.first ≡ before ++ between)) ⊎ ((more : List Recorded) × (before ≡ there.first ++ there.entry ∷ more)) → end_of before ≤ place.start
+    go (inl h) =
+        let further : end_of before ≤ end_of there.first = subst (λ (rs : List Recorded). end_of before ≤ end_of rs) (sym h.1) (end_before before h.0) in
+        omega (arith, starts, further)
+    go (inr h) = let early : end_of (there.first ++ there.entry ∷ []) ≤ end_of before = entry_ends_before before there.first h.0 there.entry h.1 in absurd (omega (arith, ends, late, early))
 
 -- ---- what is passed over
 

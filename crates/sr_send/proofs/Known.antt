@@ -4,7 +4,6 @@ use Rattle.std.specs.Prelude.{IsTrue, IfErr, IfSome, OnOk}
 use Rattle.std.proofs.lemmas.List.{append-nil}
 use Rattle.sr_base.specs.declared.offset.Offset.{Offset}
 use Rattle.sr_book.specs.Entries.{Name}
-use Rattle.sr_database.proofs.Based.{base_is_first}
 use Rattle.sr_database.specs.Databases.{IsBased, IsDatabase}
 use Rattle.sr_database.specs.Inner.Entries.{IsNextBrief}
 use Rattle.sr_database.specs.Views.{View}
@@ -32,14 +31,13 @@ use Rattle.sr_send.proofs.Starts.{read_on}
 
 -- ---- one database
 
--- where the entries before an offset end the offset lies within the log
-pub ends_within : (db : View) (publisher : Name) (done left : List Recorded) (seen : Seen) (at : ℕ) → IsDatabase db publisher (done ++ left) seen → at ≡ end_of done → (db.log.base ≤ at) × (at ≤ db.log.end)
+-- an offset where entries end does not lie past the log
+pub ends_within : (db : View) (publisher : Name) (done left : List Recorded) (seen : Seen) (at : ℕ) → IsDatabase db publisher (done ++ left) seen → at ≡ end_of done → at ≤ db.log.end
 ends_within db publisher done left seen at database is =
-    let base : db.log.base ≡ 0 = base_is_first db.log.base db.base_catalog publisher (done ++ left) database.is.based in
     let end : db.log.end ≡ end_of (done ++ left) = database.is.end in
     let joined : end_of (done ++ left) ≡ end_of (done ++ left) = refl in
     let further : end_of done ≤ end_of (done ++ left) = subst (λ (n : ℕ). end_of done ≤ n) (sym (end_from-append 0 done left)) (le-end_from (end_of done) left) in
-    (omega arith, omega arith)
+    omega arith
 
 told_before : (before now : Seen) → Stays before now → IsTrue now.observable → IsTrue before.observable
 told_before before now stays told = subst (λ (b : Bool). IsTrue b) stays.observable told
@@ -52,16 +50,16 @@ knows_on db s before now events posted surveyed kept told =
     λ publisher es database. surveyed kept was publisher es (posted_before db publisher es before now events posted was database)
 
 -- who knows all knows the first
-some_of : (publisher : Name) (es : List Recorded) (s : Survey) → KnowsAllOf publisher es s → KnowsOf publisher es s
-some_of publisher es s k =
-    record { done = es; left = []; parts = sym (append-nil es); has = k.has; before = k.before; behind = k.behind; begins = k.begins; begin_is = k.begin_is }
+some_of : (base : ℕ) (publisher : Name) (es : List Recorded) (s : Survey) → KnowsAllOf base publisher es s → KnowsOf base publisher es s
+some_of base publisher es s k =
+    record { done = es; left = []; parts = sym (append-nil es); has = k.has; before = k.before; behind = k.behind; begins = k.begins; begin_is = k.begin_is; from_base = k.from_base }
 
 pub knows_some : (db : View) (s : Survey) (seen : Seen) → IsWhole db s seen → IsSurveyOf db s seen
-knows_some db s seen whole kept told = λ publisher es database. some_of publisher es s (whole kept told publisher es database)
+knows_some db s seen whole kept told = λ publisher es database. some_of db.log.base publisher es s (whole kept told publisher es database)
 
 -- with an entry that is noted
-noted_of : (publisher : Name) (es : List Recorded) (s : Survey) (r : Recorded) → KnowsOf publisher es s → KnowsOf publisher (es ++ r ∷ []) s
-noted_of publisher es s r k =
+noted_of : (base : ℕ) (publisher : Name) (es : List Recorded) (s : Survey) (r : Recorded) → KnowsOf base publisher es s → KnowsOf base publisher (es ++ r ∷ []) s
+noted_of base publisher es s r k =
     record {
       done = k.done;
       left = k.left ++ r ∷ [];
@@ -71,6 +69,7 @@ noted_of publisher es s r k =
       behind = k.behind;
       begins = k.begins;
       begin_is = k.begin_is;
+      from_base = k.from_base;
     }
 
 pub knows_noted : (old new : View) (s : Survey) (before now : Seen) (r : Recorded) → Stays before now → Noted old new before now r → IsSurveyOf old s before → IsSurveyOf new s now
@@ -78,7 +77,8 @@ knows_noted old new s before now r stays noted surveyed kept told =
     let was = told_before before now stays told in
     λ publisher es database.
     let w = noted.without was publisher es new.log.base database.held.stands in
-    subst (λ (rs : List Recorded). KnowsOf publisher rs s) (sym w.is) (noted_of publisher w.first s r (surveyed kept was publisher w.first w.database))
+    let here : KnowsOf new.log.base publisher w.first s = subst (λ (n : ℕ). KnowsOf n publisher w.first s) (sym noted.value.base) (surveyed kept was publisher w.first w.database) in
+    subst (λ (rs : List Recorded). KnowsOf new.log.base publisher rs s) (sym w.is) (noted_of new.log.base publisher w.first s r here)
 
 -- the same of the survey that is shared
 pub shared_on : (db : View) (o : Option Survey) (before now : Seen) (events : List Event) → Posted before now events → IfSome o (λ s. IsSurveyOf db s before) → IfSome o (λ s. IsSurveyOf db s now)
@@ -98,7 +98,7 @@ shared_noted old new (Some s) before now r stays noted surveyed = knows_noted ol
 module _ (db : View) (s : Survey) (first before now : Seen) where
   -- behind what was sent to everybody
   behind_of : (sent : ℕ) (at : Offset) → Walked db sent at first before → IsStill db at before → Begins db.catalog at.0 s → IsTrue first.observable → IsTrue before.observable
-      → (publisher : Name) (es : List Recorded) → IsDatabase db publisher es before → KnowsOf publisher es s
+      → (publisher : Name) (es : List Recorded) → IsDatabase db publisher es before → KnowsOf db.log.base publisher es s
   behind_of sent at walked still b was then_told publisher es database =
       let part = walked.part was publisher es (posted_before db publisher es first before [] walked.posted was database) in
       let here : IsDatabase db publisher (part.done ++ part.left) before = subst (λ (rs : List Recorded). IsDatabase db publisher rs before) part.parts database in
@@ -111,6 +111,7 @@ module _ (db : View) (s : Survey) (first before now : Seen) where
         behind = [];
         begins = sym (append-nil part.done);
         begin_is = b.begin ∙ part.at_is;
+        from_base = omega (arith, walked.from_base, b.begin);
       }
 
   pub begun_behind : (sent : ℕ) (at : Offset) → Walked db sent at first before → Posted before now [] → IsStill db at before → BeginsAt db.catalog at.0 s → IsSurveyOf db s now
@@ -121,7 +122,7 @@ module _ (db : View) (s : Survey) (first before now : Seen) where
       behind_of sent at walked still (begins kept) was then_told publisher es (posted_before db publisher es before now [] read then_told database)
 
   -- at the base
-  base_of : (base : ℕ) → base ≡ db.log.base → Begins db.base_catalog base s → (publisher : Name) (es : List Recorded) → IsBased db.log.base db.base_catalog publisher es → KnowsOf publisher es s
+  base_of : (base : ℕ) → base ≡ db.log.base → Begins db.base_catalog base s → (publisher : Name) (es : List Recorded) → IsBased db.log.base db.base_catalog publisher es → KnowsOf db.log.base publisher es s
   base_of base at_base b publisher es based =
       record {
         done = based.done;
@@ -132,6 +133,7 @@ module _ (db : View) (s : Survey) (first before now : Seen) where
         behind = [];
         begins = sym (append-nil based.done);
         begin_is = b.begin ∙ at_base ∙ based.base_is;
+        from_base = omega (arith, b.begin, at_base);
       }
 
   pub begun_at_base : (base : Offset) → base.0 ≡ db.log.base → BeginsAt db.base_catalog base.0 s → IsSurveyOf db s now
@@ -153,9 +155,9 @@ stored_more publisher done rest r stored =
 abbrev pub TakesOr : Survey → Entry → ℕ → Survey → Type 0
 TakesOr old e at new = new.given_up ≡ None → (old.given_up ≡ None) × Takes old e at new
 
-took_of : (publisher : Name) (es : List Recorded) (old new : Survey) (end : Offset) (brief : Entry) → Stored publisher es → (k : KnowsOf publisher es old) → IsNextBrief k.done k.left end brief → Takes old brief end.0 new
-    → KnowsOf publisher es new
-took_of publisher es old new end brief stands k b takes =
+took_of : (base : ℕ) (publisher : Name) (es : List Recorded) (old new : Survey) (end : Offset) (brief : Entry) → Stored publisher es → (k : KnowsOf base publisher es old) → IsNextBrief k.done k.left end brief → Takes old brief end.0 new
+    → KnowsOf base publisher es new
+took_of base publisher es old new end brief stands k b takes =
     let n = b.is in
     let r = n.r in
     let whole : es ≡ k.done ++ r ∷ n.rest = k.parts ∙ ap (λ (rs : List Recorded). k.done ++ rs) n.left_is in
@@ -170,10 +172,18 @@ took_of publisher es old new end brief stands k b takes =
       behind = k.behind ++ r ∷ [];
       begins = ap (λ (rs : List Recorded). rs ++ r ∷ []) k.begins ∙ append_assoc k.before k.behind (r ∷ []);
       begin_is = takes.begin ∙ k.begin_is;
+      from_base = omega (arith, k.from_base, takes.begin);
     }
 
+-- what it knows ends no sooner than the base
+from_base_on : (base : ℕ) (publisher : Name) (es : List Recorded) (s : Survey) → (k : KnowsOf base publisher es s) → base ≤ end_of k.done
+from_base_on base publisher es s k =
+    let joined : end_of (k.before ++ k.behind) ≡ end_of k.done = ap end_of (sym k.begins) in
+    let further : end_of k.before ≤ end_of (k.before ++ k.behind) = subst (λ (n : ℕ). end_of k.before ≤ n) (sym (end_from-append 0 k.before k.behind)) (le-end_from (end_of k.before) k.behind) in
+    omega (arith, k.from_base, k.begin_is, joined, further)
+
 pub took_next : (db : View) (old new : Survey) (at end : Offset) (brief : Entry) (before now : Seen) → SurveysTo db old at before → Posted before now []
-    → (IsTrue before.observable → (publisher : Name) (done left : List Recorded) → IsDatabase db publisher (done ++ left) before → at.0 ≡ end_of done → IsNextBrief done left end brief) → TakesOr old brief end.0 new
+    → (IsTrue before.observable → (publisher : Name) (done left : List Recorded) → IsDatabase db publisher (done ++ left) before → at.0 ≡ end_of done → db.log.base ≤ at.0 → IsNextBrief done left end brief) → TakesOr old brief end.0 new
     → SurveysTo db new end now
 took_next db old new at end brief before now surveyed read found takes = record {
   end_is = λ stays. (takes stays).1.end;
@@ -183,13 +193,14 @@ took_next db old new at end brief before now surveyed read found takes = record 
       λ publisher es database.
       let there = posted_before db publisher es before now [] read was database in
       let k = surveyed.knows t.0 was publisher es there in
-      took_of publisher es old new end brief there.is.stored k
-      (found was publisher k.done k.left (subst (λ (rs : List Recorded). IsDatabase db publisher rs before) k.parts there) (sym (surveyed.end_is t.0) ∙ k.has.end_is)) t.1;
+      let comes : at.0 ≡ end_of k.done = sym (surveyed.end_is t.0) ∙ k.has.end_is in
+      took_of db.log.base publisher es old new end brief there.is.stored k
+      (found was publisher k.done k.left (subst (λ (rs : List Recorded). IsDatabase db publisher rs before) k.parts there) comes (omega (arith, comes, from_base_on db.log.base publisher es old k))) t.1;
 }
 
 -- none follows: it knows all
-all_of : (publisher : Name) (es : List Recorded) (s : Survey) → (k : KnowsOf publisher es s) → k.left ≡ [] → KnowsAllOf publisher es s
-all_of publisher es s k empty =
+all_of : (base : ℕ) (publisher : Name) (es : List Recorded) (s : Survey) → (k : KnowsOf base publisher es s) → k.left ≡ [] → KnowsAllOf base publisher es s
+all_of base publisher es s k empty =
     let whole : es ≡ k.done = k.parts ∙ ap (λ (rs : List Recorded). k.done ++ rs) empty ∙ append-nil k.done in
     record {
       has = subst (λ (rs : List Recorded). HasSurveyed publisher rs s) (sym whole) k.has;
@@ -197,16 +208,19 @@ all_of publisher es s k empty =
       behind = k.behind;
       begins = whole ∙ k.begins;
       begin_is = k.begin_is;
+      from_base = k.from_base;
     }
 
 pub took_all : (db : View) (s : Survey) (at : Offset) (before now : Seen) → SurveysTo db s at before → Posted before now []
-    → (IsTrue before.observable → (publisher : Name) (done left : List Recorded) → IsDatabase db publisher (done ++ left) before → at.0 ≡ end_of done → left ≡ []) → IsWhole db s now
+    → (IsTrue before.observable → (publisher : Name) (done left : List Recorded) → IsDatabase db publisher (done ++ left) before → at.0 ≡ end_of done → db.log.base ≤ at.0 → left ≡ []) → IsWhole db s now
 took_all db s at before now surveyed read none stays told =
     let was = told_before before now read.stays told in
     λ publisher es database.
     let there = posted_before db publisher es before now [] read was database in
     let k = surveyed.knows stays was publisher es there in
-    all_of publisher es s k (none was publisher k.done k.left (subst (λ (rs : List Recorded). IsDatabase db publisher rs before) k.parts there) (sym (surveyed.end_is stays) ∙ k.has.end_is))
+    let comes : at.0 ≡ end_of k.done = sym (surveyed.end_is stays) ∙ k.has.end_is in
+    all_of db.log.base publisher es s k
+    (none was publisher k.done k.left (subst (λ (rs : List Recorded). IsDatabase db publisher rs before) k.parts there) comes (omega (arith, comes, from_base_on db.log.base publisher es s k)))
 
 -- one that was given up says nothing
 pub given_up_whole : (db : View) (s : Survey) (seen : Seen) → ¬ (s.given_up ≡ None) → IsWhole db s seen

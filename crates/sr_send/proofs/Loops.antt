@@ -1,6 +1,6 @@
 -- A log read entry by entry.
 use Rattle.std.proofs.Common.{◌≡◌, ℕ, ◌+◌, ◌≤◌, ◌<◌, List, [], ◌++◌, Option, Some, None, Result, Ok, Err, refl, sym, ap, subst, ◌∙◌, arith, inl, inr}
-use Rattle.std.specs.Prelude.{IsTrue, IfOk, IfErr, OnOk, ◌⊎◌}
+use Rattle.std.specs.Prelude.{IsTrue, IfOk, IfErr, OnOk, max, ◌⊎◌}
 use Rattle.std.proofs.lemmas.List.{append-nil}
 use Rattle.sr_base.specs.declared.offset.Offset.{Offset}
 use Rattle.sr_book.specs.Entries.{Name}
@@ -168,7 +168,7 @@ under_step db aim user scan scan' post post' after end first before now under st
       let read = under.read told publisher es database in
       let here = posted_database db publisher es first before _ under.posted told database in
       let next_is = step.next (told_then first before under.posted.stays told) publisher read.done read.left (subst (λ (rs : List Recorded). IsDatabase db publisher rs before) read.parts here) read.after_is in
-      read_more publisher es user aim.prev.0 after end scan scan' under.pushed step.added step.entry database.is.stored read next_is step.scanned;
+      read_more db.log.base publisher es user aim.prev.0 after end scan scan' under.pushed step.added step.entry database.is.stored read next_is step.scanned;
 }
 
 pub under_end : (db : View) (aim : Aim) (user : Name) (scan : Scan) (post post' : Post) (after : Offset) (first before now : Seen) → UnderWay db aim user scan post after first before → IsAtEnd db post post' after before now
@@ -185,7 +185,7 @@ under_end db aim user scan post post' after first before now under at_end = reco
   whole = λ told publisher es database.
       let read = under.read told publisher es database in
       let here = posted_database db publisher es first before _ under.posted told database in
-      read_all publisher es user aim.prev.0 after scan under.pushed read
+      read_all db.log.base publisher es user aim.prev.0 after scan under.pushed read
       (at_end.none (told_then first before under.posted.stays told) publisher read.done read.left (subst (λ (rs : List Recorded). IsDatabase db publisher rs before) read.parts here) read.after_is);
 }
 
@@ -198,11 +198,11 @@ long_of aim post pushed added messages first before now (Full end need) made ste
 long_of aim post pushed added messages first before now (Long size limit) made steady cause = (steady_on first before now steady cause.0, cause.1, long-behind pushed added made.fits ∙ cause.2)
 long_of aim post pushed added messages first before now Memory made steady cause = fault_from first before now added Memory steady cause
 
-prefix_at : (publisher : Name) (es : List Recorded) (user : Name) (sent : ℕ) (after : Offset) (scan : Scan) (pushed added : List Transaction) (db : View) (seen : Seen) → IsDatabase db publisher es seen → (read : HasRead publisher es user sent after scan pushed)
-    → (added ≡ []) ⊎ IsNextFound scan sent read.done read.left added → IsPrefixOf (pushed ++ added) (unsent publisher es user sent)
+prefix_at : (publisher : Name) (es : List Recorded) (user : Name) (sent : ℕ) (after : Offset) (scan : Scan) (pushed added : List Transaction) (db : View) (seen : Seen) → IsDatabase db publisher es seen → (read : HasRead db.log.base publisher es user sent after scan pushed)
+    → (added ≡ []) ⊎ IsNextFound scan sent read.done read.left added → IsPrefixOf (pushed ++ added) (unsent publisher es user (max db.log.base sent))
 prefix_at publisher es user sent after scan pushed added db seen database read (inl none) =
-    subst (λ (ts : List Transaction). IsPrefixOf ts (unsent publisher es user sent)) (sym (ap (λ (ts : List Transaction). pushed ++ ts) none ∙ append-nil pushed)) (read_prefix publisher es user sent after scan pushed read)
-prefix_at publisher es user sent after scan pushed added db seen database read (inr found) = next_prefix publisher es user sent after scan pushed added database.is.stored read found
+    subst (λ (ts : List Transaction). IsPrefixOf ts (unsent publisher es user (max db.log.base sent))) (sym (ap (λ (ts : List Transaction). pushed ++ ts) none ∙ append-nil pushed)) (read_prefix db.log.base publisher es user sent after scan pushed read)
+prefix_at publisher es user sent after scan pushed added db seen database read (inr found) = next_prefix db.log.base publisher es user sent after scan pushed added database.is.stored read found
 
 pub under_stopped : (db : View) (aim : Aim) (user : Name) (scan : Scan) (post : Post) (after : Offset) (first before now : Seen) (fault : SendFault) → UnderWay db aim user scan post after first before
     → StepStop db aim scan post after before now fault → ReadStop db aim user first now fault

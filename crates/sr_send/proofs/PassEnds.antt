@@ -7,11 +7,10 @@ use Rattle.std.proofs.lemmas.List.{append-nil}
 use Rattle.sr_base.specs.Values.{offset_from}
 use Rattle.sr_book.specs.Entries.{Name}
 use Rattle.sr_book.specs.declared.book.Book.{Book}
+use Rattle.sr_database_files.specs.Books.{book_in}
 use Rattle.sr_mail_cut.specs.Bodies.{last_at, first_long}
 use Rattle.sr_mail_cut.specs.Cuts.{AreCut}
 use Rattle.sr_mail_cut.specs.declared.head.Head.{Head}
-use Rattle.sr_database.proofs.Based.{catalog_is_first}
-use Rattle.sr_database.specs.Books.{book_in}
 use Rattle.sr_database.specs.Causes.{IsTooFar}
 use Rattle.sr_database.specs.Inner.Causes.{IsSame}
 use Rattle.sr_database.specs.Commits.{HasRoom}
@@ -21,6 +20,7 @@ use Rattle.sr_database.proofs.Advancing.{none_advanced}
 use Rattle.sr_database.proofs.InForce.{in_force_still}
 use Rattle.sr_database.specs.InForce.{HasLogInForce}
 use Rattle.sr_database.specs.Views.{View}
+use Rattle.sr_database_history.specs.Folds.{fresh}
 use Rattle.sr_database_history.specs.Recorded.{Recorded, entry_of}
 use Rattle.sr_logform.specs.declared.op.Transaction.{Transaction}
 use Rattle.sr_msgform.specs.Messages.{IsMessage}
@@ -33,6 +33,7 @@ use Rattle.sr_site.specs.Happenings.{Happening, mail_in}
 use Rattle.sr_site.specs.Seen.{Seen}
 use Rattle.sr_database_meaning.specs.Events.{Event, commit, commits}
 use Rattle.sr_database_meaning.specs.Traces.{Went}
+use Rattle.sr_database_meaning.proofs.Beginnings.{publisher_from}
 use Rattle.sr_database_meaning.proofs.Joining.{joined}
 use Rattle.sr_send.specs.Inner.Aims.{aim_at}
 use Rattle.sr_send.specs.PutFiles.{head_of, address_in, AreMessages, put_files, sent_note, noted_put_files}
@@ -58,7 +59,9 @@ book_is (Some user) b book e = cc
 
 -- the publisher at the base is that of the history
 head_is : (db : View) (publisher : Name) (es : List Recorded) (user : Name) (book : Book) (ask : Bool) → IsOf db publisher es → head_of db.base_catalog.publisher user book ask ≡ head_of publisher user book ask
-head_is db publisher es user book ask is = ap (λ (c : Lists). head_of c.publisher user book ask) (catalog_is_first db.log.base db.base_catalog publisher es is.based)
+head_is db publisher es user book ask is =
+    let same : db.base_catalog.publisher ≡ publisher = ap (λ (c : Lists). c.publisher) is.based.catalog_is ∙ publisher_from (fresh publisher) is.based.done in
+    ap (λ (name : Name). head_of name user book ask) same
 
 are_along : (head head' : Head) (book : Book) (ask : Bool) (limit : ℕ) (ts ts' : List Transaction) (messages : List Message) → head ≡ head' → ts ≡ ts' → AreMessages head book ask limit ts messages → AreMessages head' book ask limit ts' messages
 are_along head head' book ask limit ts ts' messages same whole are =
@@ -84,11 +87,11 @@ module _ (db : View) (user : Name) (book : Book) (limit : ℕ) (ask : Bool) (is 
       let head = head_of db.base_catalog.publisher user book ask in
       let more = stop.prefix.begins begins.rest in
       let cut = subst (λ (ts : List Transaction). AreCut head (offset_from book.log_sent) ts limit (stop.messages ++ more.0)) (sym begins.parts) more.1 in
-      let some = some_left head (offset_from book.log_sent) book ask limit (waiting publisher es user book) stop.messages more.0 refl cut in
+      let some = some_left head (offset_from book.log_sent) book ask limit (waiting db.log.base publisher es user book) stop.messages more.0 refl cut in
       record {
         messages = stop.messages;
         left = some.0;
-        are = are_along head (head_of publisher user book ask) book ask limit (waiting publisher es user book) (waiting publisher es user book) (stop.messages ++ some.0)
+        are = are_along head (head_of publisher user book ask) book ask limit (waiting db.log.base publisher es user book) (waiting db.log.base publisher es user book) (stop.messages ++ some.0)
             (head_is db publisher es user book ask database.is) refl some.1;
         spelled = stop.spelled;
         went = posted_went db publisher es before now _ stop.posted told database;
@@ -100,11 +103,11 @@ module _ (db : View) (user : Name) (book : Book) (limit : ℕ) (ask : Bool) (is 
   -- all that was put, with what is left
   all_part : (before now : Seen) (pushed : List Transaction) (messages left : List Message) → AreMessages (head_of db.base_catalog.publisher user book ask) book ask limit pushed (messages ++ left)
       → Posted before now (put_files (address_in db.catalog user) book.send_count messages) → AllByRecursion IsMessage messages → EndsAtPut before now
-      → (IsTrue before.observable → (publisher : Name) (es : List Recorded) → IsDatabase db publisher es before → pushed ≡ waiting publisher es user book) → InPart before now
+      → (IsTrue before.observable → (publisher : Name) (es : List Recorded) → IsDatabase db publisher es before → pushed ≡ waiting db.log.base publisher es user book) → InPart before now
   all_part before now pushed messages left are posted spelled ends whole told publisher es database = record {
     messages = messages;
     left = left;
-    are = are_along (head_of db.base_catalog.publisher user book ask) (head_of publisher user book ask) book ask limit pushed (waiting publisher es user book) (messages ++ left)
+    are = are_along (head_of db.base_catalog.publisher user book ask) (head_of publisher user book ask) book ask limit pushed (waiting db.log.base publisher es user book) (messages ++ left)
         (head_is db publisher es user book ask database.is) (whole told publisher es database) are;
     spelled = spelled;
     went = posted_went db publisher es before now _ posted told database;
@@ -127,7 +130,7 @@ module _ (db : View) (user : Name) (book : Book) (limit : ℕ) (ask : Bool) (is 
     limit_is = stop.cause.1;
     first = λ told publisher es database.
         let begins = stop.begins told publisher es database in
-        subst (λ (b : Book). first_long (waiting publisher es user b) ≡ Some size) is (ap first_long begins.parts ∙ still_long stop.pushed begins.rest size stop.cause.2);
+        subst (λ (b : Book). first_long (waiting db.log.base publisher es user b) ≡ Some size) is (ap first_long begins.parts ∙ still_long stop.pushed begins.rest size stop.cause.2);
   }
 
   read_cause : (before now : Seen) (fault : SendFault) → ReadStop db (aim_at db user book limit ask) user before now fault → SendCause db db before now user limit ask fault
@@ -152,15 +155,15 @@ module _ (db : View) (user : Name) (book : Book) (limit : ℕ) (ask : Bool) (is 
 
   -- what a whole pass leaves, with its note
   module _ (new : View) (before middle now : Seen) (sent : Sent) (put : PutAll db (aim_at db user book limit ask) book ask user before middle sent) where
-    all_of : IsTrue before.observable → (publisher : Name) (es : List Recorded) → IsDatabase db publisher es before → AreAll publisher es user book ask limit put.messages
+    all_of : IsTrue before.observable → (publisher : Name) (es : List Recorded) → IsDatabase db publisher es before → AreAll db.log.base publisher es user book ask limit put.messages
     all_of told publisher es database =
-        are_along (head_of db.base_catalog.publisher user book ask) (head_of publisher user book ask) book ask limit put.pushed (waiting publisher es user book) put.messages
+        are_along (head_of db.base_catalog.publisher user book ask) (head_of publisher user book ask) book ask limit put.pushed (waiting db.log.base publisher es user book) put.messages
         (head_is db publisher es user book ask database.is) (put.whole told publisher es database) put.are
 
-    end_of_all : IsTrue before.observable → (publisher : Name) (es : List Recorded) → IsDatabase db publisher es before → sent.end ≡ sent_end publisher es user book
+    end_of_all : IsTrue before.observable → (publisher : Name) (es : List Recorded) → IsDatabase db publisher es before → sent.end ≡ sent_end db.log.base publisher es user book
     end_of_all told publisher es database = put.end_is ∙ ap (last_at (offset_from book.log_sent)) (put.whole told publisher es database)
 
-    fits_all : IsTrue before.observable → (publisher : Name) (es : List Recorded) → IsDatabase db publisher es before → first_long (waiting publisher es user book) ≡ None
+    fits_all : IsTrue before.observable → (publisher : Name) (es : List Recorded) → IsDatabase db publisher es before → first_long (waiting db.log.base publisher es user book) ≡ None
     fits_all told publisher es database = ap first_long (sym (put.whole told publisher es database)) ∙ put.fits
 
     -- the message files, and then one commit
@@ -184,7 +187,7 @@ module _ (db : View) (user : Name) (book : Book) (limit : ℕ) (ask : Bool) (is 
     passed_none : (publisher : Name) (es : List Recorded) → IsTrue before.observable → IsDatabase db publisher es before → put.messages ≡ [] → Passed db db before middle publisher es user book limit ask sent
     passed_none publisher es told database none = record {
       messages = [];
-      are = subst (λ (ms : List Message). AreAll publisher es user book ask limit ms) none (all_of told publisher es database);
+      are = subst (λ (ms : List Message). AreAll db.log.base publisher es user book ask limit ms) none (all_of told publisher es database);
       spelled = tt;
       count = put.count ∙ ap (λ (ms : List Message). length ms) none;
       end_is = end_of_all told publisher es database;
@@ -273,7 +276,7 @@ module _ (db : View) (user : Name) (book : Book) (limit : ℕ) (ask : Bool) (is 
     -- all of them, and then these commits
     put_and_began : (publisher : Name) (es : List Recorded) (begun : List Event) → IsTrue before.observable → IsDatabase db publisher es before
         → Went before now publisher es (put_files (address_in db.catalog user) book.send_count put.messages ++ begun) → PutAlone begun (mail_in middle.happened) (mail_in now.happened)
-        → mail_in now.happened ≡ mail_in middle.happened → PutAndBegan before now (address_in db.catalog user) publisher es user book limit ask sent.end sent.put begun
+        → mail_in now.happened ≡ mail_in middle.happened → PutAndBegan db.log.base before now (address_in db.catalog user) publisher es user book limit ask sent.end sent.put begun
     put_and_began publisher es begun told database trace alone same = record {
       messages = put.messages;
       are = all_of told publisher es database;
@@ -304,7 +307,7 @@ module _ (db : View) (user : Name) (book : Book) (limit : ℕ) (ask : Bool) (is 
       room = subst (λ (b : Book). HasRoom db.log (entry_of (sent_note user b sent.end sent.put))) is cause.1;
       part = λ told publisher es database.
           let r = sent_note user book sent.end sent.put in
-          subst (λ (b : Book). PutAndBegan before now (address_in db.catalog user) publisher es user b limit ask sent.end sent.put (commit (sent_note user b sent.end sent.put) ∷ [])) is
+          subst (λ (b : Book). PutAndBegan db.log.base before now (address_in db.catalog user) publisher es user b limit ask sent.end sent.put (commit (sent_note user b sent.end sent.put) ∷ [])) is
           (put_and_began publisher es (commit r ∷ []) told database (put_files_then r publisher es told database (λ yes there. cause.2 yes publisher es there)) stays.mail stays.mail);
     }
 
@@ -315,7 +318,7 @@ module _ (db : View) (user : Name) (book : Book) (limit : ℕ) (ask : Bool) (is 
       some = some;
       full = subst (λ (b : Book). IsTooFar db.log (entry_of (sent_note user b sent.end sent.put)) end need) is full;
       part = λ told publisher es database.
-          subst (λ (b : Book). PutAndBegan before now (address_in db.catalog user) publisher es user b limit ask sent.end sent.put []) is
+          subst (λ (b : Book). PutAndBegan db.log.base before now (address_in db.catalog user) publisher es user b limit ask sent.end sent.put []) is
           (put_and_began publisher es [] told database (put_files_alone publisher es told database same) stays.mail stays.mail);
     }
 

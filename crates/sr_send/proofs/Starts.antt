@@ -1,25 +1,22 @@
 -- Where a log is read on from.
-use Rattle.std.proofs.Common.{◌≡◌, ℕ, ◌+◌, ◌≤◌, ◌<◌, List, [], ◌∷◌, ◌++◌, inl, inr, Option, refl, sym, ap, subst, ◌∙◌, arith, append_assoc, le-ltb}
-use Rattle.std.specs.Prelude.{IsTrue, nat_lt, false, IfErr, Result, Ok, Err}
+use Rattle.std.proofs.Common.{◌≡◌, ℕ, ◌+◌, ◌≤◌, ◌<◌, List, [], ◌∷◌, ◌++◌, inl, inr, Option, refl, sym, ap, subst, ◌∙◌, arith, append_assoc}
+use Rattle.std.specs.Prelude.{IsTrue, max, IfErr, Result, Ok, Err}
 use Rattle.std.proofs.lemmas.List.{append-nil}
 use Rattle.sr_base.specs.declared.offset.Offset.{Offset}
 use Rattle.sr_book.specs.Entries.{Name}
-use Rattle.sr_database.proofs.Based.{base_is_first}
 use Rattle.sr_database.specs.Databases.{IsDatabase}
 use Rattle.sr_database.specs.Inner.Sound.{IsSound}
 use Rattle.sr_database.specs.Inner.Entries.{IsNextEnd, IsNextKind}
 use Rattle.sr_database.specs.Views.{View}
 use Rattle.sr_database_history.specs.Fitting.{Stored}
-use Rattle.sr_database_history.specs.Folds.{State, fresh, next, size, state_of, end_of, end_from}
+use Rattle.sr_database_history.specs.Folds.{State, fresh, size, state_of, end_of}
 use Rattle.sr_database_history.specs.Recorded.{Recorded, entry_of}
 use Rattle.sr_database_history.proofs.Joined.{state_from-more, end_from-append, le-end_from}
 use Rattle.sr_database_history.proofs.Kept.{stored_holds}
 use Rattle.sr_logform.specs.Entries.{entry_spelling}
 use Rattle.sr_logform.specs.declared.entry.Entry.{Entry}
 use Rattle.sr_logform.specs.declared.entry.Entry.TheVariants.{Own, From, Ddl, Sync, Pass, Note}
-use Rattle.sr_logform.specs.declared.op.Op.{Op}
 use Rattle.sr_logform.specs.declared.op.Transaction.{Transaction}
-use Rattle.sr_scan.specs.Given.{given_from, gives, with_transaction}
 use Rattle.sr_scan.specs.Inner.Images.{told}
 use Rattle.sr_scan.specs.Inner.Scanners.{Scan, IsFed, transaction_of}
 use Rattle.sr_scan.proofs.Agreeing.{fed_same}
@@ -31,7 +28,7 @@ use Rattle.sr_send.specs.Inner.Posting.{Posted}
 use Rattle.sr_send.specs.Inner.Starts.{IsPartAt, Walked, IsStillEnd, IsStillKind, IsStillTo, Looked, IsStill, Begun, BeginStop}
 use Rattle.sr_send.specs.Inner.Steps.{HasRead, UnderWay}
 use Rattle.sr_send.specs.Inner.Stops.{NextFault, ReadStop}
-use Rattle.sr_send.specs.Unsent.{past, unsent}
+use Rattle.sr_send.specs.Unsent.{unsent}
 use Rattle.sr_send.specs.declared.aim.Aim.{Aim}
 use Rattle.sr_send.specs.declared.fault.SendFault.{SendFault}
 use Rattle.sr_send.specs.declared.fault.SendFault.TheVariants.{Disk, Full, Long, Mail, Memory}
@@ -39,26 +36,8 @@ use Rattle.sr_send.specs.declared.post.Post.{Post}
 use Rattle.sr_send.proofs.Posts.{told_then, posted_none, posted_on, posted_database, same_counts, steady_on, ends_none, ends_on, ends_steady, rose_from}
 use Rattle.sr_send.proofs.Still.{passed_still}
 use Rattle.sr_send.proofs.Cutting.{made_prefix}
-use Rattle.sr_send.proofs.Histories.{fits_next, read_none}
+use Rattle.sr_send.proofs.Histories.{fits_next, none_unsent, read_none}
 use Rattle.sr_send.proofs.Loops.{fault_from, next_fault}
-
--- ---- what ends before
-
-first_past : (sent end : ℕ) (ops : List Op) (rest : List (ℕ × List Op)) → end ≤ sent → past sent rest ≡ [] → past sent (with_transaction end ops rest) ≡ []
-first_past sent end [] rest before none = none
-first_past sent end (op ∷ ops) rest before none =
-    let not_past : nat_lt sent end ≡ false = le-ltb sent end before in
-    rw not_past none
-
-none_past : (sent : ℕ) (s : State) (place : ℕ) (rs : List Recorded) (user : Name) → end_from place rs ≤ sent → past sent (given_from s place rs user) ≡ []
-none_past sent s place [] user before = refl
-none_past sent s place (r ∷ rs) user before =
-    let end = place + (size r + 5) in
-    first_past sent end (gives s r user) (given_from (next s r) end rs user) (omega (arith, le-end_from end rs, before)) (none_past sent (next s r) end rs user before)
-
--- of entries that end no later than what was sent nothing is to be sent
-pub none_unsent : (publisher user : Name) (done : List Recorded) (sent : ℕ) → end_of done ≤ sent → unsent publisher done user sent ≡ []
-none_unsent publisher user done sent before = none_past sent (fresh publisher) 0 done user before
 
 -- ---- the ends
 
@@ -73,8 +52,8 @@ walk_start db sent at seen sound at_is =
       from_base = omega (arith, at_is);
       within = omega (arith, at_is, sound.order.order);
       part = λ told publisher es database.
-          let base : db.log.base ≡ 0 = base_is_first db.log.base db.base_catalog publisher es database.is.based in
-          record { done = []; left = es; parts = refl; at_is = at_is ∙ base; before = omega (arith, at_is, base) };
+          let based = database.is.based in
+          record { done = based.done; left = based.left; parts = based.parts; at_is = at_is ∙ based.base_is; before = omega (arith, at_is) };
     }
 
 pub part_on : (es : List Recorded) (sent : ℕ) (at end : Offset) → (part : IsPartAt es sent at) → IsNextEnd part.done part.left end → end.0 ≤ sent → IsPartAt es sent end
@@ -96,8 +75,8 @@ walk_on db sent at end first before now walked read steady within found = record
   part = λ told publisher es database.
       let part = walked.part told publisher es database in
       let here = posted_database db publisher es first before _ walked.posted told database in
-      part_on es sent at end part
-      (found (told_then first before walked.posted.stays told) publisher part.done part.left (subst (λ (rs : List Recorded). IsDatabase db publisher rs before) part.parts here) part.at_is) within.2;
+      part_on es (max db.log.base sent) at end part
+      (found (told_then first before walked.posted.stays told) publisher part.done part.left (subst (λ (rs : List Recorded). IsDatabase db publisher rs before) part.parts here) part.at_is) (omega (arith, within.2));
 }
 
 pub walk_end : (db : View) (sent : ℕ) (at : Offset) (first before now : Seen) → Walked db sent at first before → Posted before now [] → IsSteady before now → Walked db sent at first now
@@ -255,7 +234,8 @@ begun_here db aim scan after first before now walked read steady still catalog =
         after_is = part.at_is;
         catalog = catalog ∙ still (told_then first before walked.posted.stays told) publisher part.done part.left (subst (λ (rs : List Recorded). IsDatabase db publisher rs before) part.parts here) part.at_is;
         user_is = refl;
-        pushed_are = sym (none_unsent publisher scan.user part.done aim.prev.0 (omega (arith, part.at_is, part.before)));
+        from_base = walked.from_base;
+        pushed_are = sym (none_unsent publisher scan.user part.done (max db.log.base aim.prev.0) (omega (arith, part.at_is, part.before)));
       };
 }
 
@@ -299,7 +279,7 @@ under_begun db aim user scan post after first now made begun user_is =
       from_base = begun.from_base;
       within = begun.within;
       behind = λ n past further. omega (arith, end_is, past);
-      read = λ told publisher es database. subst (λ (u : Name). HasRead publisher es u aim.prev.0 after scan []) user_is (begun.read told publisher es database);
+      read = λ told publisher es database. subst (λ (u : Name). HasRead db.log.base publisher es u aim.prev.0 after scan []) user_is (begun.read told publisher es database);
     }
 
 pub unbegun : (db : View) (aim : Aim) (user : Name) (post : Post) (before now : Seen) (fault : SendFault) → IsAim aim → HasMade aim post [] [] → BeginStop before now fault → ReadStop db aim user before now fault
@@ -309,7 +289,7 @@ unbegun db aim user post before now fault good made stop = record {
   prefix = made_prefix aim post [] [] good made;
   posted = stop.posted;
   spelled = tt;
-  begins = λ told publisher es database. record { rest = unsent publisher es user aim.prev.0; parts = refl };
+  begins = λ told publisher es database. record { rest = unsent publisher es user (max db.log.base aim.prev.0); parts = refl };
   cause = stop.cause;
   ends = stop.ends;
 }

@@ -1,6 +1,6 @@
 -- Places of a survey, told one after the other.
 use Rattle.std.proofs.Common.{◌≡◌, ◌⊎◌, inl, inr, ℕ, ◌+◌, ◌≤◌, ◌<◌, Bool, List, [], ◌∷◌, ◌++◌, Option, Some, None, Result, Ok, Err, refl, sym, ap, subst, ◌∙◌, arith}
-use Rattle.std.specs.Prelude.{IsTrue, IfOk, IfErr, IfSome, OnOk}
+use Rattle.std.specs.Prelude.{IsTrue, max, IfOk, IfErr, IfSome, OnOk}
 use Rattle.std.proofs.lemmas.List.{append-nil}
 use Rattle.sr_base.specs.Values.{offset_from}
 use Rattle.sr_base.specs.declared.offset.Offset.{Offset}
@@ -36,7 +36,7 @@ use Rattle.sr_send.specs.declared.aim.Aim.{Aim}
 use Rattle.sr_send.specs.declared.fault.SendFault.{SendFault}
 use Rattle.sr_send.specs.declared.fault.SendFault.TheVariants.{Memory}
 use Rattle.sr_send.specs.declared.post.Post.{Post}
-use Rattle.sr_send.proofs.Jumps.{reached_all, reached_next, reached_none, reached_prefix}
+use Rattle.sr_send.proofs.Jumps.{reached_all, reached_next, reached_none, reached_prefix, starts_behind}
 use Rattle.sr_send.proofs.Loops.{fault_from, long_of, next_fault, posted_behind_read, put_files_on, stop_from}
 use Rattle.sr_send.proofs.Numbers.{no_commits}
 use Rattle.sr_send.proofs.Posts.{ends_none, ends_on, posted_before, posted_database, posted_none, posted_on, same_counts, steady_on, told_then}
@@ -60,13 +60,14 @@ told_at_place es s user place end entry found there next by =
 module _ (db : View) (s : Survey) (user : Name) (place : Place) (seen : Seen) where
   -- what `entry_from` says of what it read
   abbrev pub ReadAt : Option (Offset × Entry) → Type 0
-  ReadAt found = IsTrue seen.observable → (publisher : Name) (done left : List Recorded) → IsDatabase db publisher (done ++ left) seen → place.start ≡ end_of done → IsEntryAfter done left found
+  ReadAt found = IsTrue seen.observable → (publisher : Name) (done left : List Recorded) → IsDatabase db publisher (done ++ left) seen → place.start ≡ end_of done → db.log.base ≤ place.start → IsEntryAfter done left found
 
   read_there : (o : Option (Offset × Entry)) → IsPlaceOf db place seen → ReadAt o → IsTrue seen.observable → (publisher : Name) (es : List Recorded) → IsDatabase db publisher es seen
       → (there : IsPlace es place) × IsEntryAfter there.first (there.entry ∷ there.rest) o
   read_there o place_is read told publisher es database =
-      let there = place_is told publisher es database in
-      (there, read told publisher there.first (there.entry ∷ there.rest) (subst (λ (rs : List Recorded). IsDatabase db publisher rs seen) there.parts database) (ap (λ (p : Place). p.start) there.is))
+      let both = place_is told publisher es database in
+      let there : IsPlace es place = both.0 in
+      (there, read told publisher there.first (there.entry ∷ there.rest) (subst (λ (rs : List Recorded). IsDatabase db publisher rs seen) there.parts database) (ap (λ (p : Place). p.start) there.is) both.1)
 
   pub found_there_some : (end : Offset) (entry : Entry) (found : Option Transaction) → IsPlaceOf db place seen → ReadAt (Some (end, entry)) → IsToldBy s.catalog entry user (offset_from place.end) found → FoundAt db s user place seen found
   found_there_some end entry found place_is read by told publisher es database =
@@ -140,10 +141,14 @@ place_unread db aim s user old place before now fault good read mail cause = rec
 
 -- ---- the next place
 
--- it is one of the history
-pub place_known : (db : View) (s : Survey) (user : Name) (at : ℕ) (place : Place) (seen : Seen) → (IsTrue seen.observable → KnowsAll db s seen) → IsNext s user at (Some place) → IsPlaceOf db place seen
-place_known db s user at place seen whole next told publisher es database =
-    (whole told publisher es database).has.places next.0.key place next.0.there
+-- it is one of the history, and does not begin before the survey
+pub place_known : (db : View) (s : Survey) (user : Name) (at : ℕ) (place : Place) (seen : Seen) → (IsTrue seen.observable → KnowsAll db s seen) → s.begin ≤ at → IsNext s user at (Some place) → IsPlaceOf db place seen
+place_known db s user at place seen whole begun next told publisher es database =
+    let k = whole told publisher es database in
+    let there : IsPlace es place = k.has.places next.0.key place next.0.there in
+    let late : at < place.end = next.1 in
+    let starts = starts_behind es k.before k.behind place k.begins there (omega (arith, k.begin_is, begun, late)) in
+    (there, omega (arith, k.from_base, k.begin_is, starts))
 
 module _ (db : View) (aim : Aim) (s : Survey) (user : Name) (old new : Post) (at : Offset) (place : Place) (before now : Seen) (next : IsNext s user at.0 (Some place)) where
   pub went_next : (result : Result (Unit {0}) SendFault) → OnOk result (PutPlace db aim s user old new place before now) → IfOk (stepped_to (offset_from place.end) result) (WentOn db aim s user old new at before now)
@@ -167,6 +172,10 @@ pub next_short : (db : View) (aim : Aim) (s : Survey) (user : Name) (old : Post)
 next_short db aim s user old at seen good = record { added = []; found = inl refl; stop = stopped_short aim old seen [] good }
 
 -- ---- one after the other
+
+-- what lies past what was sent lies past the base, where a survey begins in between
+max_is : (base begin sent : ℕ) → base ≤ begin → begin ≤ sent → sent ≡ max base sent
+max_is base begin sent from_base begun = omega (arith, from_base, begun)
 
 -- what a survey knows is so of the history that the database is of
 known : (db : View) (s : Survey) (publisher : Name) (es : List Recorded) (seen : Seen) → (k : KnowsAll db s seen) → IsDatabase db publisher es seen → HasSurveyed publisher es s
@@ -225,7 +234,8 @@ module _ (db : View) (aim : Aim) (s : Survey) (user : Name) (first : Seen) (can 
     spelled = t.spelled;
     steady = steady_on first before now t.steady n.steady;
     whole = λ told publisher es database.
-        reached_all publisher user es s aim.prev.0 at.0 t.pushed (known db s publisher es first (whole told) database) (t.reached told publisher es database) n.next;
+        reached_all publisher user es s aim.prev.0 at.0 t.pushed (known db s publisher es first (whole told) database) (t.reached told publisher es database) n.next
+        ∙ ap (λ (m : ℕ). unsent publisher es user m) (max_is db.log.base s.begin aim.prev.0 (whole told publisher es database).from_base can.begun);
   }
 
   -- the loop ends
@@ -234,17 +244,23 @@ module _ (db : View) (aim : Aim) (s : Survey) (user : Name) (first : Seen) (can 
   told_all post post' at before now None t none went = telling_end post post' at before now t went
   told_all post post' at before now (Some end) t none went = absurd (none end refl)
 
-  prefix_there : (post : Post) (at : Offset) (before : Seen) (added : List Transaction) → (t : Telling db aim s user post at first before) → (added ≡ []) ⊎ AddedNext db s user at.0 aim.prev.0 before added
+  prefix_sent : (post : Post) (at : Offset) (before : Seen) (added : List Transaction) → (t : Telling db aim s user post at first before) → (added ≡ []) ⊎ AddedNext db s user at.0 aim.prev.0 before added
       → IsTrue first.observable → (publisher : Name) (es : List Recorded) → IsDatabase db publisher es first → IsPrefixOf (t.pushed ++ added) (unsent publisher es user aim.prev.0)
-  prefix_there post at before added t (inl none) told publisher es database =
+  prefix_sent post at before added t (inl none) told publisher es database =
       subst (λ (ts : List Transaction). IsPrefixOf ts (unsent publisher es user aim.prev.0)) (sym (ap (λ (ts : List Transaction). t.pushed ++ ts) none ∙ append-nil t.pushed))
       (reached_prefix publisher user es s.begin aim.prev.0 at.0 t.pushed (t.reached told publisher es database))
-  prefix_there post at before added t (inr n) told publisher es database =
+  prefix_sent post at before added t (inr n) told publisher es database =
       let here = posted_database db publisher es first before _ t.posted told database in
       subst (λ (ts : List Transaction). IsPrefixOf (t.pushed ++ ts) (unsent publisher es user aim.prev.0)) (sym n.what.added_is)
       (reached_prefix publisher user es s.begin aim.prev.0 n.place.end (t.pushed ++ newer aim.prev.0 n.what.found)
       (reached_next publisher user es s aim.prev.0 database.is.stored (known db s publisher es first (whole told) database) can at.0 t.pushed n.place n.what.found (t.reached told publisher es database) t.past n.next
       (n.what.told (told_then first before t.posted.stays told) publisher es here)))
+
+  prefix_there : (post : Post) (at : Offset) (before : Seen) (added : List Transaction) → (t : Telling db aim s user post at first before) → (added ≡ []) ⊎ AddedNext db s user at.0 aim.prev.0 before added
+      → IsTrue first.observable → (publisher : Name) (es : List Recorded) → IsDatabase db publisher es first → IsPrefixOf (t.pushed ++ added) (unsent publisher es user (max db.log.base aim.prev.0))
+  prefix_there post at before added t found told publisher es database =
+      subst (λ (m : ℕ). IsPrefixOf (t.pushed ++ added) (unsent publisher es user m)) (max_is db.log.base s.begin aim.prev.0 (whole told publisher es database).from_base can.begun)
+      (prefix_sent post at before added t found told publisher es database)
 
   pub telling_stopped : (post : Post) (at : Offset) (before now : Seen) (fault : SendFault) → Telling db aim s user post at first before → NextStop db aim s user post at before now fault → ReadStop db aim user first now fault
   telling_stopped post at before now fault t stop = record {
@@ -269,7 +285,8 @@ nothing_told db aim s user post first whole nothing made = record {
   steady = same_counts first;
   whole = λ told publisher es database.
       let k = whole told publisher es database in
-      reached_all publisher user es s aim.prev.0 aim.prev.0 [] k.has (reached_none publisher user es k.before k.behind s.begin aim.prev.0 k.begins k.begin_is nothing.begun) nothing.next;
+      reached_all publisher user es s aim.prev.0 aim.prev.0 [] k.has (reached_none publisher user es k.before k.behind s.begin aim.prev.0 k.begins k.begin_is nothing.begun) nothing.next
+      ∙ ap (λ (m : ℕ). unsent publisher es user m) (max_is db.log.base s.begin aim.prev.0 k.from_base nothing.begun);
 }
 
 -- ---- behind what was read for the survey

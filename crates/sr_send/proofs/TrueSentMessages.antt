@@ -19,7 +19,7 @@ use Rattle.sr_logform.specs.declared.op.Transaction.{Transaction}
 use Rattle.sr_msgform.specs.declared.message.Message.{Message}
 use Rattle.sr_scan.specs.Given.{given_of}
 use Rattle.sr_send.specs.PutFiles.{head_of, IsDue, AreMessages}
-use Rattle.sr_send.specs.Passes.{AreAll}
+use Rattle.sr_send.specs.Passes.{AreAll, waiting}
 use Rattle.sr_send.specs.Inner.TrueSentMessages.{IsTrueSentMessage}
 use Rattle.sr_send.specs.Unsent.{as_transaction, past, unsent}
 use Rattle.sr_send.proofs.Endings.{due_case}
@@ -129,8 +129,9 @@ true_sent_messages publisher user es book ask (m ∷ ms) good = (
   true_sent_messages publisher user es book ask ms good.1,
 )
 
-pub all_true : (publisher : Name) (es : List Recorded) (user : Name) (book : Book) (ask : Bool) (limit : ℕ) (messages : List Message) → AreAll publisher es user book ask limit messages
-    → AllByRecursion (IsTrueSentMessage publisher es user book ask) messages
-all_true publisher es user book ask limit messages are =
+pub all_true : (base : ℕ) (publisher : Name) (es : List Recorded) (user : Name) (book : Book) (ask : Bool) (limit : ℕ) (messages : List Message) → waiting base publisher es user book ≡ unsent publisher es user book.log_sent
+    → AreAll base publisher es user book ask limit messages → AllByRecursion (IsTrueSentMessage publisher es user book ask) messages
+all_true base publisher es user book ask limit messages kept are =
     true_sent_messages publisher user es book ask messages
-    (good_messages (head_of publisher user book ask) book ask limit (unsent publisher es user book.log_sent) messages (unsent_rises publisher user es book.log_sent) are)
+    (good_messages (head_of publisher user book ask) book ask limit (unsent publisher es user book.log_sent) messages (unsent_rises publisher user es book.log_sent)
+    (subst (λ (ts : List Transaction). AreMessages (head_of publisher user book ask) book ask limit ts messages) kept are))

@@ -1,13 +1,13 @@
 -- What a pass to a user does.
-use Rattle.std.specs.Prelude.{◌≡◌, ◌≢◌, ◌⊎◌, ℕ, Bool, true, false, List, [], ◌∷◌, ◌++◌, length, Some, None, IsTrue}
+use Rattle.std.specs.Prelude.{◌≡◌, ◌≢◌, ◌⊎◌, ℕ, max, Bool, true, false, List, [], ◌∷◌, ◌++◌, length, Some, None, IsTrue}
 use Rattle.std.specs.List.{AllByRecursion}
 use Rattle.sr_base.specs.Values.{offset_from}
 use Rattle.sr_base.specs.declared.offset.Offset.{Offset}
 use Rattle.sr_book.specs.Entries.{Name}
 use Rattle.sr_book.specs.declared.book.Book.{Book}
+use Rattle.sr_database_files.specs.Books.{book_in}
 use Rattle.sr_mail_cut.specs.Bodies.{last_at, first_long}
 use Rattle.sr_logform.specs.Limits.{longest_transaction}
-use Rattle.sr_database.specs.Books.{book_in}
 use Rattle.sr_database.specs.Causes.{IsTooFar}
 use Rattle.sr_database.specs.Commits.{HasRoom}
 use Rattle.sr_database.specs.Databases.{IsDatabase}
@@ -30,28 +30,28 @@ use Rattle.sr_send.specs.declared.fault.SendFault.{SendFault}
 use Rattle.sr_send.specs.declared.fault.SendFault.TheVariants.{Disk, Mail, Full, Long, Memory}
 use Rattle.sr_send.specs.declared.sending.Sent.{Sent}
 
--- what a user is to be sent of a history: all that it gives him past the offset up to which it was sent
-abbrev pub waiting : Name → List Recorded → Name → Book → List Transaction
-waiting publisher es user book = unsent publisher es user book.log_sent
+-- what a user is to be sent of a log that begins at a base: all that the history gives him past the base and past the offset up to which it was sent
+abbrev pub waiting : ℕ → Name → List Recorded → Name → Book → List Transaction
+waiting base publisher es user book = unsent publisher es user (max base book.log_sent)
 
 -- these are the messages of a pass to him
-abbrev pub AreAll : Name → List Recorded → Name → Book → Bool → ℕ → List Message → Type 0
-AreAll publisher es user book ask limit messages = AreMessages (head_of publisher user book ask) book ask limit (waiting publisher es user book) messages
+abbrev pub AreAll : ℕ → Name → List Recorded → Name → Book → Bool → ℕ → List Message → Type 0
+AreAll base publisher es user book ask limit messages = AreMessages (head_of publisher user book ask) book ask limit (waiting base publisher es user book) messages
 
 -- the offset up to which all is sent with them
-abbrev pub sent_end : Name → List Recorded → Name → Book → Offset
-sent_end publisher es user book = last_at (offset_from book.log_sent) (waiting publisher es user book)
+abbrev pub sent_end : ℕ → Name → List Recorded → Name → Book → Offset
+sent_end base publisher es user book = last_at (offset_from book.log_sent) (waiting base publisher es user book)
 
 -- a pass: all messages were put in order, and then they were noted; where none is due nothing was done. Nothing else happened to the mail
 pub record Passed (old new : View) (before now : Seen) (publisher : Name) (es : List Recorded) (user : Name) (book : Book) (limit : ℕ) (ask : Bool) (sent : Sent) : Type 0 where
   pub messages : List Message
-  pub are : AreAll publisher es user book ask limit messages
+  pub are : AreAll old.log.base publisher es user book ask limit messages
   -- each can be read again
   pub spelled : AllByRecursion IsMessage messages
   pub count : sent.put ≡ length messages
-  pub end_is : sent.end ≡ sent_end publisher es user book
+  pub end_is : sent.end ≡ sent_end old.log.base publisher es user book
   -- no encoding of a transaction is too long
-  pub fits : first_long (waiting publisher es user book) ≡ None
+  pub fits : first_long (waiting old.log.base publisher es user book) ≡ None
   pub went : Went before now publisher es (noted_put_files (address_in old.catalog user) user book sent.end messages)
   pub mail : PutAlone (noted_put_files (address_in old.catalog user) user book sent.end messages) (mail_in before.happened) (mail_in now.happened)
   pub database : IsDatabase new publisher (es ++ commits (noted_put_files (address_in old.catalog user) user book sent.end messages)) now
@@ -74,7 +74,7 @@ pub record HasSent (old new : View) (before now : Seen) (user : Name) (limit : �
 pub record PutInPart (old : View) (before now : Seen) (publisher : Name) (es : List Recorded) (user : Name) (book : Book) (limit : ℕ) (ask : Bool) : Type 0 where
   pub messages : List Message
   pub left : List Message
-  pub are : AreAll publisher es user book ask limit (messages ++ left)
+  pub are : AreAll old.log.base publisher es user book ask limit (messages ++ left)
   -- each of those that were put can be read again
   pub spelled : AllByRecursion IsMessage messages
   pub went : Went before now publisher es (put_files (address_in old.catalog user) book.send_count messages)
@@ -90,13 +90,13 @@ pub record Unnoted (old new : View) (before now : Seen) (user : Name) (limit : �
       → PutInPart old before now publisher es user (book_in old.books user) limit ask
 
 -- all messages were put, so many and up to this offset, and then these commits were begun
-pub record PutAndBegan (before now : Seen) (address publisher : Name) (es : List Recorded) (user : Name) (book : Book) (limit : ℕ) (ask : Bool) (sent : Offset) (count : ℕ) (begun : List Event) : Type 0 where
+pub record PutAndBegan (base : ℕ) (before now : Seen) (address publisher : Name) (es : List Recorded) (user : Name) (book : Book) (limit : ℕ) (ask : Bool) (sent : Offset) (count : ℕ) (begun : List Event) : Type 0 where
   pub messages : List Message
-  pub are : AreAll publisher es user book ask limit messages
+  pub are : AreAll base publisher es user book ask limit messages
   -- each can be read again
   pub spelled : AllByRecursion IsMessage messages
   pub count_is : count ≡ length messages
-  pub end_is : sent ≡ sent_end publisher es user book
+  pub end_is : sent ≡ sent_end base publisher es user book
   pub went : Went before now publisher es (put_files address book.send_count messages ++ begun)
   pub mail : PutAlone (put_files address book.send_count messages ++ begun) (mail_in before.happened) (mail_in now.happened)
   pub done : NoneFailed (mail_in before.happened) (mail_in now.happened)
@@ -111,7 +111,7 @@ pub record NoteRefused (old new : View) (before now : Seen) (user : Name) (limit
   pub some : count ≢ 0
   pub room : HasRoom old.log (entry_of (sent_note user (book_in old.books user) sent count))
   pub part : IsTrue before.observable → (publisher : Name) (es : List Recorded) → IsDatabase old publisher es before
-      → PutAndBegan before now (address_in old.catalog user) publisher es user (book_in old.books user) limit ask sent count (commit (sent_note user (book_in old.books user) sent count) ∷ [])
+      → PutAndBegan old.log.base before now (address_in old.catalog user) publisher es user (book_in old.books user) limit ask sent count (commit (sent_note user (book_in old.books user) sent count) ∷ [])
 
 -- all messages were put, and their note has no room in the log
 pub record NoteFull (old : View) (before now : Seen) (user : Name) (limit : ℕ) (ask : Bool) (end need : ℕ) : Type 0 where
@@ -120,13 +120,13 @@ pub record NoteFull (old : View) (before now : Seen) (user : Name) (limit : ℕ)
   pub some : count ≢ 0
   pub full : IsTooFar old.log (entry_of (sent_note user (book_in old.books user) sent count)) end need
   pub part : IsTrue before.observable → (publisher : Name) (es : List Recorded) → IsDatabase old publisher es before
-      → PutAndBegan before now (address_in old.catalog user) publisher es user (book_in old.books user) limit ask sent count []
+      → PutAndBegan old.log.base before now (address_in old.catalog user) publisher es user (book_in old.books user) limit ask sent count []
 
 -- the first encoding that is longer than 64 MiB
 pub record HasLongEncoding (old : View) (before : Seen) (user : Name) (size limit : ℕ) : Type 0 where
   pub limit_is : limit ≡ longest_transaction
   pub first : IsTrue before.observable → (publisher : Name) (es : List Recorded) → IsDatabase old publisher es before
-      → first_long (waiting publisher es user (book_in old.books user)) ≡ Some size
+      → first_long (waiting old.log.base publisher es user (book_in old.books user)) ≡ Some size
 
 -- why a pass ends before its end, and what it leaves then
 abbrev pub SendCause : View → View → Seen → Seen → Name → ℕ → Bool → SendFault → Type 0

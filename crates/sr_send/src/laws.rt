@@ -12,12 +12,15 @@ ghost use Rattle.sr_logform.specs.Inner.Ops.{IsShortTransaction};
 ghost use Rattle.sr_logform.specs.declared.op.Transaction.{Transaction as ATransaction};
 ghost use Rattle.sr_msgform.specs.declared.message.Message.{Message as AMessage};
 ghost use Rattle.sr_scan.specs.Inner.Scanners.{Scan, IsFed};
-ghost use Rattle.sr_send.specs.Passes.{AreAll};
+ghost use Rattle.sr_send.specs.Passes.{AreAll, waiting};
+ghost use Rattle.sr_send.specs.Unsent.{unsent};
 ghost use Rattle.sr_send.specs.Inner.TrueSentMessages.{IsTrueSentMessage};
 
-/// Each message of a pass is true of the history: it carries what the history gives the user in its window, and confirms what was taken from him.
+/// Each message of a pass is true of the history, where the log keeps all that the history gives the user past what he was sent: it carries what the
+/// history gives him in its window, and confirms what was taken from him.
 pub fn what_is_put_is_true()
-    ensures { (publisher : AName) (es : List Recorded) (user : AName) (book : ABook) (ask : Bool) (limit : ℕ) (messages : List AMessage) → AreAll publisher es user book ask limit messages → AllByRecursion (IsTrueSentMessage publisher es user book ask) messages }
+    ensures { (base : ℕ) (publisher : AName) (es : List Recorded) (user : AName) (book : ABook) (ask : Bool) (limit : ℕ) (messages : List AMessage) → waiting base publisher es user book ≡ unsent publisher es user book.log_sent
+        → AreAll base publisher es user book ask limit messages → AllByRecursion (IsTrueSentMessage publisher es user book ask) messages }
 {}
 
 /// What a scanner finds in an entry of a history that a log may hold can be written, whatever the entry: no list in it is empty or too long, no column is

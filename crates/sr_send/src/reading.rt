@@ -46,7 +46,7 @@ pub(crate) fn next_entry<S: Site>(
     found_or_end(outcome)
 }
 
-/// As `next_entry`, after any offset: none follows one that does not lie within the log.
+/// As `next_entry`, after any offset: none follows one that does not lie within the log. No entry before its base is read.
 pub(crate) fn entry_from<S: Site>(
     alloc: Global,
     db: &Database,
@@ -55,7 +55,7 @@ pub(crate) fn entry_from<S: Site>(
     buffer: &mut Vec<u8>,
 ) -> Result<Option<(Offset, Entry)>, SendFault>
     requires usable { db.now.log.usable ≡ true }
-    ensures entry { IsTrue (S.seen site.old).observable → (publisher : AName) (done left : List Recorded) → IsDatabase db.now publisher (done ++ left) (S.seen site.old) → after.0 ≡ end_of done
+    ensures entry { IsTrue (S.seen site.old).observable → (publisher : AName) (done left : List Recorded) → IsDatabase db.now publisher (done ++ left) (S.seen site.old) → after.0 ≡ end_of done → db.now.log.base ≤ after.0
         → IfOk result (IsEntryAfter done left) }
     ensures within { IfOk result (λ found. IfSome found (λ x. (after.0 < x.0.0) × (x.0.0 ≤ db.now.log.end))) }
     ensures posted { Posted (S.seen site.old) (S.seen site.new) [] }
@@ -91,7 +91,7 @@ fn next_brief<S: Site>(
     found_or_end(found)
 }
 
-/// As `next_brief`, after any offset: none follows one that does not lie within the log.
+/// As `next_brief`, after any offset: none follows one that does not lie within the log. No entry before its base is read.
 pub(crate) fn brief_from<S: Site>(
     alloc: Global,
     db: &Database,
@@ -100,7 +100,7 @@ pub(crate) fn brief_from<S: Site>(
     buffer: &mut Vec<u8>,
 ) -> Result<Option<(Offset, Entry)>, SendFault>
     requires usable { db.now.log.usable ≡ true }
-    ensures brief { IsTrue (S.seen site.old).observable → (publisher : AName) (done left : List Recorded) → IsDatabase db.now publisher (done ++ left) (S.seen site.old) → after.0 ≡ end_of done
+    ensures brief { IsTrue (S.seen site.old).observable → (publisher : AName) (done left : List Recorded) → IsDatabase db.now publisher (done ++ left) (S.seen site.old) → after.0 ≡ end_of done → db.now.log.base ≤ after.0
         → IfOk result (IsBriefAfter done left) }
     ensures within { IfOk result (λ found. IfSome found (λ x. (after.0 < x.0.0) × (x.0.0 ≤ db.now.log.end))) }
     ensures posted { Posted (S.seen site.old) (S.seen site.new) [] }

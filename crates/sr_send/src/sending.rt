@@ -2,8 +2,8 @@
 
 ghost use Rattle.std.specs.Prelude.{◌≡◌, ◌≢◌, ◌≤◌, [], true, false, IsTrue, IsSome, IfOk, IfErr, OnOk};
 ghost use Rattle.sr_base.specs.Values.{offset_from};
+ghost use Rattle.sr_database_files.specs.Books.{book_in};
 ghost use Rattle.sr_mail_cut.specs.Inner.Cuts.{IsMessageLimit};
-ghost use Rattle.sr_database.specs.Books.{book_in};
 ghost use Rattle.sr_database.specs.InForce.{HasLogInForce};
 ghost use Rattle.sr_catalog_schema.specs.Members.{user_name};
 ghost use Rattle.sr_catalog_schema.specs.Names.{named};

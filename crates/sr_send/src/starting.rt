@@ -84,7 +84,7 @@ fn next_end<S: Site>(
     }
 }
 
-/// The last end of an entry, or the base, that does not lie past an offset. It takes no memory.
+/// The last end of an entry that does not lie past an offset; the base where there is none. It takes no memory.
 pub(crate) fn end_before<S: Site>(
     db: &Database,
     site: &mut S,

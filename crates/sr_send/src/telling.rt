@@ -105,6 +105,7 @@ fn put_next<S: Site>(
     requires views { AreViews viewer.now.survey.now.catalog viewer.now.user.now viewer.now.views.now }
     requires aim { IsAim aim.now }
     requires made { HasMadeSome aim.now post.old }
+    requires begun { viewer.now.survey.now.begin ≤ at.0 }
     requires ends { post.old.end.0 ≤ at.0 }
     requires whole { IsTrue (S.seen site.old).observable → KnowsAll db.now viewer.now.survey.now (S.seen site.old) }
     ensures went { IfOk result (WentOn db.now aim.now viewer.now.survey.now viewer.now.user.now post.old post.new at (S.seen site.old) (S.seen site.new)) }

@@ -1,5 +1,6 @@
 -- What is needed stays so with an entry more, and is kept at the least need.
 use Rattle.std.proofs.Common.{◌≡◌, ℕ, ◌+◌, ◌≤◌, ◌<◌, Bool, true, false, cond, Option, Some, None, IsSome, List, [], ◌∷◌, ◌++◌, inl, inr, refl, sym, ap, subst, ◌∙◌, arith, le-ltb, lt-ltb}
+use Rattle.sr_base.specs.declared.offset.Offset.{Offset}
 use Rattle.sr_book.proofs.Folds.{ask_test}
 use Rattle.std.specs.Prelude.{nat_lt, ◌&&◌, map, filter, max, min, bytes_eq}
 use Rattle.std.specs.List.{AllByRecursion}
@@ -11,7 +12,7 @@ use Rattle.sr_book.specs.declared.note.Note.TheVariants.{Confirmed, Asked, Raise
 use Rattle.sr_book.proofs.Folds.{name_test, book_more}
 use Rattle.sr_database_history.specs.Folds.{State, fresh, next, size, sees, state_of, end_of, books_of}
 use Rattle.sr_database_history.specs.Fitting.{Stored}
-use Rattle.sr_database_history.specs.Recorded.{Recorded}
+use Rattle.sr_database_history.specs.Recorded.{Recorded, own, taken, ddl, sync, pass, note}
 use Rattle.sr_catalog_schema.specs.Members.{user_name}
 use Rattle.sr_catalog_schema.specs.Names.{named}
 use Rattle.sr_catalog_schema.specs.declared.user.User.{User}
@@ -20,12 +21,14 @@ use Rattle.sr_send_needs.proofs.Ungranted.{given_nothing}
 use Rattle.sr_logform.specs.declared.op.Op.{Op}
 use Rattle.sr_scan.specs.Given.{given_of, given_from, gives, with_transaction}
 use Rattle.sr_scan.proofs.Growing.{one_more}
-use Rattle.sr_send.specs.Unsent.{as_transaction, past, unsent}
-use Rattle.sr_send_needs.specs.Inner.Needs.{AreOrdered, IsKept, KeepsNeeds, some_ops, end_before, need_of, least_from, least_need, unsent_from}
+use Rattle.sr_send.specs.Passes.{waiting}
+use Rattle.sr_send.specs.Unsent.{as_transaction, unsent}
+use Rattle.sr_send_needs.specs.Inner.Needs.{SendsOn, KeepsUnsent}
+use Rattle.sr_send_needs.specs.Needs.{AreOrdered, IsKept, KeepsNeeds, any_ops, end_before, need_of, least_from, least_need}
 
 -- ---- no book confirms less
 
-note_confirms : (b : Book) (note : Note) → b.confirm_sent ≤ (with_note b note).confirm_sent
+note_confirms : (b : Book) (what : Note) → b.confirm_sent ≤ (with_note b what).confirm_sent
 note_confirms b (Confirmed place) = omega arith
 note_confirms b (Asked count place) = by (nat_lt b.resend_count count) refl
   where
@@ -38,7 +41,7 @@ note_confirms b (Sent end messages confirm) = omega arith
 confirms : {Ops : Type 0} (user : Name) (b : Book) (s : Sight Ops) → b.confirm_sent ≤ (booked user b s).confirm_sent
 confirms user b local = omega arith
 confirms user b (from_user other place ops) = elim (name_test user other) [ inl t ↦ rw t.0 (omega arith) | inr t ↦ rw t (omega arith) ]
-confirms user b (noted other note) = elim (name_test user other) [ inl t ↦ rw t.0 (note_confirms b note) | inr t ↦ rw t (omega arith) ]
+confirms user b (noted other what) = elim (name_test user other) [ inl t ↦ rw t.0 (note_confirms b what) | inr t ↦ rw t (omega arith) ]
 
 -- ---- one entry more
 
@@ -66,6 +69,45 @@ needs_more publisher es r base le keeps ordered = record {
   ordered = ordered;
 }
 
+-- ---- the same of what lies past the lesser of what was confirmed and what was sent
+
+abbrev lesser : Book → ℕ
+lesser b = min b.confirm_sent b.log_sent
+
+-- a note lowers neither, but where it says so, or an ask goes back to what was confirmed
+lesser_note : (b : Book) (what : Note) → ((end : Offset) (messages : ℕ) (confirm : Offset) → what ≡ Sent end messages confirm → b.log_sent ≤ end.0) → lesser b ≤ lesser (with_note b what)
+lesser_note b (Confirmed place) on = omega arith
+lesser_note b (Asked count place) on = by (nat_lt b.resend_count count) refl
+  where
+    by : (t : Bool) → nat_lt b.resend_count count ≡ t → lesser b ≤ lesser (with_note b (Asked count place))
+    by true is = rw is (omega arith)
+    by false is = rw is (omega arith)
+lesser_note b Raised on = omega arith
+lesser_note b (Sent end messages confirm) on = omega (arith, on end messages confirm refl)
+
+lesser_noted : (user other : Name) (es : List Recorded) (what : Note) → SendsOn es (note other what) → lesser (books_of user es) ≤ lesser (booked user (books_of user es) (sees (note other what)))
+lesser_noted user other es what on = elim (name_test user other) [ inl t ↦ rw t.0 (lesser_note (books_of user es) what (his t.1 what on)) | inr t ↦ rw t (omega arith) ]
+  where
+    his : user ≡ other → (n : Note) → SendsOn es (note other n) → (end : Offset) (messages : ℕ) (confirm : Offset) → n ≡ Sent end messages confirm → (books_of user es).log_sent ≤ end.0
+    his same n on end messages confirm is =
+        subst (λ (u : Name). (books_of u es).log_sent ≤ end.0) (sym same) (subst (λ (m : Note). SendsOn es (note other m)) is on)
+
+lesser_more : (user : Name) (es : List Recorded) (r : Recorded) → SendsOn es r → lesser (books_of user es) ≤ lesser (booked user (books_of user es) (sees r))
+lesser_more user es (own changes) on = omega arith
+lesser_more user es (taken other at dones) on = elim (name_test user other) [ inl t ↦ rw t.0 (omega arith) | inr t ↦ rw t (omega arith) ]
+lesser_more user es (ddl statement) on = omega arith
+lesser_more user es (sync other tables) on = omega arith
+lesser_more user es (pass users only statement changes) on = omega arith
+lesser_more user es (note other what) on = lesser_noted user other es what on
+
+pub unsent_more : (publisher : Name) (es : List Recorded) (r : Recorded) (base : ℕ) → base ≤ end_of es → KeepsUnsent publisher es base → SendsOn es r → KeepsUnsent publisher (es ++ r ∷ []) base
+unsent_more publisher es r base le keeps on user =
+    let c : lesser (books_of user es) ≤ lesser (books_of user (es ++ r ∷ [])) =
+    subst (λ (b : Book). lesser (books_of user es) ≤ lesser b) (sym (book_more sees user es r)) (lesser_more user es r on) in
+    subst (λ (txs : List (ℕ × List Op)). AllByRecursion (IsKept base (lesser (books_of user (es ++ r ∷ [])))) txs) (sym (one_more publisher user es r))
+    (both base _ (given_of publisher es user) _ (kept_on base _ _ (given_of publisher es user) c (keeps user))
+    (behind base _ (end_of es + (size r + 5)) (gives (state_of publisher es) r user) (omega (arith, le))))
+
 -- ---- what is sent from a base
 
 same_test : (base sent n : ℕ) → (sent < n → base < n) → nat_lt (max base sent) n ≡ nat_lt sent n
@@ -83,10 +125,16 @@ same_past base c sent (tx ∷ txs) le all =
     ∙ ap (λ (l : List (ℕ × List Op)). cond (nat_lt sent tx.0) (tx ∷ l) l) (same_past base c sent txs le all.1)
 
 pub sent_all : (publisher : Name) (es : List Recorded) (base : ℕ) (user : Name) → KeepsNeeds publisher es base
-    → unsent_from base publisher es user (books_of user es).log_sent ≡ unsent publisher es user (books_of user es).log_sent
+    → waiting base publisher es user (books_of user es) ≡ unsent publisher es user (books_of user es).log_sent
 sent_all publisher es base user keeps =
     ap (λ (l : List (ℕ × List Op)). map as_transaction l)
     (same_past base (books_of user es).confirm_sent (books_of user es).log_sent (given_of publisher es user) (keeps.ordered user) (keeps.needed user))
+
+pub unsent_all : (publisher : Name) (es : List Recorded) (base : ℕ) (user : Name) → KeepsUnsent publisher es base
+    → waiting base publisher es user (books_of user es) ≡ unsent publisher es user (books_of user es).log_sent
+unsent_all publisher es base user keeps =
+    ap (λ (l : List (ℕ × List Op)). map as_transaction l)
+    (same_past base (lesser (books_of user es)) (books_of user es).log_sent (given_of publisher es user) (omega arith) (keeps user))
 
 -- ---- the need of a user
 
@@ -104,7 +152,7 @@ module _ (sent : ℕ) (user : Name) where
       by (op ∷ ops) rest = (λ lt. omega (arith, le), rest)
 
   one_beyond : (place rest end : ℕ) (ops : List Op) (txs : List (ℕ × List Op)) → place < end → AllByRecursion (IsBeyond sent rest) txs → AllByRecursion (IsBeyond sent place) txs
-      → AllByRecursion (IsBeyond sent (cond (some_ops ops && nat_lt sent end) place rest)) (with_transaction end ops txs)
+      → AllByRecursion (IsBeyond sent (cond (any_ops ops && nat_lt sent end) place rest)) (with_transaction end ops txs)
   one_beyond place rest end [] txs lt far near = far
   one_beyond place rest end (op ∷ ops) txs lt far near = elim (ask_test sent end) [
     | inl t ↦ subst (λ (b : Bool). AllByRecursion (IsBeyond sent (cond b place rest)) ((end, op ∷ ops) ∷ txs)) (sym t.0) ((λ past. lt), near)
@@ -170,9 +218,12 @@ least_keeps publisher es base stored keeps = least_kept publisher es base (least
 
 -- ---- the beginning
 
+all_kept : (c : ℕ) (txs : List (ℕ × List Op)) → AllByRecursion (IsKept 0 c) txs
+all_kept c [] = tt
+all_kept c (tx ∷ txs) = (λ past. omega (arith, past), all_kept c txs)
+
 pub first_keeps : (publisher : Name) (es : List Recorded) → AreOrdered es → KeepsNeeds publisher es 0
 first_keeps publisher es ordered = record { needed = λ user. all_kept (books_of user es).confirm_sent (given_of publisher es user); ordered = ordered }
-  where
-    all_kept : (c : ℕ) (txs : List (ℕ × List Op)) → AllByRecursion (IsKept 0 c) txs
-    all_kept c [] = tt
-    all_kept c (tx ∷ txs) = (λ past. omega (arith, past), all_kept c txs)
+
+pub first_unsent : (publisher : Name) (es : List Recorded) → KeepsUnsent publisher es 0
+first_unsent publisher es user = all_kept (lesser (books_of user es)) (given_of publisher es user)

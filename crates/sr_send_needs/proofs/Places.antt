@@ -10,7 +10,7 @@ use Rattle.sr_database_history.specs.Recorded.{Recorded}
 use Rattle.sr_scan.specs.Given.{gives}
 use Rattle.sr_send_needs.proofs.Searches.{le-before, passed_over}
 use Rattle.sr_send_needs.specs.Inner.Ends.{IsEndOf}
-use Rattle.sr_send_needs.specs.Inner.Needs.{some_ops, end_before, need_of, least_from, least_need}
+use Rattle.sr_send_needs.specs.Needs.{any_ops, end_before, need_of, least_from, least_need}
 
 -- of the rest of a history the place before what is given is an end of it
 before_is_end : (sent : ℕ) (user : Name) (es done : List Recorded) (s : State) (rs : List Recorded) → es ≡ done ++ rs → IsEndOf es (end_before sent s (end_of done) rs user)
@@ -20,7 +20,7 @@ before_is_end sent user es done s (r ∷ rs) parts =
     let more : end_of (done ++ r ∷ []) ≡ end = end_from-more 0 done r in
     let later : IsEndOf es (end_before sent (next s r) end rs user) =
     subst (λ (m : ℕ). IsEndOf es (end_before sent (next s r) m rs user)) more (before_is_end sent user es (done ++ r ∷ []) (next s r) rs (parts ∙ sym (append_assoc done (r ∷ []) rs))) in
-    either (some_ops (gives s r user) && nat_lt sent end) (end_before sent (next s r) end rs user) later
+    either (any_ops (gives s r user) && nat_lt sent end) (end_before sent (next s r) end rs user) later
   where
     either : (b : Bool) (other : ℕ) → IsEndOf es other → IsEndOf es (cond b (end_of done) other)
     either true other later = record { done = done; left = r ∷ rs; parts = parts; place_is = refl }

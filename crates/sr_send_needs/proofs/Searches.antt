@@ -22,8 +22,8 @@ use Rattle.sr_scan.specs.Inner.Scanners.{Scan, IsFed, transaction_of}
 use Rattle.sr_send.proofs.Histories.{fits_next}
 use Rattle.sr_send_needs.proofs.Followed.{IsEndOfEach, database_on, read_none, read_on, told_then}
 use Rattle.sr_send_needs.specs.Inner.Searching.{is_past, IsAsked, IsPassed, IsStep, Passes, Stops, HasPassed, SearchedTo, step_to}
-use Rattle.sr_send_needs.specs.Inner.Needs.{some_ops, end_before}
 use Rattle.sr_site.specs.Seen.{Seen}
+use Rattle.sr_send_needs.specs.Needs.{any_ops, end_before}
 
 -- ---- the place before what is given
 
@@ -31,7 +31,7 @@ pub le-before : (sent : ℕ) (user : Name) (s : State) (place : ℕ) (rs : List 
 le-before sent user s place [] = omega arith
 le-before sent user s place (r ∷ rs) =
     let later = le-before sent user (next s r) (place + (size r + 5)) rs in
-    elim (some_ops (gives s r user) && nat_lt sent (place + (size r + 5))) as (λ t. place ≤ cond t place (end_before sent (next s r) (place + (size r + 5)) rs user)) [
+    elim (any_ops (gives s r user) && nat_lt sent (place + (size r + 5))) as (λ t. place ≤ cond t place (end_before sent (next s r) (place + (size r + 5)) rs user)) [
       | true ↦ omega arith
       | false ↦ omega (arith, later)
     ]
@@ -42,13 +42,13 @@ passed_over sent user s place [] qs le = refl
 passed_over sent user s place (r ∷ rs) qs le =
     let end = place + (size r + 5) in
     let not_past : end ≤ sent = omega (arith, le-end_from end rs, le) in
-    no_test (some_ops (gives s r user)) end not_past place (end_before sent (next s r) end (rs ++ qs) user) ∙ passed_over sent user (next s r) end rs qs le
+    no_test (any_ops (gives s r user)) end not_past place (end_before sent (next s r) end (rs ++ qs) user) ∙ passed_over sent user (next s r) end rs qs le
   where
     no_test : (some : Bool) (end : ℕ) → end ≤ sent → (a b : ℕ) → cond (some && nat_lt sent end) a b ≡ b
     no_test true end le a b = elim (ask_test sent end) [ inl t ↦ absurd (omega (arith, t.1, le)) | inr t ↦ rw t.0 refl ]
     no_test false end le a b = refl
 
-past_of : (sent : ℕ) (end : Offset) (ops : List Op) → is_past sent end.0 (transaction_of end ops) ≡ (some_ops ops && nat_lt sent end.0)
+past_of : (sent : ℕ) (end : Offset) (ops : List Op) → is_past sent end.0 (transaction_of end ops) ≡ (any_ops ops && nat_lt sent end.0)
 past_of sent end [] = refl
 past_of sent end (op ∷ ops) = refl
 
@@ -63,18 +63,18 @@ module _ (publisher : Name) (done left : List Recorded) (sent : ℕ) (old new : 
   end_is = n.end_is ∙ end_from-more 0 done n.r
 
   -- what is asked of a scanner is whether the entry gives something past the offset
-  test_is : (past : Bool) → IsAsked old sent end entry new past → (past ≡ (some_ops (gives s n.r old.user) && nat_lt sent (end_of done + (size n.r + 5)))) × (new.catalog ≡ (next s n.r).catalog) × (new.user ≡ old.user)
+  test_is : (past : Bool) → IsAsked old sent end entry new past → (past ≡ (any_ops (gives s n.r old.user) && nat_lt sent (end_of done + (size n.r + 5)))) × (new.catalog ≡ (next s n.r).catalog) × (new.user ≡ old.user)
   test_is past asked =
       let fits = fits_next publisher (done ++ left) done n.rest n.r stored (ap (λ (rs : List Recorded). done ++ rs) n.left_is) in
       let fed : IsFed old end (entry_of n.r) asked.found new = subst (λ (e : Entry). IsFed old end e asked.found new) n.entry_is asked.fed in
       let same = fed_same s (end_of done) n.r old new end asked.found (stored_holds publisher done fits.0) fits.1 catalog fed in (
-        asked.past_is ∙ ap (λ f. is_past sent end.0 f) same.0 ∙ past_of sent end (gives s n.r old.user) ∙ ap (λ (m : ℕ). some_ops (gives s n.r old.user) && nat_lt sent m) end_is,
+        asked.past_is ∙ ap (λ f. is_past sent end.0 f) same.0 ∙ past_of sent end (gives s n.r old.user) ∙ ap (λ (m : ℕ). any_ops (gives s n.r old.user) && nat_lt sent m) end_is,
         same.1,
         same.2,
       )
 
   first_is : end_before sent s (end_of done) left old.user
-      ≡ cond (some_ops (gives s n.r old.user) && nat_lt sent (end_of done + (size n.r + 5))) (end_of done) (end_before sent (next s n.r) (end_of done + (size n.r + 5)) n.rest old.user)
+      ≡ cond (any_ops (gives s n.r old.user) && nat_lt sent (end_of done + (size n.r + 5))) (end_of done) (end_before sent (next s n.r) (end_of done + (size n.r + 5)) n.rest old.user)
   first_is = ap (λ (rs : List Recorded). end_before sent s (end_of done) rs old.user) n.left_is
 
   pub next_passed : IsAsked old sent end entry new false → IsPassed publisher done left sent new end old.user

@@ -22,7 +22,7 @@ use Rattle.sr_send_needs.specs.Inner.Searching.{HasPassed}
 use Rattle.sr_scan.specs.Inner.Scanners.{Scan}
 use Rattle.sr_send_needs.specs.Inner.Seeking.{AreGranted, ConfirmedButBy, HasConfirmed, SoughtTo, confirmed_by}
 use Rattle.sr_send_needs.specs.Inner.Starting.{IsStart, catalog_in}
-use Rattle.sr_send_needs.specs.Inner.Needs.{end_before, least_from, least_need, need_of}
+use Rattle.sr_send_needs.specs.Needs.{end_before, least_from, least_need, need_of}
 use Rattle.sr_send_needs.specs.declared.start.Start.{Start}
 use Rattle.sr_site.specs.Seen.{Seen}
 

@@ -20,7 +20,7 @@ use Rattle.sr_catalog_script_laws.proofs.ReplayCauses.{first_of-None, where_true
 use Rattle.sr_catalog_script_laws.proofs.ReplayLists.{found_as_taken}
 use Rattle.sr_catalog_script_laws.proofs.ReplayNexts.{made_stands}
 use Rattle.sr_catalog_script_laws.proofs.Standing.{SubscriptionStands, only_these}
-use Rattle.sr_catalog_script_laws.specs.Inner.Scripts.{IsMade, IsSpelled, subscription_rule}
+use Rattle.sr_catalog_script_laws.specs.Scripts.{IsMadeByStatements, IsSpellable, subscription_rule}
 use Rattle.sr_catalog_script_laws.proofs.Spelled.{still_spelled}
 use Rattle.sr_database_history.proofs.Granted.{books_begin, known_from, stays_known}
 use Rattle.sr_database_history.proofs.Kept.{fresh_holds, stays_held}
@@ -70,7 +70,7 @@ module _ (c : Lists) (user : Name) (unknown : ¬ (IsSome (named user_name user c
   in_none None source e = refl
   in_none (Some t) source e = ap (λ o. option_map (subscribed_table_by c user t) o) e
 
-  has_no_table : IsMade c → (table : Name) → subscribed_table_of c user table ≡ None
+  has_no_table : IsMadeByStatements c → (table : Name) → subscribed_table_of c user table ≡ None
   unfolding subscribed_table_of
   has_no_table made table = in_none (table_named c table) (source_of c user table) (no_source table c.subscriptions (made_stands c made).each_subscription)
 
@@ -81,7 +81,7 @@ no_changes s user [] none = refl
 no_changes s user (c ∷ changes) none =
     ap₂ (λ (xs ys : List Op). xs ++ ys) (ap (λ o. change_given o s user c) (none c.table)) (no_changes (with_changes (c ∷ []) s) user changes none)
 
-state_none : (s : State) (user : Name) → IsSpelled s.catalog → ¬ (Knows s user) → (changes : List Change) → changes_given s user changes ≡ []
+state_none : (s : State) (user : Name) → IsSpellable s.catalog → ¬ (Knows s user) → (changes : List Change) → changes_given s user changes ≡ []
 state_none s user spelled unknown changes = no_changes s user changes (has_no_table s.catalog user unknown spelled.made)
 
 not_his : (s : State) (user other : Name) → ¬ (Knows s user) → Knows s other → bytes_eq other user ≡ false
@@ -90,7 +90,7 @@ not_his s user other unknown knows = go (bytes_eq other user) refl where
   go true is = absurd (unknown (subst (λ (n : Name). Knows s n) (same_name other user is) knows))
   go false is = is
 
-done_spelled : (s : State) (d : Done) → IsSpelled s.catalog → IsLawfulDone d → DoneFits s d → IsSpelled (after_done d s).catalog
+done_spelled : (s : State) (d : Done) → IsSpellable s.catalog → IsLawfulDone d → DoneFits s d → IsSpellable (after_done d s).catalog
 unfolding with_statement
 done_spelled s (plain op changes) spelled meant fit = spelled
 done_spelled s (ran statement changes) spelled meant fit = still_spelled s.catalog statement spelled meant.0 fit.outcome.catalog
@@ -101,7 +101,7 @@ known_behind : (s : State) (user : Name) (dones : List Done) → Knows s user �
 unfolding next
 known_behind s user dones knows = stays_known s (taken_from [] (offset_from 0) dones) user knows
 
-no_dones : (s : State) (user : Name) (dones : List Done) → IsSpelled s.catalog → AllByRecursion IsLawfulDone dones → DonesFit s dones → ¬ (Knows (after_dones dones s) user) → dones_given false s user dones ≡ []
+no_dones : (s : State) (user : Name) (dones : List Done) → IsSpellable s.catalog → AllByRecursion IsLawfulDone dones → DonesFit s dones → ¬ (Knows (after_dones dones s) user) → dones_given false s user dones ≡ []
 no_dones s user [] spelled meant fit unknown = refl
 no_dones s user (d ∷ dones) spelled meant fit unknown =
     ap₂ (λ (xs ys : List Op). xs ++ ys) (state_none s user spelled (λ knows. unknown (known_behind s user (d ∷ dones) knows)) (done_changes d))
@@ -116,7 +116,7 @@ none_among s user (u ∷ users) unknown all = rw (not_his' u all.0) (none_among 
     go true is = absurd (unknown (subst (λ (n : Name). Knows s n) (sym (same_name user other is)) knows))
     go false is = is
 
-passed_none : (s : State) (user : Name) (only : Bool) (changes : List Change) → IsSpelled s.catalog → ¬ (Knows s user) → pass_given only s user changes ≡ []
+passed_none : (s : State) (user : Name) (only : Bool) (changes : List Change) → IsSpellable s.catalog → ¬ (Knows s user) → pass_given only s user changes ≡ []
 passed_none s user true changes spelled unknown = refl
 passed_none s user false changes spelled unknown = state_none s user spelled unknown changes
 

@@ -12,7 +12,7 @@ ghost use Rattle.sr_database.specs.InForce.{HasLogInForce};
 ghost use Rattle.sr_send_needs.specs.Inner.Reading.{NeedCause, SearchCause};
 ghost use Rattle.sr_send_needs.specs.Inner.Seeking.{AreGranted, HasConfirmed, confirmed_by};
 ghost use Rattle.sr_send_needs.specs.Inner.Starting.{IsStart};
-ghost use Rattle.sr_send_needs.specs.Inner.Needs.{least_need, need_of};
+ghost use Rattle.sr_send_needs.specs.Needs.{least_need, need_of};
 
 use crate::fault::{NeedFault, need_fault};
 use crate::searching::search;

@@ -10,7 +10,7 @@ ghost use Rattle.sr_database.specs.Inner.Causes.{EntryCause};
 ghost use Rattle.sr_database_files.specs.declared.fault.DatabaseFault.TheVariants.{Memory};
 ghost use Rattle.sr_send_needs.specs.Inner.Reading.{SearchCause};
 ghost use Rattle.sr_send_needs.specs.Inner.Searching.{IsAsked, IsStep, HasPassed, step_to};
-ghost use Rattle.sr_send_needs.specs.Inner.Needs.{end_before};
+ghost use Rattle.sr_send_needs.specs.Needs.{end_before};
 
 use sr_base::Offset;
 use sr_database::{Database, DatabaseFault};

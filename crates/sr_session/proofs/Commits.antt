@@ -12,7 +12,7 @@ use Rattle.sr_logform.specs.declared.change.Change.{Change}
 use Rattle.sr_logform.specs.declared.entry.Entry.{Entry}
 use Rattle.sr_site.specs.Causes.{DiskStays}
 use Rattle.sr_site.specs.Seen.{Seen}
-use Rattle.sr_database_meaning.specs.Events.{commit}
+use Rattle.sr_database_meaning.specs.Events.{attaches_in, commit}
 use Rattle.sr_database_meaning.specs.Traces.{Went}
 use Rattle.sr_database.specs.Causes.{IsTooFar, IsTooLong}
 use Rattle.sr_database.specs.Inner.Causes.{CommitCause, IsBegun}
@@ -56,6 +56,7 @@ pub record Committed (old new : View) (before now : Seen) (entry : Entry) (offse
   pub database : IsTrue before.observable → (publisher : Name) (es : List Recorded) (r : Recorded) → IsDatabase old publisher es before → CanCommit old entry r → IsDatabase new publisher (es ++ r ∷ []) now
   pub went : IsTrue before.observable → (publisher : Name) (es : List Recorded) (r : Recorded) → IsDatabase old publisher es before → CanCommit old entry r → Went before now publisher es (commit r ∷ [])
   pub room : HasRoom old.log entry
+  pub attached : IsTrue before.observable → attaches_in now.happened ≡ attaches_in before.happened
   pub stays : DiskStays before now
   pub steady : now.disk_faults ≡ before.disk_faults
 
@@ -91,6 +92,7 @@ entered old new before now lines lines' region entry offset r ready can done sai
           in_force = λ told yes has. done.in_force told;
           database = λ told yes publisher es database. done.database told publisher es r database can;
           went = λ told publisher es database. done.went told publisher es r database can;
+          attached = done.attached;
           stays = done.stays;
         };
         said = line_at lines lines' offset.0 (old.log.end + (size r + 5)) said (done.offset_is ∙ end);
@@ -102,6 +104,7 @@ pub record NotCommitted (old new : View) (before now : Seen) (entry : Entry) (fa
   pub cause : CommitCause old new entry before now fault
   pub went : IsTrue before.observable → (publisher : Name) (es : List Recorded) (r : Recorded) → IsDatabase old publisher es before → CanCommit old entry r → IsBegun (Err fault)
       → Went before now publisher es (commit r ∷ [])
+  pub attached : IsTrue before.observable → attaches_in now.happened ≡ attaches_in before.happened
   pub stays : DiskStays before now
 
 came_same : (old new : View) (before now : Seen) (lines lines' : List ℕ) → new ≡ old → now ≡ before → old.log.usable ≡ true → lines' ≡ lines → Came old new before now lines lines' [] []
@@ -130,6 +133,7 @@ not_entered old new before now lines lines' region entry r store.Disk ready can 
       end = λ yes. absurd (true_not_false new.log.usable done.cause.0.spent yes);
       database = λ told yes publisher es database. absurd (true_not_false new.log.usable done.cause.0.spent yes);
       went = λ told publisher es database. done.went told publisher es r database can tt;
+      attached = done.attached;
       stays = done.stays;
     };
     said = same ∙ sym (append-nil lines);

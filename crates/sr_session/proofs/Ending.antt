@@ -60,6 +60,7 @@ reached_kept old middle new before now acts broken kept reached = record {
       let there = reached.database told (usable_before middle new kept.log can) publisher es database in
       database_along middle new publisher _ now kept.log (advanced_still middle new publisher _ kept.value there.is) there;
   went = reached.went;
+  attached = reached.attached;
   stays = reached.stays;
 }
 

@@ -5,7 +5,7 @@ use Rattle.sr_ast.specs.declared.stmt.Passthrough.{Passthrough}
 use Rattle.sr_ast.specs.declared.stmt.Stmt.{Stmt}
 use Rattle.sr_ast.specs.declared.stmt.Stmt.TheVariants as stmt
 use Rattle.sr_catalog_change.specs.Changes.{refusal}
-use Rattle.sr_exec_dml.specs.Inner.Conditions.{RowsFit}
+use Rattle.sr_exec_dml.specs.Fitting.{RowsFit}
 use Rattle.sr_exec_dml.specs.FittingChanges.{ChangesFit}
 use Rattle.sr_exec_dml.specs.Statements.{done}
 use Rattle.sr_exec_dml.specs.declared.changes.Changes.{Changes}

@@ -71,6 +71,7 @@ reached_still old new seen acts none ends same usable on = record {
       subst (λ (rs : List Recorded). IsDatabase new publisher rs seen) (no_more es acts none) (database_along old new publisher es seen same (advanced_still old new publisher es on database.is) database);
   went = λ told publisher es database.
       subst (λ (rs : List Recorded). Went seen seen publisher es (map commit (rs ++ []))) (sym none) (nothing seen publisher es (stands_as old publisher es seen database));
+  attached = λ told. refl;
   stays = still seen;
 }
 
@@ -123,6 +124,7 @@ reached_on a b c first second third acts more broken one two = record {
       (two.went (told_later first second one.stays told) publisher (es ++ entries_of acts) (one.database told one.state.0 publisher es database)) in
       subst (λ (items : List Event). Went first third publisher es items) (trace_on acts more broken)
       (joined first second third publisher es (map commit (entries_of acts ++ [])) (map commit (entries_of more ++ broken)) (one.went told publisher es database) behind);
+  attached = λ told. two.attached (told_later first second one.stays told) ∙ one.attached told;
   stays = disk_stays_on first second third one.stays two.stays;
 }
 

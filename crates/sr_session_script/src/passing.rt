@@ -1,7 +1,7 @@
 //! Statements in a passthrough region.
 
 ghost use Rattle.std.specs.Prelude.{◌≡◌, ◌++◌, [], MatchResult, IfOk};
-ghost use Rattle.sr_exec_dml.specs.Inner.Conditions.{RowsFit};
+ghost use Rattle.sr_exec_dml.specs.Fitting.{RowsFit};
 ghost use Rattle.sr_session_script.specs.Inner.Answers.{IsStop};
 ghost use Rattle.sr_session_script.specs.Meaning.{catalog_changes, row_changes, uncarried, not_carried};
 ghost use Rattle.sr_session_script.specs.Works.{is_among, once_behind, region_of};

@@ -1,7 +1,7 @@
 //! What one statement comes to on a catalog and rows, or what refuses it.
 
 ghost use Rattle.std.specs.Prelude.{◌≡◌, IfOk, MatchResult};
-ghost use Rattle.sr_exec_dml.specs.Inner.Conditions.{RowsFit};
+ghost use Rattle.sr_exec_dml.specs.Fitting.{RowsFit};
 ghost use Rattle.sr_session_script.specs.Inner.Answers.{IsStop};
 ghost use Rattle.sr_session_script.specs.Meaning.{accepted, changes_by, rows_by, is_done_already};
 

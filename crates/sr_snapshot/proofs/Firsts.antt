@@ -11,8 +11,8 @@ use Rattle.sr_base.specs.declared.value.Value.{Value}
 use Rattle.sr_catalog_script_laws.proofs.Spelled.{new_spelled}
 use Rattle.sr_rows.specs.Marks.{place_cmp, rows_of_table}
 use Rattle.sr_snapshot.specs.Inner.Beginnings.{first_of}
-use Rattle.sr_snapshot.specs.Inner.Parts.{magic}
-use Rattle.sr_snapshot.specs.Inner.Snapshots.{snapshot_spelling, IsSnapshot}
+use Rattle.sr_snapshot.specs.Parts.{magic}
+use Rattle.sr_snapshot.specs.Snapshots.{snapshot_spelling, IsSnapshot}
 
 zeros8 : List ℕ
 zeros8 = 0 ∷ 0 ∷ 0 ∷ 0 ∷ 0 ∷ 0 ∷ 0 ∷ 0 ∷ []

@@ -2,20 +2,19 @@
 use Rattle.std.proofs.Common.{◌<◌, ◌^◌, ℕ, List, refl}
 use Rattle.std.specs.Int.{w64, to_be_bytes}
 use Rattle.sr_base.specs.Fields.{bytes_spelling, list_spelling, name_at, name_spelling, pair_spelling, IsListOf, IsName, IsText}
-use Rattle.sr_base.specs.Inner.Fields.{list_at, mapped_at, number_at, pair_at, text_at}
+use Rattle.sr_base.specs.Inner.Fields.{pair_at}
 use Rattle.sr_base.specs.Inner.ListLaws.{list_format}
 use Rattle.sr_base.specs.Inner.NumberLaws.{format64}
 use Rattle.sr_base.specs.Inner.PartLaws.{mapped_format, pair_format}
 use Rattle.sr_base.specs.Inner.Reading.{IsFormat}
 use Rattle.sr_base.specs.Inner.TextLaws.{name_format, text_format}
 use Rattle.sr_base.specs.Inner.ValueLaws.{value_format}
-use Rattle.sr_base.specs.Inner.Values.{value_at}
-use Rattle.sr_base.specs.Reading.{Read}
+use Rattle.sr_base.specs.Reading.{Read, list_at, mapped_at, number_at, text_at, value_at}
 use Rattle.sr_base.specs.Values.{IsValue, row_spelling}
 use Rattle.sr_base.specs.declared.value.Value.{Value}
 use Rattle.sr_book.specs.declared.book.Book.{Book}
 use Rattle.sr_logform.specs.Entries.{table_spelling}
-use Rattle.sr_snapshot.specs.Inner.Parts.{book_line, book_spelling}
+use Rattle.sr_snapshot.specs.Parts.{book_line, book_spelling}
 
 abbrev pub Four : Type 0
 Four = ℕ × (ℕ × (ℕ × ℕ))

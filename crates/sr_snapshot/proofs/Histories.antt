@@ -23,7 +23,7 @@ use Rattle.sr_catalog_schema.specs.declared.table.Table.{Table}
 use Rattle.sr_catalog_schema.specs.declared.user.User.{User}
 use Rattle.sr_catalog_script_laws.proofs.ReplayNexts.{publisher_next}
 use Rattle.sr_catalog_script_laws.proofs.Spelled.{script_normal}
-use Rattle.sr_catalog_script_laws.specs.Inner.Scripts.{statements}
+use Rattle.sr_catalog_script_laws.specs.Scripts.{statements}
 use Rattle.sr_database_history.proofs.Bounds.{ends_within}
 use Rattle.sr_database_history.proofs.Kept.{stored_holds}
 use Rattle.sr_database_history.proofs.Tables.{left_at}
@@ -41,7 +41,7 @@ use Rattle.sr_rows.specs.Inner.Marks.{place_cmp_total}
 use Rattle.sr_rows.specs.Marks.{Place, RowMap, place_cmp, rows_of_table}
 use Rattle.sr_rows.specs.Steps.{without_table}
 use Rattle.sr_snapshot.proofs.Printable.{printed_utf8}
-use Rattle.sr_snapshot.specs.Inner.Beginnings.{IsBeginning, IsBook, beginning_behind}
+use Rattle.sr_snapshot.specs.Beginnings.{IsBeginning, IsBook, beginning_behind}
 
 -- ---- rows: each cell is a value
 
@@ -131,7 +131,7 @@ entry_values s (sync user tables) is all = all
 entry_values s (pass users only statement changes) is all = pass_values s only statement changes is.1.1 all
 entry_values s (note user what) is all = all
 
-values_from : (s : State) (place : ℕ) (rs : List Recorded) → HaveValues s.rows → stored_from s place rs → HaveValues (state_from s rs).rows
+pub values_from : (s : State) (place : ℕ) (rs : List Recorded) → HaveValues s.rows → stored_from s place rs → HaveValues (state_from s rs).rows
 values_from s place [] all stored = all
 values_from s place (r ∷ rs) all stored = values_from (next s r) (place + (size r + 5)) rs (entry_values s r stored.0.spelled all) stored.1
 
@@ -164,13 +164,13 @@ publisher_from s (r ∷ rs) = publisher_from (next s r) rs ∙ entry_publisher s
 
 -- ---- the texts of the script
 
-texts_utf8 : (ss : List Stmt) → AllByRecursion IsNormal ss → AllByRecursion IsUtf8 (map printed ss)
+pub texts_utf8 : (ss : List Stmt) → AllByRecursion IsNormal ss → AllByRecursion IsUtf8 (map printed ss)
 texts_utf8 [] all = tt
 texts_utf8 (s ∷ ss) all = (printed_utf8 s all.0, texts_utf8 ss all.1)
 
 -- ---- books: each number has 64 bits
 
-new_is : IsBook new_book
+pub new_is : IsBook new_book
 new_is = record {
   log_sent = omega arith;
   confirm_sent = omega arith;
@@ -254,7 +254,7 @@ entry_book user b (sync other tables) spelled is = is
 entry_book user b (pass users only statement changes) spelled is = is
 entry_book user b (note other what) spelled is = either (bytes_eq user other) (with_note b what) b (note_is b what spelled.1 is) is
 
-book_is : (user : Name) (b : Book) (s : State) (place : ℕ) (rs : List Recorded) → IsBook b → stored_from s place rs → IsBook (book_from sees user b rs)
+pub book_is : (user : Name) (b : Book) (s : State) (place : ℕ) (rs : List Recorded) → IsBook b → stored_from s place rs → IsBook (book_from sees user b rs)
 book_is user b s place [] is stored = is
 book_is user b s place (r ∷ rs) is stored = book_is user (booked user b (sees r)) (next s r) (place + (size r + 5)) rs (entry_book user b r stored.0.spelled is) stored.1
 

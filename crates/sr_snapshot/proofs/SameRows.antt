@@ -6,7 +6,7 @@ use Rattle.std.specs.List.{AllByRecursion}
 use Rattle.std.specs.FinMap.{get, find, same_map}
 use Rattle.sr_base.specs.declared.value.Value.{Value as Cell}
 use Rattle.sr_base.specs.Order.{key_cmp}
-use Rattle.sr_exec_dml.specs.Inner.Conditions.{RowsFit}
+use Rattle.sr_exec_dml.specs.Fitting.{RowsFit}
 use Rattle.sr_exec_where.specs.Keys.{key_of}
 use Rattle.sr_exec_dml.specs.Statements.{table_named}
 use Rattle.sr_exec_dml.proofs.Applied.{found_named}
@@ -19,7 +19,7 @@ use Rattle.sr_rows.proofs.Listing.{get-table_rows}
 use Rattle.sr_catalog_schema.specs.Catalogs.{Lists}
 use Rattle.sr_catalog_schema.specs.Names.{named}
 use Rattle.sr_catalog_schema.specs.declared.table.Table.{Table}
-use Rattle.sr_snapshot.specs.Inner.Snapshots.{rows_in}
+use Rattle.sr_snapshot.specs.Snapshots.{rows_in}
 
 abbrev AreKeyed : List ℕ → List Entry → Type 0
 AreKeyed places es = AllByRecursion (λ (e : Entry). key_of places e.1 ≡ e.0) es

@@ -6,7 +6,7 @@ use Rattle.sr_base.specs.Fields.{bytes_spelling, IsListOf}
 use Rattle.sr_base.specs.Values.{value_spelling, row_spelling, IsShort}
 use Rattle.sr_base.specs.declared.value.Value.{Value}
 use Rattle.sr_base.specs.declared.value.Value.TheVariants.{Null, Int, Big, Str, Date}
-use Rattle.sr_snapshot.specs.Inner.Parts.{longest}
+use Rattle.sr_snapshot.specs.Parts.{longest}
 
 pub text_short : (text : List ℕ) → length (bytes_spelling text) ≤ longest → length text < 2 ^ 32
 text_short text le = omega (arith, le, length-append (to_be_bytes w32 (length text)) text)

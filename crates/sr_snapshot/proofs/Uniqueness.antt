@@ -17,8 +17,8 @@ use Rattle.sr_catalog_schema.specs.Members.{user_name}
 use Rattle.sr_catalog_schema.specs.declared.table.Table.{Table}
 use Rattle.sr_catalog_schema.specs.declared.user.User.{User}
 use Rattle.sr_catalog_script_laws.proofs.Spelled.{script_again, script_normal}
-use Rattle.sr_catalog_script_laws.specs.Inner.Scripts.{create_table_of, grant_of, grant_rule, replayed, statements, IsSpelled}
-use Rattle.sr_exec_dml.specs.Inner.Conditions.{RowsFit}
+use Rattle.sr_catalog_script_laws.specs.Scripts.{create_table_of, grant_of, grant_rule, replayed, statements, IsSpellable}
+use Rattle.sr_exec_dml.specs.Fitting.{RowsFit}
 use Rattle.sr_logform.specs.Entries.{table_spelling}
 use Rattle.sr_parse.proofs.Prints.{prints_once}
 use Rattle.sr_rows.proofs.Cursors.{AreHeld, table_held}
@@ -27,9 +27,9 @@ use Rattle.sr_rows.specs.Walks.{Entry, table_rows}
 use Rattle.sr_snapshot.proofs.Formats.{body_format, body_spelling, Body, IsBody, IsLine, IsTableOf}
 use Rattle.sr_snapshot.proofs.SameRows.{same_rows}
 use Rattle.sr_snapshot.proofs.Shorts.{value_some}
-use Rattle.sr_snapshot.specs.Inner.Beginnings.{Beginning, IsBook}
-use Rattle.sr_snapshot.specs.Inner.Parts.{book_line, longest, magic, rows_of}
-use Rattle.sr_snapshot.specs.Inner.Snapshots.{rows_in, snapshot_spelling, IsSnapshot}
+use Rattle.sr_snapshot.specs.Beginnings.{Beginning, IsBook}
+use Rattle.sr_snapshot.specs.Parts.{book_line, longest, magic, rows_of}
+use Rattle.sr_snapshot.specs.Snapshots.{rows_in, snapshot_spelling, IsSnapshot}
 
 -- ---- lists of parts
 
@@ -185,7 +185,7 @@ stmts_same (s ∷ ss) (t ∷ ts) one other same =
 some_is : (c d : Lists) → Some c ≡ Some d → c ≡ d
 some_is c d same = cc
 
-pub catalogs_same : (c d : Lists) → IsSpelled c → IsSpelled d → c.publisher ≡ d.publisher → map printed (statements c) ≡ map printed (statements d) → c ≡ d
+pub catalogs_same : (c d : Lists) → IsSpellable c → IsSpellable d → c.publisher ≡ d.publisher → map printed (statements c) ≡ map printed (statements d) → c ≡ d
 catalogs_same c d one other publishers texts =
     let ss : statements c ≡ statements d = stmts_same (statements c) (statements d) (script_normal c one) (script_normal d other) texts in
     some_is c d (sym (script_again c one) ∙ (λ i. replayed (nothing_but (publishers i)) (ss i)) ∙ script_again d other)

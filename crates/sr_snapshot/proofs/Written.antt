@@ -9,7 +9,7 @@ use Rattle.sr_site.specs.Images.{MayLeave}
 use Rattle.sr_site.specs.Seen.{Seen}
 use Rattle.sr_site.specs.declared.file.File.{File}
 use Rattle.sr_snapshot.proofs.Puts.{its_bytes, only_on, put_on, replaced_again, told_then}
-use Rattle.sr_snapshot.specs.Inner.Parts.{longest}
+use Rattle.sr_snapshot.specs.Parts.{longest}
 use Rattle.sr_snapshot.specs.Inner.Writing.{HasPut, IsFilled, IsWritten, OnlyOn, PutCause, WriteCause}
 use Rattle.sr_snapshot.specs.declared.fault.SnapFault.{SnapFault}
 use Rattle.sr_snapshot.specs.declared.fault.SnapFault.TheVariants.{Disk, Long, Damaged, Memory}

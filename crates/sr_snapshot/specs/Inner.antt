@@ -1,4 +1,2 @@
 pub mod Beginnings
-pub mod Parts
-pub mod Snapshots
 pub mod Writing

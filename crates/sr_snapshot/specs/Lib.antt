@@ -1,1 +1,4 @@
+pub mod Beginnings
+pub mod Parts
+pub mod Snapshots
 pub mod Inner

@@ -4,9 +4,10 @@ ghost use Rattle.std.specs.Prelude.{◌≡◌, ◌+◌, ℕ, List, [], ◌∷◌
 ghost use Rattle.sr_base.specs.Fields.{IsName, name_spelling};
 ghost use Rattle.sr_database_history.specs.Fitting.{Stored};
 ghost use Rattle.sr_database_history.specs.Recorded.{Recorded};
-ghost use Rattle.sr_snapshot.specs.Inner.Beginnings.{Beginning, IsBeginning, beginning_behind, first_of};
-ghost use Rattle.sr_snapshot.specs.Inner.Parts.{magic};
-ghost use Rattle.sr_snapshot.specs.Inner.Snapshots.{IsSnapshot, snapshot_spelling};
+ghost use Rattle.sr_snapshot.specs.Inner.Beginnings.{first_of};
+ghost use Rattle.sr_snapshot.specs.Beginnings.{Beginning, IsBeginning, beginning_behind};
+ghost use Rattle.sr_snapshot.specs.Parts.{magic};
+ghost use Rattle.sr_snapshot.specs.Snapshots.{IsSnapshot, snapshot_spelling};
 
 /// Bytes are a snapshot of one beginning at most: a snapshot tells the offset, the catalog, the rows and the books.
 #[tactic(auto, using(crate::proofs::Uniqueness::one_beginning))]

@@ -5,7 +5,7 @@ ghost use Rattle.std.specs.List.{flat_map};
 ghost use Rattle.sr_base.specs.Fields.{bytes_spelling, name_spelling};
 ghost use Rattle.sr_base.specs.Values.{value_spelling, row_spelling};
 ghost use Rattle.sr_rows.specs.Walks.{table_rows};
-ghost use Rattle.sr_snapshot.specs.Inner.Parts.{book_line, rows_of};
+ghost use Rattle.sr_snapshot.specs.Parts.{book_line, rows_of};
 
 use sr_base::{Name, NoMemory, Row, Text, Value};
 use sr_book::Book;

@@ -8,7 +8,7 @@ ghost use Rattle.sr_base.specs.Values.{row_spelling};
 ghost use Rattle.sr_logform.specs.Entries.{table_spelling};
 ghost use Rattle.sr_rows.specs.Walks.{table_rows};
 ghost use Rattle.sr_site.specs.Files.{bytes_of};
-ghost use Rattle.sr_snapshot.specs.Inner.Parts.{book_line, book_spelling, four_spelling, longest, magic, rows_of};
+ghost use Rattle.sr_snapshot.specs.Parts.{book_line, book_spelling, four_spelling, longest, magic, rows_of};
 ghost use Rattle.sr_snapshot.specs.Inner.Writing.{HasPut, PutCause};
 
 use crate::fault::SnapFault;

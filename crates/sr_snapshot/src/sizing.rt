@@ -3,10 +3,10 @@
 ghost use Rattle.std.specs.Prelude.{◌≡◌, length, map, IfOk};
 ghost use Rattle.std.specs.List.{flat_map};
 ghost use Rattle.sr_ast.specs.Layout.{printed};
-ghost use Rattle.sr_catalog_script_laws.specs.Inner.Scripts.{statements};
+ghost use Rattle.sr_catalog_script_laws.specs.Scripts.{statements};
 ghost use Rattle.sr_logform.specs.Entries.{table_spelling};
 ghost use Rattle.sr_snapshot.specs.Inner.Beginnings.{beginning_in};
-ghost use Rattle.sr_snapshot.specs.Inner.Snapshots.{rows_in, snapshot_spelling};
+ghost use Rattle.sr_snapshot.specs.Snapshots.{rows_in, snapshot_spelling};
 
 use crate::measuring::{COUNT, books_length, name_length, rows_length, sum, texts_length};
 use crate::state::State;

@@ -3,13 +3,13 @@
 ghost use Rattle.std.specs.Prelude.{◌≡◌, ◌≤◌, [], length, map, IsTrue, OnOk, IfErr};
 ghost use Rattle.sr_ast.specs.Layout.{printed};
 ghost use Rattle.sr_base.specs.Fields.{list_spelling};
-ghost use Rattle.sr_catalog_script_laws.specs.Inner.Scripts.{statements};
+ghost use Rattle.sr_catalog_script_laws.specs.Scripts.{statements};
 ghost use Rattle.sr_logform.specs.Entries.{table_spelling};
 ghost use Rattle.sr_site.specs.Causes.{DiskStays};
 ghost use Rattle.sr_site.specs.Files.{bytes_of};
 ghost use Rattle.sr_snapshot.specs.Inner.Beginnings.{beginning_in};
-ghost use Rattle.sr_snapshot.specs.Inner.Parts.{longest};
-ghost use Rattle.sr_snapshot.specs.Inner.Snapshots.{rows_in, snapshot_spelling};
+ghost use Rattle.sr_snapshot.specs.Parts.{longest};
+ghost use Rattle.sr_snapshot.specs.Snapshots.{rows_in, snapshot_spelling};
 ghost use Rattle.sr_snapshot.specs.Inner.Writing.{HappenedOn, HasPut, IsFilled, IsReplaced, IsWritten, PutCause, WriteCause};
 
 use crate::fault::SnapFault;

@@ -5,20 +5,21 @@ use Rattle.std.specs.Int.{w64, to_be_bytes}
 use Rattle.std.specs.List.{flat_map, AllByRecursion}
 use Rattle.std.specs.Prelude.{IsTrue}
 use Rattle.sr_base.specs.Fields.{name_spelling}
-use Rattle.sr_base.specs.Inner.Fields.{number_at}
+use Rattle.sr_base.specs.Reading.{number_at}
 use Rattle.sr_book.specs.declared.book.Book.{Book}
 use Rattle.sr_catalog_schema.specs.Members.{user_name}
 use Rattle.sr_catalog_schema.specs.declared.user.User.{User}
 use Rattle.sr_site.specs.Files.{bytes_of}
 use Rattle.sr_site.specs.Seen.{Seen}
 use Rattle.sr_site.specs.declared.file.File.{File}
-use Rattle.sr_snapshot.specs.Inner.Beginnings.{IsBook}
-use Rattle.sr_snapshot.specs.Inner.Parts.{book_line, book_spelling, four_spelling}
+use Rattle.sr_snapshot.specs.Beginnings.{IsBook}
+use Rattle.sr_snapshot.specs.Parts.{book_line, book_spelling, four_spelling}
 use Rattle.sr_snapshot.specs.declared.fault.SnapFault.{SnapFault}
 use Rattle.sr_snapshot_read.proofs.RowsRead.{taken_nothing}
 use Rattle.sr_snapshot_read.proofs.Windows.{cause_as, cause_behind, taken_on}
-use Rattle.sr_snapshot_read.specs.Inner.Damages.{BooksBreak, NameBreaks, NeverBreaks, NumbersBreak}
-use Rattle.sr_snapshot_read.specs.Inner.Reading.{FieldBreaks, HasTaken, IsOver, TakeCause}
+use Rattle.sr_snapshot_read.specs.Inner.Damages.{NeverBreaks}
+use Rattle.sr_snapshot_read.specs.Damages.{BooksBreak, NameBreaks, NumbersBreak, FieldBreaks}
+use Rattle.sr_snapshot_read.specs.Inner.Reading.{HasTaken, IsOver, TakeCause}
 use Rattle.sr_snapshot_read.specs.Inner.Views.{View}
 
 -- ---- numbers

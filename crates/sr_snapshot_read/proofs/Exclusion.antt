@@ -11,7 +11,7 @@ use Rattle.sr_ast.specs.declared.stmt.Stmt.{Stmt}
 use Rattle.sr_ast.specs.declared.stmt.Stmt.TheVariants as stmt
 use Rattle.sr_base.proofs.Formats.{begins_no_other}
 use Rattle.sr_base.specs.Fields.{bytes_spelling, list_spelling, name_spelling, IsListOf, IsName, IsText}
-use Rattle.sr_base.specs.Inner.Fields.{number_at}
+use Rattle.sr_base.specs.Reading.{number_at}
 use Rattle.sr_base.specs.Inner.ListLaws.{list_format}
 use Rattle.sr_base.specs.Inner.NumberLaws.{format32, format64}
 use Rattle.sr_base.specs.Inner.TextLaws.{name_format, text_format}
@@ -32,30 +32,28 @@ use Rattle.sr_catalog_schema.specs.declared.table.Table.{Table}
 use Rattle.sr_catalog_schema.specs.declared.trigger.Trigger.{Trigger}
 use Rattle.sr_catalog_schema.specs.declared.user.User.{User}
 use Rattle.sr_catalog_script_laws.proofs.Spelled.{script_again, script_normal}
-use Rattle.sr_catalog_script_laws.specs.Inner.Scripts.{IsMade, create_publication_of, create_subscription_of, create_table_of, grant_of, grant_rule, replayed, set_options_of, start_of, statements, trigger_stmt, unless_refused, verifies_rule}
-use Rattle.sr_exec_dml.specs.Inner.Conditions.{TableFits}
+use Rattle.sr_catalog_script_laws.specs.Scripts.{IsMadeByStatements, create_publication_of, create_subscription_of, create_table_of, grant_of, grant_rule, replayed, set_options_of, start_of, statements, trigger_stmt, unless_refused, verifies_rule}
+use Rattle.sr_exec_dml.specs.Fitting.{TableFits}
 use Rattle.sr_exec_where.specs.Keys.{key_of}
 use Rattle.sr_logform.specs.Entries.{table_spelling}
 use Rattle.sr_parse.proofs.Prints.{prints_once}
 use Rattle.sr_parse.specs.Prints.{Prints}
 use Rattle.sr_rows.proofs.Cursors.{AreHeld, table_held}
 use Rattle.sr_rows.proofs.Listing.{table_rows-rise}
-use Rattle.sr_rows.specs.Inner.Marks.{IsPast}
 use Rattle.sr_rows.specs.Inner.Walks.{Rises}
 use Rattle.sr_rows.specs.Marks.{RowMap}
-use Rattle.sr_rows.specs.Walks.{Entry, table_rows}
+use Rattle.sr_rows.specs.Walks.{Entry, table_rows, IsPast}
 use Rattle.sr_snapshot.proofs.Formats.{IsBody, IsLine, IsTableOf}
 use Rattle.sr_snapshot.proofs.Uniqueness.{behind_magic, body_fits, body_of}
-use Rattle.sr_snapshot.specs.Inner.Beginnings.{Beginning, IsBook}
-use Rattle.sr_snapshot.specs.Inner.Parts.{book_line, book_spelling, rows_of}
-use Rattle.sr_snapshot.specs.Inner.Snapshots.{rows_in, IsSnapshot}
+use Rattle.sr_snapshot.specs.Beginnings.{Beginning, IsBook}
+use Rattle.sr_snapshot.specs.Parts.{book_line, book_spelling, rows_of}
+use Rattle.sr_snapshot.specs.Snapshots.{rows_in, IsSnapshot}
 use Rattle.sr_snapshot_read.proofs.Standing.{distinct_tables, triggers_stand}
 use Rattle.sr_snapshot_read.proofs.Fronts.{behind_same, never}
 use Rattle.sr_snapshot_read.proofs.Places.{name_in_format, row_in_format, text_in_format}
 use Rattle.sr_snapshot_read.proofs.TablesRead.{each_named}
-use Rattle.sr_snapshot_read.specs.Inner.Damages.{ArePlaced, AreRead, Behind, BooksBreak, CountBreaks, GoesOn, IsDamaged, IsNext, IsPlaced, LastBreaks, ListsBreak, Make, NameBreaks, NumbersBreak, OffsetBreaks, RowsBreak, ScriptBreaks, ScriptDiffers, StateBreaks, TablesBreak, TextsBreak}
-use Rattle.sr_snapshot_read.specs.Inner.Places.{name_in}
-use Rattle.sr_snapshot_read.specs.Inner.Reading.{FieldBreaks}
+use Rattle.sr_snapshot_read.specs.Damages.{ArePlaced, AreRead, BehindPart, BooksBreak, CountBreaks, GoesOn, IsDamagedSnapshot, IsNextStatement, IsPlaced, LastBreaks, ListsBreak, Make, NameBreaks, NumbersBreak, OffsetBreaks, RowsBreak, ScriptBreaks, ScriptDiffers, StateBreaks, TablesBreak, TextsBreak, FieldBreaks}
+use Rattle.sr_snapshot_read.specs.Places.{name_in}
 
 -- ---- names and counts
 
@@ -107,11 +105,11 @@ tables_spelled rows ts = flat_map table_spelling (map (rows_in rows) ts)
 -- behind the count of a table's rows, and before it
 abbrev pub FirstBreaks : Table → List Table → (List ℕ → ℕ → Type 0) → ℕ → ℕ → List ℕ → Type 0
 FirstBreaks t ts later left count first =
-    RowsBreak t None count first left ⊎ ((found : List (List Value)) × AreRead t count found × Behind (flat_map row_spelling found) (λ rest. TablesBreak ts later rest left) first)
+    RowsBreak t None count first left ⊎ ((found : List (List Value)) × AreRead t count found × BehindPart (flat_map row_spelling found) (λ rest. TablesBreak ts later rest left) first)
 
 abbrev pub CountedBreaks : Table → List Table → (List ℕ → ℕ → Type 0) → ℕ → List ℕ → Type 0
 CountedBreaks t ts later left counted =
-    FieldBreaks (number_at w32) counted left ⊎ ((count : ℕ) × (count < 2 ^ 32) × Behind (to_be_bytes w32 count) (λ first. FirstBreaks t ts later left count first) counted)
+    FieldBreaks (number_at w32) counted left ⊎ ((count : ℕ) × (count < 2 ^ 32) × BehindPart (to_be_bytes w32 count) (λ first. FirstBreaks t ts later left count first) counted)
 
 abbrev tables_left : RowMap → List Table → List ℕ → List ℕ
 tables_left rows ts behind = tables_spelled rows ts ++ behind
@@ -147,7 +145,7 @@ table_never rows t ts later others bytes left sound is ends breaks = by breaks
         is ∙ append_assoc (name_spelling t.name) (to_be_bytes w32 (length (its_rows rows t)) ++ flat_map row_spelling (its_rows rows t)) others
         ∙ ap (λ (l : List ℕ). name_spelling t.name ++ l) (append_assoc (to_be_bytes w32 (length (its_rows rows t))) (flat_map row_spelling (its_rows rows t)) others)
 
-    by : NameBreaks t.name bytes left ⊎ Behind (name_spelling t.name) (λ counted. CountedBreaks t ts later left counted) bytes → ⊥
+    by : NameBreaks t.name bytes left ⊎ BehindPart (name_spelling t.name) (λ counted. CountedBreaks t ts later left counted) bytes → ⊥
     by (inl name) = name_never t.name bytes _ left sound.name parts name
     by (inr there) = counted_never rows t ts later others left sound ends (behind_same name_format t.name t.name bytes _ (λ counted. CountedBreaks t ts later left counted) sound.name sound.name parts there).1
 
@@ -193,7 +191,7 @@ line_never u us p later others bytes left name is_name number is ends breaks = b
     named_so : IsName u.name
     named_so = subst (λ (n : List ℕ). IsName n) name is_name
 
-    by : NameBreaks u.name bytes left ⊎ Behind (name_spelling u.name) (λ rest. NumbersBreak 8 (BooksBreak us later) rest left) bytes → ⊥
+    by : NameBreaks u.name bytes left ⊎ BehindPart (name_spelling u.name) (λ rest. NumbersBreak 8 (BooksBreak us later) rest left) bytes → ⊥
     by (inl broken) = name_never u.name bytes _ left named_so parts broken
     by (inr there) =
         book_never p.1 (BooksBreak us later) (book_spelling p.1 ++ others) others left number refl ends
@@ -222,7 +220,7 @@ accepted_first : (o : Option DdlFault) (made : Option Lists) (d : Lists) → unl
 accepted_first None made d is = (refl, is)
 accepted_first (Some fault) made d is = absurd (cc)
 
-first_next : (c d : Lists) (s : Stmt) (ss : List Stmt) → Script c (s ∷ ss) d → IsNext c (printed s) s
+first_next : (c d : Lists) (s : Stmt) (ss : List Stmt) → Script c (s ∷ ss) d → IsNextStatement c (printed s) s
 first_next c d s ss script = record {
   prints = record { normal = script.normal.0; prints = refl };
   changes = script.changes.0;
@@ -240,7 +238,7 @@ text_never : (c d : Lists) (s : Stmt) (ss : List Stmt) (rest bytes : List ℕ) (
 text_never c d s ss rest bytes left script is parts later (inl field) = never text_in_format (printed s) bytes rest left is parts field
 text_never c d s ss rest bytes left script is parts later (inr (inl misfits)) =
     let same = (behind_same text_format (printed s) misfits.text bytes rest (λ rest. ⊤) is misfits.is parts misfits.there).0 in
-    misfits.misfit s (subst (λ (t : List ℕ). IsNext c t s) same (first_next c d s ss script))
+    misfits.misfit s (subst (λ (t : List ℕ). IsNextStatement c t s) same (first_next c d s ss script))
 text_never c d s ss rest bytes left script is parts later (inr (inr (text, found, is_text, is_next, there))) =
     let both = behind_same text_format (printed s) text bytes rest (λ rest. TextsBreak (next c found) (length (map printed ss)) rest left) is is_text parts there in
     let prints = subst (λ (t : List ℕ). Prints found t) (sym both.0) is_next.prints in
@@ -294,7 +292,7 @@ lists_never rows c lines bytes left sound few_tables few_lines same names number
         books_never c.users lines GoesOn [] (flat_map book_line lines) left same names numbers (sym (append-nil (flat_map book_line lines))) none
         (behind_same format32 (length c.users) (length c.users) (list_spelling book_line lines) (flat_map book_line lines) (λ books. BooksBreak c.users GoesOn books left) few_users few_users last_parts there).1
 
-    by : CountBreaks (length c.tables) bytes left ⊎ Behind (to_be_bytes w32 (length c.tables)) (λ tables. TablesBreak c.tables (LastBreaks c.users) tables left) bytes → ⊥
+    by : CountBreaks (length c.tables) bytes left ⊎ BehindPart (to_be_bytes w32 (length c.tables)) (λ tables. TablesBreak c.tables (LastBreaks c.users) tables left) bytes → ⊥
     by (inl count) = count_never (length c.tables) bytes (tables_spelled rows c.tables ++ list_spelling book_line lines) left few_tables parts count
     by (inr there) =
         tables_never rows c.tables (LastBreaks c.users) (list_spelling book_line lines) (tables_spelled rows c.tables ++ list_spelling book_line lines) left sound refl books_no
@@ -311,7 +309,7 @@ ReadBreaks d found whole left behind = ScriptDiffers whole (texts_of d) found be
 abbrev pub CountedTexts : Lists → ℕ → ℕ → ℕ → List ℕ → Type 0
 CountedTexts new whole left count first =
     TextsBreak new count first left
-    ⊎ ((found : List (List ℕ)) × (d : Lists) × (length found ≡ count) × AllByRecursion IsText found × Make new found d × Behind (flat_map bytes_spelling found) (λ behind. ReadBreaks d found whole left behind) first)
+    ⊎ ((found : List (List ℕ)) × (d : Lists) × (length found ≡ count) × AllByRecursion IsText found × Make new found d × BehindPart (flat_map bytes_spelling found) (λ behind. ReadBreaks d found whole left behind) first)
 
 script_never : (rows : RowMap) (c : Lists) (lines : List (List ℕ × Book)) (bytes : List ℕ) (left : ℕ) → Script (nothing_but c.publisher) (statements c) c → IsListOf IsText (texts_of c) → AllByRecursion (IsSoundTable rows) c.tables
     → length c.tables < 2 ^ 32 → length lines < 2 ^ 32 → map (λ p. p.0) lines ≡ map user_name c.users → AllByRecursion (λ (p : List ℕ × Book). IsName p.0) lines → AllByRecursion (λ (p : List ℕ × Book). IsBook p.1) lines
@@ -387,7 +385,7 @@ triggers_ddl : (tables : List Table) (ts : List Trigger) → AllByRecursion (Tri
 triggers_ddl tables [] all = tt
 triggers_ddl tables (t ∷ ts) all = (subst (λ (x : Trigger). IsTrue (is_ddl (trigger_stmt x))) (sym all.0.is) refl, triggers_ddl tables ts all.1)
 
-statements_ddl : (c : Lists) → IsMade c → AllByRecursion (λ s. IsTrue (is_ddl s)) (statements c)
+statements_ddl : (c : Lists) → IsMadeByStatements c → AllByRecursion (λ s. IsTrue (is_ddl s)) (statements c)
 statements_ddl c made =
     ddl_joined (map grant_of c.users) _ (ddl_map grant_of grant_ddl c.users)
     (ddl_joined (map create_table_of c.tables) _ (ddl_map create_table_of table_ddl c.tables)
@@ -436,10 +434,10 @@ abbrev placed_of : Beginning → List ℕ
 placed_of b = to_be_bytes w64 b.place ++ named_of b
 
 abbrev pub NamedBreaks : ℕ → List ℕ → Type 0
-NamedBreaks left named = FieldBreaks name_in named left ⊎ ((publisher : List ℕ) × IsName publisher × Behind (name_spelling publisher) (λ script. ScriptBreaks publisher script left) named)
+NamedBreaks left named = FieldBreaks name_in named left ⊎ ((publisher : List ℕ) × IsName publisher × BehindPart (name_spelling publisher) (λ script. ScriptBreaks publisher script left) named)
 
 abbrev pub PlacedBreaks : ℕ → List ℕ → Type 0
-PlacedBreaks left placed = OffsetBreaks placed left ⊎ ((place : ℕ) × (place ≤ 2 ^ 62) × Behind (to_be_bytes w64 place) (λ named. NamedBreaks left named) placed)
+PlacedBreaks left placed = OffsetBreaks placed left ⊎ ((place : ℕ) × (place ≤ 2 ^ 62) × BehindPart (to_be_bytes w64 place) (λ named. NamedBreaks left named) placed)
 
 pub state_never : (b : Beginning) (bytes : List ℕ) (left : ℕ) → IsSnapshot b bytes → StateBreaks bytes left → ⊥
 state_never b bytes left is breaks = by breaks
@@ -477,6 +475,6 @@ state_never b bytes left is breaks = by breaks
         let rest : placed_of b ≡ there.rest = behind_magic (placed_of b) there.rest (sym is.bytes_are ∙ there.parts) in
         by_placed (subst (λ (l : List ℕ). PlacedBreaks left l) (sym rest) there.then)
 
-pub damage_excludes : (b : Beginning) (bytes : List ℕ) (at : ℕ) → IsDamaged bytes at → IsSnapshot b bytes → ⊥
+pub damage_excludes : (b : Beginning) (bytes : List ℕ) (at : ℕ) → IsDamagedSnapshot bytes at → IsSnapshot b bytes → ⊥
 damage_excludes b bytes at (inl long) is = absurd (omega (arith, long.0, is.short))
 damage_excludes b bytes at (inr (short, (left, breaks, here))) is = state_never b bytes left is breaks

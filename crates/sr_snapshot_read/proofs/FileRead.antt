@@ -6,14 +6,14 @@ use Rattle.sr_site.specs.Causes.{Rose}
 use Rattle.sr_site.specs.Files.{bytes_of}
 use Rattle.sr_site.specs.Seen.{Seen}
 use Rattle.sr_site.specs.declared.file.File.{File}
-use Rattle.sr_snapshot.specs.Inner.Beginnings.{Beginning, IsBeginning}
-use Rattle.sr_snapshot.specs.Inner.Parts.{longest}
-use Rattle.sr_snapshot.specs.Inner.Snapshots.{snapshot_spelling, IsSnapshot}
+use Rattle.sr_snapshot.specs.Beginnings.{Beginning, IsBeginning}
+use Rattle.sr_snapshot.specs.Parts.{longest}
+use Rattle.sr_snapshot.specs.Snapshots.{snapshot_spelling, IsSnapshot}
 use Rattle.sr_snapshot.specs.declared.fault.SnapFault.{SnapFault}
 use Rattle.sr_snapshot.specs.declared.fault.SnapFault.TheVariants.{Disk, Long, Damaged, Memory}
 use Rattle.sr_snapshot_read.proofs.Exclusion.{damage_excludes}
 use Rattle.sr_snapshot_read.proofs.Windows.{same_bytes, then_told}
-use Rattle.sr_snapshot_read.specs.Inner.Damages.{IsDamaged, StateBreaks}
+use Rattle.sr_snapshot_read.specs.Damages.{IsDamagedSnapshot, StateBreaks}
 use Rattle.sr_snapshot_read.specs.Inner.Reading.{BreaksAt, HasTaken, IsOver, ReadAlone, TakeCause}
 use Rattle.sr_snapshot_read.specs.Inner.StateRead.{IsNoSnapshot, ReadCause}
 use Rattle.sr_snapshot_read.specs.Inner.Views.{View}
@@ -37,7 +37,7 @@ whole_file file b before middle now v0 v1 is read place short taken ends told =
       short = short told;
     }
 
-no_snapshot : (bytes : List ℕ) (at : ℕ) → IsDamaged bytes at → IsNoSnapshot bytes at
+no_snapshot : (bytes : List ℕ) (at : ℕ) → IsDamagedSnapshot bytes at → IsNoSnapshot bytes at
 no_snapshot bytes at damaged = record { damaged = damaged; none = λ b is. damage_excludes b bytes at damaged is }
 
 pub long_cause : (file : File) (before now : Seen) (at size : ℕ) (fault : SnapFault) → now.disk_faults ≡ before.disk_faults → fault ≡ Damaged at → at ≡ longest → longest < size → (IsTrue before.observable → size ≡ length (bytes_of before.files file))

@@ -3,12 +3,11 @@ use Rattle.std.proofs.Common.{◌≡◌, ℕ, List, ◌++◌, Result, Ok, Err, s
 use Rattle.sr_base.proofs.Formats.{begins_no_other}
 use Rattle.sr_base.specs.Inner.Reading.{IsFormat}
 use Rattle.sr_base.specs.Reading.{Read}
-use Rattle.sr_snapshot_read.specs.Inner.Damages.{Behind}
-use Rattle.sr_snapshot_read.specs.Inner.Reading.{FieldBreaks}
+use Rattle.sr_snapshot_read.specs.Damages.{BehindPart, FieldBreaks}
 
 -- two spellings stand at the front of the same bytes
 pub behind_same : {A : Type 0} {reading : List ℕ → Read A} {spelling : A → List ℕ} {fits : A → Type 0} (format : IsFormat reading spelling fits) (x y : A) (bytes rest : List ℕ) (holds : List ℕ → Type 0) → fits x → fits y
-    → bytes ≡ spelling x ++ rest → Behind (spelling y) holds bytes → (x ≡ y) × holds rest
+    → bytes ≡ spelling x ++ rest → BehindPart (spelling y) holds bytes → (x ≡ y) × holds rest
 behind_same format x y bytes rest holds fx fy is behind =
     let both = begins_no_other format x y rest behind.rest fx fy (sym is ∙ behind.parts) in
     (both.0, subst (λ (l : List ℕ). holds l) (sym both.1) behind.then)

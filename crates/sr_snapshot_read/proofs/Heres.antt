@@ -7,11 +7,11 @@ use Rattle.sr_base.specs.Fields.{name_spelling, IsName}
 use Rattle.sr_site.specs.Files.{bytes_of}
 use Rattle.sr_site.specs.Seen.{Seen}
 use Rattle.sr_site.specs.declared.file.File.{File}
-use Rattle.sr_snapshot.specs.Inner.Parts.{magic}
+use Rattle.sr_snapshot.specs.Parts.{magic}
 use Rattle.sr_snapshot.specs.declared.fault.SnapFault.{SnapFault}
 use Rattle.sr_snapshot.specs.declared.fault.SnapFault.TheVariants.{Damaged}
 use Rattle.sr_snapshot_read.proofs.FieldReads.{none_behind}
-use Rattle.sr_snapshot_read.specs.Inner.Damages.{CountBreaks, LacksMagic, NameBreaks, OffsetBreaks}
+use Rattle.sr_snapshot_read.specs.Damages.{CountBreaks, LacksMagic, NameBreaks, OffsetBreaks}
 use Rattle.sr_snapshot_read.specs.Inner.Reading.{HasEnough, HasTaken, IsOver, ReadAlone, TakeCause}
 use Rattle.sr_snapshot_read.specs.Inner.Views.{View}
 

@@ -10,11 +10,10 @@ use Rattle.sr_ast.specs.declared.stmt.Stmt.{Stmt}
 use Rattle.sr_ast.specs.declared.stmt.Stmt.TheVariants as stmt
 use Rattle.sr_base.proofs.Formats.{begins_no_other}
 use Rattle.sr_base.specs.Fields.{bytes_spelling, list_spelling, name_spelling, IsListOf, IsName, IsText}
-use Rattle.sr_base.specs.Inner.Fields.{list_at, number_at}
 use Rattle.sr_base.specs.Inner.ListLaws.{list_format}
 use Rattle.sr_base.specs.Inner.NumberLaws.{format32, format64}
 use Rattle.sr_base.specs.Inner.TextLaws.{name_format, text_format}
-use Rattle.sr_base.specs.Reading.{Read}
+use Rattle.sr_base.specs.Reading.{Read, list_at, number_at}
 use Rattle.sr_base.specs.Values.{IsValue, row_spelling}
 use Rattle.sr_base.specs.declared.value.Value.{Value}
 use Rattle.sr_book.specs.Entries.{Name}
@@ -23,18 +22,17 @@ use Rattle.sr_catalog_schema.specs.Catalogs.{Lists, nothing_but}
 use Rattle.sr_catalog_schema.specs.declared.table.Table.{Table}
 use Rattle.sr_catalog_schema.specs.declared.user.User.{User}
 use Rattle.sr_catalog_script_laws.proofs.Spelled.{new_spelled, script_normal, still_spelled}
-use Rattle.sr_catalog_script_laws.specs.Inner.Scripts.{IsSpelled, create_publication_of, create_subscription_of, create_table_of, grant_of, grant_rule, set_options_of, start_of, statements, trigger_stmt}
+use Rattle.sr_catalog_script_laws.specs.Scripts.{IsSpellable, create_publication_of, create_subscription_of, create_table_of, grant_of, grant_rule, set_options_of, start_of, statements, trigger_stmt}
 use Rattle.sr_exec_where.specs.Keys.{key_of}
 use Rattle.sr_parse.proofs.Prints.{prints_once}
 use Rattle.sr_parse.specs.Prints.{Prints}
 use Rattle.sr_snapshot.proofs.Uniqueness.{behind_magic}
-use Rattle.sr_snapshot.specs.Inner.Parts.{longest, magic}
+use Rattle.sr_snapshot.specs.Parts.{longest, magic}
 use Rattle.sr_snapshot_read.proofs.Exclusion.{CountedBreaks, CountedTexts, FirstBreaks, NamedBreaks, PlacedBreaks, ReadBreaks, count_never, differs_never, name_never, rows_never, texts_of}
 use Rattle.sr_snapshot_read.proofs.Fronts.{behind_same, never}
 use Rattle.sr_snapshot_read.proofs.Places.{name_in_format, row_in_format, text_in_format}
-use Rattle.sr_snapshot_read.specs.Inner.Damages.{AreRead, Behind, BooksBreak, CountBreaks, FarOffset, GoesOn, IsDamaged, IsNext, IsPlaced, LacksMagic, LastBreaks, ListsBreak, Make, NameBreaks, NumbersBreak, OffsetBreaks, OtherCount, OtherName, RowMisfits, RowsBreak, ScriptBreaks, ScriptDiffers, StateBreaks, TablesBreak, TextMisfits, TextsBreak}
-use Rattle.sr_snapshot_read.specs.Inner.Places.{name_in, text_in, value_in}
-use Rattle.sr_snapshot_read.specs.Inner.Reading.{FieldBreaks}
+use Rattle.sr_snapshot_read.specs.Damages.{AreRead, BehindPart, BooksBreak, CountBreaks, FarOffset, GoesOn, IsDamagedSnapshot, IsNextStatement, IsPlaced, LacksMagic, LastBreaks, ListsBreak, Make, NameBreaks, NumbersBreak, OffsetBreaks, OtherCount, OtherName, RowMisfits, RowsBreak, ScriptBreaks, ScriptDiffers, StateBreaks, TablesBreak, TextMisfits, TextsBreak, FieldBreaks}
+use Rattle.sr_snapshot_read.specs.Places.{name_in, text_in, value_in}
 
 -- ---- what may hold of one number alone
 
@@ -85,7 +83,7 @@ offset_one bytes =
 
 module _ (t : Table) where
   abbrev NextRow : Option (List Value) → ℕ → List ℕ → ℕ → Type 0
-  NextRow after count bytes left = (row : List Value) × IsListOf IsValue row × IsPlaced t after row × Behind (row_spelling row) (λ rest. RowsBreak t (Some (key_of t.key row)) count rest left) bytes
+  NextRow after count bytes left = (row : List Value) × IsListOf IsValue row × IsPlaced t after row × BehindPart (row_spelling row) (λ rest. RowsBreak t (Some (key_of t.key row)) count rest left) bytes
 
   next_row : (after : Option (List Value)) (count : ℕ) (bytes : List ℕ) → ((key : List Value) (rest : List ℕ) → IsOne (RowsBreak t (Some key) count rest)) → IsOne (NextRow after count bytes)
   next_row after count bytes later a b one other =
@@ -110,7 +108,7 @@ module _ (t : Table) where
 module _ (later : List ℕ → ℕ → Type 0) (later_one : (rest : List ℕ) → IsOne (later rest)) where
   module _ (t : Table) (ts : List Table) (is_name : IsName t.name) (tables : (rest : List ℕ) → IsOne (TablesBreak ts later rest)) where
     abbrev RowsThere : ℕ → List ℕ → ℕ → Type 0
-    RowsThere count first left = (found : List (List Value)) × AreRead t count found × Behind (flat_map row_spelling found) (λ rest. TablesBreak ts later rest left) first
+    RowsThere count first left = (found : List (List Value)) × AreRead t count found × BehindPart (flat_map row_spelling found) (λ rest. TablesBreak ts later rest left) first
 
     rows_there : (count : ℕ) (first : List ℕ) → count < 2 ^ 32 → IsOne (RowsThere count first)
     rows_there count first few a b one other =
@@ -128,7 +126,7 @@ module _ (later : List ℕ → ℕ → Type 0) (later_one : (rest : List ℕ) �
         (λ a b rows there. rows_never t None there.0 there.2.rest first a there.1.are there.1.placed there.2.parts (subst (λ (n : ℕ). RowsBreak t None n first a) (sym there.1.count_is) rows))
 
     abbrev CountThere : List ℕ → ℕ → Type 0
-    CountThere counted left = (count : ℕ) × (count < 2 ^ 32) × Behind (to_be_bytes w32 count) (λ first. FirstBreaks t ts later left count first) counted
+    CountThere counted left = (count : ℕ) × (count < 2 ^ 32) × BehindPart (to_be_bytes w32 count) (λ first. FirstBreaks t ts later left count first) counted
 
     count_there : (counted : List ℕ) → IsOne (CountThere counted)
     count_there counted a b one other =
@@ -141,7 +139,7 @@ module _ (later : List ℕ → ℕ → Type 0) (later_one : (rest : List ℕ) �
         (λ a b field there. never format32 there.0 counted there.2.rest a there.1 there.2.parts field)
 
     abbrev NameThere : List ℕ → ℕ → Type 0
-    NameThere bytes left = Behind (name_spelling t.name) (λ counted. CountedBreaks t ts later left counted) bytes
+    NameThere bytes left = BehindPart (name_spelling t.name) (λ counted. CountedBreaks t ts later left counted) bytes
 
     table_one : (bytes : List ℕ) → IsOne (TablesBreak (t ∷ ts) later bytes)
     table_one bytes =
@@ -156,7 +154,7 @@ module _ (later : List ℕ → ℕ → Type 0) (later_one : (rest : List ℕ) �
   -- ---- books
 
   abbrev NumberThere : ℕ → List ℕ → ℕ → Type 0
-  NumberThere count bytes left = (number : ℕ) × (number < 2 ^ 64) × Behind (to_be_bytes w64 number) (λ rest. NumbersBreak count later rest left) bytes
+  NumberThere count bytes left = (number : ℕ) × (number < 2 ^ 64) × BehindPart (to_be_bytes w64 number) (λ rest. NumbersBreak count later rest left) bytes
 
   numbers_one : (count : ℕ) (bytes : List ℕ) → IsOne (NumbersBreak count later bytes)
   numbers_one zero bytes = later_one bytes
@@ -171,7 +169,7 @@ goes_one bytes a b one other = here_one (length bytes) a b one.1 other.1
 books_one : (us : List User) → AllByRecursion (λ (u : User). IsName u.name) us → (bytes : List ℕ) → IsOne (BooksBreak us GoesOn bytes)
 books_one [] names bytes = goes_one bytes
 books_one (u ∷ us) names bytes =
-    either_one (NameBreaks u.name bytes) (λ left. Behind (name_spelling u.name) (λ rest. NumbersBreak 8 (BooksBreak us GoesOn) rest left) bytes) (name_one u.name bytes)
+    either_one (NameBreaks u.name bytes) (λ left. BehindPart (name_spelling u.name) (λ rest. NumbersBreak 8 (BooksBreak us GoesOn) rest left) bytes) (name_one u.name bytes)
     (λ a b one other.
     numbers_one (BooksBreak us GoesOn) (books_one us names.1) 8 one.rest a b one.then
     (behind_same name_format u.name u.name bytes one.rest (λ rest. NumbersBreak 8 (BooksBreak us GoesOn) rest b) names.0 names.0 one.parts other).1)
@@ -188,7 +186,7 @@ record AreListed (c : Lists) : Type 0 where
 
 last_one : (c : Lists) → AreListed c → (bytes : List ℕ) → IsOne (LastBreaks c.users bytes)
 last_one c listed bytes =
-    either_one (CountBreaks (length c.users) bytes) (λ left. Behind (to_be_bytes w32 (length c.users)) (λ books. BooksBreak c.users GoesOn books left) bytes) (count_one (length c.users) bytes)
+    either_one (CountBreaks (length c.users) bytes) (λ left. BehindPart (to_be_bytes w32 (length c.users)) (λ books. BooksBreak c.users GoesOn books left) bytes) (count_one (length c.users) bytes)
     (λ a b one other.
     books_one c.users listed.users one.rest a b one.then
     (behind_same format32 (length c.users) (length c.users) bytes one.rest (λ books. BooksBreak c.users GoesOn books b) listed.few_users listed.few_users one.parts other).1)
@@ -196,7 +194,7 @@ last_one c listed bytes =
 
 lists_one : (c : Lists) → AreListed c → (bytes : List ℕ) → IsOne (ListsBreak c.tables c.users bytes)
 lists_one c listed bytes =
-    either_one (CountBreaks (length c.tables) bytes) (λ left. Behind (to_be_bytes w32 (length c.tables)) (λ rows. TablesBreak c.tables (LastBreaks c.users) rows left) bytes) (count_one (length c.tables) bytes)
+    either_one (CountBreaks (length c.tables) bytes) (λ left. BehindPart (to_be_bytes w32 (length c.tables)) (λ rows. TablesBreak c.tables (LastBreaks c.users) rows left) bytes) (count_one (length c.tables) bytes)
     (λ a b one other.
     tables_one (LastBreaks c.users) (last_one c listed) c.tables listed.tables one.rest a b one.then
     (behind_same format32 (length c.tables) (length c.tables) bytes one.rest (λ rows. TablesBreak c.tables (LastBreaks c.users) rows b) listed.few_tables listed.few_tables one.parts other).1)
@@ -205,7 +203,7 @@ lists_one c listed bytes =
 -- ---- texts
 
 abbrev NextText : Lists → ℕ → List ℕ → ℕ → Type 0
-NextText c count bytes left = (text : List ℕ) × (s : Stmt) × IsText text × IsNext c text s × Behind (bytes_spelling text) (λ rest. TextsBreak (next c s) count rest left) bytes
+NextText c count bytes left = (text : List ℕ) × (s : Stmt) × IsText text × IsNextStatement c text s × BehindPart (bytes_spelling text) (λ rest. TextsBreak (next c s) count rest left) bytes
 
 next_text : (c : Lists) (count : ℕ) (bytes : List ℕ) → ((s : Stmt) (rest : List ℕ) → IsOne (TextsBreak (next c s) count rest)) → IsOne (NextText c count bytes)
 next_text c count bytes later a b one other =
@@ -216,7 +214,7 @@ next_text c count bytes later a b one other =
 misfit_text : (c : Lists) (count : ℕ) (bytes : List ℕ) → Exclude (TextMisfits c bytes) (NextText c count bytes)
 misfit_text c count bytes a b one other =
     let same = (behind_same text_format one.text other.0 bytes one.there.rest (λ rest. TextsBreak (next c other.1) count rest b) one.is other.2 one.there.parts other.4).0 in
-    one.misfit other.1 (subst (λ (t : List ℕ). IsNext c t other.1) (sym same) other.3)
+    one.misfit other.1 (subst (λ (t : List ℕ). IsNextStatement c t other.1) (sym same) other.3)
 
 texts_one : (c : Lists) (count : ℕ) (bytes : List ℕ) → IsOne (TextsBreak c count bytes)
 texts_one c zero bytes a b one other = absurd one
@@ -227,11 +225,11 @@ texts_one c (suc count) bytes a b one other =
     (λ x y field n. never text_in_format n.0 bytes n.4.rest x n.2 n.4.parts field)) a b one other
 
 -- the first text does not break, where those behind it do not
-text_made : (c : Lists) (text : List ℕ) (s : Stmt) (count : ℕ) (bytes rest : List ℕ) (left : ℕ) → IsText text → IsNext c text s → bytes ≡ bytes_spelling text ++ rest → (TextsBreak (next c s) count rest left → ⊥) → TextsBreak c (suc count) bytes left → ⊥
+text_made : (c : Lists) (text : List ℕ) (s : Stmt) (count : ℕ) (bytes rest : List ℕ) (left : ℕ) → IsText text → IsNextStatement c text s → bytes ≡ bytes_spelling text ++ rest → (TextsBreak (next c s) count rest left → ⊥) → TextsBreak c (suc count) bytes left → ⊥
 text_made c text s count bytes rest left is is_next parts later (inl field) = never text_in_format text bytes rest left is parts field
 text_made c text s count bytes rest left is is_next parts later (inr (inl misfits)) =
     let same = (behind_same text_format text misfits.text bytes rest (λ l. ⊤) is misfits.is parts misfits.there).0 in
-    misfits.misfit s (subst (λ (x : List ℕ). IsNext c x s) same is_next)
+    misfits.misfit s (subst (λ (x : List ℕ). IsNextStatement c x s) same is_next)
 text_made c text s count bytes rest left is is_next parts later (inr (inr (other, found, is_other, found_next, there))) =
     let both = behind_same text_format text other bytes rest (λ l. TextsBreak (next c found) count l left) is is_other parts there in
     let one : s ≡ found = prints_once text s found is_next.prints (subst (λ (x : List ℕ). Prints found x) (sym both.0) found_next.prints) in
@@ -251,8 +249,8 @@ make_one c d e (t ∷ texts) (s, s_next, one) (r, r_next, other) =
     let same : s ≡ r = prints_once t s r s_next.prints r_next.prints in
     make_one (next c s) d e texts one (subst (λ (x : Stmt). Make (next c x) texts e) (sym same) other)
 
-made_spelled : (c d : Lists) (texts : List (List ℕ)) → IsSpelled c → Make c texts d → IsSpelled d
-made_spelled c d [] spelled same = subst (λ (x : Lists). IsSpelled x) same spelled
+made_spelled : (c d : Lists) (texts : List (List ℕ)) → IsSpellable c → Make c texts d → IsSpellable d
+made_spelled c d [] spelled same = subst (λ (x : Lists). IsSpellable x) same spelled
 made_spelled c d (t ∷ texts) spelled (s, is_next, make) = made_spelled (next c s) d texts (still_spelled c s spelled is_next.prints.normal is_next.accepted) make
 
 -- ---- the names of a catalog
@@ -285,7 +283,7 @@ others_of c =
     map create_publication_of c.publications ++ (map trigger_stmt c.triggers ++ (map create_subscription_of c.subscriptions
     ++ (map start_of (filter (λ s. s.started) c.subscriptions) ++ set_options_of c.options)))
 
-are_listed : (c : Lists) → IsSpelled c → length (statements c) < 2 ^ 32 → AreListed c
+are_listed : (c : Lists) → IsSpellable c → length (statements c) < 2 ^ 32 → AreListed c
 are_listed c spelled few =
     let users = parted (map grant_of c.users) (map create_table_of c.tables ++ others_of c) (script_normal c spelled) in
     let tables = parted (map create_table_of c.tables) (others_of c) users.1 in
@@ -309,7 +307,7 @@ differs_one whole (line ∷ script) (text ∷ texts) behind a b (inl one) (inr o
 differs_one whole (line ∷ script) (text ∷ texts) behind a b (inr one) (inl other) = absurd (other.0 one.0)
 differs_one whole (line ∷ script) (text ∷ texts) behind a b (inr one) (inr other) = differs_one whole script texts behind a b one.1 other.1
 
-read_one : (d : Lists) (found : List (List ℕ)) (whole : ℕ) (behind : List ℕ) → IsSpelled d → length found < 2 ^ 32 → IsOne (λ left. ReadBreaks d found whole left behind)
+read_one : (d : Lists) (found : List (List ℕ)) (whole : ℕ) (behind : List ℕ) → IsSpellable d → length found < 2 ^ 32 → IsOne (λ left. ReadBreaks d found whole left behind)
 read_one d found whole behind spelled few =
     either_one (ScriptDiffers whole (texts_of d) found behind) (λ left. (found ≡ texts_of d) × ListsBreak d.tables d.users behind left) (differs_one whole (texts_of d) found behind)
     (λ a b one other.
@@ -320,7 +318,7 @@ read_one d found whole behind spelled few =
 module _ (publisher : Name) (whole : ℕ) where
   abbrev TextsThere : ℕ → List ℕ → ℕ → Type 0
   TextsThere count first left =
-      (found : List (List ℕ)) × (d : Lists) × (length found ≡ count) × AllByRecursion IsText found × Make (nothing_but publisher) found d × Behind (flat_map bytes_spelling found) (λ behind. ReadBreaks d found whole left behind) first
+      (found : List (List ℕ)) × (d : Lists) × (length found ≡ count) × AllByRecursion IsText found × Make (nothing_but publisher) found d × BehindPart (flat_map bytes_spelling found) (λ behind. ReadBreaks d found whole left behind) first
 
   texts_there : (count : ℕ) (first : List ℕ) → count < 2 ^ 32 → IsOne (TextsThere count first)
   texts_there count first few a b one other =
@@ -344,7 +342,7 @@ module _ (publisher : Name) (whole : ℕ) where
 
 script_one : (publisher : Name) (bytes : List ℕ) → IsOne (ScriptBreaks publisher bytes)
 script_one publisher bytes =
-    either_one (FieldBreaks (number_at w32) bytes) (λ left. (count : ℕ) × (count < 2 ^ 32) × Behind (to_be_bytes w32 count) (λ first. CountedTexts (nothing_but publisher) (length bytes) left count first) bytes)
+    either_one (FieldBreaks (number_at w32) bytes) (λ left. (count : ℕ) × (count < 2 ^ 32) × BehindPart (to_be_bytes w32 count) (λ first. CountedTexts (nothing_but publisher) (length bytes) left count first) bytes)
     (field_one (number_at w32) bytes)
     (λ a b one other.
     let both = behind_same format32 one.0 other.0 bytes one.2.rest (λ first. CountedTexts (nothing_but publisher) (length bytes) b other.0 first) one.1 other.1 one.2.parts other.2 in
@@ -355,14 +353,14 @@ script_one publisher bytes =
 
 named_one : (named : List ℕ) → IsOne (λ left. NamedBreaks left named)
 named_one named =
-    either_one (FieldBreaks name_in named) (λ left. (publisher : List ℕ) × IsName publisher × Behind (name_spelling publisher) (λ script. ScriptBreaks publisher script left) named) (field_one name_in named)
+    either_one (FieldBreaks name_in named) (λ left. (publisher : List ℕ) × IsName publisher × BehindPart (name_spelling publisher) (λ script. ScriptBreaks publisher script left) named) (field_one name_in named)
     (λ a b one other.
     let both = behind_same name_format one.0 other.0 named one.2.rest (λ script. ScriptBreaks other.0 script b) one.1 other.1 one.2.parts other.2 in
     script_one one.0 one.2.rest a b one.2.then (subst (λ (n : List ℕ). ScriptBreaks n one.2.rest b) (sym both.0) both.1))
     (λ a b field there. never name_in_format there.0 named there.2.rest a there.1 there.2.parts field)
 
 abbrev PlaceThere : List ℕ → ℕ → Type 0
-PlaceThere placed left = (place : ℕ) × (place ≤ 2 ^ 62) × Behind (to_be_bytes w64 place) (λ named. NamedBreaks left named) placed
+PlaceThere placed left = (place : ℕ) × (place ≤ 2 ^ 62) × BehindPart (to_be_bytes w64 place) (λ named. NamedBreaks left named) placed
 
 far_apart : (placed : List ℕ) → Exclude (OffsetBreaks placed) (PlaceThere placed)
 far_apart placed a b (inl field) there = never format64 there.0 placed there.2.rest a (omega (arith, there.1)) there.2.parts field
@@ -377,13 +375,13 @@ placed_one placed =
 
 state_one : (bytes : List ℕ) → IsOne (StateBreaks bytes)
 state_one bytes =
-    either_one (LacksMagic bytes) (λ left. Behind magic (λ placed. PlacedBreaks left placed) bytes) (λ a b one other. here_one (length bytes) a b one.here other.here)
+    either_one (LacksMagic bytes) (λ left. BehindPart magic (λ placed. PlacedBreaks left placed) bytes) (λ a b one other. here_one (length bytes) a b one.here other.here)
     (λ a b one other.
     let same : one.rest ≡ other.rest = behind_magic one.rest other.rest (sym one.parts ∙ other.parts) in
     placed_one one.rest a b one.then (subst (λ (l : List ℕ). PlacedBreaks b l) (sym same) other.then))
     (λ a b lacks there. lacks.other there.rest there.parts)
 
-pub one_place : (bytes : List ℕ) (a b : ℕ) → IsDamaged bytes a → IsDamaged bytes b → a ≡ b
+pub one_place : (bytes : List ℕ) (a b : ℕ) → IsDamagedSnapshot bytes a → IsDamagedSnapshot bytes b → a ≡ b
 one_place bytes a b (inl one) (inl other) = here_one longest a b one.1 other.1
 one_place bytes a b (inl one) (inr other) = absurd (omega (arith, one.0, other.0))
 one_place bytes a b (inr one) (inl other) = absurd (omega (arith, one.0, other.0))

@@ -3,20 +3,21 @@ use Rattle.std.proofs.Common.{◌≡◌, ◌≤◌, ◌+◌, ◌-◌, ℕ, List,
 use Rattle.std.proofs.Math.Nat.{max-add-min, sub-add-eq-max}
 use Rattle.std.specs.Prelude.{max, min, IsTrue, Result, Ok, Err}
 use Rattle.sr_base.specs.Fields.{bytes_spelling, name_spelling, IsListOf, IsName, IsText}
-use Rattle.sr_base.specs.Inner.Fields.{list_at}
 use Rattle.sr_base.specs.Inner.ListLaws.{list_format}
 use Rattle.sr_base.specs.Inner.Reading.{IsFormat, IsWithin}
 use Rattle.sr_base.specs.Inner.TextLaws.{name_format, text_format}
 use Rattle.sr_base.specs.Inner.ValueLaws.{value_format}
-use Rattle.sr_base.specs.Reading.{Read}
+use Rattle.sr_base.specs.Reading.{Read, list_at}
 use Rattle.sr_base.specs.Values.{value_spelling, IsValue, row_spelling}
 use Rattle.sr_site.specs.Files.{bytes_of}
 use Rattle.sr_site.specs.Seen.{Seen}
 use Rattle.sr_site.specs.declared.file.File.{File}
 use Rattle.sr_snapshot.specs.declared.fault.SnapFault.{SnapFault}
 use Rattle.sr_snapshot.specs.declared.fault.SnapFault.TheVariants.{Disk, Long, Damaged, Memory}
-use Rattle.sr_snapshot_read.specs.Inner.Places.{breaking_by, name_in, no_further, text_in, value_in, with_left}
-use Rattle.sr_snapshot_read.specs.Inner.Reading.{FieldBreaks, TakeCause}
+use Rattle.sr_snapshot_read.specs.Inner.Places.{no_further}
+use Rattle.sr_snapshot_read.specs.Places.{breaking_by, name_in, text_in, value_in, with_left}
+use Rattle.sr_snapshot_read.specs.Inner.Reading.{TakeCause}
+use Rattle.sr_snapshot_read.specs.Damages.{FieldBreaks}
 use Rattle.sr_snapshot_read.specs.Inner.Views.{View}
 
 found_in : {A : Type 0} (least : ℕ) (read : Result (A × List ℕ) ℕ) (x : A × List ℕ) → with_left least read ≡ Ok x → read ≡ Ok x

@@ -4,9 +4,8 @@ use Rattle.std.proofs.lemmas.List.{append-nil, take_all}
 use Rattle.std.specs.Int.{w32, to_be_bytes}
 use Rattle.std.specs.List.{flat_map, AllByRecursion}
 use Rattle.std.specs.Prelude.{IsTrue, MatchOption}
-use Rattle.sr_base.specs.Inner.Fields.{items_at, list_at, number_at}
 use Rattle.sr_base.specs.Inner.NumberLaws.{number_again, wide32}
-use Rattle.sr_base.specs.Reading.{◌>>=◌}
+use Rattle.sr_base.specs.Reading.{◌>>=◌, items_at, list_at, number_at}
 use Rattle.sr_base.specs.Values.{value_spelling, IsValue}
 use Rattle.sr_base.specs.declared.value.Value.{Value}
 use Rattle.sr_site.specs.Files.{bytes_of}
@@ -17,8 +16,9 @@ use Rattle.sr_snapshot.specs.declared.fault.SnapFault.{SnapFault}
 use Rattle.sr_snapshot.specs.declared.fault.SnapFault.TheVariants.{Memory}
 use Rattle.sr_snapshot_read.proofs.Places.{value_in_format}
 use Rattle.sr_snapshot_read.proofs.Windows.{cause_behind, taken_on}
-use Rattle.sr_snapshot_read.specs.Inner.Places.{value_in}
-use Rattle.sr_snapshot_read.specs.Inner.Reading.{FieldBreaks, HasTaken, IsOver, ReadAlone, TakeCause}
+use Rattle.sr_snapshot_read.specs.Places.{value_in}
+use Rattle.sr_snapshot_read.specs.Inner.Reading.{HasTaken, IsOver, ReadAlone, TakeCause}
+use Rattle.sr_snapshot_read.specs.Damages.{FieldBreaks}
 use Rattle.sr_snapshot_read.specs.Inner.RowsRead.{HasTakenRow, HasTakenValues}
 use Rattle.sr_snapshot_read.specs.Inner.Views.{View}
 

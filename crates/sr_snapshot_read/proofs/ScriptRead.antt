@@ -10,7 +10,7 @@ use Rattle.sr_ast.specs.Statements.{is_ddl}
 use Rattle.sr_ast.specs.declared.stmt.Stmt.{Stmt}
 use Rattle.sr_base.proofs.Formats.{begins_no_other}
 use Rattle.sr_base.specs.Fields.{bytes_spelling, list_spelling, IsText}
-use Rattle.sr_base.specs.Inner.Fields.{number_at}
+use Rattle.sr_base.specs.Reading.{number_at}
 use Rattle.sr_base.specs.Inner.ListLaws.{list_format}
 use Rattle.sr_base.specs.Inner.TextLaws.{text_format}
 use Rattle.sr_book.specs.Entries.{Name}
@@ -18,7 +18,7 @@ use Rattle.sr_catalog_change.specs.Changes.{next, refusal}
 use Rattle.sr_catalog_schema.specs.Catalogs.{Lists, nothing_but}
 use Rattle.sr_catalog_schema.specs.declared.fault.DdlFault.{DdlFault}
 use Rattle.sr_catalog_script_laws.proofs.ReplayNexts.{publisher_next}
-use Rattle.sr_catalog_script_laws.specs.Inner.Scripts.{statements}
+use Rattle.sr_catalog_script_laws.specs.Scripts.{statements}
 use Rattle.sr_parse.proofs.Prints.{prints_once}
 use Rattle.sr_parse.specs.Prints.{Prints}
 use Rattle.sr_site.specs.Causes.{Rose}
@@ -32,9 +32,9 @@ use Rattle.sr_snapshot_read.proofs.Heres.{here_cause}
 use Rattle.sr_snapshot_read.proofs.Places.{text_in_format}
 use Rattle.sr_snapshot_read.proofs.RowsRead.{taken_nothing}
 use Rattle.sr_snapshot_read.proofs.Windows.{cause_as, cause_behind, read_on, same_bytes, taken_on, then_told}
-use Rattle.sr_snapshot_read.specs.Inner.Damages.{IsNext, ListsBreak, Make, ScriptBreaks, ScriptDiffers, TextsBreak}
-use Rattle.sr_snapshot_read.specs.Inner.Places.{text_in}
-use Rattle.sr_snapshot_read.specs.Inner.Reading.{BreaksAt, FieldBreaks, HasTaken, IsOver, ReadAlone, TakeCause}
+use Rattle.sr_snapshot_read.specs.Damages.{IsNextStatement, ListsBreak, Make, ScriptBreaks, ScriptDiffers, TextsBreak, FieldBreaks}
+use Rattle.sr_snapshot_read.specs.Places.{text_in}
+use Rattle.sr_snapshot_read.specs.Inner.Reading.{BreaksAt, HasTaken, IsOver, ReadAlone, TakeCause}
 use Rattle.sr_snapshot_read.specs.Inner.ScriptRead.{Ends, HasRepeated, HasTakenScript, HasTakenText, HasTakenTexts, Makes, RefusesText, RepeatBreaks, TextBreaks, TextDiffers}
 use Rattle.sr_snapshot_read.specs.Inner.Views.{View}
 
@@ -46,11 +46,11 @@ IsTaken c s = IsTrue (is_ddl s) × (refusal c s ≡ None)
 it_prints : (text : List ℕ) (found : Option Stmt) (s : Stmt) → IfSome found (λ x. Prints x text) → found ≡ Some s → Prints s text
 it_prints text found s all is = subst (λ (o : Option Stmt). IfSome o (λ x. Prints x text)) is all
 
-pub next_found : (c : Lists) (text : List ℕ) (found : Option Stmt) (s : Stmt) → IfSome found (λ x. Prints x text) → found ≡ Some s → IsTrue (is_ddl s) × (refusal c s ≡ None) → IsNext c text s
+pub next_found : (c : Lists) (text : List ℕ) (found : Option Stmt) (s : Stmt) → IfSome found (λ x. Prints x text) → found ≡ Some s → IsTrue (is_ddl s) × (refusal c s ≡ None) → IsNextStatement c text s
 next_found c text found s all is taken = record { prints = it_prints text found s all is; changes = taken.0; accepted = taken.1 }
 
 -- no other statement prints so
-pub next_other : (c : Lists) (text : List ℕ) (found : Option Stmt) (s : Stmt) → IfSome found (λ x. Prints x text) → found ≡ Some s → (IsTrue (is_ddl s) × (refusal c s ≡ None) → ⊥) → (t : Stmt) → ¬ (IsNext c text t)
+pub next_other : (c : Lists) (text : List ℕ) (found : Option Stmt) (s : Stmt) → IfSome found (λ x. Prints x text) → found ≡ Some s → (IsTrue (is_ddl s) × (refusal c s ≡ None) → ⊥) → (t : Stmt) → ¬ (IsNextStatement c text t)
 next_other c text found s all is not_taken t it =
     let one : t ≡ s = prints_once text t s it.prints (it_prints text found s all is) in
     not_taken (subst (λ (x : Stmt). IsTaken c x) one (it.changes, it.accepted))
@@ -86,15 +86,15 @@ none_refused d fault o b on is test = by fault is test
     by None same at = (λ t. (on, sym same), λ both. is_not b at)
     by (Some x) same at = (λ t. absurd (not_both b at t), λ both. absurd (not_there o x same both.1))
 
-pub change_next : (c : Lists) (text : List ℕ) (found : Option Stmt) (s : Stmt) → IfSome found (IsNext c text) → found ≡ Some s → IsNext c text s
-change_next c text found s all is = subst (λ (o : Option Stmt). IfSome o (IsNext c text)) is all
+pub change_next : (c : Lists) (text : List ℕ) (found : Option Stmt) (s : Stmt) → IfSome found (IsNextStatement c text) → found ≡ Some s → IsNextStatement c text s
+change_next c text found s all is = subst (λ (o : Option Stmt). IfSome o (IsNextStatement c text)) is all
 
-pub next_none : (c : Lists) (text : List ℕ) → ((s : Stmt) → ¬ (Prints s text)) → (t : Stmt) → ¬ (IsNext c text t)
+pub next_none : (c : Lists) (text : List ℕ) → ((s : Stmt) → ¬ (Prints s text)) → (t : Stmt) → ¬ (IsNextStatement c text t)
 next_none c text none t it = none t it.prints
 
 -- ---- one text
 
-misfits : (c : Lists) (text : List ℕ) → IsText text → ((s : Stmt) → ¬ (IsNext c text s)) → (bytes rest : List ℕ) → bytes ≡ bytes_spelling text ++ rest → TextBreaks c bytes (length bytes)
+misfits : (c : Lists) (text : List ℕ) → IsText text → ((s : Stmt) → ¬ (IsNextStatement c text s)) → (bytes rest : List ℕ) → bytes ≡ bytes_spelling text ++ rest → TextBreaks c bytes (length bytes)
 misfits c text is none bytes rest parts = inr (record { text = text; is = is; misfit = none; there = record { rest = rest; parts = parts; then = tt }; here = refl })
 
 pub field_cause : (file : File) (c : Lists) (before now : Seen) (view : View) (fault : SnapFault) → TakeCause file (FieldBreaks text_in) before now view fault → TakeCause file (TextBreaks c) before now view fault
@@ -124,7 +124,7 @@ text_on file texts text before middle now v0 v1 v2 one other =
     subst (λ (l : List ℕ). HasTaken file l before now v0 v2) (flat_more texts text) (taken_on file (flat_map bytes_spelling texts) (bytes_spelling text) before middle now v0 v1 v2 one other)
 
 make_more : (c : Lists) (texts : List (List ℕ)) (text : List ℕ) (d e : Lists) → Make c texts d → Makes d text e → Make c (texts ++ text ∷ []) e
-make_more c [] text d e same (s, is_next, after) = (s, subst (λ (x : Lists). IsNext x text s) (sym same) is_next, ap (λ (x : Lists). next x s) same ∙ sym after)
+make_more c [] text d e same (s, is_next, after) = (s, subst (λ (x : Lists). IsNextStatement x text s) (sym same) is_next, ap (λ (x : Lists). next x s) same ∙ sym after)
 make_more c (t ∷ texts) text d e (s, is_next, rest) makes = (s, is_next, make_more (next c s) texts text d e rest makes)
 
 pub record ReadingTexts (file : File) (c : Lists) (count left : ℕ) (before now : Seen) (v0 v1 : View) (d : Lists) : Type 0 where

@@ -11,7 +11,7 @@ use Rattle.sr_catalog_schema.specs.Names.{taken}
 use Rattle.sr_catalog_schema.specs.declared.table.Table.{Table}
 use Rattle.sr_catalog_script_laws.proofs.ReplayNexts.{made_stands}
 use Rattle.sr_catalog_script_laws.proofs.Standing.{HasRoom, InOrder, TriggerStands}
-use Rattle.sr_catalog_script_laws.specs.Inner.Scripts.{IsMade}
+use Rattle.sr_catalog_script_laws.specs.Scripts.{IsMadeByStatements}
 use Rattle.sr_logform.specs.Rules.{AreDistinct}
 
 abbrev IsNew : List Table → Table → Type 0
@@ -40,8 +40,8 @@ distinct_names before (x ∷ xs) all =
     let split = split_new before x xs rest.0 in
     ((all.0, split.0), (other_names x xs split.1, rest.1))
 
-pub distinct_tables : (c : Lists) → IsMade c → AreDistinct (map table_name c.tables)
+pub distinct_tables : (c : Lists) → IsMadeByStatements c → AreDistinct (map table_name c.tables)
 distinct_tables c made = (distinct_names [] c.tables (are_new [] c.tables (made_stands c made).tables)).1
 
-pub triggers_stand : (c : Lists) → IsMade c → AllByRecursion (TriggerStands c.tables) c.triggers
+pub triggers_stand : (c : Lists) → IsMadeByStatements c → AllByRecursion (TriggerStands c.tables) c.triggers
 triggers_stand c made = (made_stands c made).each_trigger

@@ -13,16 +13,16 @@ use Rattle.sr_catalog_schema.specs.Catalogs.{Lists, nothing_but}
 use Rattle.sr_catalog_schema.specs.Members.{user_name}
 use Rattle.sr_catalog_schema.specs.declared.table.Table.{Table}
 use Rattle.sr_catalog_schema.specs.declared.user.User.{User}
-use Rattle.sr_catalog_script_laws.specs.Inner.Scripts.{statements, IsSpelled}
+use Rattle.sr_catalog_script_laws.specs.Scripts.{statements, IsSpellable}
 use Rattle.sr_logform.specs.Entries.{table_spelling}
 use Rattle.sr_rows.specs.Marks.{RowMap}
 use Rattle.sr_site.specs.Causes.{Rose}
 use Rattle.sr_site.specs.Files.{bytes_of}
 use Rattle.sr_site.specs.Seen.{Seen}
 use Rattle.sr_site.specs.declared.file.File.{File}
-use Rattle.sr_snapshot.specs.Inner.Beginnings.{IsBeginning, IsBook}
-use Rattle.sr_snapshot.specs.Inner.Parts.{book_line, magic}
-use Rattle.sr_snapshot.specs.Inner.Snapshots.{rows_in, snapshot_spelling}
+use Rattle.sr_snapshot.specs.Beginnings.{IsBeginning, IsBook}
+use Rattle.sr_snapshot.specs.Parts.{book_line, magic}
+use Rattle.sr_snapshot.specs.Snapshots.{rows_in, snapshot_spelling}
 use Rattle.sr_snapshot.specs.declared.fault.SnapFault.{SnapFault}
 use Rattle.sr_snapshot.specs.declared.fault.SnapFault.TheVariants.{Disk, Long, Damaged, Memory}
 use Rattle.sr_snapshot_read.proofs.BooksRead.{books_map, books_then}
@@ -30,9 +30,10 @@ use Rattle.sr_snapshot_read.proofs.ScriptRead.{script_broken}
 use Rattle.sr_snapshot_read.proofs.Standing.{distinct_tables}
 use Rattle.sr_snapshot_read.proofs.TablesRead.{rows_fit, rows_values, tables_map, tables_then}
 use Rattle.sr_snapshot_read.proofs.Windows.{cause_as, cause_behind, read_on, same_bytes, taken_on, then_told}
-use Rattle.sr_snapshot_read.specs.Inner.Damages.{BooksBreak, CountBreaks, GoesOn, LacksMagic, LastBreaks, ListsBreak, Make, NeverBreaks, OffsetBreaks, ScriptBreaks, StateBreaks, TablesBreak}
-use Rattle.sr_snapshot_read.specs.Inner.Places.{name_in}
-use Rattle.sr_snapshot_read.specs.Inner.Reading.{BreaksAt, FieldBreaks, HasTaken, TakeCause}
+use Rattle.sr_snapshot_read.specs.Inner.Damages.{NeverBreaks}
+use Rattle.sr_snapshot_read.specs.Damages.{BooksBreak, CountBreaks, GoesOn, LacksMagic, LastBreaks, ListsBreak, Make, OffsetBreaks, ScriptBreaks, StateBreaks, TablesBreak, FieldBreaks}
+use Rattle.sr_snapshot_read.specs.Places.{name_in}
+use Rattle.sr_snapshot_read.specs.Inner.Reading.{BreaksAt, HasTaken, TakeCause}
 use Rattle.sr_snapshot_read.specs.Inner.ScriptRead.{HasTakenScript}
 use Rattle.sr_snapshot_read.specs.Inner.TablesRead.{AreHeldIn, IsReadTable}
 use Rattle.sr_snapshot_read.specs.Inner.Views.{View}
@@ -218,7 +219,7 @@ their_utf8 : (texts : List (List ℕ)) → AllByRecursion IsText texts → AllBy
 their_utf8 [] all = tt
 their_utf8 (t ∷ texts) all = (all.0.utf8, their_utf8 texts all.1)
 
-pub is_beginning : (file : File) (place : ℕ) (publisher : Name) (c : Lists) (ts : List Table) (us : List User) (rows : RowMap) (lines : List Line) (middle later : Seen) (v1 v2 : View) → place ≤ 2 ^ 62 → IsName publisher → HasTakenScript file publisher middle later v1 v2 c → IsSpelled c → ts ≡ c.tables → us ≡ c.users
+pub is_beginning : (file : File) (place : ℕ) (publisher : Name) (c : Lists) (ts : List Table) (us : List User) (rows : RowMap) (lines : List Line) (middle later : Seen) (v1 v2 : View) → place ≤ 2 ^ 62 → IsName publisher → HasTakenScript file publisher middle later v1 v2 c → IsSpellable c → ts ≡ c.tables → us ≡ c.users
     → AreHeldIn ts rows → map (λ p. p.0) lines ≡ map user_name us → AllByRecursion (λ (p : Line). IsBook p.1) lines → IsBeginning (record { place = place; state = record { catalog = c; rows = rows }; books = lines })
 is_beginning file place publisher c ts us rows lines middle later v1 v2 near is_name script spelled tables same held users numbers = record {
   place = near;

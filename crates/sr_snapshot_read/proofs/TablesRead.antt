@@ -13,7 +13,7 @@ use Rattle.std.specs.Ordering.{eq_by_cmp, is_eq, is_lt}
 use Rattle.std.specs.Prelude.{◌↔◌, IsTrue, MatchOption, bytes_eq}
 use Rattle.sr_base.proofs.Exact.{exact_keys}
 use Rattle.sr_base.specs.Fields.{name_spelling, IsListOf}
-use Rattle.sr_base.specs.Inner.Fields.{list_at, number_at}
+use Rattle.sr_base.specs.Reading.{list_at, number_at}
 use Rattle.sr_base.specs.Inner.Order.{key_cmp_total}
 use Rattle.sr_base.specs.Order.{key_cmp}
 use Rattle.sr_base.specs.Values.{IsValue, row_spelling}
@@ -26,7 +26,7 @@ use Rattle.sr_catalog_schema.specs.declared.table.Table.{Table}
 use Rattle.sr_exec_dml.proofs.Afterwards.{same_place}
 use Rattle.sr_exec_dml.proofs.Applied.{found_named}
 use Rattle.sr_exec_dml.proofs.Folding.{same_key}
-use Rattle.sr_exec_dml.specs.Inner.Conditions.{RowsFit}
+use Rattle.sr_exec_dml.specs.Fitting.{RowsFit}
 use Rattle.sr_exec_dml.specs.Statements.{entry_of}
 use Rattle.sr_exec_where.specs.Keys.{key_of}
 use Rattle.sr_exec_fits.specs.Rows.{IsRow, is_row, may_hold}
@@ -34,24 +34,25 @@ use Rattle.sr_logform.specs.Entries.{table_spelling}
 use Rattle.sr_logform.specs.Rules.{AreDistinct}
 use Rattle.sr_rows.proofs.Gathering.{exact_places}
 use Rattle.sr_rows.proofs.Listing.{get-table_rows, is_below, none_below, table_rows-rise}
-use Rattle.sr_rows.specs.Inner.Marks.{place_cmp_total, IsPast}
+use Rattle.sr_rows.specs.Inner.Marks.{place_cmp_total}
 use Rattle.sr_rows.specs.Inner.Steps.{at_mark}
 use Rattle.sr_rows.specs.Inner.Walks.{Rises}
 use Rattle.sr_rows.specs.Marks.{place_cmp, rows_of_table, Marked, Place, RowMap}
-use Rattle.sr_rows.specs.Walks.{table_rows, Entry}
+use Rattle.sr_rows.specs.Walks.{table_rows, Entry, IsPast}
 use Rattle.sr_site.specs.Files.{bytes_of}
 use Rattle.sr_site.specs.Seen.{Seen}
 use Rattle.sr_site.specs.declared.file.File.{File}
-use Rattle.sr_snapshot.specs.Inner.Parts.{rows_of}
-use Rattle.sr_snapshot.specs.Inner.Snapshots.{rows_in}
+use Rattle.sr_snapshot.specs.Parts.{rows_of}
+use Rattle.sr_snapshot.specs.Snapshots.{rows_in}
 use Rattle.sr_snapshot.specs.declared.fault.SnapFault.{SnapFault}
 use Rattle.sr_snapshot.specs.declared.fault.SnapFault.TheVariants.{Disk, Long, Damaged, Memory}
 use Rattle.sr_snapshot_read.proofs.Heres.{here_cause}
 use Rattle.sr_snapshot_read.proofs.RowsRead.{taken_nothing}
 use Rattle.sr_snapshot_read.proofs.Windows.{cause_as, cause_behind, taken_on}
-use Rattle.sr_snapshot_read.specs.Inner.Damages.{ArePlaced, AreRead, IsPlaced, NameBreaks, NeverBreaks, RowsBreak, TablesBreak, Behind}
-use Rattle.sr_snapshot_read.specs.Inner.Places.{value_in}
-use Rattle.sr_snapshot_read.specs.Inner.Reading.{FieldBreaks, HasTaken, IsOver, TakeCause}
+use Rattle.sr_snapshot_read.specs.Inner.Damages.{NeverBreaks}
+use Rattle.sr_snapshot_read.specs.Damages.{ArePlaced, AreRead, IsPlaced, NameBreaks, RowsBreak, TablesBreak, BehindPart, FieldBreaks}
+use Rattle.sr_snapshot_read.specs.Places.{value_in}
+use Rattle.sr_snapshot_read.specs.Inner.Reading.{HasTaken, IsOver, TakeCause}
 use Rattle.sr_snapshot_read.specs.Inner.RowsRead.{HasTakenRow}
 use Rattle.sr_snapshot_read.specs.Inner.TablesRead.{AreHeldIn, HasTakenPlaced, HasTakenRows, HasTakenTable, IsHeldBy, IsHeldIn, IsReadTable, RefusesRow, RowBreaks, its_rows, with_row, with_rows}
 use Rattle.sr_snapshot_read.specs.Inner.Views.{View}
@@ -529,11 +530,11 @@ tables_held file all left before now v0 v1 rows none reading = subst (λ (l : Li
 -- where nothing breaks behind a table, something may
 abbrev ItsBreak : Table → List Table → (List ℕ → ℕ → Type 0) → ℕ → ℕ → List ℕ → Type 0
 ItsBreak t ts later left count first =
-    RowsBreak t None count first left ⊎ ((rows : List Row) × AreRead t count rows × Behind (flat_map row_spelling rows) (λ rest. TablesBreak ts later rest left) first)
+    RowsBreak t None count first left ⊎ ((rows : List Row) × AreRead t count rows × BehindPart (flat_map row_spelling rows) (λ rest. TablesBreak ts later rest left) first)
 
 abbrev CountedBreak : Table → List Table → (List ℕ → ℕ → Type 0) → ℕ → List ℕ → Type 0
 CountedBreak t ts later left counted =
-    FieldBreaks (number_at w32) counted left ⊎ ((count : ℕ) × (count < 2 ^ 32) × Behind (to_be_bytes w32 count) (λ first. ItsBreak t ts later left count first) counted)
+    FieldBreaks (number_at w32) counted left ⊎ ((count : ℕ) × (count < 2 ^ 32) × BehindPart (to_be_bytes w32 count) (λ first. ItsBreak t ts later left count first) counted)
 
 its_map : (t : Table) (ts us : List Table) (later : List ℕ → ℕ → Type 0) (left count : ℕ) (first : List ℕ) → ((rest : List ℕ) → TablesBreak ts NeverBreaks rest left → TablesBreak us later rest left) → ItsBreak t ts NeverBreaks left count first
     → ItsBreak t us later left count first

@@ -7,10 +7,8 @@ use Rattle.std.specs.Int.{Width, w32, w64, byte_len, cast_signed, from_be_bytes}
 use Rattle.std.specs.Prelude.{IsTrue, ℤ, nat_lt, ◌==◌}
 use Rattle.std.specs.Str.{is_utf8}
 use Rattle.sr_base.specs.Fields.{is_name_size, name_at}
-use Rattle.sr_base.specs.Inner.Fields.{just_at, mapped_at, number_at, signed_at, tag_at, text_at, untagged_at}
-use Rattle.sr_base.specs.Inner.Values.{day_at, is_day, value_at}
 use Rattle.sr_base.specs.Names.{is_lower_name}
-use Rattle.sr_base.specs.Reading.{Read, ◌>>=◌}
+use Rattle.sr_base.specs.Reading.{Read, ◌>>=◌, just_at, mapped_at, number_at, signed_at, tag_at, text_at, untagged_at, day_at, is_day, value_at}
 use Rattle.sr_base.specs.declared.value.Value.{Value}
 use Rattle.sr_base.specs.declared.value.Value.TheVariants.{Null, Int, Big, Str, Date}
 use Rattle.sr_site.specs.Causes.{Rose}
@@ -21,7 +19,8 @@ use Rattle.sr_site.specs.Seen.{Seen}
 use Rattle.sr_site.specs.declared.file.File.{File}
 use Rattle.sr_snapshot.specs.declared.fault.SnapFault.{SnapFault}
 use Rattle.sr_snapshot.specs.declared.fault.SnapFault.TheVariants.{Disk, Long, Damaged, Memory}
-use Rattle.sr_snapshot_read.specs.Inner.Reading.{BreaksAt, BreaksWithin, FieldBreaks, HasTaken, IsOver, ReadAlone, TakeCause}
+use Rattle.sr_snapshot_read.specs.Inner.Reading.{BreaksAt, BreaksWithin, HasTaken, IsOver, ReadAlone, TakeCause}
+use Rattle.sr_snapshot_read.specs.Damages.{FieldBreaks}
 use Rattle.sr_snapshot_read.specs.Inner.Views.{View}
 
 -- ---- steps that read

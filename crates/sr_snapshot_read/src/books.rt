@@ -4,9 +4,10 @@ ghost use Rattle.std.specs.Prelude.{◌≡◌, ◌<◌, ◌^◌, ◌∷◌, [], 
 ghost use Rattle.std.specs.List.{flat_map, AllByRecursion};
 ghost use Rattle.sr_catalog_schema.specs.Members.{user_name};
 ghost use Rattle.sr_site.specs.Files.{bytes_of};
-ghost use Rattle.sr_snapshot.specs.Inner.Beginnings.{IsBook};
-ghost use Rattle.sr_snapshot.specs.Inner.Parts.{book_line, book_spelling, four_spelling};
-ghost use Rattle.sr_snapshot_read.specs.Inner.Damages.{BooksBreak, NeverBreaks, NumbersBreak};
+ghost use Rattle.sr_snapshot.specs.Beginnings.{IsBook};
+ghost use Rattle.sr_snapshot.specs.Parts.{book_line, book_spelling, four_spelling};
+ghost use Rattle.sr_snapshot_read.specs.Inner.Damages.{NeverBreaks};
+ghost use Rattle.sr_snapshot_read.specs.Damages.{BooksBreak, NumbersBreak};
 ghost use Rattle.sr_snapshot_read.specs.Inner.Reading.{HasTaken, IsOver, TakeCause};
 
 use crate::fields::read_number;

@@ -3,10 +3,12 @@
 ghost use Rattle.std.specs.Prelude.{◌≡◌, ◌+◌, ◌<◌, ◌^◌, min, IsTrue, IfOk, IfErr};
 ghost use Rattle.std.specs.Int.{w32, w64, to_be_bytes};
 ghost use Rattle.sr_base.specs.Fields.{name_spelling, IsName};
-ghost use Rattle.sr_base.specs.Inner.Fields.{number_at};
+ghost use Rattle.sr_base.specs.Reading.{number_at};
 ghost use Rattle.sr_site.specs.Files.{bytes_of};
-ghost use Rattle.sr_snapshot_read.specs.Inner.Places.{name_in, no_further};
-ghost use Rattle.sr_snapshot_read.specs.Inner.Reading.{BreaksWithin, FieldBreaks, HasTaken, IsOver, TakeCause};
+ghost use Rattle.sr_snapshot_read.specs.Inner.Places.{no_further};
+ghost use Rattle.sr_snapshot_read.specs.Places.{name_in};
+ghost use Rattle.sr_snapshot_read.specs.Inner.Reading.{BreaksWithin, HasTaken, IsOver, TakeCause};
+ghost use Rattle.sr_snapshot_read.specs.Damages.{FieldBreaks};
 
 use crate::window::Window;
 use sr_base::{Bad, Field, Name, read_prefix};

@@ -4,9 +4,9 @@ ghost use Rattle.std.specs.Prelude.{◌≡◌, ◌≤◌, ◌^◌, ◌<◌, leng
 ghost use Rattle.std.specs.Int.{w32, w64, to_be_bytes};
 ghost use Rattle.sr_base.specs.Fields.{name_spelling, IsName};
 ghost use Rattle.sr_site.specs.Files.{bytes_of};
-ghost use Rattle.sr_snapshot.specs.Inner.Parts.{magic};
+ghost use Rattle.sr_snapshot.specs.Parts.{magic};
 ghost use Rattle.sr_snapshot.specs.declared.fault.SnapFault.TheVariants.{Damaged as broken_at};
-ghost use Rattle.sr_snapshot_read.specs.Inner.Damages.{CountBreaks, LacksMagic, NameBreaks, OffsetBreaks};
+ghost use Rattle.sr_snapshot_read.specs.Damages.{CountBreaks, LacksMagic, NameBreaks, OffsetBreaks};
 ghost use Rattle.sr_snapshot_read.specs.Inner.Reading.{HasTaken, IsOver, TakeCause};
 
 use crate::fields::{read_count, read_name, read_number};

@@ -8,12 +8,13 @@ ghost use Rattle.sr_catalog_schema.specs.Members.{table_name};
 ghost use Rattle.sr_exec_where.specs.Keys.{key_of};
 ghost use Rattle.sr_logform.specs.Entries.{table_spelling};
 ghost use Rattle.sr_logform.specs.Rules.{AreDistinct};
-ghost use Rattle.sr_rows.specs.Inner.Marks.{IsPast};
+ghost use Rattle.sr_rows.specs.Walks.{IsPast};
 ghost use Rattle.sr_rows.specs.Inner.Steps.{at_mark};
 ghost use Rattle.sr_site.specs.Files.{bytes_of};
-ghost use Rattle.sr_snapshot.specs.Inner.Snapshots.{rows_in};
+ghost use Rattle.sr_snapshot.specs.Snapshots.{rows_in};
 ghost use Rattle.sr_snapshot.specs.declared.fault.SnapFault.TheVariants.{Memory as no_memory};
-ghost use Rattle.sr_snapshot_read.specs.Inner.Damages.{IsPlaced, NeverBreaks, RowsBreak, TablesBreak};
+ghost use Rattle.sr_snapshot_read.specs.Inner.Damages.{NeverBreaks};
+ghost use Rattle.sr_snapshot_read.specs.Damages.{IsPlaced, RowsBreak, TablesBreak};
 ghost use Rattle.sr_snapshot_read.specs.Inner.Reading.{HasTaken, IsOver, TakeCause};
 ghost use Rattle.sr_snapshot_read.specs.Inner.TablesRead.{AreHeldIn, HasTakenPlaced, HasTakenRows, HasTakenTable, IsReadTable, RefusesRow, RowBreaks};
 

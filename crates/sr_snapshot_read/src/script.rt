@@ -6,10 +6,10 @@ ghost use Rattle.sr_ast.specs.Statements.{is_ddl as is_ddl_stmt};
 ghost use Rattle.sr_ast.specs.declared.stmt.Stmt.{Stmt as Statement};
 ghost use Rattle.sr_catalog_change.specs.Changes.{refusal};
 ghost use Rattle.sr_catalog_schema.specs.Catalogs.{nothing_but};
-ghost use Rattle.sr_catalog_script_laws.specs.Inner.Scripts.{statements};
+ghost use Rattle.sr_catalog_script_laws.specs.Scripts.{statements};
 ghost use Rattle.sr_site.specs.Files.{bytes_of};
 ghost use Rattle.sr_snapshot.specs.declared.fault.SnapFault.TheVariants.{Damaged as broken_at};
-ghost use Rattle.sr_snapshot_read.specs.Inner.Damages.{IsNext, ScriptBreaks, TextsBreak};
+ghost use Rattle.sr_snapshot_read.specs.Damages.{IsNextStatement, ScriptBreaks, TextsBreak};
 ghost use Rattle.sr_snapshot_read.specs.Inner.Reading.{IsOver, TakeCause};
 ghost use Rattle.sr_snapshot_read.specs.Inner.ScriptRead.{HasRepeated, HasTakenScript, HasTakenText, HasTakenTexts, Makes, RefusesText, RepeatBreaks, RepeatsFrom, TextBreaks};
 
@@ -128,7 +128,7 @@ fn statement_at(
     text: &Text,
     place: u64,
 ) -> Result<Stmt, SnapFault>
-    ensures next { IfOk result (IsNext catalog.now text.now) }
+    ensures next { IfOk result (IsNextStatement catalog.now text.now) }
     ensures cause { IfErr result (RefusesText catalog.now text.now place) }
 {
     match next_statement(alloc, catalog, text)? {
@@ -139,8 +139,8 @@ fn statement_at(
 
 /// The statement that prints this text, where it is one on the catalog that the catalog accepts.
 fn next_statement(alloc: Global, catalog: &Catalog, text: &Text) -> Result<Option<Stmt>, NoMemory>
-    ensures found { IfOk result (λ found. IfSome found (IsNext catalog.now text.now)) }
-    ensures none { IfOk result (λ found. found ≡ None → (s : Statement) → ¬ (IsNext catalog.now text.now s)) }
+    ensures found { IfOk result (λ found. IfSome found (IsNextStatement catalog.now text.now)) }
+    ensures none { IfOk result (λ found. found ≡ None → (s : Statement) → ¬ (IsNextStatement catalog.now text.now s)) }
 {
     match printed_statement(alloc, text)? {
         Some(stmt) => {

@@ -3,12 +3,13 @@
 ghost use Rattle.std.specs.Prelude.{◌≡◌, ◌≤◌, ◌+◌, ◌++◌, ℕ, List, [], ◌∷◌, length, take, IsTrue, IfOk, IfErr, OnOk};
 ghost use Rattle.std.specs.Int.{w32, from_be_bytes};
 ghost use Rattle.sr_base.specs.Fields.{bytes_spelling, IsText};
-ghost use Rattle.sr_base.specs.Inner.Fields.{items_at, list_at};
+ghost use Rattle.sr_base.specs.Reading.{items_at, list_at};
 ghost use Rattle.sr_base.specs.Values.{value_spelling, IsValue};
 ghost use Rattle.sr_base.specs.declared.value.Value.{Value as Cell};
 ghost use Rattle.sr_site.specs.Files.{bytes_of};
-ghost use Rattle.sr_snapshot_read.specs.Inner.Places.{text_in, value_in};
-ghost use Rattle.sr_snapshot_read.specs.Inner.Reading.{FieldBreaks, HasTaken, IsOver, TakeCause};
+ghost use Rattle.sr_snapshot_read.specs.Places.{text_in, value_in};
+ghost use Rattle.sr_snapshot_read.specs.Inner.Reading.{HasTaken, IsOver, TakeCause};
+ghost use Rattle.sr_snapshot_read.specs.Damages.{FieldBreaks};
 ghost use Rattle.sr_snapshot_read.specs.Inner.RowsRead.{HasTakenRow, HasTakenValues};
 
 use crate::fields::{read_count, read_field, within};

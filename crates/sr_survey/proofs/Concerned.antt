@@ -15,7 +15,7 @@ use Rattle.sr_catalog_schema.specs.Catalogs.{Lists}
 use Rattle.sr_catalog_schema.specs.Firsts.{has}
 use Rattle.sr_catalog_schema.specs.declared.publication.Article.{Article}
 use Rattle.sr_catalog_schema.specs.declared.table.Table.{Table}
-use Rattle.sr_catalog_script_laws.specs.Inner.Scripts.{IsMade}
+use Rattle.sr_catalog_script_laws.specs.Scripts.{IsMadeByStatements}
 use Rattle.sr_exec_dml.specs.Statements.{table_named}
 use Rattle.sr_exec_fits.specs.Rows.{is_row}
 use Rattle.sr_logform.specs.declared.change.Change.{Change}
@@ -127,7 +127,7 @@ conflict_nothing : (f : SubscribedTables) (o : Option Table) (table : Name) (k :
 conflict_nothing f None table k inserts before after e = refl
 conflict_nothing f (Some t) table k inserts before after e = ap (λ (ops : List Op). cond (are_rows_of t k before after) ops []) e ∙ nothing_both (are_rows_of t k before after)
 
-module _ (c : Lists) (user : Name) (made : IsMade c) where
+module _ (c : Lists) (user : Name) (made : IsMadeByStatements c) where
   met_may : (o : Op) (inserts : List Change) (before after : List Cell) → HasLive c user (met_keys c o inserts before after) ⊎ (met_told false c user o inserts before after ≡ [])
   met_may (op.Insert table values) inserts before after = inr refl
   met_may (op.Remove table key) inserts before after = inr refl
@@ -197,7 +197,7 @@ record MayTake (c : Lists) (user : Name) (keys : List Key) : Type 0 where
   pub listed : Contains keys key
   pub other : ¬ (Contains keys (keyed.From user))
 
-module _ (c : Lists) (user from : Name) (ops : List (Op × Outcome)) (meant : List (Option Stmt)) (made : IsMade c) (are : AreMeant (map (λ p. text_done p.0 p.1) ops) meant) where
+module _ (c : Lists) (user from : Name) (ops : List (Op × Outcome)) (meant : List (Option Stmt)) (made : IsMadeByStatements c) (are : AreMeant (map (λ p. text_done p.0 p.1) ops) meant) where
   -- listed under the key for its origin and those of its changes: as another's
   as_other : bytes_eq from user ≡ false → (b : Bool) → HasLive c user (ops_keys c ops) → MayTake c user (cond b (keyed.To from) (keyed.From from) ∷ ops_keys c ops)
   as_other apart b h = record {
@@ -250,7 +250,7 @@ module _ (c : Lists) (user from : Name) (ops : List (Op × Outcome)) (meant : Li
 
 -- ---- entries
 
-module _ (c : Lists) (user : Name) (made : IsMade c) where
+module _ (c : Lists) (user : Name) (made : IsMadeByStatements c) where
   own_may : (changes : List Change) → MayConcern c (entry.Own changes) user ⊎ (changes_told (subscribed_table_of c user) changes ≡ [])
   unfolding entry_keys
   own_may changes = go (changes_may c user changes made) where

@@ -12,7 +12,7 @@ use Rattle.sr_catalog_schema.specs.declared.publication.Article.{Article}
 use Rattle.sr_catalog_schema.specs.declared.publication.Publication.{Publication}
 use Rattle.sr_catalog_schema.specs.declared.subscription.Subscription.{Subscription}
 use Rattle.sr_catalog_schema.specs.declared.table.Table.{Table}
-use Rattle.sr_catalog_script_laws.specs.Inner.Scripts.{IsMade}
+use Rattle.sr_catalog_script_laws.specs.Scripts.{IsMadeByStatements}
 use Rattle.sr_exec_dml.specs.Statements.{table_named}
 use Rattle.sr_exec_fits.specs.Rows.{is_row}
 use Rattle.sr_logform.specs.declared.change.Change.{Change}
@@ -76,7 +76,7 @@ module _ (c : Lists) (user : Name) where
       (and_second (is_live user one.item) (holds_by t (article_in c table one.item) one.item.value row) one.passes)
 
   -- a row is listed under a key of his, or not shown to him
-  row_may : (table : Name) (t : Table) (row : List Cell) → IsMade c → table_named c table ≡ Some t → HasLive c user (row_keys t (routes_of c table) row) ⊎ (seen c user table row ≡ None)
+  row_may : (table : Name) (t : Table) (row : List Cell) → IsMadeByStatements c → table_named c table ≡ Some t → HasLive c user (row_keys t (routes_of c table) row) ⊎ (seen c user table row ≡ None)
   row_may table t row made is = go (is_row t.columns row) (list_any (holds c user table t row) c.subscriptions) refl refl where
     so : is_some (seen c user table row) ≡ (is_row t.columns row && list_any (holds c user table t row) c.subscriptions)
     so = seen_so c user table t row made is
@@ -86,7 +86,7 @@ module _ (c : Lists) (user : Name) where
     go true false fits any = inr (none_if (seen c user table row) (so ∙ ap (λ x. is_row t.columns row && x) any ∙ and_false (is_row t.columns row)))
     go true true fits any = inl (row_held table t row any)
 
-  if_may : (table : Name) (t : Table) (o : Option (List Cell)) → IsMade c → table_named c table ≡ Some t → HasLive c user (keys_if t (routes_of c table) o) ⊎ (shown_row (subscribed_table_of c user table) o ≡ None)
+  if_may : (table : Name) (t : Table) (o : Option (List Cell)) → IsMadeByStatements c → table_named c table ≡ Some t → HasLive c user (keys_if t (routes_of c table) o) ⊎ (shown_row (subscribed_table_of c user table) o ≡ None)
   if_may table t None made is = inr refl
   if_may table t (Some row) made is = row_may table t row made is
 
@@ -100,7 +100,7 @@ module _ (c : Lists) (user : Name) where
   unfolding subscribed_table_of
   no_table table e = ap (λ o. subscribed_table_in c user o (source_of c user table)) e
 
-  pub change_may : (ch : Change) → IsMade c → HasLive c user (change_keys c ch) ⊎ (change_told (subscribed_table_of c user ch.table) ch ≡ [])
+  pub change_may : (ch : Change) → IsMadeByStatements c → HasLive c user (change_keys c ch) ⊎ (change_told (subscribed_table_of c user ch.table) ch ≡ [])
   change_may ch made = go (table_named c ch.table) refl where
     both : (t : Table) → HasLive c user (keys_if t (routes_of c ch.table) ch.before) ⊎ (shown_row (subscribed_table_of c user ch.table) ch.before ≡ None)
         → HasLive c user (keys_if t (routes_of c ch.table) ch.after) ⊎ (shown_row (subscribed_table_of c user ch.table) ch.after ≡ None)
@@ -113,7 +113,7 @@ module _ (c : Lists) (user : Name) where
     go None is = inr (ap (λ s. change_told s ch) (no_table ch.table is))
     go (Some t) is = both t (if_may ch.table t ch.before made is) (if_may ch.table t ch.after made is)
 
-  pub changes_may : (changes : List Change) → IsMade c → HasLive c user (changes_keys c changes) ⊎ (changes_told (subscribed_table_of c user) changes ≡ [])
+  pub changes_may : (changes : List Change) → IsMadeByStatements c → HasLive c user (changes_keys c changes) ⊎ (changes_told (subscribed_table_of c user) changes ≡ [])
   changes_may [] made = inr refl
   changes_may (ch ∷ changes) made = go (change_may ch made) (changes_may changes made) where
     go : HasLive c user (change_keys c ch) ⊎ (change_told (subscribed_table_of c user ch.table) ch ≡ []) → HasLive c user (changes_keys c changes) ⊎ (changes_told (subscribed_table_of c user) changes ≡ [])

@@ -9,7 +9,7 @@ use Rattle.sr_logform.specs.declared.op.Op.{Op}
 use Rattle.sr_publish.specs.SubscribedTables.{SubscribedTable, subscribed_table_of}
 use Rattle.sr_publish.specs.Views.{seen, shown_row}
 use Rattle.sr_publish.proofs.Held.{seen_so}
-use Rattle.sr_catalog_script_laws.specs.Inner.Scripts.{IsMade}
+use Rattle.sr_catalog_script_laws.specs.Scripts.{IsMadeByStatements}
 use Rattle.sr_catalog_schema.specs.Catalogs.{Lists}
 use Rattle.sr_catalog_schema.specs.declared.table.Table.{Table}
 use Rattle.sr_scan.specs.Inner.Images.{fits_if, change_told}
@@ -28,7 +28,7 @@ pub nothing_both : (b : Bool) → cond {A = List Op} b [] [] ≡ []
 nothing_both true = refl
 nothing_both false = refl
 
-not_shown : (c : Lists) (user table : Name) (t : Table) → IsMade c → table_named c table ≡ Some t → (o : Option (List Cell)) → IsUnheld c user table t o → shown_row (subscribed_table_of c user table) o ≡ None
+not_shown : (c : Lists) (user table : Name) (t : Table) → IsMadeByStatements c → table_named c table ≡ Some t → (o : Option (List Cell)) → IsUnheld c user table t o → shown_row (subscribed_table_of c user table) o ≡ None
 not_shown c user table t made is None unheld = refl
 not_shown c user table t made is (Some row) unheld =
     none_if (seen c user table row) (seen_so c user table t row made is ∙ ap (λ b. is_row t.columns row && b) unheld ∙ and_false (is_row t.columns row))
@@ -40,7 +40,7 @@ hidden_gives_nothing (Some s) ch b a =
     ap₂ (λ (x y : Option (List Cell)). cond (fits_if s.table ch.before && fits_if s.table ch.after) (told_of s (key_of_rows s.table ch.before ch.after) x y) []) b a
     ∙ nothing_both (fits_if s.table ch.before && fits_if s.table ch.after)
 
-pub change_unheld : (c : Lists) (user : Name) (t : Table) (ch : Change) → IsMade c → table_named c ch.table ≡ Some t → IsUnheld c user ch.table t ch.before → IsUnheld c user ch.table t ch.after
+pub change_unheld : (c : Lists) (user : Name) (t : Table) (ch : Change) → IsMadeByStatements c → table_named c ch.table ≡ Some t → IsUnheld c user ch.table t ch.before → IsUnheld c user ch.table t ch.after
     → change_told (subscribed_table_of c user ch.table) ch ≡ []
 change_unheld c user t ch made is before after =
     hidden_gives_nothing (subscribed_table_of c user ch.table) ch (not_shown c user ch.table t made is ch.before before) (not_shown c user ch.table t made is ch.after after)

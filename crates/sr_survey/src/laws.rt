@@ -11,7 +11,7 @@ ghost use Rattle.sr_catalog_change.specs.Changes.{next};
 ghost use Rattle.sr_catalog_schema.specs.Catalogs.{Lists};
 ghost use Rattle.sr_catalog_schema.specs.declared.publication.Article.{Article as AnArticle};
 ghost use Rattle.sr_catalog_schema.specs.declared.table.Table.{Table as ATable};
-ghost use Rattle.sr_catalog_script_laws.specs.Inner.Scripts.{IsMade};
+ghost use Rattle.sr_catalog_script_laws.specs.Scripts.{IsMadeByStatements};
 ghost use Rattle.sr_database_history.specs.Fitting.{Fits, Stored};
 ghost use Rattle.sr_database_history.specs.Folds.{State, state_of, end_of};
 ghost use Rattle.sr_database_history.specs.Inner.Laws.{Holds};
@@ -99,7 +99,7 @@ pub fn told_alike()
 
 /// A change of rows that nobody holds for a user gives him nothing.
 pub fn unheld_gives_nothing()
-    ensures change { (c : Lists) (user : Bytes) (t : ATable) (ch : AChange) → IsMade c → table_named c ch.table ≡ Some t → IsUnheld c user ch.table t ch.before → IsUnheld c user ch.table t ch.after
+    ensures change { (c : Lists) (user : Bytes) (t : ATable) (ch : AChange) → IsMadeByStatements c → table_named c ch.table ≡ Some t → IsUnheld c user ch.table t ch.before → IsUnheld c user ch.table t ch.after
         → change_told (subscribed_table_of c user ch.table) ch ≡ [] }
 {}
 

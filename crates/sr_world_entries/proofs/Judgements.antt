@@ -9,7 +9,7 @@ use Rattle.sr_database_history.specs.Fitting.{DoneFits, FitsState, Knows}
 use Rattle.sr_database_history.specs.Folds.{State, after_done, next}
 use Rattle.sr_database_history.specs.Recorded.{Done, taken, done_of, IsLawfulDone}
 use Rattle.sr_database_history.proofs.Granted.{stays_known}
-use Rattle.sr_exec_dml.specs.Inner.Conditions.{RowsFit}
+use Rattle.sr_exec_dml.specs.Fitting.{RowsFit}
 use Rattle.sr_logform.specs.declared.entry.Entry.{Entry}
 use Rattle.sr_logform.specs.declared.entry.Entry.TheVariants.{From}
 use Rattle.sr_logform.specs.declared.op.Op.{Op}

@@ -9,7 +9,7 @@ ghost use Rattle.sr_database_fold.specs.Inner.Readings.{state_in};
 ghost use Rattle.sr_database_history.specs.Fitting.{DoneFits};
 ghost use Rattle.sr_database_history.specs.Folds.{after_done};
 ghost use Rattle.sr_database_history.specs.Recorded.{Done, done_of, IsLawfulDone};
-ghost use Rattle.sr_exec_dml.specs.Inner.Conditions.{RowsFit};
+ghost use Rattle.sr_exec_dml.specs.Fitting.{RowsFit};
 ghost use Rattle.sr_logform.specs.declared.entry.Entry.TheVariants.{From};
 ghost use Rattle.sr_resolve.specs.Taking.{is_above};
 ghost use Rattle.sr_rows.specs.Inner.Steps.{at_mark};

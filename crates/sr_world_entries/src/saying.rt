@@ -4,7 +4,7 @@ ghost use Rattle.std.specs.Prelude.{◌≡◌, ◌≢◌, ◌↔◌, ◌++◌, L
 ghost use Rattle.std.specs.List.{AllByRecursion, cons_option};
 ghost use Rattle.sr_base.specs.declared.value.Value.{Value as Cell};
 ghost use Rattle.sr_database_fold.specs.Inner.Readings.{state_in};
-ghost use Rattle.sr_exec_dml.specs.Inner.Conditions.{RowsFit};
+ghost use Rattle.sr_exec_dml.specs.Fitting.{RowsFit};
 ghost use Rattle.sr_exec_dml.specs.Statements.{done};
 ghost use Rattle.sr_publish.specs.SubscribedTables.{subscribed_table_of};
 ghost use Rattle.sr_publish.specs.Views.{shown_in};

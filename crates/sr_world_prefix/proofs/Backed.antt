@@ -10,7 +10,7 @@ use Rattle.sr_database_history.specs.Folds.{books_of}
 use Rattle.sr_database_history.specs.Recorded.{Recorded}
 use Rattle.sr_msgform.specs.declared.message.Message.{Message}
 use Rattle.sr_send.specs.PutFiles.{put_files}
-use Rattle.sr_send.specs.Passes.{sent_end}
+use Rattle.sr_send.specs.Passes.{AreAll, sent_end}
 use Rattle.sr_site.specs.Files.{Files}
 use Rattle.sr_site.specs.Seen.{Seen}
 use Rattle.sr_site.specs.Streams.{Output}
@@ -18,7 +18,7 @@ use Rattle.sr_database_meaning.specs.Events.{Event, commit, commits, PutFile, pu
 use Rattle.sr_database_meaning.specs.Standing.{StandsAs}
 use Rattle.sr_database_meaning.specs.Traces.{Went}
 use Rattle.sr_agent.specs.Agents.{Did}
-use Rattle.sr_agent.specs.Deliveries.{Delivery, AreDeliveries, deliveries_events, folder_of}
+use Rattle.sr_agent.specs.Deliveries.{Delivery, AreBased, AreDeliveries, deliveries_events, folder_of}
 use Rattle.sr_agent.specs.Ends.{HasTold}
 use Rattle.sr_agent.specs.Lines.{Line}
 use Rattle.sr_agent.specs.Runs.{Run, Sends, after_receiving, after_run, fetched_files_of, sent_events, taken_entries, trace_of}
@@ -61,7 +61,7 @@ module _ (publisher : Name) (es : List Recorded) where
 
 -- ---- what holds by a history of all that a pass on it says
 
-module _ (publisher : Name) (Holds : Name → List Recorded → Message → Type 0) (Fine : List Recorded → Type 0) (truth : Truth publisher (Holds publisher) Fine) (es : List Recorded) (fine : Fine es) where
+module _ (base : ℕ) (publisher : Name) (Holds : Name → List Recorded → Message → Type 0) (Fine : List Recorded → Type 0) (truth : Truth base publisher (Holds publisher) Fine) (es : List Recorded) (fine : Fine es) where
   abbrev So : List Recorded → Message → Type 0
   So = Holds publisher
 
@@ -71,17 +71,17 @@ module _ (publisher : Name) (Holds : Name → List Recorded → Message → Type
   fine_behind : (run : Run) → HasReceived publisher es run → Fine (after_run publisher es run)
   fine_behind run received = truth.stepped es (commits (trace_of publisher es run)) fine (run_steps publisher es run received)
 
-  sent_back : (limit : ℕ) (run : Run) → HasReceived publisher es run → HasSent publisher es limit run → Backs So (after_receiving publisher es run) [] (sent_events publisher es run)
-  sent_back limit run received (inl none) =
+  sent_back : (limit : ℕ) (run : Run) → HasReceived publisher es run → AreBased base run.deliveries → HasSent publisher es limit run → Backs So (after_receiving publisher es run) [] (sent_events publisher es run)
+  sent_back limit run received based (inl none) =
       subst (λ (ds : List Delivery). Backs So (after_receiving publisher es run) [] (deliveries_events publisher (after_receiving publisher es run) ds)) (sym none) tt
-  sent_back limit run received (inr are) = deliveries_back publisher So Fine truth (after_receiving publisher es run) limit run.deliveries (fine_there run received) are
+  sent_back limit run received based (inr are) = deliveries_back base publisher So Fine truth (after_receiving publisher es run) limit run.deliveries (fine_there run received) based are
 
-  trace_back : (limit : ℕ) (run : Run) → HasReceived publisher es run → HasSent publisher es limit run → Backs So es [] (trace_of publisher es run)
-  trace_back limit run received sent =
+  trace_back : (limit : ℕ) (run : Run) → HasReceived publisher es run → AreBased base run.deliveries → HasSent publisher es limit run → Backs So es [] (trace_of publisher es run)
+  trace_back limit run received based sent =
       let taken : List Recorded = taken_entries publisher es run in
       let there : Backs So (es ++ commits (map commit taken)) (puts (map commit taken)) (sent_events publisher es run)
       = subst (λ (rs : List Recorded). Backs So (es ++ rs) (puts (map commit taken)) (sent_events publisher es run)) (sym (commits_of taken))
-      (subst (λ (ls : List PutFile). Backs So (es ++ taken) ls (sent_events publisher es run)) (sym (puts_commits taken)) (sent_back limit run received sent)) in
+      (subst (λ (ls : List PutFile). Backs So (es ++ taken) ls (sent_events publisher es run)) (sym (puts_commits taken)) (sent_back limit run received based sent)) in
       backs_more So es [] (map commit taken) (sent_events publisher es run) (backs_commits So es taken) there
 
   -- ---- and what came behind them
@@ -92,7 +92,7 @@ module _ (publisher : Name) (Holds : Name → List Recorded → Message → Type
     pub went : Went before now publisher es trace
     pub backs : Backs So es [] trace
 
-  module _ (options : Options) (run : Run) (before now : Seen) (received : HasReceived publisher es run) where
+  module _ (options : Options) (run : Run) (before now : Seen) (received : HasReceived publisher es run) (based : AreBased base run.deliveries) where
     abbrev trace : List Event
     trace = trace_of publisher es run
 
@@ -105,7 +105,7 @@ module _ (publisher : Name) (Holds : Name → List Recorded → Message → Type
       went = went;
       backs =
           subst (λ (l : List Event). Backs So es [] (trace ++ l)) (sym is)
-          (subst (λ (l : List Event). Backs So es [] l) (sym (append-nil trace)) (trace_back options.length run received sent));
+          (subst (λ (l : List Event). Backs So es [] l) (sym (append-nil trace)) (trace_back options.length run received based sent));
     }
 
     with_commits : (events : List Event) (rs : List Recorded) → run.deliveries ≡ [] → events ≡ map commit rs → Went before now publisher es (trace ++ events) → BacksOn before now
@@ -115,35 +115,37 @@ module _ (publisher : Name) (Holds : Name → List Recorded → Message → Type
         record {
           trace = trace ++ events;
           went = went;
-          backs = subst (λ (l : List Event). Backs So es [] (trace ++ l)) (sym is) (backs_more So es [] trace (map commit rs) (trace_back options.length run received (inl none)) behind);
+          backs = subst (λ (l : List Event). Backs So es [] (trace ++ l)) (sym is) (backs_more So es [] trace (map commit rs) (trace_back options.length run received based (inl none)) behind);
         }
 
-    note_back : (whose : Name) (done : List PutFile) (messages left : List Message) (notes : List Recorded) → AreSo So there done → IsBegunNote publisher there whose messages left notes
+    note_back : (at : ℕ) (whose : Name) (done : List PutFile) (messages left : List Message) (notes : List Recorded) → AreSo So there done → IsBegunNote at publisher there whose messages left notes
         → (rs : List Recorded) → rs ≡ there → Backs So rs done (map commit notes)
-    note_back whose done messages left [] are is rs same = subst (λ (qs : List Recorded). AreSo So qs done) (sym same) are
-    note_back whose done messages left (r ∷ []) are is rs same =
+    note_back at whose done messages left [] are is rs same = subst (λ (qs : List Recorded). AreSo So qs done) (sym same) are
+    note_back at whose done messages left (r ∷ []) are is rs same =
         subst (λ (qs : List Recorded). Backs So qs done (commit r ∷ [])) (sym same)
         (subst (λ (x : Recorded). Backs So there done (commit x ∷ [])) (sym is.1)
-        (backs_note publisher So Fine truth there done whose (sent_end publisher there whose (books_of whose there)) (length messages) (offset_from (books_of whose there).log_received) are))
-    note_back whose done messages left (r ∷ other ∷ rest) are is rs same = absurd is
+        (backs_note base publisher So Fine truth there done whose (sent_end at publisher there whose (books_of whose there)) (length messages) (offset_from (books_of whose there).log_received) are))
+    note_back at whose done messages left (r ∷ other ∷ rest) are is rs same = absurd is
 
-    with_delivery : (partner : _) (db new : View) (seen : Seen) (events : List Event) (fault : AgentFault) → HasSent publisher es options.length run
+    with_delivery : (partner : _) (db new : View) (seen : Seen) (events : List Event) (fault : AgentFault) → db.log.base ≡ base → HasSent publisher es options.length run
         → DeliveryStop publisher there options.length partner db new seen now events fault → Went before now publisher es (trace ++ events) → BacksOn before now
-    with_delivery partner db new seen events fault sent stop went =
+    with_delivery partner db new seen events fault same sent stop went =
         let whose : Name = partner.user in
         let files : List Event = put_files (folder_of publisher there whose) (books_of whose there).send_count stop.messages in
+        let all : AreAll base publisher there whose (books_of whose there) partner.ask options.length (stop.messages ++ stop.left)
+        = subst (λ (n : ℕ). AreAll n publisher there whose (books_of whose there) partner.ask options.length (stop.messages ++ stop.left)) same stop.are in
         let hold : AllByRecursion (So there) stop.messages
-        = AllByRecursion-prefix (So there) stop.messages stop.left (truth.said there whose partner.ask options.length (stop.messages ++ stop.left) (fine_behind run received) stop.are) in
-        let first = trace_back options.length run received sent in
+        = AllByRecursion-prefix (So there) stop.messages stop.left (truth.said there whose partner.ask options.length (stop.messages ++ stop.left) (fine_behind run received) all) in
+        let first = trace_back options.length run received based sent in
         let put_then : Backs So there (puts trace) files
-        = backs_put_files publisher So Fine truth there (puts trace) (folder_of publisher there whose) (books_of whose there).send_count stop.messages (backs_last So es [] trace first) hold stop.spelled in
+        = backs_put_files base publisher So Fine truth there (puts trace) (folder_of publisher there whose) (books_of whose there).send_count stop.messages (backs_last So es [] trace first) hold stop.spelled in
         let still : there ++ commits files ≡ there
         = ap (λ (l : List Recorded). there ++ l) (commits_letters (folder_of publisher there whose) (books_of whose there).send_count stop.messages) ∙ append-nil there in
         let are : AreSo So there (puts trace ++ puts files)
         = subst (λ (rs : List Recorded). AreSo So rs (puts trace ++ puts files)) still (backs_last So there (puts trace) files put_then) in
         let behind : Backs So there (puts trace) (files ++ map commit stop.notes)
         = backs_more So there (puts trace) files (map commit stop.notes) put_then
-        (note_back whose (puts trace ++ puts files) stop.messages stop.left stop.notes are stop.note (there ++ commits files) still) in
+        (note_back db.log.base whose (puts trace ++ puts files) stop.messages stop.left stop.notes are stop.note (there ++ commits files) still) in
         record {
           trace = trace ++ events;
           went = went;
@@ -156,24 +158,24 @@ module _ (publisher : Name) (Holds : Name → List Recorded → Message → Type
     partner_pass_back whose db new seen events lines fault whole none (behind_message_files stop) went =
         with_commits events (partner_pass_entries publisher there (fetched_files_of run.gathered) stop.partner_pass) none stop.events_are went
 
-    stop_back : (db new : View) (seen : Seen) (events : List Event) (lines : List Line) (fault : AgentFault) (whole : Type 0) → StopsAt publisher es options run db new seen now events lines fault whole
+    stop_back : (db new : View) (seen : Seen) (events : List Event) (lines : List Line) (fault : AgentFault) (whole : Type 0) → db.log.base ≡ base → StopsAt publisher es options run db new seen now events lines fault whole
         → Went before now publisher es (trace ++ events) → BacksOn before now
-    stop_back db new seen events lines fault whole (at_first is_run is_new is_now is_events is_lines untold) went = with_none events (inl (ap (λ (r : Run). r.deliveries) is_run)) is_events went
-    stop_back db new seen events lines fault whole (gathering asked_for is_run is_new is_events stop) went = with_none events (inl (ap (λ (r : Run). r.deliveries) is_run)) is_events went
-    stop_back db new seen events lines fault whole (behind_gathering left upto none is_new is_now is_events is_lines untold) went = with_none events (inl upto.none) is_events went
-    stop_back db new seen events lines fault whole (in_partner_pass whose left upto stop) went = partner_pass_back whose db new seen events lines fault whole upto.none stop went
-    stop_back db new seen events lines fault whole (sending left upto newest earlier newest_is is_new is_now is_events is_lines untold) went = with_none events (inr upto.sending.are) is_events went
-    stop_back db new seen events lines fault whole (in_delivery partner left upto is_lines stop) went = with_delivery partner db new seen events fault (inr upto.sending.are) stop went
+    stop_back db new seen events lines fault whole same (at_first is_run is_new is_now is_events is_lines untold) went = with_none events (inl (ap (λ (r : Run). r.deliveries) is_run)) is_events went
+    stop_back db new seen events lines fault whole same (gathering asked_for is_run is_new is_events stop) went = with_none events (inl (ap (λ (r : Run). r.deliveries) is_run)) is_events went
+    stop_back db new seen events lines fault whole same (behind_gathering left upto none is_new is_now is_events is_lines untold) went = with_none events (inl upto.none) is_events went
+    stop_back db new seen events lines fault whole same (in_partner_pass whose left upto stop) went = partner_pass_back whose db new seen events lines fault whole upto.none stop went
+    stop_back db new seen events lines fault whole same (sending left upto newest earlier newest_is is_new is_now is_events is_lines untold) went = with_none events (inr upto.sending.are) is_events went
+    stop_back db new seen events lines fault whole same (in_delivery partner left upto is_lines stop) went = with_delivery partner db new seen events fault same (inr upto.sending.are) stop went
 
-  did_back : (options : Options) (new : View) (before now : Seen) (written written' : Output) (lines : List Line) (result : Result ℕ AgentFault) → Did new before now written written' publisher es options lines result → BacksOn before now
+  did_back : (options : Options) (new : View) (before now : Seen) (written written' : Output) (lines : List Line) (result : Result ℕ AgentFault) → Did base new before now written written' publisher es options lines result → BacksOn before now
   did_back options new before now written written' lines (Ok count) ran = record {
     trace = trace_of publisher es ran.run;
     went = ran.came.went;
-    backs = trace_back options.length ran.run (received_either options.receive publisher es ran.run ran.is.receives) (sent_either publisher es options.send options ran.run ran.is.sends);
+    backs = trace_back options.length ran.run (received_either options.receive publisher es ran.run ran.is.receives) ran.came.based (sent_either publisher es options.send options ran.run ran.is.sends);
   }
   did_back options new before now written written' lines (Err fault) ran =
       let whole = HasTold lines written written' in
-      stop_back options ran.run before now (stop_received publisher es options ran.run ran.db new ran.seen now ran.events ran.told fault whole ran.stops) ran.db new ran.seen ran.events ran.told fault whole ran.stops ran.went
+      stop_back options ran.run before now (stop_received publisher es options ran.run ran.db new ran.seen now ran.events ran.told fault whole ran.stops) ran.came.based ran.db new ran.seen ran.events ran.told fault whole ran.came.base_is ran.stops ran.went
 
   -- ---- at each moment
 
@@ -188,7 +190,7 @@ module _ (publisher : Name) (Holds : Name → List Recorded → Message → Type
   pub went_back : (before now : Seen) (trace : List Event) → Backs So es [] trace → Went before now publisher es trace → BacksPuts Holds publisher before now
   went_back before now trace backs went = went_behind (StandBehind Holds publisher) publisher es trace (stand_behind trace backs) before now went
 
-  pub run_backs : (options : Options) (new : View) (before now : Seen) (written written' : Output) (lines : List Line) (result : Result ℕ AgentFault) → Did new before now written written' publisher es options lines result
+  pub run_backs : (options : Options) (new : View) (before now : Seen) (written written' : Output) (lines : List Line) (result : Result ℕ AgentFault) → Did base new before now written written' publisher es options lines result
       → BacksPuts Holds publisher before now
   run_backs options new before now written written' lines result did =
       let back = did_back options new before now written written' lines result did in

@@ -114,3 +114,20 @@ module _ (Stand : List PutFile → Files → Type 0) where
     still_opened opened now same still stays later =
         let none = none_put before opened still.more still.is stays in
         opened_behind opened same still.more still.is none now (behind_each still.more none still.moments) later
+
+    -- behind a stretch in which the mail was left alone, and every crash leaves what stands so with nothing put
+    rested_none : (since : List Happening) → puts_in since ≡ [] → ((image : Files) → MayLeave before.first (since ++ before.happened) image → Stand [] image) → Behind since
+    rested_none since none rests image there = subst (λ (ls : List PutFile). Stand ls image) (sym none) (rests image there)
+
+    rested_each : (more : List Happening) → puts_in more ≡ [] → Throughout (λ moment. (image : Files) → MayLeave before.first moment image → Stand [] image) before.happened more → AtEach Behind more
+    rested_each [] none rests = rested_none [] none rests
+    rested_each (step ∷ more) none rests = (rested_none (step ∷ more) none rests.0, rested_each more (none_before step more none) rests.1)
+
+    pub rested_behind : (now : Seen) → RestsThroughout (Stand []) before now → DiskStays before now → StandsBehind Stand before now
+    rested_behind now rests stays = record { more = rests.more; is = rests.is; moments = rested_each rests.more (none_put before now rests.more rests.is stays) rests.moments }
+
+    pub rested_opened : (opened now : Seen) → opened.first ≡ before.first → RestsThroughout (Stand []) before opened → DiskStays before opened → StandsBehind Stand opened now
+        → StandsBehind Stand before now
+    rested_opened opened now same rests stays later =
+        let none = none_put before opened rests.more rests.is stays in
+        opened_behind opened same rests.more rests.is none now (rested_each rests.more none rests.moments) later

@@ -57,24 +57,27 @@ module _ (publisher : Name) where
 
   -- ---- whole runs
 
-  into : (image : Files) → StandsHolding publisher Decided image → StandDecided publisher image
-  into image s = record { es = s.es; stands = s.stands; decided = s.held }
+  abbrev DecidedAt : ℕ → List Recorded → Type 0
+  DecidedAt base = Decided
 
-  out : (image : Files) → StandDecided publisher image → StandsHolding publisher Decided image
-  out image s = record { es = s.es; stands = s.stands; held = s.decided }
+  into : (image : Files) → StandsHolding publisher DecidedAt image → StandDecided publisher image
+  into image s = record { es = s.es; stands = record { base = s.base; stands = s.stands }; decided = s.held }
+
+  out : (image : Files) → StandDecided publisher image → StandsHolding publisher DecidedAt image
+  out image s = record { es = s.es; base = s.stands.base; stands = s.stands.stands; held = s.decided }
 
   pub untouched_decided : (before now : Seen) → RestsThroughout (IsImage before) before now → KeepsDecided publisher before now
-  untouched_decided = untouched_holds publisher Decided (StandDecided publisher) into out
+  untouched_decided = untouched_holds publisher DecidedAt (StandDecided publisher) into out
 
   pub agent_decided : (owner : Name) (es : List Recorded) (options : Options) (view new : View) (before opened now : Seen) (written written' : Output) (result : Result ℕ AgentFault)
       → IsTrue before.observable → Stays before now → RestsThroughout (IsImage before) before opened → IsDatabase view owner es opened
       → RanAgent view new opened now written written' options result → KeepsDecided publisher before now
   agent_decided =
-      agent_holds publisher Decided (StandDecided publisher) into out (λ es r decided is. decided_more (fresh publisher) es r decided (step_decided publisher es r is))
+      agent_holds publisher DecidedAt (StandDecided publisher) into out (λ base es r decided is. decided_more (fresh publisher) es r decided (step_decided publisher es r is)) (λ base es stored decided. decided)
 
   pub script_decided : (owner : Name) (es : List Recorded) (view new : View) (before opened now : Seen) (written written' : Output) (statements : List Stmt) (result : Result ℕ SessionFault)
       → IsTrue before.observable → Stays before now → RestsThroughout (IsImage before) before opened → IsDatabase view owner es opened
       → RanScript view new opened now written written' statements result → KeepsDecided publisher before now
   script_decided owner es view new before opened now written written' statements result told stays still database ran =
-      script_holds publisher Decided (StandDecided publisher) into out owner es view new before opened now written written' statements result told stays still database ran
+      script_holds publisher DecidedAt (StandDecided publisher) into out owner es view new before opened now written written' statements result told stays still database ran
       (λ there own_view decided. locals_decided there (entries_of ran.acts ++ ran.broken) decided (script_locals view new opened now written written' statements result ran))

@@ -38,7 +38,7 @@ pub record DidBy (publisher : Name) (Step : List Recorded → Recorded → Type 
 
 -- a kind of steps, of which a note of messages that were sent is one
 module _ (publisher : Name) (walk : Walk publisher)
-    (sent : (es : List Recorded) (whose : Name) (count : ℕ) → walk.Holds es → walk.Step es (sent_note whose (books_of whose es) (sent_end publisher es whose (books_of whose es)) count)) where
+    (sent : (base : ℕ) (es : List Recorded) (whose : Name) (count : ℕ) → walk.Holds es → walk.Step es (sent_note whose (books_of whose es) (sent_end base publisher es whose (books_of whose es)) count)) where
   abbrev Q : List Recorded → Recorded → Type 0
   Q es r = walk.Step es r
 
@@ -47,12 +47,12 @@ module _ (publisher : Name) (walk : Walk publisher)
 
   -- ---- what is sent
 
-  noted_steps : (es : List Recorded) (address whose : Name) (messages : List Message) → walk.Holds es
-      → AreSteps es (commits (noted_put_files address whose (books_of whose es) (sent_end publisher es whose (books_of whose es)) messages))
-  noted_steps es address whose [] holds = tt
-  noted_steps es address whose (m ∷ messages) holds =
-      subst (λ (rs : List Recorded). AreSteps es rs) (sym (commits_noted address whose (books_of whose es) (sent_end publisher es whose (books_of whose es)) m messages))
-      (sent es whose (length (m ∷ messages)) holds, tt)
+  noted_steps : (base : ℕ) (es : List Recorded) (address whose : Name) (messages : List Message) → walk.Holds es
+      → AreSteps es (commits (noted_put_files address whose (books_of whose es) (sent_end base publisher es whose (books_of whose es)) messages))
+  noted_steps base es address whose [] holds = tt
+  noted_steps base es address whose (m ∷ messages) holds =
+      subst (λ (rs : List Recorded). AreSteps es rs) (sym (commits_noted address whose (books_of whose es) (sent_end base publisher es whose (books_of whose es)) m messages))
+      (sent base es whose (length (m ∷ messages)) holds, tt)
 
   pub deliveries_walked : (es : List Recorded) (deliveries : List Delivery) → walk.Holds es → AreSteps es (commits (deliveries_events publisher es deliveries))
   deliveries_walked es [] holds = tt
@@ -62,7 +62,7 @@ module _ (publisher : Name) (walk : Walk publisher)
       let first = deliveries_walked es earlier holds in
       subst (λ (rs : List Recorded). AreSteps es rs) (sym (commits-append added (delivery_events publisher there d)))
       (steps_more Q es (commits added) (commits (delivery_events publisher there d)) first
-      (noted_steps there (folder_of publisher there d.partner.user) d.partner.user d.messages (held publisher walk es (commits added) holds first)))
+      (noted_steps d.base there (folder_of publisher there d.partner.user) d.partner.user d.messages (held publisher walk es (commits added) holds first)))
 
   -- ---- the first steps of a run
 
@@ -84,7 +84,7 @@ module _ (publisher : Name) (walk : Walk publisher)
     so_far_walked run received mail =
         run_walked es run holds (received_walked publisher walk es options.purge run holds received (λ users r. gathered run users mail r) mail)
 
-    module _ (run : Run) (db new : View) (before seen now : Seen) (told : IsTrue before.observable) (came : CameSoFar db before seen publisher es options run)
+    module _ (run : Run) (base : ℕ) (db new : View) (before seen now : Seen) (told : IsTrue before.observable) (came : CameSoFar base db before seen publisher es options run)
         (parts : MailParts walk.Happened publisher es options.purge run seen now) (so_far : AreSteps es (commits (trace_of publisher es run))) where
       abbrev trace : List Event
       trace = trace_of publisher es run
@@ -115,9 +115,9 @@ module _ (publisher : Name) (walk : Walk publisher)
           (walk.later es (commits trace) whose put_files (gathered run users parts.mail r whose)) parts.since stop went in
           with_more (map commit on.entries) on.entries (commits_of on.entries) on.steps on.went
 
-      note_steps : (whose : Name) (messages left : List Message) (notes : List Recorded) → IsBegunNote publisher there whose messages left notes → AreSteps there notes
+      note_steps : (whose : Name) (messages left : List Message) (notes : List Recorded) → IsBegunNote db.log.base publisher there whose messages left notes → AreSteps there notes
       note_steps whose messages left [] is = tt
-      note_steps whose messages left (r ∷ []) is = (subst (λ (x : Recorded). Q there x) (sym is.1) (sent there whose (length messages) there_holds), tt)
+      note_steps whose messages left (r ∷ []) is = (subst (λ (x : Recorded). Q there x) (sym is.1) (sent db.log.base there whose (length messages) there_holds), tt)
       note_steps whose messages left (r ∷ other ∷ rs) is = absurd is
 
       delivery_stop : (partner : _) (events : List Event) (fault : AgentFault) → DeliveryStop publisher there options.length partner db new seen now events fault
@@ -140,18 +140,18 @@ module _ (publisher : Name) (walk : Walk publisher)
       stop_steps events lines fault whole (sending left upto newest earlier newest_is is_new is_now is_events is_lines untold) went = with_none events is_events went
       stop_steps events lines fault whole (in_delivery partner left upto is_lines stop) went = delivery_stop partner events fault stop went
 
-    pub did_walked : (new : View) (before now : Seen) (written written' : Output) (lines : List Line) (result : Result ℕ AgentFault) → IsTrue before.observable
-        → AllSince walk.Happened (mail_in before.happened) (mail_in now.happened) → Did new before now written written' publisher es options lines result → DidBy publisher Q before now es
-    did_walked new before now written written' lines (Ok count) told all ran =
-        let parts = mail_parts walk.Happened publisher es options ran.run new before now now all ran.came (no_more (mail_in now.happened)) in
+    pub did_walked : (base : ℕ) (new : View) (before now : Seen) (written written' : Output) (lines : List Line) (result : Result ℕ AgentFault) → IsTrue before.observable
+        → AllSince walk.Happened (mail_in before.happened) (mail_in now.happened) → Did base new before now written written' publisher es options lines result → DidBy publisher Q before now es
+    did_walked base new before now written written' lines (Ok count) told all ran =
+        let parts = mail_parts walk.Happened publisher es options ran.run base new before now now all ran.came (no_more (mail_in now.happened)) in
         record {
           trace = trace_of publisher es ran.run;
           went = ran.came.went;
           steps = so_far_walked ran.run (received_either options.receive publisher es ran.run ran.is.receives) parts.mail;
         }
-    did_walked new before now written written' lines (Err fault) told all ran =
+    did_walked base new before now written written' lines (Err fault) told all ran =
         let whole = HasTold lines written written' in
         let goes = stop_goes publisher es options ran.run ran.db new ran.seen now ran.events ran.told fault whole ran.stops in
-        let parts = mail_parts walk.Happened publisher es options ran.run ran.db before ran.seen now all ran.came goes in
+        let parts = mail_parts walk.Happened publisher es options ran.run base ran.db before ran.seen now all ran.came goes in
         let so_far = so_far_walked ran.run (stop_received publisher es options ran.run ran.db new ran.seen now ran.events ran.told fault whole ran.stops) parts.mail in
-        stop_steps ran.run ran.db new before ran.seen now told ran.came parts so_far ran.events ran.told fault whole ran.stops ran.went
+        stop_steps ran.run base ran.db new before ran.seen now told ran.came parts so_far ran.events ran.told fault whole ran.stops ran.went

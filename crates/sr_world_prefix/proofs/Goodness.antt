@@ -5,8 +5,10 @@ use Rattle.sr_ast.specs.declared.stmt.Stmt.{Stmt}
 use Rattle.sr_book.specs.Entries.{Name}
 use Rattle.sr_database.specs.Databases.{IsDatabase}
 use Rattle.sr_database.specs.Views.{View}
+use Rattle.sr_database_history.specs.Fitting.{Stored}
 use Rattle.sr_database_history.specs.Folds.{State, fresh, next, state_from, state_of}
 use Rattle.sr_database_history.specs.Recorded.{Recorded, own, taken, ddl, sync, pass, note}
+use Rattle.sr_send_needs.specs.Needs.{least_need}
 use Rattle.sr_session_script.specs.Acts.{entries_of}
 use Rattle.sr_session.specs.Runs.{RanScript}
 use Rattle.sr_session.specs.declared.fault.SessionFault.{SessionFault}
@@ -23,6 +25,7 @@ use Rattle.sr_world_prefix.specs.Good.{AreSaid, IsGoodHistory, KeepsGood, StandG
 use Rattle.sr_world_prefix.proofs.Along.{steps_along}
 use Rattle.sr_world_prefix.proofs.Holding.{StandsHolding, agent_holds, script_holds, untouched_holds}
 use Rattle.sr_world_prefix.proofs.InOrder.{local_in_order, step_in_order}
+use Rattle.sr_world_prefix.proofs.Kept.{IsKeeping, keeping_more, keeping_moved, keeping_own, stands_keeping}
 use Rattle.sr_world_prefix.proofs.Said.{script_says_so}
 use Rattle.sr_world_prefix.proofs.Steps.{IsOwnStep, IsRunStep}
 
@@ -60,24 +63,44 @@ module _ (publisher : Name) where
 
   -- ---- whole runs
 
-  into : (image : Files) → StandsHolding publisher (IsGoodHistory publisher) image → StandGood publisher image
-  into image s = record { es = s.es; stands = s.stands; good = s.held }
+  -- a good history, of which the log keeps what is needed
+  record IsGoodAt (base : ℕ) (es : List Recorded) : Type 0 where
+    good : IsGoodHistory publisher es
+    keeping : IsKeeping publisher base es
 
-  out : (image : Files) → StandGood publisher image → StandsHolding publisher (IsGoodHistory publisher) image
-  out image s = record { es = s.es; stands = s.stands; held = s.good }
+  into : (image : Files) → StandsHolding publisher IsGoodAt image → StandGood publisher image
+  into image s = record { es = s.es; stands = record { base = s.base; stands = s.stands; needs = s.held.keeping.needs }; good = s.held.good }
+
+  out : (image : Files) → StandGood publisher image → StandsHolding publisher IsGoodAt image
+  out image s = record {
+    es = s.es;
+    base = s.stands.base;
+    stands = s.stands.stands;
+    held = record { good = s.good; keeping = stands_keeping publisher s.es image s.stands s.good.books };
+  }
+
+  step_at : (base : ℕ) (es : List Recorded) (r : Recorded) → IsGoodAt base es → IsRunStep publisher es r → IsGoodAt base (es ++ r ∷ [])
+  step_at base es r at is = record { good = step_good es r at.good is; keeping = keeping_more publisher base es r at.keeping is }
+
+  own_at : (base : ℕ) (es : List Recorded) (r : Recorded) → IsGoodAt base es → IsOwnStep publisher es r → IsGoodAt base (es ++ r ∷ [])
+  own_at base es r at is = record { good = own_good es r at.good is; keeping = keeping_own publisher base es r at.keeping is }
+
+  -- a log that begins where the least need lies goes on to keep what is needed
+  moved_at : (base : ℕ) (es : List Recorded) → Stored publisher es → IsGoodAt base es → IsGoodAt (least_need publisher es base) es
+  moved_at base es stored at = record { good = at.good; keeping = keeping_moved publisher base es stored at.keeping }
 
   pub untouched_good : (before now : Seen) → RestsThroughout (IsImage before) before now → KeepsGood publisher before now
-  untouched_good = untouched_holds publisher (IsGoodHistory publisher) (StandGood publisher) into out
+  untouched_good = untouched_holds publisher IsGoodAt (StandGood publisher) into out
 
   pub agent_good : (owner : Name) (es : List Recorded) (options : Options) (view new : View) (before opened now : Seen) (written written' : Output) (result : Result ℕ AgentFault)
       → IsTrue before.observable → Stays before now → RestsThroughout (IsImage before) before opened → IsDatabase view owner es opened
       → RanAgent view new opened now written written' options result → KeepsGood publisher before now
-  agent_good = agent_holds publisher (IsGoodHistory publisher) (StandGood publisher) into out step_good
+  agent_good = agent_holds publisher IsGoodAt (StandGood publisher) into out step_at moved_at
 
   pub script_good : (owner : Name) (es : List Recorded) (view new : View) (before opened now : Seen) (written written' : Output) (statements : List Stmt) (result : Result ℕ SessionFault)
       → IsTrue before.observable → Stays before now → RestsThroughout (IsImage before) before opened → IsDatabase view owner es opened
       → RanScript view new opened now written written' statements result → KeepsGood publisher before now
   script_good owner es view new before opened now written written' statements result told stays still database ran =
-      script_holds publisher (IsGoodHistory publisher) (StandGood publisher) into out owner es view new before opened now written written' statements result told stays still database ran
-      (λ there own_view good. steps_along (IsOwnStep publisher) (IsGoodHistory publisher) own_good there (entries_of ran.acts ++ ran.broken) good
+      script_holds publisher IsGoodAt (StandGood publisher) into out owner es view new before opened now written written' statements result told stays still database ran
+      (λ there own_view good. steps_along (IsOwnStep publisher) (IsGoodAt view.log.base) (own_at view.log.base) there (entries_of ran.acts ++ ran.broken) good
       (script_says_so publisher there view new opened now written written' statements result own_view ran))

@@ -24,6 +24,7 @@ pub mod RunSteps
 pub mod Holding
 pub mod Deciders
 pub mod InOrder
+pub mod Kept
 pub mod Goodness
 pub mod Putting
 pub mod TruePuts

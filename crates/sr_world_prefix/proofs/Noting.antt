@@ -9,7 +9,7 @@ use Rattle.sr_book.specs.declared.book.Book.{Book}
 use Rattle.sr_book.specs.declared.note.Note.{Note}
 use Rattle.sr_book.specs.declared.note.Note.TheVariants.{Confirmed, Raised}
 use Rattle.sr_book.proofs.Folds.{name_test}
-use Rattle.sr_mail_cut.specs.Bodies.{last_at}
+use Rattle.sr_mail_cut.specs.Bodies.{RisesPast, last_at}
 use Rattle.sr_mail_cut.proofs.Rising.{le-last}
 use Rattle.sr_receive_gather.specs.Bags.{filed_of}
 use Rattle.sr_receive_gather.specs.Greatest.{ask_at, asks, confirm_in, confirms, count_in, has_gap, least_ask, lesser, raises}
@@ -19,6 +19,7 @@ use Rattle.sr_database_history.specs.Folds.{State, books_of, end_from, end_of, f
 use Rattle.sr_database_history.specs.Recorded.{Recorded}
 use Rattle.sr_database_history.proofs.Joined.{le-end_from}
 use Rattle.sr_logform.specs.declared.op.Op.{Op}
+use Rattle.sr_logform.specs.declared.op.Transaction.{Transaction}
 use Rattle.sr_world_model.proofs.Offsets.{le_or_lt, not_past_test, past_test}
 use Rattle.sr_receive.specs.Passes.{first_notes, note_entries}
 use Rattle.sr_scan.specs.Given.{given_from, given_of, gives, with_transaction}
@@ -149,12 +150,18 @@ module _ (publisher : Name) where
   within_more bound more [] later all = tt
   within_more bound more (tx ∷ txs) later all = (omega (arith, later, all.0), within_more bound more txs later all.1)
 
-  pub sent_step : (es : List Recorded) (whose : Name) (count : ℕ) → IsRunStep publisher es (sent_note whose (books_of whose es) (sent_end publisher es whose (books_of whose es)) count)
-  sent_step es whose count =
+  -- of what rises past one offset the first lies past an earlier one
+  lower : (low n : ℕ) (ts : List Transaction) → n ≤ low → RisesPast low ts → RisesPast n ts
+  lower low n [] before rises = tt
+  lower low n (t ∷ ts) before rises = (omega (arith, before, rises.0), rises.1)
+
+  pub sent_step : (base : ℕ) (es : List Recorded) (whose : Name) (count : ℕ) → IsRunStep publisher es (sent_note whose (books_of whose es) (sent_end base publisher es whose (books_of whose es)) count)
+  sent_step base es whose count =
       let sent : ℕ = (books_of whose es).log_sent in
+      let from : ℕ = max base sent in
       let bound : ℕ = max sent (end_of es) in
       let all : Within bound (given_of publisher es whose) = within_more (end_of es) bound (given_of publisher es whose) (omega arith) (given_within (fresh publisher) 0 es whose) in (
-        le-last (offset_from sent) (past sent (given_of publisher es whose)) (unsent_rises publisher whose es sent),
-        last_within bound sent (offset_from sent) (given_of publisher es whose) (omega arith) all,
+        le-last (offset_from sent) (past from (given_of publisher es whose)) (lower from sent (past from (given_of publisher es whose)) (omega arith) (unsent_rises publisher whose es from)),
+        last_within bound from (offset_from sent) (given_of publisher es whose) (omega arith) all,
         refl,
       )

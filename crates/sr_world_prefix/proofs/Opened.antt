@@ -1,5 +1,5 @@
 -- What a run leaves in step with its partners.
-use Rattle.std.proofs.Common.{◌≡◌, ℕ, Bool, true, false, List, [], ◌∷◌, ◌++◌, length, Result, refl, sym, ap, subst, ◌∙◌, arith, append_assoc}
+use Rattle.std.proofs.Common.{◌≡◌, ℕ, Bool, true, false, List, [], ◌∷◌, ◌++◌, Result, Ok, Err, inl, inr, sym, ap, subst, ◌∙◌, append_assoc}
 use Rattle.std.specs.Prelude.{IsTrue}
 use Rattle.sr_book.specs.Entries.{Name}
 use Rattle.sr_database.proofs.Alike.{database_in}
@@ -9,22 +9,25 @@ use Rattle.sr_database_history.specs.Fitting.{Stored}
 use Rattle.sr_database_history.specs.Folds.{state_of}
 use Rattle.sr_database_history.specs.Recorded.{Recorded}
 use Rattle.sr_catalog_schema.specs.Catalogs.{Lists}
+use Rattle.sr_database_files.proofs.Beside.{rests_each}
+use Rattle.sr_database_meaning.specs.Restarts.{StandsAtEither}
 use Rattle.sr_ast.specs.declared.stmt.Stmt.{Stmt}
+use Rattle.sr_send_needs.specs.Needs.{least_need}
 use Rattle.sr_session.specs.Runs.{RanScript}
 use Rattle.sr_session.specs.declared.fault.SessionFault.{SessionFault}
 use Rattle.sr_site.specs.Causes.{Stays}
-use Rattle.sr_site.specs.Files.{Files, bytes_of, with_bytes, IsTorn, IsCutInPart}
-use Rattle.sr_site.specs.Happenings.{Happening, attached, wrote, cut_to, synced, listed, fetched, sent, removed, handed_over, Throughout}
+use Rattle.sr_site.specs.Files.{Files}
+use Rattle.sr_site.specs.Happenings.{Grows, Happening, Throughout}
 use Rattle.sr_site.specs.Inner.Growing.{throughout_each}
 use Rattle.sr_site.specs.Images.{IsImage, IsSettled, MayLeave, RestsThroughout}
 use Rattle.sr_site.specs.Seen.{Seen}
 use Rattle.sr_site.specs.Streams.{Output}
-use Rattle.sr_site.specs.declared.file.File.{File}
-use Rattle.sr_site.specs.declared.file.File.TheVariants.{Root, Log0, Log1, Snap0, Snap1}
-use Rattle.sr_agent.specs.Agents.{Did, RanAgent}
+use Rattle.sr_agent.specs.Agents.{Did, DidWhere, RanAgent, RestartedAndDid}
 use Rattle.sr_agent.specs.Lines.{Line}
 use Rattle.sr_agent.specs.declared.fault.AgentFault.{AgentFault}
 use Rattle.sr_agent.specs.declared.options.Options.{Options}
+use Rattle.sr_agent.proofs.Images.{some_image}
+use Rattle.sr_agent.proofs.Restarted.{stop_rests}
 use Rattle.sr_agent.proofs.Values.{publisher_is}
 use Rattle.sr_world_prefix.specs.Forging.{NoneForged}
 use Rattle.sr_world_prefix.specs.Keeping.{KeepsPartner}
@@ -38,47 +41,23 @@ use Rattle.sr_world_prefix.proofs.Whole.{did_on}
 pub own_publisher : (view : View) (publisher : Name) (es : List Recorded) (seen : Seen) → IsDatabase view publisher es seen → (state_of publisher es).catalog.publisher ≡ publisher
 own_publisher view publisher es seen database = ap (λ (c : Lists). c.publisher) (sym database.is.catalog) ∙ publisher_is view publisher es database.is
 
-pub run_kept : (publisher user : Name) (es us : List Recorded) (options : Options) (old new : View) (before now : Seen) (written written' : Output) (lines : List Line) (result : Result ℕ AgentFault) → IsTrue before.observable
-    → IsDatabase old publisher es before → Stored user us → ArePartners publisher user es us → NoneForged publisher user us before now → Did new before now written written' publisher es options lines result
+pub run_kept : (publisher user : Name) (es us : List Recorded) (options : Options) (base : ℕ) (old new : View) (before now : Seen) (written written' : Output) (lines : List Line) (result : Result ℕ AgentFault) → IsTrue before.observable
+    → IsDatabase old publisher es before → Stored user us → ArePartners publisher user es us → NoneForged publisher user us before now → Did base new before now written written' publisher es options lines result
     → RestsThroughout (StandInStep publisher user us) before now
-run_kept publisher user es us options old new before now written written' lines result told database stored partners none did =
+run_kept publisher user es us options base old new before now written written' lines result told database stored partners none did =
     let all = mail_since (Unforged publisher user us) before.happened now.happened none.more none.is none.each in
-    let kept = did_on publisher user us es options stored (own_publisher old publisher es before database) (on_layers publisher user us es partners.took) new before now written written' lines result told all did in
+    let kept = did_on publisher user us es options stored (own_publisher old publisher es before database) (on_layers publisher user us es partners.took) base new before now written written' lines result told all did in
     went_rests publisher user us es before now kept.trace partners kept.along kept.went
 
--- ---- every site has an image
+-- the log begun anew: the history stays, and so does what it has of the partner's
+either_in_step : (publisher user : Name) (es us : List Recorded) (base keep : ℕ) → ArePartners publisher user es us → (image : Files) → StandsAtEither publisher es base keep image → StandInStep publisher user us image
+either_in_step publisher user es us base keep partners image (inl stands) = record { es = es; stands = record { base = base; stands = stands }; partners = partners }
+either_in_step publisher user es us base keep partners image (inr stands) = record { es = es; stands = record { base = keep; stands = stands }; partners = partners }
 
-same_file : (file : File) (files : Files) → files ≡ with_bytes files file (bytes_of files file)
-same_file Root files = refl
-same_file Log0 files = refl
-same_file Log1 files = refl
-same_file Snap0 files = refl
-same_file Snap1 files = refl
-
-torn_same : (place count : ℕ) (bytes : List ℕ) → IsTorn place count bytes bytes
-torn_same place count bytes = record { before = refl; behind = refl; longer = omega arith }
-
-cut_same : (to : ℕ) (bytes : List ℕ) → IsCutInPart to bytes bytes
-cut_same to bytes = record { before = refl; least = omega arith; most = omega arith }
-
-pub some_image : (first : Files) (happened : List Happening) → (image : Files) × MayLeave first happened image
-some_image first [] = (first, refl)
-some_image first (attached name folder done ∷ before) = some_image first before
-some_image first (wrote file place bytes done after ∷ before) =
-    let old = some_image first before in
-    (old.0, (old.0, old.1, same_file file old.0, torn_same place (length bytes) (bytes_of old.0 file)))
-some_image first (cut_to file to done after ∷ before) =
-    let old = some_image first before in
-    (old.0, (old.0, old.1, same_file file old.0, cut_same to (bytes_of old.0 file)))
-some_image first (synced file true after ∷ before) =
-    let old = some_image first before in
-    (with_bytes old.0 file after, (old.0, old.1, refl))
-some_image first (synced file false after ∷ before) = some_image first before
-some_image first (listed address folder listing ∷ before) = some_image first before
-some_image first (fetched address name limit found ∷ before) = some_image first before
-some_image first (sent address name bytes done ∷ before) = some_image first before
-some_image first (removed address name done ∷ before) = some_image first before
-some_image first (handed_over folders noted ∷ before) = some_image first before
+either_kept : (publisher user : Name) (es us : List Recorded) (base keep : ℕ) (before now : Seen) → ArePartners publisher user es us → RestsThroughout (StandsAtEither publisher es base keep) before now
+    → RestsThroughout (StandInStep publisher user us) before now
+either_kept publisher user es us base keep before now partners rests =
+    rests_each (StandsAtEither publisher es base keep) (StandInStep publisher user us) before now (either_in_step publisher user es us base keep partners) rests
 
 -- ---- from an earlier moment on
 
@@ -137,6 +116,34 @@ opened_partners publisher user owner us es view before opened same still databas
 pub untouched_kept : (publisher user : Name) (us : List Recorded) (before now : Seen) → RestsThroughout (IsImage before) before now → KeepsPartner publisher user us before now
 untouched_kept publisher user us before now still settled none = rests_still (StandInStep publisher user us) before now settled still
 
+-- none forged of a run is none of its later part
+none_behind : (publisher user : Name) (us : List Recorded) (before middle now : Seen) → Grows before.happened middle.happened → Grows middle.happened now.happened → NoneForged publisher user us before now
+    → NoneForged publisher user us middle now
+none_behind publisher user us before middle now first then none =
+    let early = goes_on before.happened middle.happened first in
+    let later = goes_on middle.happened now.happened then in
+    let all : AllSince (Unforged publisher user us) before.happened now.happened = record { more = none.more; is = none.is; each = none.each } in
+    let each = since_parts (Unforged publisher user us) before.happened middle.happened now.happened early.more later.more all early.is later.is in
+    record { more = later.more; is = later.is; each = each.0 }
+
+-- with a restart or without
+module _ (publisher user : Name) (es us : List Recorded) (options : Options) (old new : View) (before now : Seen) (written written' : Output) (lines : List Line) (told : IsTrue before.observable)
+    (database : IsDatabase old publisher es before) (stored : Stored user us) (partners : ArePartners publisher user es us) (none : NoneForged publisher user us before now) where
+  anew_kept : (result : Result ℕ AgentFault) → RestartedAndDid old new before now written written' publisher es options lines result → RestsThroughout (StandInStep publisher user us) before now
+  anew_kept result ran =
+      let middle_told : IsTrue ran.middle.observable = subst (λ (b : Bool). IsTrue b) (sym ran.restart.stays.observable) told in
+      rests_on (StandInStep publisher user us) before ran.middle now ran.restart.stays.first
+      (either_kept publisher user es us old.log.base (least_need publisher es old.log.base) before ran.middle partners ran.restart.moments)
+      (run_kept publisher user es us options ran.between.log.base ran.between new ran.middle now ran.said written' ran.rest result middle_told ran.restart.database stored partners
+      (none_behind publisher user us before ran.middle now ran.restart.stays.grows ran.stays.grows none) ran.did)
+
+  all_kept : (b : Bool) (result : Result ℕ AgentFault) → DidWhere b old new before now written written' publisher es options lines result → RestsThroughout (StandInStep publisher user us) before now
+  all_kept false result ran = run_kept publisher user es us options old.log.base old new before now written written' lines result told database stored partners none ran
+  all_kept true (Ok count) ran = anew_kept (Ok count) ran
+  all_kept true (Err fault) (inl ran) = anew_kept (Err fault) ran
+  all_kept true (Err fault) (inr stop) =
+      either_kept publisher user es us old.log.base (least_need publisher es old.log.base) before now partners (stop_rests publisher es old new before now lines fault database stop)
+
 -- a run of the agent on a database that was opened
 pub agent_kept : (publisher user owner : Name) (es us : List Recorded) (options : Options) (view new : View) (before opened now : Seen) (written written' : Output) (result : Result ℕ AgentFault)
     → IsTrue before.observable → Stays before now → RestsThroughout (IsImage before) before opened → IsDatabase view owner es opened → Stored user us
@@ -149,7 +156,7 @@ agent_kept publisher user owner es us options view new before opened now written
     let all : AllSince (Unforged publisher user us) before.happened now.happened = record { more = none.more; is = none.is; each = none.each } in
     let each = since_parts (Unforged publisher user us) before.happened opened.happened now.happened still.more later.more all still.is later.is in
     let behind : NoneForged publisher user us opened now = record { more = later.more; is = later.is; each = each.0 } in
-    let ran_on = run_kept publisher user there.es us options view new opened now written written' ran.lines result still_told there.own stored there.partners behind (ran.did still_told publisher there.es there.own) in
+    let ran_on = all_kept publisher user there.es us options view new opened now written written' ran.lines still_told there.own stored there.partners behind options.restart result (ran.did still_told publisher there.es there.own) in
     rests_on (StandInStep publisher user us) before opened now same (rests_still (StandInStep publisher user us) before opened settled still) ran_on
 
 -- a run of a script on one

@@ -1,7 +1,7 @@
 -- Messages that a run puts, and the histories that stand behind them: behind the first put nothing is committed but notes, which take nothing and give
 -- nothing.
 use Rattle.std.proofs.Common.{◌≡◌, ℕ, ◌+◌, List, [], ◌∷◌, ◌++◌, map, refl, sym, ap, subst, ◌∙◌, append_assoc, append-nil, le_refl}
-use Rattle.std.specs.Prelude.{⊤, Bool, ◌≤◌, length}
+use Rattle.std.specs.Prelude.{Bool, ◌≤◌, length}
 use Rattle.std.specs.List.{AllByRecursion}
 use Rattle.sr_base.specs.Values.{offset_from}
 use Rattle.sr_base.specs.declared.offset.Offset.{Offset}
@@ -28,10 +28,11 @@ use Rattle.sr_send.specs.Inner.TrueSentMessages.{IsTrueSentMessage}
 use Rattle.sr_send.specs.Unsent.{as_transaction}
 use Rattle.sr_send.proofs.TrueSentMessages.{all_true}
 use Rattle.sr_database_meaning.specs.Events.{Event, commit, put, commits, PutFile, puts}
-use Rattle.sr_agent.specs.Deliveries.{AreDeliveries, Delivery, after_deliveries, deliveries_events, delivery_events, folder_of}
+use Rattle.sr_agent.specs.Deliveries.{AreBased, AreDeliveries, Delivery, after_deliveries, deliveries_events, delivery_events, folder_of}
 use Rattle.sr_world_prefix.specs.Puts.{AreFilesOf, IsFileOf}
 use Rattle.sr_world_prefix.specs.Truths.{IsTrueInPart}
-use Rattle.sr_world_prefix.proofs.Along.{Steps}
+use Rattle.sr_world_prefix.proofs.Along.{Steps, along_last, steps_along}
+use Rattle.sr_world_prefix.proofs.Kept.{KeepsSent, same_waiting, sent_more}
 use Rattle.sr_world_prefix.proofs.RunSteps.{deliveries_steps}
 use Rattle.sr_world_prefix.proofs.Steps.{IsRunStep}
 
@@ -51,11 +52,17 @@ part_noted publisher es whose what m t = record {
   confirms = subst (λ (n : ℕ). m.confirm.0 ≤ n) (sym (taken_noted m.to es whose what)) t.confirms;
 }
 
+-- ---- what is kept stays so along a run
+
+pub sent_along : (publisher : Name) (base : ℕ) (es rs : List Recorded) → KeepsSent publisher base es → Steps (IsRunStep publisher) es rs → KeepsSent publisher base (es ++ rs)
+sent_along publisher base es rs keeps steps =
+    along_last (KeepsSent publisher base) es rs (steps_along (IsRunStep publisher) (KeepsSent publisher base) (sent_more publisher base) es rs keeps steps)
+
 -- ---- what holds of messages by a history
 
--- on a history that is fine it holds of all that a pass says; it goes on to hold behind a note of what was sent; and the steps of a run leave a history fine
-pub record Truth (publisher : Name) (Holds : List Recorded → Message → Type 0) (Fine : List Recorded → Type 0) : Type 0 where
-  pub said : (es : List Recorded) (whose : Name) (ask : Bool) (limit : ℕ) (messages : List Message) → Fine es → AreAll publisher es whose (books_of whose es) ask limit messages
+-- on a history that is fine it holds of all that a pass says, where the log begins at a base; it goes on to hold behind a note of what was sent; and the steps of a run leave a history fine
+pub record Truth (base : ℕ) (publisher : Name) (Holds : List Recorded → Message → Type 0) (Fine : List Recorded → Type 0) : Type 0 where
+  pub said : (es : List Recorded) (whose : Name) (ask : Bool) (limit : ℕ) (messages : List Message) → Fine es → AreAll base publisher es whose (books_of whose es) ask limit messages
       → AllByRecursion (Holds es) messages
   pub noted : (es : List Recorded) (whose : Name) (end : Offset) (count : ℕ) (confirm : Offset) (m : Message) → Holds es m → Holds (es ++ note whose (Sent end count confirm) ∷ []) m
   pub stepped : (es rs : List Recorded) → Fine es → Steps (IsRunStep publisher) es rs → Fine (es ++ rs)
@@ -114,7 +121,7 @@ module _ (Holds : List Recorded → Message → Type 0) where
 
 -- ---- what is sent
 
-module _ (publisher : Name) (Holds : List Recorded → Message → Type 0) (Fine : List Recorded → Type 0) (truth : Truth publisher Holds Fine) where
+module _ (base : ℕ) (publisher : Name) (Holds : List Recorded → Message → Type 0) (Fine : List Recorded → Type 0) (truth : Truth base publisher Holds Fine) where
   file_noted : (es : List Recorded) (whose : Name) (end : Offset) (count : ℕ) (confirm : Offset) (bytes : List ℕ) → IsFileOf (Holds es) bytes → IsFileOf (Holds (es ++ note whose (Sent end count confirm) ∷ [])) bytes
   file_noted es whose end count confirm bytes t =
       record { message = t.message; is_message = t.is_message; bytes_are = t.bytes_are; is = truth.noted es whose end count confirm t.message t.is }
@@ -151,21 +158,23 @@ module _ (publisher : Name) (Holds : List Recorded → Message → Type 0) (Fine
 
   -- ---- to all
 
-  pub deliveries_back : (es : List Recorded) (limit : ℕ) (deliveries : List Delivery) → Fine es → AreDeliveries publisher es limit deliveries → Backs Holds es [] (deliveries_events publisher es deliveries)
-  deliveries_back es limit [] fine are = tt
-  deliveries_back es limit (d ∷ earlier) fine are =
+  pub deliveries_back : (es : List Recorded) (limit : ℕ) (deliveries : List Delivery) → Fine es → AreBased base deliveries → AreDeliveries publisher es limit deliveries → Backs Holds es [] (deliveries_events publisher es deliveries)
+  deliveries_back es limit [] fine based are = tt
+  deliveries_back es limit (d ∷ earlier) fine based are =
       let added : List Event = deliveries_events publisher es earlier in
       let there : List Recorded = after_deliveries publisher es earlier in
       let whose : Name = d.partner.user in
-      let first = deliveries_back es limit earlier fine are.0 in
+      let first = deliveries_back es limit earlier fine based.0 are.0 in
+      let all : AreAll base publisher there whose (books_of whose there) d.partner.ask limit d.messages
+      = subst (λ (n : ℕ). AreAll n publisher there whose (books_of whose there) d.partner.ask limit d.messages) based.1 are.1.are in
       let fine_there : Fine there = truth.stepped es (commits added) fine (deliveries_steps publisher es earlier) in
       backs_more Holds es [] added (delivery_events publisher there d) first
-      (noted_back there (puts added) (folder_of publisher there whose) whose (books_of whose there) (sent_end publisher there whose (books_of whose there)) d.messages
-      (backs_last Holds es [] added first) (truth.said there whose d.partner.ask limit d.messages fine_there are.1.are) are.1.spelled)
+      (noted_back there (puts added) (folder_of publisher there whose) whose (books_of whose there) (sent_end d.base publisher there whose (books_of whose there)) d.messages
+      (backs_last Holds es [] added first) (truth.said there whose d.partner.ask limit d.messages fine_there all) are.1.spelled)
 
 -- ---- what is true in part
 
-module _ (publisher : Name) where
+module _ (base : ℕ) (publisher : Name) where
   true_put_files : (es : List Recorded) (whose : Name) (ask : Bool) (messages : List Message) → AllByRecursion (IsTrueSentMessage publisher es whose (books_of whose es) ask) messages
       → AllByRecursion (IsTrueInPart publisher es) messages
   true_put_files es whose ask [] hold = tt
@@ -180,13 +189,15 @@ module _ (publisher : Name) where
     true_put_files es whose ask messages hold.1,
   )
 
-  all_put_files : (es : List Recorded) (whose : Name) (ask : Bool) (limit : ℕ) (messages : List Message) → AreAll publisher es whose (books_of whose es) ask limit messages
+  all_put_files : (es : List Recorded) (whose : Name) (ask : Bool) (limit : ℕ) (messages : List Message) → KeepsSent publisher base es → AreAll base publisher es whose (books_of whose es) ask limit messages
       → AllByRecursion (IsTrueInPart publisher es) messages
-  all_put_files es whose ask limit messages are = true_put_files es whose ask messages (all_true publisher es whose (books_of whose es) ask limit messages are)
+  all_put_files es whose ask limit messages keeps are =
+      true_put_files es whose ask messages (all_true base publisher es whose (books_of whose es) ask limit messages (same_waiting publisher base es whose keeps) are)
 
-  pub part_truth : Truth publisher (IsTrueInPart publisher) (λ es. ⊤)
+  -- on histories of which the log keeps what was not sent
+  pub part_truth : Truth base publisher (IsTrueInPart publisher) (KeepsSent publisher base)
   part_truth = record {
-    said = λ es whose ask limit messages fine are. all_put_files es whose ask limit messages are;
+    said = λ es whose ask limit messages fine are. all_put_files es whose ask limit messages fine are;
     noted = λ es whose end count confirm m t. part_noted publisher es whose (Sent end count confirm) m t;
-    stepped = λ es rs fine steps. tt;
+    stepped = λ es rs fine steps. sent_along publisher base es rs fine steps;
   }

@@ -109,18 +109,18 @@ both_go : (first middle last : List Happening) → GoesOn first middle → GoesO
 both_go first middle last one two =
     record { more = two.more ++ one.more; is = two.is ∙ ap (λ (l : List Happening). two.more ++ l) one.is ∙ sym (append_assoc two.more one.more first) }
 
-came_goes : (publisher : Name) (es : List Recorded) (options : Options) (run : Run) (db : View) (before seen : Seen) → CameSoFar db before seen publisher es options run
+came_goes : (publisher : Name) (es : List Recorded) (options : Options) (run : Run) (base : ℕ) (db : View) (before seen : Seen) → CameSoFar base db before seen publisher es options run
     → GoesOn (mail_in before.happened) (mail_in seen.happened)
-came_goes publisher es options run db before seen came = record {
+came_goes publisher es options run base db before seen came = record {
   more = with_puts (sent_events publisher es run) (received_mail publisher es options.purge run []);
   is = came.mail ∙ run_mail_on publisher es options.purge run (mail_in before.happened);
 }
 
-pub did_goes : (publisher : Name) (es : List Recorded) (options : Options) (new : View) (before now : Seen) (written written' : Output) (lines : List Line) (result : Result ℕ AgentFault)
-    → Did new before now written written' publisher es options lines result → GoesOn (mail_in before.happened) (mail_in now.happened)
-did_goes publisher es options new before now written written' lines (Ok count) ran = came_goes publisher es options ran.run new before now ran.came
-did_goes publisher es options new before now written written' lines (Err fault) ran =
-    both_go (mail_in before.happened) (mail_in ran.seen.happened) (mail_in now.happened) (came_goes publisher es options ran.run ran.db before ran.seen ran.came)
+pub did_goes : (publisher : Name) (es : List Recorded) (options : Options) (base : ℕ) (new : View) (before now : Seen) (written written' : Output) (lines : List Line) (result : Result ℕ AgentFault)
+    → Did base new before now written written' publisher es options lines result → GoesOn (mail_in before.happened) (mail_in now.happened)
+did_goes publisher es options base new before now written written' lines (Ok count) ran = came_goes publisher es options ran.run base new before now ran.came
+did_goes publisher es options base new before now written written' lines (Err fault) ran =
+    both_go (mail_in before.happened) (mail_in ran.seen.happened) (mail_in now.happened) (came_goes publisher es options ran.run base ran.db before ran.seen ran.came)
     (stop_goes publisher es options ran.run ran.db new ran.seen now ran.events ran.told fault (HasTold lines written written') ran.stops)
 
 -- ---- what is so of all mail of a run is so of what its first steps received, and of what came since
@@ -129,10 +129,10 @@ pub record MailParts (P : Happening → Type 0) (publisher : Name) (es : List Re
   pub mail : AllByRecursion P (received_mail publisher es purge run [])
   pub since : AllSince P (mail_in seen.happened) (mail_in now.happened)
 
-pub mail_parts : (P : Happening → Type 0) (publisher : Name) (es : List Recorded) (options : Options) (run : Run) (db : View) (before seen now : Seen)
-    → AllSince P (mail_in before.happened) (mail_in now.happened) → CameSoFar db before seen publisher es options run → GoesOn (mail_in seen.happened) (mail_in now.happened)
+pub mail_parts : (P : Happening → Type 0) (publisher : Name) (es : List Recorded) (options : Options) (run : Run) (base : ℕ) (db : View) (before seen now : Seen)
+    → AllSince P (mail_in before.happened) (mail_in now.happened) → CameSoFar base db before seen publisher es options run → GoesOn (mail_in seen.happened) (mail_in now.happened)
     → MailParts P publisher es options.purge run seen now
-mail_parts P publisher es options run db before seen now all came goes =
+mail_parts P publisher es options run base db before seen now all came goes =
     let events : List Event = sent_events publisher es run in
     let first : List Happening = with_puts events (received_mail publisher es options.purge run []) in
     let both = since_parts P (mail_in before.happened) (mail_in seen.happened) (mail_in now.happened) first goes.more all

@@ -67,8 +67,8 @@ module _ (publisher : Name) where
   pub received_steps : (es : List Recorded) (run : Run) → HasReceived publisher es run → AreSteps es (taken_entries publisher es run)
   received_steps es run received = received_walked publisher run_walk es false run tt received (came_here es run) (all_any (received_mail publisher es false run []))
 
-  sent : (es : List Recorded) (whose : Name) (count : ℕ) → ⊤ → IsRunStep publisher es (sent_note whose (books_of whose es) (sent_end publisher es whose (books_of whose es)) count)
-  sent es whose count holds = sent_step publisher es whose count
+  sent : (base : ℕ) (es : List Recorded) (whose : Name) (count : ℕ) → ⊤ → IsRunStep publisher es (sent_note whose (books_of whose es) (sent_end base publisher es whose (books_of whose es)) count)
+  sent base es whose count holds = sent_step publisher base es whose count
 
   pub deliveries_steps : (es : List Recorded) (deliveries : List Delivery) → AreSteps es (commits (deliveries_events publisher es deliveries))
   deliveries_steps es deliveries = deliveries_walked publisher run_walk sent es deliveries tt
@@ -80,9 +80,9 @@ module _ (publisher : Name) where
   abbrev pub DidSteps : Seen → Seen → List Recorded → Type 0
   DidSteps before now es = DidBy publisher (IsRunStep publisher) before now es
 
-  pub did_steps : (es : List Recorded) (options : Options) (new : View) (before now : Seen) (written written' : Output) (lines : List Line) (result : Result ℕ AgentFault) → IsTrue before.observable
-      → Did new before now written written' publisher es options lines result → DidSteps before now es
-  did_steps es options new before now written written' lines result told ran =
-      let goes = did_goes publisher es options new before now written written' lines result ran in
-      did_walked publisher run_walk sent es options tt (λ run users mail r. came_here es run users r) new before now written written' lines result told
+  pub did_steps : (es : List Recorded) (options : Options) (base : ℕ) (new : View) (before now : Seen) (written written' : Output) (lines : List Line) (result : Result ℕ AgentFault) → IsTrue before.observable
+      → Did base new before now written written' publisher es options lines result → DidSteps before now es
+  did_steps es options base new before now written written' lines result told ran =
+      let goes = did_goes publisher es options base new before now written written' lines result ran in
+      did_walked publisher run_walk sent es options tt (λ run users mail r. came_here es run users r) base new before now written written' lines result told
       (record { more = goes.more; is = goes.is; each = all_any goes.more }) ran

@@ -31,7 +31,7 @@ use Rattle.sr_send.specs.PutFiles.{AreMessages, IsDue, head_of}
 use Rattle.sr_send.specs.Passes.{AreAll, sent_end, waiting}
 use Rattle.sr_send.specs.TrueSentMessages.{all_given}
 use Rattle.sr_send.specs.Inner.TrueSentMessages.{IsTrueSentMessage}
-use Rattle.sr_send.specs.Unsent.{as_transaction}
+use Rattle.sr_send.specs.Unsent.{as_transaction, unsent}
 use Rattle.sr_send.proofs.Endings.{due_case}
 use Rattle.sr_send.proofs.TrueSentMessages.{all_true}
 use Rattle.sr_send.proofs.Truths.{unsent_rises}
@@ -40,7 +40,8 @@ use Rattle.sr_world.proofs.Keeping.{end_same, given_same}
 use Rattle.sr_world_prefix.proofs.Along.{Steps, along_last, steps_along}
 use Rattle.sr_world_prefix.proofs.InOrder.{step_in_order}
 use Rattle.sr_world_prefix.proofs.Noting.{sent_step}
-use Rattle.sr_world_prefix.proofs.Putting.{Truth, given_noted, taken_noted}
+use Rattle.sr_world_prefix.proofs.Kept.{KeepsSent, same_waiting}
+use Rattle.sr_world_prefix.proofs.Putting.{Truth, given_noted, sent_along, taken_noted}
 use Rattle.sr_world_prefix.proofs.Steps.{IsRunStep, ends_later}
 
 -- ---- no window ends behind the last
@@ -129,15 +130,19 @@ each_true publisher es user ask [] hold ends = tt
 each_true publisher es user ask (m ∷ messages) hold ends = (one_true publisher es user ask m hold.0 ends.0, each_true publisher es user ask messages hold.1 ends.1)
 
 -- all is sent up to within the history, where what was sent lies within it
-end_within : (publisher : Name) (es : List Recorded) (user : Name) → (books_of user es).log_sent ≤ end_of es → (sent_end publisher es user (books_of user es)).0 ≤ end_of es
-end_within publisher es user within = let goes = sent_step publisher es user 0 in omega (arith, within, goes.1)
+end_within : (base : ℕ) (publisher : Name) (es : List Recorded) (user : Name) → (books_of user es).log_sent ≤ end_of es → (sent_end base publisher es user (books_of user es)).0 ≤ end_of es
+end_within base publisher es user within = let goes = sent_step publisher base es user 0 in omega (arith, within, goes.1)
 
-pub all_said : (publisher : Name) (es : List Recorded) (user : Name) (ask : Bool) (limit : ℕ) (messages : List Message) → (books_of user es).log_sent ≤ end_of es
-    → AreAll publisher es user (books_of user es) ask limit messages → AllByRecursion (IsTrueOf layers publisher es) messages
-all_said publisher es user ask limit messages within are =
+pub all_said : (base : ℕ) (publisher : Name) (es : List Recorded) (user : Name) (ask : Bool) (limit : ℕ) (messages : List Message) → KeepsSent publisher base es → (books_of user es).log_sent ≤ end_of es
+    → AreAll base publisher es user (books_of user es) ask limit messages → AllByRecursion (IsTrueOf layers publisher es) messages
+all_said base publisher es user ask limit messages keeps within are =
     let book : Book = books_of user es in
-    each_true publisher es user ask messages (all_true publisher es user book ask limit messages are)
-    (pass_ends (head_of publisher user book ask) book ask limit (end_of es) (waiting publisher es user book) messages (unsent_rises publisher user es book.log_sent) are (end_within publisher es user within))
+    let sent : List Transaction = unsent publisher es user book.log_sent in
+    let same : waiting base publisher es user book ≡ sent = same_waiting publisher base es user keeps in
+    each_true publisher es user ask messages (all_true base publisher es user book ask limit messages same are)
+    (pass_ends (head_of publisher user book ask) book ask limit (end_of es) sent messages (unsent_rises publisher user es book.log_sent)
+    (subst (λ (ts : List Transaction). AreMessages (head_of publisher user book ask) book ask limit ts messages) same are)
+    (subst (λ (ts : List Transaction). (last_at (offset_from book.log_sent) ts).0 ≤ end_of es) same (end_within base publisher es user within)))
 
 -- ---- books in order on the way
 
@@ -190,10 +195,17 @@ module _ (publisher : Name) (es : List Recorded) (whose : Name) (end : Offset) (
         resend_count = subst (λ (n : ℕ). m.resend_count ≤ n) (sym (resent_still m.to)) t.resend_count;
       }
 
--- on histories in which every book is in order
-pub whole_truth : (publisher : Name) → Truth publisher (IsTrueOf layers publisher) AreInOrder
-whole_truth publisher = record {
-  said = λ es whose ask limit messages fine are. all_said publisher es whose ask limit messages (sent_within es whose fine) are;
+-- on histories in which every book is in order, and of which the log keeps what was not sent
+pub record IsFine (publisher : Name) (base : ℕ) (es : List Recorded) : Type 0 where
+  pub books : AreInOrder es
+  pub keeps : KeepsSent publisher base es
+
+pub fine_along : (publisher : Name) (base : ℕ) (es rs : List Recorded) → IsFine publisher base es → Steps (IsRunStep publisher) es rs → IsFine publisher base (es ++ rs)
+fine_along publisher base es rs fine steps = record { books = steps_in_order publisher es rs fine.books steps; keeps = sent_along publisher base es rs fine.keeps steps }
+
+pub whole_truth : (base : ℕ) (publisher : Name) → Truth base publisher (IsTrueOf layers publisher) (IsFine publisher base)
+whole_truth base publisher = record {
+  said = λ es whose ask limit messages fine are. all_said base publisher es whose ask limit messages fine.keeps (sent_within es whose fine.books) are;
   noted = λ es whose end count confirm m t. whole_noted publisher es whose end count confirm m t;
-  stepped = λ es rs fine steps. steps_in_order publisher es rs fine steps;
+  stepped = λ es rs fine steps. fine_along publisher base es rs fine steps;
 }

@@ -83,10 +83,10 @@ module _ (publisher user : Name) (us : List Recorded) where
         (notes_on publisher user us es whose (raises received (map filed_of message_files)) on (λ same. raises_within (taken_end sees publisher us) received (map filed_of message_files)));
   }
 
-  sent : (es : List Recorded) (whose : Name) (count : ℕ) → IsOn publisher user us es
-      → IsOn publisher user us (es ++ sent_note whose (books_of whose es) (sent_end publisher es whose (books_of whose es)) count ∷ [])
-  sent es whose count on =
-      (notes_on publisher user us es whose (Sent (sent_end publisher es whose (books_of whose es)) count (offset_from (books_of whose es).log_received) ∷ []) on (λ same. (tt, tt))).1
+  sent : (base : ℕ) (es : List Recorded) (whose : Name) (count : ℕ) → IsOn publisher user us es
+      → IsOn publisher user us (es ++ sent_note whose (books_of whose es) (sent_end base publisher es whose (books_of whose es)) count ∷ [])
+  sent base es whose count on =
+      (notes_on publisher user us es whose (Sent (sent_end base publisher es whose (books_of whose es)) count (offset_from (books_of whose es).log_received) ∷ []) on (λ same. (tt, tt))).1
 
   gathered : (es : List Recorded) (purge : Bool) → (state_of publisher es).catalog.publisher ≡ publisher → (run : Run) (users : List Name)
       → AllByRecursion (Unforged publisher user us) (received_mail publisher es purge run []) → IsReceiving publisher es run users
@@ -107,11 +107,11 @@ module _ (publisher user : Name) (us es : List Recorded) (options : Options) (st
     pub went : Went before now publisher es trace
     pub along : Along (IsOn publisher user us) es (commits trace)
 
-  pub did_on : (new : View) (before now : Seen) (written written' : Output) (lines : List Line) (result : Result ℕ AgentFault) → IsTrue before.observable → AllSince (Unforged publisher user us) (mail_in before.happened) (mail_in now.happened)
-      → Did new before now written written' publisher es options lines result → KeptOn before now
-  did_on new before now written written' lines result told all ran =
+  pub did_on : (base : ℕ) (new : View) (before now : Seen) (written written' : Output) (lines : List Line) (result : Result ℕ AgentFault) → IsTrue before.observable → AllSince (Unforged publisher user us) (mail_in before.happened) (mail_in now.happened)
+      → Did base new before now written written' publisher es options lines result → KeptOn before now
+  did_on base new before now written written' lines result told all ran =
       let did = did_walked publisher (step_walk publisher user us stored) (sent publisher user us) es options on
-      (λ run users mail r whose. gathered publisher user us es options.purge own run users mail r whose) new before now written written' lines result told all ran in
+      (λ run users mail r whose. gathered publisher user us es options.purge own run users mail r whose) base new before now written written' lines result told all ran in
       record {
         trace = did.trace;
         went = did.went;

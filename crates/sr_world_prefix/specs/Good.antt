@@ -7,9 +7,9 @@ use Rattle.sr_world_model.specs.Worlds.{IsInOrder}
 use Rattle.sr_site.specs.Files.{Files}
 use Rattle.sr_site.specs.Images.{IsSettled, RestsThroughout}
 use Rattle.sr_site.specs.Seen.{Seen}
-use Rattle.sr_database_meaning.specs.Standing.{StandsAs}
 use Rattle.sr_world.specs.Lawful.{SaysSo}
 use Rattle.sr_world.specs.Real.{layers}
+use Rattle.sr_world_prefix.specs.Kept.{StandsKeeping}
 
 -- what each entry says is so, in the state that those before it leave
 abbrev pub AreSaid : State → List Recorded → Type 0
@@ -22,10 +22,10 @@ pub record IsGoodHistory (publisher : Name) (es : List Recorded) : Type 0 where
   pub says_so : AreSaid (fresh publisher) es
   pub books : (user : Name) → IsInOrder layers user es
 
--- files stand for such a history
+-- files stand for such a history, and the log in force keeps what partners need
 pub record StandGood (publisher : Name) (files : Files) : Type 0 where
   pub es : List Recorded
-  pub stands : StandsAs publisher es files
+  pub stands : StandsKeeping publisher es files
   pub good : IsGoodHistory publisher es
 
 -- where every crash leaves such a history, so it is at each moment

@@ -2,6 +2,7 @@ pub mod Truths
 pub mod Partners
 pub mod Forging
 pub mod Keeping
+pub mod Kept
 pub mod Good
 pub mod Puts
 pub mod Decided

@@ -6,12 +6,13 @@ use Rattle.sr_database_history.specs.Recorded.{Recorded}
 use Rattle.sr_world_model.specs.Truth.{IsTrueOf}
 use Rattle.sr_msgform.specs.Messages.{IsMessage, message_spelling}
 use Rattle.sr_msgform.specs.declared.message.Message.{Message}
+use Rattle.sr_send_needs.specs.Needs.{KeepsNeeds}
 use Rattle.sr_site.specs.Files.{Files}
 use Rattle.sr_site.specs.Happenings.{Happening}
 use Rattle.sr_site.specs.Images.{IsSettled, MayLeave}
 use Rattle.sr_site.specs.Seen.{Seen}
 use Rattle.sr_database_meaning.specs.Events.{PutFile, puts_in}
-use Rattle.sr_database_meaning.specs.Standing.{StandsAs}
+use Rattle.sr_database_meaning.specs.Standing.{StandsAs, StandsFor}
 use Rattle.sr_database_meaning.specs.Traces.{AtEach}
 use Rattle.sr_world.specs.Real.{layers}
 use Rattle.sr_world_prefix.specs.Good.{StandGood}
@@ -43,10 +44,12 @@ pub record StandsBehind (Stand : List PutFile → Files → Type 0) (before now 
 abbrev pub BacksPuts : (Name → List Recorded → Message → Type 0) → Name → Seen → Seen → Type 0
 BacksPuts Holds publisher before now = StandsBehind (StandBehind Holds publisher) before now
 
--- files stand for a history of this publisher
+-- files stand for a history of this publisher, and the log in force keeps what its users have not confirmed, to none of whom more is confirmed than was sent
 pub record StandForOne (publisher : Name) (files : Files) : Type 0 where
   pub es : List Recorded
-  pub stands : StandsAs publisher es files
+  pub base : ℕ
+  pub stands : StandsFor publisher es base files
+  pub needs : KeepsNeeds publisher es base
 
 -- where every crash leaves a good history of this publisher, at each moment it leaves one of which all messages are true that were put until then; and where
 -- it leaves any of his, they are true of it in part

@@ -28,7 +28,8 @@ pub fn whole_runs_keep_what_is_decided()
 {}
 
 /// A whole run keeps histories good: each entry says what is so in the state that those before it leave, and the book of every user is in order, with
-/// the counts of his asks rising. So where every crash left such a history, every crash leaves one at each moment; and that of a new database is one.
+/// the counts of his asks rising. So where every crash left such a history, every crash leaves one at each moment; and that of a new database is one. The
+/// log goes on to keep what partners need.
 pub fn whole_runs_keep_histories_good()
     ensures new { (publisher : Name) → IsGoodHistory publisher [] }
     ensures untouched { (publisher : Name) (before now : Seen) → RestsThroughout (IsImage before) before now → KeepsGood publisher before now }

@@ -6,8 +6,8 @@ use Rattle.std.specs.List.{AllByRecursion}
 use Rattle.sr_base.specs.declared.offset.Offset.{Offset}
 use Rattle.sr_book.specs.Entries.{Name}
 use Rattle.sr_book.specs.declared.book.Book.{Book}
+use Rattle.sr_database_files.specs.Books.{book_in}
 use Rattle.sr_mail_cut.proofs.Lists.{AllByRecursion-prefix}
-use Rattle.sr_database.specs.Books.{book_in}
 use Rattle.sr_database.specs.Databases.{IsDatabase}
 use Rattle.sr_database.specs.Views.{View}
 use Rattle.sr_database_history.specs.Folds.{books_of, end_of, state_of}
@@ -48,7 +48,7 @@ use Rattle.sr_agent.proofs.Returned.{SettlesAs, gathered_settled, settles_before
 use Rattle.sr_world_prefix.proofs.RunSteps.{run_steps}
 use Rattle.sr_world_runs.proofs.Sending.{all_noted}
 use Rattle.sr_world_prefix.proofs.Steps.{IsRunStep}
-use Rattle.sr_world_prefix.proofs.TruePuts.{AreInOrder, all_said, sent_within, steps_in_order}
+use Rattle.sr_world_prefix.proofs.TruePuts.{IsFine, all_said, fine_along, sent_within}
 
 -- the site went through a trace that some steps make, each commit of which is a step of a run
 pub record DatabaseStepsOn (messages : List Message) (publisher : Name) (es : List Recorded) (before now : Seen) : Type 0 where
@@ -69,7 +69,7 @@ pub record WentOnBy (messages : List Message) (publisher : Name) (es : List Reco
 
 -- ---- a pass that a fault ended
 
-module _ (messages : List Message) (publisher : Name) (es : List Recorded) (old : AreInOrder es) (db new : View) (before now : Seen) (user : Name) (limit : ℕ) (ask : Bool) (database : IsDatabase db publisher es before) where
+module _ (messages : List Message) (publisher : Name) (es : List Recorded) (db new : View) (old : IsFine publisher db.log.base es) (before now : Seen) (user : Name) (limit : ℕ) (ask : Bool) (database : IsDatabase db publisher es before) where
   abbrev book_is : book_in db.books user ≡ books_of user es
   book_is = database.is.books user
 
@@ -78,14 +78,14 @@ module _ (messages : List Message) (publisher : Name) (es : List Recorded) (old 
   part_database_steps part =
       let address : Name = address_in db.catalog user in
       let count : ℕ = (book_in db.books user).send_count in
-      let are : AreAll publisher es user (books_of user es) ask limit (part.messages ++ part.left)
-      = subst (λ (b : Book). AreAll publisher es user b ask limit (part.messages ++ part.left)) book_is part.are in
+      let are : AreAll db.log.base publisher es user (books_of user es) ask limit (part.messages ++ part.left)
+      = subst (λ (b : Book). AreAll db.log.base publisher es user b ask limit (part.messages ++ part.left)) book_is part.are in
       let hold : AllByRecursion (IsTrueOf layers publisher es) part.messages
-      = AllByRecursion-prefix (IsTrueOf layers publisher es) part.messages part.left (all_said publisher es user ask limit (part.messages ++ part.left) (sent_within es user old) are) in
+      = AllByRecursion-prefix (IsTrueOf layers publisher es) part.messages part.left (all_said db.log.base publisher es user ask limit (part.messages ++ part.left) old.keeps (sent_within es user old.books) are) in
       record {
         trace = put_files address count part.messages;
         went = part.went;
-        has = record { database_steps = map put part.messages; are = letters_database_steps publisher messages es address count part.messages hold part.spelled };
+        has = record { database_steps = map put part.messages; are = letters_database_steps db.log.base publisher messages es address count part.messages hold part.spelled };
         steps = subst (λ (rs : List Recorded). Steps (IsRunStep publisher) es rs) (sym (commits_letters address count part.messages)) tt;
         settles = λ none.
             subst (λ (rs : List Recorded). IsSettled (StandsAs publisher rs) now) (sym (ap (λ (l : List Recorded). es ++ l) (commits_letters address count part.messages) ∙ append-nil es))
@@ -94,29 +94,30 @@ module _ (messages : List Message) (publisher : Name) (es : List Recorded) (old 
 
   -- all were put, and their note was begun
   note_database_steps : (address : Name) (sent : Offset) (count : ℕ) → count ≢ 0 → Rose before.disk_faults now.disk_faults
-      → PutAndBegan before now address publisher es user (book_in db.books user) limit ask sent count (commit (sent_note user (book_in db.books user) sent count) ∷ []) → DatabaseStepsOn messages publisher es before now
+      → PutAndBegan db.log.base before now address publisher es user (book_in db.books user) limit ask sent count (commit (sent_note user (book_in db.books user) sent count) ∷ []) → DatabaseStepsOn messages publisher es before now
   note_database_steps address sent count some rose part =
+      let base : ℕ = db.log.base in
       let pass : List Message = part.messages in
       let number : ℕ = (book_in db.books user).send_count in
       let r : Recorded = sent_note user (book_in db.books user) sent count in
-      let are : AreAll publisher es user (books_of user es) ask limit pass = subst (λ (b : Book). AreAll publisher es user b ask limit pass) book_is part.are in
+      let are : AreAll base publisher es user (books_of user es) ask limit pass = subst (λ (b : Book). AreAll base publisher es user b ask limit pass) book_is part.are in
       let filled : 1 ≤ length pass = omega (arith, some, part.count_is) in
-      let end_is : sent ≡ sent_end publisher es user (books_of user es) = part.end_is ∙ ap (λ (b : Book). sent_end publisher es user b) book_is in
-      let is : r ≡ sent_note user (books_of user es) (sent_end publisher es user (books_of user es)) (length pass)
+      let end_is : sent ≡ sent_end base publisher es user (books_of user es) = part.end_is ∙ ap (λ (b : Book). sent_end base publisher es user b) book_is in
+      let is : r ≡ sent_note user (books_of user es) (sent_end base publisher es user (books_of user es)) (length pass)
       = ap (λ (b : Book). sent_note user b sent count) book_is ∙ ap (λ (e : Offset). sent_note user (books_of user es) e count) end_is
-      ∙ ap (λ (n : ℕ). sent_note user (books_of user es) (sent_end publisher es user (books_of user es)) n) part.count_is in
+      ∙ ap (λ (n : ℕ). sent_note user (books_of user es) (sent_end base publisher es user (books_of user es)) n) part.count_is in
       let can : CanStep (messages ++ pass) publisher es r
       = subst (λ (x : Recorded). CanStep (messages ++ pass) publisher es x) (sym is)
-      (all_noted (messages ++ pass) publisher es user ask limit pass are (λ m has. Contains-append_right messages pass m has) filled) in
+      (all_noted base (messages ++ pass) publisher es user ask limit pass are (λ m has. Contains-append_right messages pass m has) filled) in
       let alone : commits (put_files address number pass ++ commit r ∷ []) ≡ r ∷ []
       = commits-append (put_files address number pass) (commit r ∷ []) ∙ ap (λ (rs : List Recorded). rs ++ r ∷ []) (commits_letters address number pass) in
       record {
         trace = put_files address number pass ++ commit r ∷ [];
         went = part.went;
-        has = with_entry publisher messages es address number pass r (all_said publisher es user ask limit pass (sent_within es user old) are) part.spelled can;
+        has = with_entry base publisher messages es address number pass r (all_said base publisher es user ask limit pass old.keeps (sent_within es user old.books) are) part.spelled can;
         steps =
             subst (λ (rs : List Recorded). Steps (IsRunStep publisher) es rs) (sym alone)
-            (subst (λ (x : Recorded). IsRunStep publisher es x) (sym is) (sent_step publisher es user (length pass)), tt);
+            (subst (λ (x : Recorded). IsRunStep publisher es x) (sym is) (sent_step publisher base es user (length pass)), tt);
         settles = λ none. absurd (none rose);
       }
 
@@ -130,8 +131,8 @@ module _ (messages : List Message) (publisher : Name) (es : List Recorded) (old 
 
 -- ---- a run that a fault ended
 
-module _ (messages : List Message) (publisher : Name) (es : List Recorded) (old : AreInOrder es) (options : Options) (run : Run) (db new : View) (before seen now : Seen) (told : IsTrue before.observable)
-    (came : CameSoFar db before seen publisher es options run) (so_far : HasDatabaseSteps messages publisher es (trace_of publisher es run)) (received : HasReceived publisher es run) where
+module _ (messages : List Message) (publisher : Name) (es : List Recorded) (base : ℕ) (old : IsFine publisher base es) (options : Options) (run : Run) (db new : View) (before seen now : Seen) (told : IsTrue before.observable)
+    (came : CameSoFar base db before seen publisher es options run) (so_far : HasDatabaseSteps messages publisher es (trace_of publisher es run)) (received : HasReceived publisher es run) where
   abbrev trace : List Event
   trace = trace_of publisher es run
 
@@ -180,7 +181,8 @@ module _ (messages : List Message) (publisher : Name) (es : List Recorded) (old 
   with_delivery : (partner : _) (events : List Event) (fault : AgentFault) → DeliveryStop publisher there options.length partner db new seen now events fault → DatabaseStepsOn messages publisher es before now
   with_delivery partner events fault stop =
       let still : IsTrue seen.observable = subst (λ (b : Bool). IsTrue b) (sym (told_same before seen publisher es trace came.went).0) told in
-      let more = cause_database_steps (messages ++ put_in so_far.database_steps) publisher there (steps_in_order publisher es (commits trace) old steps_so_far) db new seen now partner.user options.length partner.ask came.database
+      let fine : IsFine publisher db.log.base there = subst (λ (n : ℕ). IsFine publisher n there) (sym came.base_is) (fine_along publisher base es (commits trace) old steps_so_far) in
+      let more = cause_database_steps (messages ++ put_in so_far.database_steps) publisher there db new fine seen now partner.user options.length partner.ask came.database
       stop.why still stop.cause in
       with_more more.trace (joined before seen now publisher es trace more.trace came.went more.went) more.has more.steps
       (settles_before publisher (there ++ commits more.trace) before seen now (omega (arith, came.steady.disk)) more.settles)
@@ -217,30 +219,30 @@ stop_sent publisher es options run db new seen now events lines fault whole (in_
 
 -- ---- a run to its end, and to a fault, by what it received
 
-pub whole_database_steps : (messages : List Message) (publisher : Name) (es : List Recorded) (options : Options) (new : View) (before now : Seen) (lines : List Line) → AreInOrder es
-    → (ran : RanWhole new before now publisher es options lines) → Steps (CanStep messages publisher) es (taken_entries publisher es ran.run) → DatabaseStepsOn messages publisher es before now
-whole_database_steps messages publisher es options new before now lines old ran taken =
+pub whole_database_steps : (messages : List Message) (publisher : Name) (es : List Recorded) (options : Options) (base : ℕ) (new : View) (before now : Seen) (lines : List Line) → IsFine publisher base es
+    → (ran : RanWhole base new before now publisher es options lines) → Steps (CanStep messages publisher) es (taken_entries publisher es ran.run) → DatabaseStepsOn messages publisher es before now
+whole_database_steps messages publisher es options base new before now lines old ran taken =
     let received : HasReceived publisher es ran.run = received_either options.receive publisher es ran.run ran.is.receives in
     record {
       trace = trace_of publisher es ran.run;
       went = ran.came.went;
-      has = run_database_steps publisher messages es options.length ran.run old received taken (sent_either publisher es options.send options ran.run ran.is.sends);
+      has = run_database_steps base publisher messages es options.length ran.run old ran.came.based received taken (sent_either publisher es options.send options ran.run ran.is.sends);
       steps = run_steps publisher es ran.run received;
       settles = λ none. settled_as new publisher (after_run publisher es ran.run) now ran.came.database;
     }
 
-pub part_of_database_steps : (messages : List Message) (publisher : Name) (es : List Recorded) (options : Options) (new : View) (before now : Seen) (written written' : Output) (lines : List Line) (fault : AgentFault)
-    → IsTrue before.observable → AreInOrder es → (ran : RanInPart new before now written written' publisher es options lines fault) → HasReceived publisher es ran.run
+pub part_of_database_steps : (messages : List Message) (publisher : Name) (es : List Recorded) (options : Options) (base : ℕ) (new : View) (before now : Seen) (written written' : Output) (lines : List Line) (fault : AgentFault)
+    → IsTrue before.observable → IsFine publisher base es → (ran : RanInPart base new before now written written' publisher es options lines fault) → HasReceived publisher es ran.run
     → Steps (CanStep messages publisher) es (taken_entries publisher es ran.run)
     → ((whose : Name) (left : List Name) → IsReceivingUpTo publisher es options ran.run (whose ∷ left)
     → PartnerPassStop publisher (after_run publisher es ran.run) (fetched_files_of ran.run.gathered) whose ran.db new ran.seen now ran.events ran.told fault options.purge (HasTold lines written written')
     → WentOnBy messages publisher es before now (trace_of publisher es ran.run))
     → DatabaseStepsOn messages publisher es before now
-part_of_database_steps messages publisher es options new before now written written' lines fault told old ran received taken partner_pass =
+part_of_database_steps messages publisher es options base new before now written written' lines fault told old ran received taken partner_pass =
     let sent : HasSent publisher es options.length ran.run
     = stop_sent publisher es options ran.run ran.db new ran.seen now ran.events ran.told fault (HasTold lines written written') ran.stops in
-    let so_far = run_database_steps publisher messages es options.length ran.run old received taken sent in
-    stop_database_steps messages publisher es old options ran.run ran.db new before ran.seen now told ran.came so_far received ran.events ran.told fault (HasTold lines written written')
+    let so_far = run_database_steps base publisher messages es options.length ran.run old ran.came.based received taken sent in
+    stop_database_steps messages publisher es base old options ran.run ran.db new before ran.seen now told ran.came so_far received ran.events ran.told fault (HasTold lines written written')
     (λ whose left upto stop. let on = partner_pass whose left upto stop in
-    with_entries messages publisher es old options ran.run ran.db new before ran.seen now told ran.came so_far received on.entries on.went on.can on.steps on.settles)
+    with_entries messages publisher es base old options ran.run ran.db new before ran.seen now told ran.came so_far received on.entries on.went on.can on.steps on.settles)
     ran.stops ran.went

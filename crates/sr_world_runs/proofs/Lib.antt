@@ -1,3 +1,4 @@
+pub mod Keeping
 pub mod DatabaseSteps
 pub mod Chaining
 pub mod Sending

@@ -29,6 +29,8 @@ use Rattle.sr_world.proofs.Keeping.{real_laws}
 use Rattle.sr_world_runs.specs.Lives.{AreLives, CameOf, ComesBehind, MayFind, SeenRun, put_by}
 use Rattle.sr_world_runs.specs.Lives.{HaveLived}
 use Rattle.sr_world_runs.specs.Worlds.{AreFiles, CameKnown, IsFaithful, IsFaithfulThroughout, IsKnown, Rests, on_one, RestsBehind, put_in}
+use Rattle.sr_world_prefix.specs.Kept.{StandsKeeping}
+use Rattle.sr_world_runs.proofs.Keeping.{new_keeps}
 use Rattle.sr_world_runs.proofs.NextRuns.{good_there, messages_there, more_messages, rests_on, spelled_known}
 use Rattle.sr_world_runs.proofs.Resting.{fewer_rest}
 
@@ -201,6 +203,6 @@ lived names first [] made lives = record {
   keys = keys_agree (fresh_world names) (fresh layers HasSpelling LawfulHistory real_laws names);
   put = refl;
   spelled = tt;
-  rests = λ d has. on_one (λ image there. subst (λ (rs : List Recorded). StandsAs d rs image) (sym (no_history names d)) (made d has image there));
+  rests = λ d has. on_one (λ image there. subst (λ (rs : List Recorded). StandsKeeping d rs image) (sym (no_history names d)) (new_keeps d image (made d has image there)));
 }
 lived names first (r ∷ earlier) made lives = one_more names first earlier r (lived names first earlier made lives.0) lives.1

@@ -27,6 +27,8 @@ use Rattle.sr_world.proofs.Keeping.{real_laws}
 use Rattle.sr_world_runs.specs.Worlds.{AreFiles, IsFaithful, IsFaithfulThroughout, IsKnown, IsReturned, PutsComeLast, Rests, on_one, on_two, RestsAt, RestsBehind, put_in}
 use Rattle.sr_world_runs.specs.Inner.Worlds.{CallsInOrder, RestsAtEach}
 use Rattle.sr_world_runs.proofs.DatabaseSteps.{database_steps_messages}
+use Rattle.sr_world_prefix.specs.Kept.{StandsKeeping}
+use Rattle.sr_world_runs.proofs.Keeping.{new_keeps}
 use Rattle.sr_world_runs.proofs.Ordered.{own_history}
 
 pub named_all : (w : World Recorded) (owner : Name) (database_steps : List (DatabaseStep Recorded)) (d : Name) → IsNamed w d → IsNamed (after_all w (acts_by owner database_steps)) d
@@ -163,4 +165,4 @@ others_step w owner act Left apart rests =
     (more_messages w.messages (happens w act).messages owner (history w owner) Left (messages_kept w.messages act.database_step) rests)
 
 pub new_rests : (w : World Recorded) (owner : Name) (seen : Seen) → history w owner ≡ [] → IsSettled (StandsAs owner []) seen → Rests w.messages owner (history w owner) (IsImage seen)
-new_rests w owner seen none settled = on_one (λ image there. subst (λ (rs : List Recorded). StandsAs owner rs image) (sym none) (settled image there))
+new_rests w owner seen none settled = on_one (λ image there. subst (λ (rs : List Recorded). StandsKeeping owner rs image) (sym none) (new_keeps owner image (settled image there)))

@@ -1,5 +1,5 @@
 -- Behind a put nothing is done to the mail but further puts: in a run of the agent, to its end or to the fault that ended it.
-use Rattle.std.proofs.Common.{◌≡◌, ℕ, List, [], ◌∷◌, ◌++◌, map, length, Result, Ok, Err, refl, sym, ap, subst, ◌∙◌, arith, append_assoc, append-nil, length-append}
+use Rattle.std.proofs.Common.{◌≡◌, ℕ, false, inl, inr, List, [], ◌∷◌, ◌++◌, map, length, Result, Ok, Err, refl, sym, ap, subst, ◌∙◌, arith, append_assoc, append-nil, length-append}
 use Rattle.std.proofs.lemmas.List.{append_cancel_right}
 use Rattle.sr_mail_cut.proofs.Lists.{AllByRecursion-append}
 use Rattle.std.specs.List.{AllByRecursion}
@@ -10,13 +10,15 @@ use Rattle.sr_database.specs.Views.{View}
 use Rattle.sr_database_history.specs.Recorded.{Recorded}
 use Rattle.sr_send.specs.Posting.{PutAlone, PutSucceeded}
 use Rattle.sr_site.specs.Happenings.{Happening, attached, wrote, cut_to, synced, listed, fetched, sent, removed, handed_over, mail_in}
-use Rattle.sr_site.specs.Causes.{DiskStays}
+use Rattle.sr_site.specs.Causes.{DiskStays, Stays}
+use Rattle.sr_site.specs.Inner.Growing.{disk_stays_on}
 use Rattle.sr_site.specs.Seen.{Seen}
 use Rattle.sr_site.specs.Streams.{Output}
 use Rattle.sr_database_meaning.specs.Events.{Event, PutFile, commit, put, puts, puts_in}
 use Rattle.sr_database_meaning.specs.Traces.{Went}
 use Rattle.sr_database_meaning.proofs.Going.{calls_more, mail_more, none_calls, none_put, puts_more, puts_of_mail, told_calls, told_puts, told_same}
-use Rattle.sr_agent.specs.Agents.{CameSoFar, Did, RanAgent}
+use Rattle.sr_agent.specs.Agents.{CameSoFar, Did, DidWhere, RanAgent, RanWhole}
+use Rattle.sr_agent.proofs.Restarted.{stop_stays}
 use Rattle.sr_agent.specs.Deliveries.{with_puts}
 use Rattle.sr_agent.specs.Ends.{HasTold}
 use Rattle.sr_agent.specs.Lines.{Line}
@@ -207,7 +209,7 @@ module _ (publisher : Name) (es : List Recorded) (options : Options) where
       trace_puts (map commit (taken_entries publisher es run)) (sent_events publisher es run)
       ∙ ap (λ (l : List PutFile). l ++ puts (sent_events publisher es run)) (puts_commits (taken_entries publisher es run))
 
-  module _ (run : Run) (db : View) (before seen : Seen) (came : CameSoFar db before seen publisher es options run) where
+  module _ (run : Run) (base : ℕ) (db : View) (before seen : Seen) (came : CameSoFar base db before seen publisher es options run) where
     abbrev events : List Event
     events = sent_events publisher es run
 
@@ -261,11 +263,11 @@ module _ (publisher : Name) (es : List Recorded) (options : Options) where
         let behind = alone_since added mail (mail_in before.happened) (mail_in now.happened) (subst (λ (l : List Happening). PutAlone added l (mail_in now.happened)) mail_is alone) in
         mail_last more (subst PutsComeLast (sym (mail_since_is before now more behind.more is behind.is)) (alone_last added mail behind.more behind.alone so_far_last))
 
-module _ (publisher : Name) (es : List Recorded) (options : Options) (new : View) (before now : Seen) (told : IsTrue before.observable) where
-  module _ (run : Run) (db : View) (seen : Seen) (came : CameSoFar db before seen publisher es options run) where
+module _ (publisher : Name) (es : List Recorded) (options : Options) (base : ℕ) (new : View) (before now : Seen) (told : IsTrue before.observable) where
+  module _ (run : Run) (db : View) (seen : Seen) (came : CameSoFar base db before seen publisher es options run) where
     -- nothing happened after the first steps
     same_last : now ≡ seen → (more : List Happening) → now.happened ≡ more ++ before.happened → PutsComeLast more
-    same_last same more is = came_last publisher es options run db before seen came more (ap (λ (s : Seen). s.happened) (sym same) ∙ is)
+    same_last same more is = came_last publisher es options run base db before seen came more (ap (λ (s : Seen). s.happened) (sym same) ∙ is)
 
     -- nothing was put in them, and nothing after them
     unput_behind : (events : List Event) (rs : List Recorded) → run.deliveries ≡ [] → events ≡ map commit rs → Went before now publisher es (trace_of publisher es run ++ events) → (more : List Happening)
@@ -280,7 +282,7 @@ module _ (publisher : Name) (es : List Recorded) (options : Options) (new : View
     delivery_last partner events fault stop more is =
         let still : IsTrue seen.observable = subst (λ (b : Bool). IsTrue b) (sym (told_same before seen publisher es (trace_of publisher es run) came.went).0) told in
         let put_alone = cause_alone publisher (after_run publisher es run) db new seen now partner.user options.length partner.ask still came.database stop.why stop.cause in
-        alone_behind publisher es options run db before seen came now put_alone.events put_alone.alone more is
+        alone_behind publisher es options run base db before seen came now put_alone.events put_alone.alone more is
 
     partner_pass_last : (whose : Name) (events : List Event) (lines : List Line) (fault : AgentFault) (whole : Type 0) → run.deliveries ≡ []
         → PartnerPassStop publisher (after_run publisher es run) (fetched_files_of run.gathered) whose db new seen now events lines fault options.purge whole
@@ -297,37 +299,63 @@ module _ (publisher : Name) (es : List Recorded) (options : Options) (new : View
     stop_last events lines fault whole (sending left upto newest earlier newest_is is_new is_now is_events is_lines untold) went = same_last is_now
     stop_last events lines fault whole (in_delivery partner left upto is_lines stop) went = delivery_last partner events fault stop
 
-  pub did_last : (written written' : Output) (lines : List Line) (result : Result ℕ AgentFault) → Did new before now written written' publisher es options lines result → (more : List Happening)
+  pub did_last : (written written' : Output) (lines : List Line) (result : Result ℕ AgentFault) → Did base new before now written written' publisher es options lines result → (more : List Happening)
       → now.happened ≡ more ++ before.happened → PutsComeLast more
-  did_last written written' lines (Ok count) ran = came_last publisher es options ran.run new before now ran.came
+  did_last written written' lines (Ok count) ran = came_last publisher es options ran.run base new before now ran.came
   did_last written written' lines (Err fault) ran = stop_last ran.run ran.db ran.seen ran.came ran.events ran.told fault (HasTold lines written written') ran.stops ran.went
 
 -- ---- a run of the agent on a database that was opened
 
-module _ (publisher : Name) (es : List Recorded) (options : Options) (view new : View) (before opened now : Seen) (written written' : Output) where
-  pub agent_order : (result : Result ℕ AgentFault) → IsTrue before.observable → DiskStays before opened → IsDatabase view publisher es opened
-      → RanAgent view new opened now written written' options result → CallsInOrder before now
-  agent_order result told quiet database ran =
-      let still_told : IsTrue opened.observable = subst (λ (b : Bool). IsTrue b) (sym quiet.observable) told in
-      let did = ran.did still_told publisher es database in
-      let went = did_went ran.lines result did in
-      went_order before opened now quiet publisher es went.0 went.1 (did_last publisher es options new opened now still_told written written' ran.lines result did)
-    where
-      did_went : (lines : List Line) (result : Result ℕ AgentFault) → Did new opened now written written' publisher es options lines result
-          → (trace : List Event) × Went opened now publisher es trace
-      did_went lines (Ok count) whole = (trace_of publisher es whole.run, whole.came.went)
-      did_went lines (Err fault) part = (trace_of publisher es part.run ++ part.events, part.went)
+module _ (publisher : Name) (es : List Recorded) (options : Options) (new : View) (before now : Seen) (written' : Output) where
+  did_went : (base : ℕ) (opened : Seen) (written : Output) (lines : List Line) (result : Result ℕ AgentFault) → Did base new opened now written written' publisher es options lines result
+      → (trace : List Event) × Went opened now publisher es trace
+  did_went base opened written lines (Ok count) whole = (trace_of publisher es whole.run, whole.came.went)
+  did_went base opened written lines (Err fault) part = (trace_of publisher es part.run ++ part.events, part.went)
 
-  pub agent_done : (count : ℕ) → IsTrue before.observable → DiskStays before opened → IsDatabase view publisher es opened
-      → RanAgent view new opened now written written' options (Ok count) → (more : List Happening) → now.happened ≡ more ++ before.happened → AllByRecursion PutSucceeded more
-  agent_done count told quiet database ran more is =
+  did_order : (base : ℕ) (opened : Seen) (written : Output) (lines : List Line) (result : Result ℕ AgentFault) → IsTrue before.observable → DiskStays before opened
+      → Did base new opened now written written' publisher es options lines result → CallsInOrder before now
+  did_order base opened written lines result told quiet did =
       let still_told : IsTrue opened.observable = subst (λ (b : Bool). IsTrue b) (sym quiet.observable) told in
-      let whole = ran.did still_told publisher es database in
+      let went = did_went base opened written lines result did in
+      went_order before opened now quiet publisher es went.0 went.1 (did_last publisher es options base new opened now still_told written written' lines result did)
+
+  whole_done : (base : ℕ) (opened : Seen) (lines : List Line) → DiskStays before opened → Stays opened now → RanWhole base new opened now publisher es options lines → (more : List Happening)
+      → now.happened ≡ more ++ before.happened → AllByRecursion PutSucceeded more
+  whole_done base opened lines quiet stays whole more is =
       let opening = goes_on before.happened opened.happened quiet.grows in
-      let later = goes_on opened.happened now.happened ran.ended.site.grows in
+      let later = goes_on opened.happened now.happened stays.grows in
       let joined : now.happened ≡ (later.more ++ opening.more) ++ before.happened
       = later.is ∙ ap (λ (l : List Happening). later.more ++ l) opening.is ∙ sym (append_assoc later.more opening.more before.happened) in
       let same : later.more ++ opening.more ≡ more = append_cancel_right (later.more ++ opening.more) more before.happened (sym joined ∙ is) in
       subst (λ (l : List Happening). AllByRecursion PutSucceeded l) same
-      (AllByRecursion-append PutSucceeded later.more opening.more (came_done publisher es options whole.run new opened now whole.came later.more later.is)
+      (AllByRecursion-append PutSucceeded later.more opening.more (came_done publisher es options whole.run base new opened now whole.came later.more later.is)
       (quiet_done before opened quiet opening.more opening.is))
+
+module _ (publisher : Name) (es : List Recorded) (options : Options) (view new : View) (before opened now : Seen) (written written' : Output) where
+  -- with a restart or without: nothing happens to the mail before the passes
+  all_order : (b : Bool) (lines : List Line) (result : Result ℕ AgentFault) → IsTrue before.observable → DiskStays before opened → DidWhere b view new opened now written written' publisher es options lines result
+      → CallsInOrder before now
+  all_order false lines result told quiet did = did_order publisher es options new before now written' view.log.base opened written lines result told quiet did
+  all_order true lines (Ok count) told quiet did =
+      did_order publisher es options new before now written' did.between.log.base did.middle did.said did.rest (Ok count) told (disk_stays_on before opened did.middle quiet did.restart.stays) did.did
+  all_order true lines (Err fault) told quiet (inl did) =
+      did_order publisher es options new before now written' did.between.log.base did.middle did.said did.rest (Err fault) told (disk_stays_on before opened did.middle quiet did.restart.stays) did.did
+  all_order true lines (Err fault) told quiet (inr stop) = quiet_order before now (disk_stays_on before opened now quiet (stop_stays publisher es view new opened now lines fault stop))
+
+  all_done : (b : Bool) (lines : List Line) (count : ℕ) → DiskStays before opened → Stays opened now → DidWhere b view new opened now written written' publisher es options lines (Ok count) → (more : List Happening)
+      → now.happened ≡ more ++ before.happened → AllByRecursion PutSucceeded more
+  all_done false lines count quiet stays whole = whole_done publisher es options new before now written' view.log.base opened lines quiet stays whole
+  all_done true lines count quiet stays did =
+      whole_done publisher es options new before now written' did.between.log.base did.middle did.rest (disk_stays_on before opened did.middle quiet did.restart.stays) did.stays did.did
+
+  pub agent_order : (result : Result ℕ AgentFault) → IsTrue before.observable → DiskStays before opened → IsDatabase view publisher es opened
+      → RanAgent view new opened now written written' options result → CallsInOrder before now
+  agent_order result told quiet database ran =
+      let still_told : IsTrue opened.observable = subst (λ (b : Bool). IsTrue b) (sym quiet.observable) told in
+      all_order options.restart ran.lines result told quiet (ran.did still_told publisher es database)
+
+  pub agent_done : (count : ℕ) → IsTrue before.observable → DiskStays before opened → IsDatabase view publisher es opened
+      → RanAgent view new opened now written written' options (Ok count) → (more : List Happening) → now.happened ≡ more ++ before.happened → AllByRecursion PutSucceeded more
+  agent_done count told quiet database ran =
+      let still_told : IsTrue opened.observable = subst (λ (b : Bool). IsTrue b) (sym quiet.observable) told in
+      all_done options.restart ran.lines count quiet ran.ended.site (ran.did still_told publisher es database)

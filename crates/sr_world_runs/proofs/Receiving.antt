@@ -158,28 +158,28 @@ module _ (messages : List Message) (publisher : Name) where
         received_walked publisher walk es options.purge run tt some (λ users r. gathered run users mail r) mail
 
     -- what a run received that came so far, whatever came after
-    pub so_far_received : (run : Run) (db : View) (before seen now : Seen) → AllKnown messages publisher before now → CameSoFar db before seen publisher es options run → HasReceived publisher es run
+    pub so_far_received : (run : Run) (base : ℕ) (db : View) (before seen now : Seen) → AllKnown messages publisher before now → CameSoFar base db before seen publisher es options run → HasReceived publisher es run
         → GoesOn (mail_in seen.happened) (mail_in now.happened) → Steps IsReceived es (taken_entries publisher es run)
-    so_far_received run db before seen now known came some goes =
-        received_steps run some (mail_parts Known publisher es options run db before seen now (mail_since Known before.happened now.happened known.more known.is known.each) came goes).mail
+    so_far_received run base db before seen now known came some goes =
+        received_steps run some (mail_parts Known publisher es options run base db before seen now (mail_since Known before.happened now.happened known.more known.is known.each) came goes).mail
 
     -- what a whole run received
-    pub run_received : (run : Run) (new : View) (before now : Seen) → AllKnown messages publisher before now → CameSoFar new before now publisher es options run → HasReceived publisher es run
+    pub run_received : (run : Run) (base : ℕ) (new : View) (before now : Seen) → AllKnown messages publisher before now → CameSoFar base new before now publisher es options run → HasReceived publisher es run
         → Steps IsReceived es (taken_entries publisher es run)
-    run_received run new before now known came some = so_far_received run new before now now known came some (no_more (mail_in now.happened))
+    run_received run base new before now known came some = so_far_received run base new before now now known came some (no_more (mail_in now.happened))
 
     -- and the entries of it alone are steps that the messages allow
-    pub received_can : (run : Run) (new : View) (before now : Seen) → AllKnown messages publisher before now → CameSoFar new before now publisher es options run → HasReceived publisher es run
+    pub received_can : (run : Run) (base : ℕ) (new : View) (before now : Seen) → AllKnown messages publisher before now → CameSoFar base new before now publisher es options run → HasReceived publisher es run
         → Steps (CanStep messages publisher) es (taken_entries publisher es run)
-    received_can run new before now known came some =
-        steps_second (IsRunStep publisher) (CanStep messages publisher) es (taken_entries publisher es run) (run_received run new before now known came some)
+    received_can run base new before now known came some =
+        steps_second (IsRunStep publisher) (CanStep messages publisher) es (taken_entries publisher es run) (run_received run base new before now known came some)
 
-    module _ (run : Run) (db new : View) (before seen now : Seen) (events : List Event) (lines : List Line) (fault : AgentFault) (whole : Type 0) (known : AllKnown messages publisher before now)
-        (came : CameSoFar db before seen publisher es options run) where
+    module _ (run : Run) (base : ℕ) (db new : View) (before seen now : Seen) (events : List Event) (lines : List Line) (fault : AgentFault) (whole : Type 0) (known : AllKnown messages publisher before now)
+        (came : CameSoFar base db before seen publisher es options run) where
       -- what a run received until the step at which a fault ended it
       pub until_received : StopsAt publisher es options run db new seen now events lines fault whole → Steps IsReceived es (taken_entries publisher es run)
       until_received stops =
-          so_far_received run db before seen now known came (stop_received publisher es options run db new seen now events lines fault whole stops)
+          so_far_received run base db before seen now known came (stop_received publisher es options run db new seen now events lines fault whole stops)
           (stop_goes publisher es options run db new seen now events lines fault whole stops)
 
       -- and in the partner's pass at which it ended, after its trace until then
@@ -189,7 +189,7 @@ module _ (messages : List Message) (publisher : Name) where
       partner_pass_received whose left upto told stop went =
           let trace : List Event = trace_of publisher es run in
           let goes = stop_goes publisher es options run db new seen now events lines fault whole (in_partner_pass whose left upto stop) in
-          let parts = mail_parts Known publisher es options run db before seen now (mail_since Known before.happened now.happened known.more known.is known.each) came goes in
+          let parts = mail_parts Known publisher es options run base db before seen now (mail_since Known before.happened now.happened known.more known.is known.each) came goes in
           let good = walk.later es (commits trace) whose (message_files_from whose (fetched_files_of run.gathered)) (gathered run upto.done parts.mail upto.receiving whose) in
           partner_pass_walked publisher walk es trace (fetched_files_of run.gathered) whose db new before seen now events lines fault options.purge whole told (omega (arith, came.steady.disk)) came.went came.database tt good
           parts.since stop went

@@ -1,5 +1,5 @@
 -- A run rests at each moment on one history of its world, on which the next run can go on.
-use Rattle.std.proofs.Common.{◌≡◌, List, [], ◌∷◌, ◌++◌, map, refl, sym, ap, subst, ◌∙◌, inl, inr, append_assoc, append-nil}
+use Rattle.std.proofs.Common.{◌≡◌, ℕ, List, [], ◌∷◌, ◌++◌, map, refl, sym, ap, subst, ◌∙◌, inl, inr, append_assoc, append-nil}
 use Rattle.std.proofs.lemmas.List.{append_cancel_right}
 use Rattle.std.specs.Prelude.{◌⊎◌}
 use Rattle.std.specs.List.{AllByRecursion}
@@ -14,8 +14,9 @@ use Rattle.sr_msgform.specs.declared.message.Message.{Message}
 use Rattle.sr_site.specs.Files.{Files}
 use Rattle.sr_site.specs.Causes.{DiskStays}
 use Rattle.sr_site.specs.Happenings.{Happening, Throughout, mail_in, attached, wrote, cut_to, synced, listed, fetched, sent, removed, handed_over}
-use Rattle.sr_site.specs.Images.{IsImage, MayLeave, RestsThroughout}
+use Rattle.sr_site.specs.Images.{IsImage, IsSettled, MayLeave, RestsThroughout}
 use Rattle.sr_site.specs.Seen.{Seen}
+use Rattle.sr_database_meaning.specs.Bases.{HasBase}
 use Rattle.sr_database_meaning.specs.Events.{Event, PutFile, IsBetween, commit, put, commits, puts, puts_in}
 use Rattle.sr_database_meaning.specs.Standing.{StandsAs}
 use Rattle.sr_database_meaning.specs.Traces.{AtEach, IsOnTrace, MayStandFor, Went}
@@ -25,11 +26,16 @@ use Rattle.sr_agent.proofs.Joints.{commits-append}
 use Rattle.sr_world_model.proofs.Leave.{database_steps_join}
 use Rattle.sr_world.specs.Real.{HasSpelling, LawfulHistory, MayDo, layers}
 use Rattle.sr_world_prefix.specs.Good.{AreSaid}
+use Rattle.sr_world_prefix.specs.Kept.{StandsKeeping}
 use Rattle.sr_world_runs.specs.Worlds.{IsSettledBetween, HasOneMore, IsAhead, IsAtMail, IsNext, IsOne, Rests, on_one, on_two, RestsAt, RestsBehind, WasSettled, put_in}
 use Rattle.sr_world_runs.specs.Inner.Worlds.{RestsAtEach}
-use Rattle.sr_world_prefix.proofs.Along.{Along}
+use Rattle.sr_world_prefix.proofs.Along.{Along, along_last, along_prefix}
+use Rattle.sr_world_prefix.proofs.Behind.{none_before}
+use Rattle.sr_world_prefix.proofs.Kept.{IsKeeping, stands_at}
+use Rattle.sr_world_runs.proofs.Keeping.{at_moments}
 use Rattle.sr_database_meaning.proofs.Joining.{trace_puts}
-use Rattle.sr_world_prefix.proofs.Opened.{some_image, was_image}
+use Rattle.sr_agent.proofs.Images.{some_image}
+use Rattle.sr_world_prefix.proofs.Opened.{was_image}
 use Rattle.sr_world_runs.proofs.DatabaseSteps.{AreDatabaseSteps, CanStep, database_steps_files, database_steps_history, database_steps_messages, database_steps_spelled, may_do}
 use Rattle.sr_world_runs.proofs.Reached.{prefix_of, history_more, is_lawful, lawful_along, put_more, said_prefix}
 
@@ -199,7 +205,7 @@ first_can messages owner es r events (database_step.crash ∷ database_steps) ar
 
 -- where it has the first entry of a trace or not, this is the next of the steps that make it
 two_next : (messages : List Message) (owner : Name) (es : List Recorded) (Left : Files → Type 0) (r : Recorded) (events : List Event) (later : List (DatabaseStep Recorded))
-    → AreDatabaseSteps messages owner es (commit r ∷ events) later → ((image : Files) → Left image → StandsAs owner es image ⊎ HasOneMore messages owner es r image)
+    → AreDatabaseSteps messages owner es (commit r ∷ events) later → ((image : Files) → Left image → StandsKeeping owner es image ⊎ HasOneMore messages owner es r image)
     → RestsNext messages owner es Left later
 two_next messages owner es Left r events [] are each = absurd are
 two_next messages owner es Left r events (append q ∷ later) are each = record { rests = on_two r each; next = are.0 }
@@ -228,13 +234,31 @@ split_at messages owner es (put address name bytes ∷ events) (database_step.pu
     record { prefix = put address name bytes ∷ rest.prefix; back = rest.back; event = rest.event; is = ap (λ (l : List Event). put address name bytes ∷ l) rest.is; are = (are.0, are.1, rest.are) }
 split_at messages owner es trace first back next are = absurd are
 
+-- a stretch in which the disk alone was used
+pub none_mail : (before now : Seen) (more : List Happening) → now.happened ≡ more ++ before.happened → DiskStays before now → mail_in more ≡ []
+none_mail before now more is stays = append_cancel_right (mail_in more) [] (mail_in before.happened) (sym (mail_more before.happened more) ∙ ap mail_in (sym is) ∙ stays.mail)
+
+-- no step comes before none
+no_step : (prefix back : List (DatabaseStep Recorded)) (next : DatabaseStep Recorded) → [] ≡ prefix ++ next ∷ back → ⊥
+no_step [] back next e = absurd cc
+no_step (step ∷ prefix) back next e = absurd cc
+
 -- ---- at each moment of a trace
 
 module _ (messages : List Message) (owner : Name) (first es : List Recorded) (before : List (DatabaseStep Recorded)) (may : MayDo messages owner first before) (none : put_in before ≡ [])
     (there : history_after_all first before ≡ es) (trace : List Event) (database_steps : List (DatabaseStep Recorded)) (are : AreDatabaseSteps messages owner es trace database_steps)
-    (said : Along (AreSaid (fresh owner)) es (commits trace)) where
+    (said : Along (AreSaid (fresh owner)) es (commits trace)) (base : ℕ) (kept : Along (IsKeeping owner base) es (commits trace)) where
   lawful_prefix : (begun left : List Event) → trace ≡ begun ++ left → Stored owner (es ++ commits begun) → LawfulHistory owner (es ++ commits begun)
   lawful_prefix begun left prefix stored = is_lawful owner (es ++ commits begun) stored (said_prefix messages owner first es before may none there trace database_steps are said begun left prefix)
+
+  -- files that stand for a front of it, and whose log begins at the base, keep what partners need
+  keeps_prefix : (begun left : List Event) → trace ≡ begun ++ left → (image : Files) → HasBase base image → StandsAs owner (es ++ commits begun) image → StandsKeeping owner (es ++ commits begun) image
+  keeps_prefix begun left prefix image has stands =
+      let parts : Along (IsKeeping owner base) es (commits begun ++ commits left)
+      = subst (λ (l : List Recorded). Along (IsKeeping owner base) es l) (ap commits prefix ∙ commits-append begun left) kept in
+      let keeping : IsKeeping owner base (es ++ commits begun)
+      = along_last (IsKeeping owner base) es (commits begun) (along_prefix (IsKeeping owner base) es (commits begun) (commits left) parts) in
+      record { base = base; stands = stands_at owner (es ++ commits begun) base image has stands; needs = keeping.needs }
 
   abbrev all : List (DatabaseStep Recorded)
   all = before ++ database_steps
@@ -288,7 +312,7 @@ module _ (messages : List Message) (owner : Name) (first es : List Recorded) (be
           (subst (λ (rs : List Recorded). RestsNext then owner rs Left parted.more) (sym history_is) rests) in
           record { rest = made moved.rests; later = parted.more; on_the_way = way_is; next = moved.next }
 
-      behind_one : ((image : Files) → Left image → StandsAs owner (es ++ commits part) image) → BehindOne messages owner first all (puts part) Left
+      behind_one : ((image : Files) → Left image → StandsKeeping owner (es ++ commits part) image) → BehindOne messages owner first all (puts part) Left
       unfolding made
       behind_one stands =
           let moved : RestsOne (messages_after_all messages (before ++ on)) owner (history_after_all first (before ++ on)) Left parted.more
@@ -298,19 +322,19 @@ module _ (messages : List Message) (owner : Name) (first es : List Recorded) (be
 
   module _ (Left : Files → Type 0) (some : Files) (left_some : Left some) where
     -- all of it stands for the history with all that has begun
-    on_all : (begun left : List Event) → trace ≡ begun ++ left → ((image : Files) → Left image → StandsAs owner (es ++ commits begun) image)
+    on_all : (begun left : List Event) → trace ≡ begun ++ left → ((image : Files) → Left image → StandsKeeping owner (es ++ commits begun) image)
         → BehindOne messages owner first all (puts begun) Left
     on_all begun left prefix stands = behind_one begun left prefix Left (lawful_prefix begun left prefix (stands some left_some).stands.stored) stands
 
     -- it lacks the last commit, or not
     on_last : (begun part left : List Event) (r : Recorded) → trace ≡ begun ++ left → begun ≡ part ++ commit r ∷ []
-        → ((image : Files) → Left image → StandsAs owner (es ++ commits part) image ⊎ StandsAs owner (es ++ commits begun) image) → OnTheWay messages owner first all (puts begun) Left
+        → ((image : Files) → Left image → StandsKeeping owner (es ++ commits part) image ⊎ StandsKeeping owner (es ++ commits begun) image) → OnTheWay messages owner first all (puts begun) Left
     on_last begun part left r prefix is stands =
         let prefix_is : trace ≡ part ++ (commit r ∷ left) = prefix ∙ ap (λ (l : List Event). l ++ left) is ∙ append_assoc part (commit r ∷ []) left in
         let longer_is : es ++ commits begun ≡ (es ++ commits part) ++ r ∷ []
         = ap (λ (l : List Event). es ++ commits l) is ∙ ap (λ (l : List Recorded). es ++ l) (commits-append part (commit r ∷ [])) ∙ sym (append_assoc es (commits part) (r ∷ [])) in
         let puts_are : puts begun ≡ puts part = ap puts is ∙ trace_puts part (commit r ∷ []) ∙ append-nil (puts part) in
-        let lawful_longer : (image : Files) → StandsAs owner (es ++ commits begun) image → LawfulHistory owner ((es ++ commits part) ++ r ∷ [])
+        let lawful_longer : (image : Files) → StandsKeeping owner (es ++ commits begun) image → LawfulHistory owner ((es ++ commits part) ++ r ∷ [])
         = λ image it. subst (LawfulHistory owner) longer_is (lawful_prefix begun left prefix it.stands.stored) in
         let lawful : LawfulHistory owner (es ++ commits part) = elim (stands some left_some) [
           | inl short ↦ lawful_prefix part (commit r ∷ left) prefix_is short.stands.stored
@@ -323,64 +347,83 @@ module _ (messages : List Message) (owner : Name) (first es : List Recorded) (be
           | inl short ↦ inl short
           | inr long ↦ inr (record {
             may = ((first_can (messages ++ put_in on.database_steps) owner (es ++ commits part) r left on.more on.behind, lawful_longer image long), tt);
-            stands = subst (λ (rs : List Recorded). StandsAs owner rs image) longer_is long;
+            stands = subst (λ (rs : List Recorded). StandsKeeping owner rs image) longer_is long;
           })
         ])))
 
-    rests_there : (begun left : List Event) → trace ≡ begun ++ left → ((image : Files) → Left image → MayStandFor owner es begun image) → HasParts begun
+    rests_there : (begun left : List Event) → trace ≡ begun ++ left → ((image : Files) → Left image → HasBase base image) → ((image : Files) → Left image → MayStandFor owner es begun image) → HasParts begun
         → OnTheWay messages owner first all (puts begun) Left
-    rests_there begun left prefix images (alone is) =
+    rests_there begun left prefix based images (alone is) =
         (on_all begun left prefix (λ image there. elim (images image there) [
-          | inl whole ↦ whole
+          | inl whole ↦ keeps_prefix begun left prefix image (based image there) whole
           | inr lacks ↦
               let same : lacks.others ≡ begun = sym (part_is lacks.others lacks.last) ∙ ap prefix_part (sym lacks.is) ∙ sym is in
-              subst (λ (l : List Event). StandsAs owner (es ++ commits l) image) same lacks.stands
+              keeps_prefix begun left prefix image (based image there) (subst (λ (l : List Event). StandsAs owner (es ++ commits l) image) same lacks.stands)
         ])).way
-    rests_there begun left prefix images (one_more r is) =
+    rests_there begun left prefix based images (one_more r is) =
+        let shorter : trace ≡ prefix_part begun ++ (commit r ∷ left) = prefix ∙ ap (λ (l : List Event). l ++ left) is ∙ append_assoc (prefix_part begun) (commit r ∷ []) left in
         on_last begun (prefix_part begun) left r prefix is (λ image there. elim (images image there) [
-          | inl whole ↦ inr whole
+          | inl whole ↦ inr (keeps_prefix begun left prefix image (based image there) whole)
           | inr lacks ↦
               let same : lacks.others ≡ prefix_part begun = sym (part_is lacks.others lacks.last) ∙ ap prefix_part (sym lacks.is) in
-              inl (subst (λ (l : List Event). StandsAs owner (es ++ commits l) image) same lacks.stands)
+              inl (keeps_prefix (prefix_part begun) (commit r ∷ left) shorter image (based image there) (subst (λ (l : List Event). StandsAs owner (es ++ commits l) image) same lacks.stands))
         ])
 
-  module _ (files : Files) (past : List Happening) where
+  module _ (files : Files) (past : List Happening) (First : Files → Type 0) where
     abbrev There : List Happening → Files → Type 0
     There since image = MayLeave files (since ++ past) image
 
     abbrev RestsNow : List Happening → Type 0
-    RestsNow since = RestsAt messages owner first all since (MayLeave files past) (There since)
+    RestsNow since = RestsAt messages owner first all since First (There since)
 
-    at_mail : (since : List Happening) → IsOnTrace files owner es past trace since → IsBetween since → RestsNow since
-    at_mail since on between =
+    -- the log of each begins at the base
+    abbrev AreBasedAt : List Happening → Type 0
+    AreBasedAt since = (image : Files) → There since image → HasBase base image
+
+    at_mail : (since : List Happening) → IsOnTrace files owner es past trace since → AreBasedAt since → IsBetween since → RestsNow since
+    at_mail since on based between =
         let some = some_image files (since ++ past) in
         let one : BehindOne messages owner first all (puts_in since) (There since)
-        = subst (λ (ls : List PutFile). BehindOne messages owner first all ls (There since)) (sym on.has.put) (on_all (There since) some.0 some.1 on.begun on.left on.prefix (on.has.settled between)) in
+        = subst (λ (ls : List PutFile). BehindOne messages owner first all ls (There since)) (sym on.has.put) (on_all (There since) some.0 some.1 on.begun on.left on.prefix
+        (λ image there. keeps_prefix on.begun on.left on.prefix image (based image there) (on.has.settled between image there))) in
         record { rest = one.way.rest; settled = λ at. one.one; later = one.way.later; on_the_way = one.way.on_the_way; next = inl one.way.next }
 
-    elsewhere : (since : List Happening) → IsOnTrace files owner es past trace since → (IsAtMail since → ⊥) → RestsNow since
-    elsewhere since on no_call =
+    elsewhere : (since : List Happening) → IsOnTrace files owner es past trace since → AreBasedAt since → (IsAtMail since → ⊥) → RestsNow since
+    elsewhere since on based no_call =
         let some = some_image files (since ++ past) in
         let way : OnTheWay messages owner first all (puts_in since) (There since)
         = subst (λ (ls : List PutFile). OnTheWay messages owner first all ls (There since)) (sym on.has.put)
-        (rests_there (There since) some.0 some.1 on.begun on.left on.prefix on.has.images (parts_of on.begun)) in
+        (rests_there (There since) some.0 some.1 on.begun on.left on.prefix based on.has.images (parts_of on.begun)) in
         record { rest = way.rest; settled = λ at. absurd (no_call at); later = way.later; on_the_way = way.on_the_way; next = inl way.next }
 
-    rests_at : (since : List Happening) → IsOnTrace files owner es past trace since → RestsNow since
-    rests_at [] on = elsewhere [] on (λ at. at)
-    rests_at (attached name folder done ∷ since) on = elsewhere (attached name folder done ∷ since) on (λ at. at)
-    rests_at (wrote file place bytes done after ∷ since) on = elsewhere (wrote file place bytes done after ∷ since) on (λ at. at)
-    rests_at (cut_to file to done after ∷ since) on = elsewhere (cut_to file to done after ∷ since) on (λ at. at)
-    rests_at (synced file done after ∷ since) on = elsewhere (synced file done after ∷ since) on (λ at. at)
-    rests_at (listed address folder listing ∷ since) on = at_mail (listed address folder listing ∷ since) on tt
-    rests_at (fetched address name limit found ∷ since) on = at_mail (fetched address name limit found ∷ since) on tt
-    rests_at (sent address name bytes done ∷ since) on = at_mail (sent address name bytes done ∷ since) on tt
-    rests_at (removed address name done ∷ since) on = at_mail (removed address name done ∷ since) on tt
-    rests_at (handed_over folders noted ∷ since) on = at_mail (handed_over folders noted ∷ since) on tt
+    rests_at : (since : List Happening) → IsOnTrace files owner es past trace since → AreBasedAt since → RestsNow since
+    rests_at [] on based = elsewhere [] on based (λ at. at)
+    rests_at (attached name folder done ∷ since) on based = elsewhere (attached name folder done ∷ since) on based (λ at. at)
+    rests_at (wrote file place bytes done after ∷ since) on based = elsewhere (wrote file place bytes done after ∷ since) on based (λ at. at)
+    rests_at (cut_to file to done after ∷ since) on based = elsewhere (cut_to file to done after ∷ since) on based (λ at. at)
+    rests_at (synced file done after ∷ since) on based = elsewhere (synced file done after ∷ since) on based (λ at. at)
+    rests_at (listed address folder listing ∷ since) on based = at_mail (listed address folder listing ∷ since) on based tt
+    rests_at (fetched address name limit found ∷ since) on based = at_mail (fetched address name limit found ∷ since) on based tt
+    rests_at (sent address name bytes done ∷ since) on based = at_mail (sent address name bytes done ∷ since) on based tt
+    rests_at (removed address name done ∷ since) on based = at_mail (removed address name done ∷ since) on based tt
+    rests_at (handed_over folders noted ∷ since) on based = at_mail (handed_over folders noted ∷ since) on based tt
 
-    rests_each : (more : List Happening) → AtEach (IsOnTrace files owner es past trace) more → AtEach RestsNow more
-    rests_each [] on = rests_at [] on
-    rests_each (step ∷ more) on = (rests_at (step ∷ more) on.0, rests_each more on.1)
+    rests_each : (more : List Happening) → AtEach (IsOnTrace files owner es past trace) more → AtEach AreBasedAt more → AtEach RestsNow more
+    rests_each [] on based = rests_at [] on based
+    rests_each (step ∷ more) on based = (rests_at (step ∷ more) on.0 based.0, rests_each more on.1 based.1)
+
+    -- nothing was put, and every crash leaves files that stand for the history before the trace, and keep what partners need
+    stretch_at : (since : List Happening) → puts_in since ≡ [] → ((image : Files) → There since image → StandsKeeping owner es image) → RestsNow since
+    stretch_at since unput stands =
+        let some = some_image files (since ++ past) in
+        let one : BehindOne messages owner first all (puts_in since) (There since)
+        = subst (λ (ls : List PutFile). BehindOne messages owner first all ls (There since)) (sym unput)
+        (on_all (There since) some.0 some.1 [] trace refl (λ image there. subst (λ (rs : List Recorded). StandsKeeping owner rs image) (sym (append-nil es)) (stands image there))) in
+        record { rest = one.way.rest; settled = λ at. one.one; later = one.way.later; on_the_way = one.way.on_the_way; next = inl one.way.next }
+
+    stretch_each : (more : List Happening) → puts_in more ≡ [] → Throughout (λ moment. (image : Files) → MayLeave files moment image → StandsKeeping owner es image) past more → AtEach RestsNow more
+    stretch_each [] unput stands = stretch_at [] unput stands
+    stretch_each (step ∷ more) unput stands = (stretch_at (step ∷ more) unput stands.0, stretch_each more (none_before step more unput) stands.1)
 
   -- ---- before each of the steps
 
@@ -400,26 +443,88 @@ module _ (messages : List Message) (owner : Name) (first es : List Recorded) (be
             (joint.settled image (subst (λ (f : Files). MayLeave f (joint.since ++ past) image) same (subst (λ (l : List Happening). MayLeave seen.first (joint.since ++ l) image) is at)));
       }
 
-  pub went_rests : IsAhead before → (opened now : Seen) → Went opened now owner es trace → RestsAtEach messages owner first before database_steps opened now
+  -- along the trace, after what could be left first
+  along_each : (opened now : Seen) (First : Files → Type 0) → IsSettled (HasBase base) opened → Went opened now owner es trace
+      → (more : List Happening) → now.happened ≡ more ++ opened.happened → AtEach (RestsNow opened.first opened.happened First) more
   unfolding Went
-  went_rests ahead opened now went = record {
+  along_each opened now First settled went more more_is =
+      let rests = went.base base settled in
+      let same : rests.more ≡ went.more = append_cancel_right rests.more went.more opened.happened (sym rests.is ∙ went.is) in
+      let based : AtEach (AreBasedAt opened.first opened.happened First) went.more
+      = subst (λ (l : List Happening). AtEach (AreBasedAt opened.first opened.happened First) l) same
+      (at_moments (λ moment. (image : Files) → MayLeave opened.first moment image → HasBase base image) opened.happened rests.more rests.moments) in
+      let all_more : went.more ≡ more = append_cancel_right went.more more opened.happened (sym went.is ∙ more_is) in
+      subst (λ (l : List Happening). AtEach (RestsNow opened.first opened.happened First) l) all_more (rests_each opened.first opened.happened First went.more went.moments based)
+
+  pub went_rests : IsAhead before → (opened now : Seen) → IsSettled (HasBase base) opened → Went opened now owner es trace → RestsAtEach messages owner first before database_steps opened now
+  unfolding Went
+  went_rests ahead opened now settled went = record {
     more = went.more;
     is = went.is;
     ahead = ahead;
-    moments = rests_each opened.first opened.happened went.more went.moments;
+    moments = along_each opened now (MayLeave opened.first opened.happened) settled went went.more went.is;
     joints = joint_before opened.first opened.happened went.more went.joints opened refl refl;
   }
 
+  -- ---- behind a stretch in which the mail was left alone and the history stayed
+
+  module _ (opened middle : Seen) (same_first : middle.first ≡ opened.first) (opening : List Happening) (is : middle.happened ≡ opening ++ opened.happened) (unput : puts_in opening ≡ []) where
+    since_middle : (since : List Happening) (image : Files) → MayLeave opened.first ((since ++ opening) ++ opened.happened) image → MayLeave middle.first (since ++ middle.happened) image
+    since_middle since image left =
+        subst (λ (f : Files). MayLeave f (since ++ middle.happened) image) (sym same_first)
+        (subst (λ (l : List Happening). MayLeave opened.first (since ++ l) image) (sym is)
+        (subst (λ (l : List Happening). MayLeave opened.first l image) (append_assoc since opening opened.happened) left))
+
+    moved_on : (step : Happening) (since : List Happening) → RestsNow middle.first middle.happened (IsImage opened) (step ∷ since) → RestsNow opened.first opened.happened (IsImage opened) (step ∷ since ++ opening)
+    moved_on step since at =
+        let put_then : puts_in (step ∷ since ++ opening) ≡ puts_in (step ∷ since) = puts_more opening (step ∷ since) ∙ ap (λ (ls : List PutFile). ls ++ puts_in (step ∷ since)) unput in
+        moved_rest messages owner first all (step ∷ since) (step ∷ since ++ opening) (IsImage opened) (IsImage opened) _ _ (λ image left. left) put_then (mail_on step since opening)
+        (λ image left. since_middle (step ∷ since) image left)
+        at
+
+    both_moved : (later : List Happening) → AtEach (RestsNow opened.first opened.happened (IsImage opened)) opening → AtEach (RestsNow middle.first middle.happened (IsImage opened)) later
+        → AtEach (RestsNow opened.first opened.happened (IsImage opened)) (later ++ opening)
+    both_moved [] sooner rest = sooner
+    both_moved (step ∷ later) sooner rest = (moved_on step later rest.0, both_moved later sooner rest.1)
+
+    joint_moved : (rs : List Recorded) (more : List Happening) → WasSettled owner rs middle more → WasSettled owner rs opened (more ++ opening)
+    joint_moved rs more was = record {
+      later = was.later;
+      since = was.since ++ opening;
+      is = ap (λ (l : List Happening). l ++ opening) was.is ∙ append_assoc was.later was.since opening;
+      settled = λ image left. was.settled image (since_middle was.since image left);
+    }
+
+  pub went_behind_stretch : IsAhead before → (opened middle now : Seen) → RestsThroughout (StandsKeeping owner es) opened middle → DiskStays opened middle → IsSettled (HasBase base) middle
+      → Went middle now owner es trace → RestsAtEach messages owner first before database_steps opened now
+  unfolding Went
+  went_behind_stretch ahead opened middle now stretch stays settled went =
+      let unput : puts_in stretch.more ≡ [] = none_put stretch.more (none_mail opened middle stretch.more stretch.is stays) in
+      let sooner = stretch_each opened.first opened.happened (IsImage opened) stretch.more unput stretch.moments in
+      let joints = joint_before middle.first middle.happened went.more went.joints middle refl refl in
+      record {
+        more = went.more ++ stretch.more;
+        is = went.is ∙ ap (λ (l : List Happening). went.more ++ l) stretch.is ∙ sym (append_assoc went.more stretch.more opened.happened);
+        ahead = ahead;
+        moments = both_moved opened middle stays.first stretch.more stretch.is unput went.more sooner (along_each middle now (IsImage opened) settled went went.more went.is);
+        joints = λ prefix back next e.
+            joint_moved opened middle stays.first stretch.more stretch.is unput (history_after_all (history_after_all first before) prefix) went.more (joints prefix back next e);
+      }
+
+  -- the stretch alone
+  pub stretch_rests : IsAhead before → database_steps ≡ [] → (opened now : Seen) → RestsThroughout (StandsKeeping owner es) opened now → DiskStays opened now
+      → RestsAtEach messages owner first before database_steps opened now
+  stretch_rests ahead no_steps opened now stretch stays =
+      let unput : puts_in stretch.more ≡ [] = none_put stretch.more (none_mail opened now stretch.more stretch.is stays) in
+      record {
+        more = stretch.more;
+        is = stretch.is;
+        ahead = ahead;
+        moments = stretch_each opened.first opened.happened (IsImage opened) stretch.more unput stretch.moments;
+        joints = λ prefix back next e. absurd (no_step prefix back next (sym no_steps ∙ e));
+      }
+
 -- ---- from a moment at which a crash leaves what rests on the history of the world
-
--- a stretch in which the disk alone was used
-pub none_mail : (before now : Seen) (more : List Happening) → now.happened ≡ more ++ before.happened → DiskStays before now → mail_in more ≡ []
-none_mail before now more is stays = append_cancel_right (mail_in more) [] (mail_in before.happened) (sym (mail_more before.happened more) ∙ ap mail_in (sym is) ∙ stays.mail)
-
--- no step comes before none
-no_step : (prefix back : List (DatabaseStep Recorded)) (next : DatabaseStep Recorded) → [] ≡ prefix ++ next ∷ back → ⊥
-no_step [] back next e = absurd cc
-no_step (step ∷ prefix) back next e = absurd cc
 
 module _ (messages : List Message) (owner : Name) (first : List Recorded) (before : Seen) (rested : Rests messages owner first (IsImage before)) where
   -- ---- before the first step

@@ -1,6 +1,6 @@
 -- What a pass notes is allowed: whole windows lead to the offset that is noted as sent.
-use Rattle.std.proofs.Common.{◌≡◌, ℕ, ◌<◌, ◌≤◌, Contains, List, [], ◌∷◌, length, refl, sym, ap, subst, inl, inr}
-use Rattle.std.specs.Prelude.{Bool, ◌⊎◌}
+use Rattle.std.proofs.Common.{◌≡◌, ℕ, ◌<◌, ◌≤◌, Contains, List, [], ◌∷◌, length, refl, sym, ap, subst, inl, inr, arith}
+use Rattle.std.specs.Prelude.{Bool, max, ◌⊎◌}
 use Rattle.sr_base.specs.Values.{offset_from}
 use Rattle.sr_base.specs.declared.offset.Offset.{Offset}
 use Rattle.sr_book.specs.Entries.{Name}
@@ -44,23 +44,23 @@ last_given sent first (tx ∷ txs) = elim (le_or_lt tx.0 sent) [
     found ahead (inl same) = subst (λ (o : Offset). (sent < o.0) × Contains (tx.0 ∷ offsets txs) o.0) (sym same) (ahead, contains_first tx.0 (offsets txs))
     found ahead (inr there) = (there.0, contains_later tx.0 (last_at (offset_from tx.0) (past sent txs)).0 (offsets txs) there.1)
 
-end_given : (publisher : Name) (es : List Recorded) (user : Name)
-    → ((sent_end publisher es user (books_of user es)).0 ≡ (books_of user es).log_sent)
-    ⊎ (((books_of user es).log_sent < (sent_end publisher es user (books_of user es)).0) × Contains (offsets (layers.given publisher user es)) (sent_end publisher es user (books_of user es)).0)
-end_given publisher es user =
+end_given : (base : ℕ) (publisher : Name) (es : List Recorded) (user : Name)
+    → ((sent_end base publisher es user (books_of user es)).0 ≡ (books_of user es).log_sent)
+    ⊎ (((books_of user es).log_sent < (sent_end base publisher es user (books_of user es)).0) × Contains (offsets (layers.given publisher user es)) (sent_end base publisher es user (books_of user es)).0)
+end_given base publisher es user =
     let sent : ℕ = (books_of user es).log_sent in
-    elim (last_given sent (offset_from sent) (given_of publisher es user)) [
+    elim (last_given (max base sent) (offset_from sent) (given_of publisher es user)) [
       | inl same ↦ inl (ap (λ (o : Offset). o.0) same)
       | inr there ↦ inr (
-        there.0,
-        subst (λ (txs : List (ℕ × List Op)). Contains (offsets txs) (sent_end publisher es user (books_of user es)).0) (sym (given_same publisher user es)) there.1,
+        (let past_both : max base sent < (sent_end base publisher es user (books_of user es)).0 = there.0 in omega (arith, past_both)),
+        subst (λ (txs : List (ℕ × List Op)). Contains (offsets txs) (sent_end base publisher es user (books_of user es)).0) (sym (given_same publisher user es)) there.1,
       )
     ]
 
 -- the note of a pass may be made, where all its messages are among these
-pub all_noted : (messages : List Message) (publisher : Name) (es : List Recorded) (user : Name) (ask : Bool) (limit : ℕ) (pass : List Message) → AreAll publisher es user (books_of user es) ask limit pass
-    → AreAmong pass messages → 1 ≤ length pass → CanStep messages publisher es (sent_note user (books_of user es) (sent_end publisher es user (books_of user es)) (length pass))
-all_noted messages publisher es user ask limit pass are among some =
+pub all_noted : (base : ℕ) (messages : List Message) (publisher : Name) (es : List Recorded) (user : Name) (ask : Bool) (limit : ℕ) (pass : List Message) → AreAll base publisher es user (books_of user es) ask limit pass
+    → AreAmong pass messages → 1 ≤ length pass → CanStep messages publisher es (sent_note user (books_of user es) (sent_end base publisher es user (books_of user es)) (length pass))
+all_noted base messages publisher es user ask limit pass are among some =
     let book : Book = books_of user es in
-    let leads = pass_leads messages (head_of publisher user book ask) book ask limit (waiting publisher es user book) pass are among in
-    record { windows = leads.windows; chain = leads.chain; given_there = end_given publisher es user; some_message = some; confirms = refl }
+    let leads = pass_leads messages (head_of publisher user book ask) book ask limit (waiting base publisher es user book) pass are among in
+    record { windows = leads.windows; chain = leads.chain; given_there = end_given base publisher es user; some_message = some; confirms = refl }

@@ -19,18 +19,20 @@ use Rattle.sr_database_meaning.specs.Events.{PutFile, puts_in}
 use Rattle.sr_database_meaning.specs.Standing.{StandsAs}
 use Rattle.sr_database_meaning.proofs.Alike.{alike, alike_end}
 use Rattle.sr_world.specs.Real.{HasSpelling, LawfulHistory, layers}
-use Rattle.sr_world_prefix.proofs.Opened.{some_image, was_image}
+use Rattle.sr_agent.proofs.Images.{some_image}
+use Rattle.sr_world_prefix.proofs.Opened.{was_image}
+use Rattle.sr_world_prefix.specs.Kept.{StandsKeeping}
 use Rattle.sr_world_runs.specs.Worlds.{AreFiles, HasOneMore, IsFaithful, IsFaithfulThroughout, IsReturned, Rests, on_one, on_two, RestsBehind, put_in}
 use Rattle.sr_world_runs.proofs.NextRuns.{last_of}
 use Rattle.sr_world_runs.proofs.Reached.{history_more, put_more}
 
--- what a crash may leave stands for the one history to which steps lead
+-- what a crash may leave stands for the one history to which steps lead, and its log keeps what partners need
 pub record SettlesBehind (messages : List Message) (owner : Name) (es : List Recorded) (put_files : List PutFile) (Left : Files → Type 0) : Type 0 where
   pub rest : RestsBehind messages owner es put_files Left
-  pub all : (image : Files) → Left image → StandsAs owner (history_after_all es rest.database_steps) image
+  pub all : (image : Files) → Left image → StandsKeeping owner (history_after_all es rest.database_steps) image
 
 -- histories for which the same files stand end at one offset
-same_end : (owner : Name) (es others : List Recorded) (image : Files) → StandsAs owner es image → StandsAs owner others image → end_of es ≡ end_of others
+same_end : (owner : Name) (es others : List Recorded) (image : Files) → StandsKeeping owner es image → StandsAs owner others image → end_of es ≡ end_of others
 same_end owner es others image one other =
     let a = alike owner owner es others one.base other.base image one.stands other.stands in
     alike_end owner es others one.base a.2
@@ -45,12 +47,12 @@ module _ (messages : List Message) (owner : Name) (es : List Recorded) (put_file
 
   -- with one entry more that they may take
   with_one : (r : Recorded) (some : Files) → HasOneMore (messages_after_all messages rest.database_steps) owner there r some
-      → ((image : Files) → Left image → StandsAs owner (there ++ r ∷ []) image) → SettlesBehind messages owner es put_files Left
+      → ((image : Files) → Left image → StandsKeeping owner (there ++ r ∷ []) image) → SettlesBehind messages owner es put_files Left
   with_one r some long stood =
       let steps : List (DatabaseStep Recorded) = rest.database_steps ++ append r ∷ [] in
       let put_same : put_in steps ≡ put_in rest.database_steps = put_more rest.database_steps (append r ∷ []) ∙ append-nil (put_in rest.database_steps) in
-      let all : (image : Files) → Left image → StandsAs owner (history_after_all es steps) image
-      = λ image has. subst (λ (rs : List Recorded). StandsAs owner rs image) (sym (history_more es rest.database_steps (append r ∷ []))) (stood image has) in
+      let all : (image : Files) → Left image → StandsKeeping owner (history_after_all es steps) image
+      = λ image has. subst (λ (rs : List Recorded). StandsKeeping owner rs image) (sym (history_more es rest.database_steps (append r ∷ []))) (stood image has) in
       record {
         rest = record {
           database_steps = steps;
@@ -63,18 +65,18 @@ module _ (messages : List Message) (owner : Name) (es : List Recorded) (put_file
       }
 
   module _ (others : List Recorded) (stood : (image : Files) → Left image → StandsAs owner others image) (some : Files) (has : Left some) where
-    as_it_is : ((image : Files) → Left image → StandsAs owner there image) → SettlesBehind messages owner es put_files Left
+    as_it_is : ((image : Files) → Left image → StandsKeeping owner there image) → SettlesBehind messages owner es put_files Left
     as_it_is all = record { rest = rest; all = all }
 
     -- where one image has the entry more, or not, so it is with each
-    without_too : (r : Recorded) → StandsAs owner there some → (image : Files) → Left image → StandsAs owner there image ⊎ HasOneMore (messages_after_all messages rest.database_steps) owner there r image
-        → StandsAs owner there image
+    without_too : (r : Recorded) → StandsKeeping owner there some → (image : Files) → Left image → StandsKeeping owner there image ⊎ HasOneMore (messages_after_all messages rest.database_steps) owner there r image
+        → StandsKeeping owner there image
     without_too r short image left (inl is) = is
     without_too r short image left (inr long) =
         absurd (longer there r (same_end owner there others some short (stood some has) ∙ sym (same_end owner (there ++ r ∷ []) others image long.stands (stood image left))))
 
-    with_too : (r : Recorded) → StandsAs owner (there ++ r ∷ []) some → (image : Files) → Left image
-        → StandsAs owner there image ⊎ HasOneMore (messages_after_all messages rest.database_steps) owner there r image → StandsAs owner (there ++ r ∷ []) image
+    with_too : (r : Recorded) → StandsKeeping owner (there ++ r ∷ []) some → (image : Files) → Left image
+        → StandsKeeping owner there image ⊎ HasOneMore (messages_after_all messages rest.database_steps) owner there r image → StandsKeeping owner (there ++ r ∷ []) image
     with_too r long image left (inl short) =
         absurd (longer there r (same_end owner there others image short (stood image left) ∙ sym (same_end owner (there ++ r ∷ []) others some long (stood some has))))
     with_too r long image left (inr is) = is.stands

@@ -17,6 +17,7 @@ use Rattle.sr_database_meaning.specs.Standing.{StandsAs}
 use Rattle.sr_database_meaning.specs.Traces.{AtEach}
 use Rattle.sr_world_untouched.specs.Untouched.{KeysAgree}
 use Rattle.sr_world.specs.Real.{IsGoodWorld, MayDo}
+use Rattle.sr_world_prefix.specs.Kept.{StandsKeeping}
 
 -- ---- nothing is forged
 
@@ -57,16 +58,16 @@ put_in (crash ∷ database_steps) = put_in database_steps
 abbrev pub AreFiles : List PutFile → List Message → Type 0
 AreFiles put_files messages = map (λ (l : PutFile). l.2) put_files ≡ map message_spelling messages
 
--- files stand for a history with one entry more, which is a step of its database
+-- files stand for a history with one entry more, which is a step of its database, and the log in force keeps what partners need
 pub record HasOneMore (messages : List Message) (owner : Name) (es : List Recorded) (r : Recorded) (files : Files) : Type 0 where
   pub may : MayDo messages owner es (append r ∷ [])
-  pub stands : StandsAs owner (es ++ r ∷ []) files
+  pub stands : StandsKeeping owner (es ++ r ∷ []) files
 
 -- what a crash may leave rests on a history: all of it stands for that; or all of it for that, or for that and one and the same entry more, which is a step
--- of its database
+-- of its database. In each the log in force keeps what partners need
 pub data Rests (messages : List Message) (owner : Name) (es : List Recorded) (Left : Files → Type 0) : Type 0 where
-  on_one : ((image : Files) → Left image → StandsAs owner es image) → Rests messages owner es Left
-  on_two : (r : Recorded) → ((image : Files) → Left image → StandsAs owner es image ⊎ HasOneMore messages owner es r image) → Rests messages owner es Left
+  on_one : ((image : Files) → Left image → StandsKeeping owner es image) → Rests messages owner es Left
+  on_two : (r : Recorded) → ((image : Files) → Left image → StandsKeeping owner es image ⊎ HasOneMore messages owner es r image) → Rests messages owner es Left
 
 -- what a crash may leave rests on one history to which this one leads by steps that it and the messages allow, and which put these message files, each of which
 -- can be read again

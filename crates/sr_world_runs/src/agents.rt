@@ -1,8 +1,9 @@
 //! A run of the agent, as steps of a world of databases.
 
-ghost use Rattle.std.specs.Prelude.{◌≡◌, ◌||◌, [], true, false, IsTrue};
+ghost use Rattle.std.specs.Prelude.{◌≡◌, ◌||◌, [], true, IsTrue};
 ghost use Rattle.sr_agent.specs.Agents.{RanAgent};
 ghost use Rattle.sr_book.specs.Entries.{Name};
+ghost use Rattle.sr_database.specs.Databases.{HasBeginning};
 ghost use Rattle.sr_database.specs.InForce.{HasLogInForce};
 ghost use Rattle.sr_database_history.specs.Recorded.{Recorded};
 ghost use Rattle.sr_mail_cut.specs.Inner.Cuts.{IsMessageLimit};
@@ -30,9 +31,9 @@ pub fn agent<S: Site, O: Sink>(
     requires usable { db.old.log.usable ≡ true }
     requires pending { db.old.pending ≡ [] }
     requires some_pass { IsTrue (options.now.receive || options.now.send) }
-    requires no_restart { options.now.restart ≡ false }
     requires limit { IsMessageLimit options.now.length }
     requires stands { IsTrue (S.seen site.old).observable → HasLogInForce db.old (S.seen site.old) }
+    requires begins { IsTrue options.now.restart → IsTrue (S.seen site.old).observable → HasBeginning db.old (S.seen site.old) }
     ensures ran { RanAgent db.old db.new (S.seen site.old) (S.seen site.new) (O.seen sink.old) (O.seen sink.new) options.now result }
     ensures steps { (w : World Recorded) (publisher : Name) → IsTrue (S.seen site.old).observable → MakesSteps w publisher (S.seen site.old) (S.seen site.new) }
 {

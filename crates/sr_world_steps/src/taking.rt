@@ -3,7 +3,7 @@
 ghost use Rattle.std.specs.Prelude.{◌≡◌, IfOk};
 ghost use Rattle.std.specs.List.{AllByRecursion};
 ghost use Rattle.sr_database_fold.specs.Inner.Readings.{state_in};
-ghost use Rattle.sr_exec_dml.specs.Inner.Conditions.{RowsFit};
+ghost use Rattle.sr_exec_dml.specs.Fitting.{RowsFit};
 ghost use Rattle.sr_logform.specs.Inner.Ops.{IsShortTransaction};
 ghost use Rattle.sr_rows.specs.Inner.Steps.{at_mark};
 ghost use Rattle.sr_world_entries.specs.Inner.Taking.{TakeEndsIn};

@@ -11,7 +11,7 @@ use Rattle.sr_catalog_change.specs.Changes.{refusal}
 use Rattle.sr_exec_dml.proofs.Applied.{fitting_changes_keep}
 use Rattle.sr_exec_where.proofs.Fixed.{same_name, bytes_itself}
 use Rattle.sr_exec_dml.proofs.Folding.{same_key}
-use Rattle.sr_exec_dml.specs.Inner.Conditions.{RowsFit}
+use Rattle.sr_exec_dml.specs.Fitting.{RowsFit}
 use Rattle.sr_exec_dml.specs.FittingChanges.{IsFitChange, ChangesFit}
 use Rattle.sr_exec_where.specs.Keys.{key_of}
 use Rattle.sr_exec_dml.specs.Statements.{table_named}

@@ -13,7 +13,7 @@ use Rattle.sr_exec_dml.proofs.Applied.{fitting_changes_keep, own_name}
 use Rattle.sr_exec_where.proofs.Fixed.{same_name}
 use Rattle.sr_exec_dml.proofs.Folding.{same_key}
 use Rattle.sr_exec_dml.specs.Applying.{applied}
-use Rattle.sr_exec_dml.specs.Inner.Conditions.{RowsFit}
+use Rattle.sr_exec_dml.specs.Fitting.{RowsFit}
 use Rattle.sr_exec_dml.specs.FittingChanges.{IsFitChange, ChangesFit}
 use Rattle.sr_logform.specs.Outcomes.{is_same_row}
 use Rattle.sr_exec_where.specs.Keys.{key_of}

@@ -9,7 +9,7 @@ use Rattle.sr_book.specs.Histories.{taken as taken_from}
 use Rattle.sr_catalog_change.specs.Changes.{next as catalog_after}
 use Rattle.sr_catalog_ddl.specs.Users.{stands_above, user_of}
 use Rattle.sr_exec_where.proofs.Fixed.{same_name, bytes_itself}
-use Rattle.sr_exec_dml.specs.Inner.Conditions.{RowsFit}
+use Rattle.sr_exec_dml.specs.Fitting.{RowsFit}
 use Rattle.sr_exec_dml.specs.Statements.{table_named}
 use Rattle.sr_database_history.proofs.Granted.{stays_known}
 use Rattle.sr_database_history.proofs.Kept.{stays_held}

@@ -13,7 +13,7 @@ use Rattle.sr_catalog_change.specs.Changes.{refusal}
 use Rattle.sr_exec_where.proofs.Fixed.{same_name}
 use Rattle.sr_exec_dml.proofs.Folding.{itself}
 use Rattle.sr_exec_dml.specs.Applying.{place_of, without_row, with_row, applied_in}
-use Rattle.sr_exec_dml.specs.Inner.Conditions.{RowsFit}
+use Rattle.sr_exec_dml.specs.Fitting.{RowsFit}
 use Rattle.sr_exec_dml.specs.FittingChanges.{IsFitChange}
 use Rattle.sr_exec_where.specs.Keys.{key_of}
 use Rattle.sr_exec_dml.specs.Statements.{table_named}

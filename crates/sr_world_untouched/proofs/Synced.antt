@@ -10,7 +10,7 @@ use Rattle.sr_base.specs.declared.value.Value.{Value as Cell}
 use Rattle.sr_book.specs.Entries.{Name}
 use Rattle.sr_exec_where.proofs.Fixed.{same_name}
 use Rattle.sr_exec_dml.proofs.Folding.{same_key}
-use Rattle.sr_exec_dml.specs.Inner.Conditions.{RowsFit, TableFits}
+use Rattle.sr_exec_dml.specs.Fitting.{RowsFit, TableFits}
 use Rattle.sr_exec_where.specs.Keys.{key_of}
 use Rattle.sr_exec_fits.specs.Rows.{IsRow, is_row}
 use Rattle.sr_database_history.specs.Folds.{State}

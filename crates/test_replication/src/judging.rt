@@ -2,7 +2,7 @@
 
 ghost use Rattle.std.specs.List.{AllByRecursion};
 ghost use Rattle.sr_ast.specs.NormalForms.{IsNormal};
-ghost use Rattle.sr_exec_dml.specs.Inner.Conditions.{RowsFit};
+ghost use Rattle.sr_exec_dml.specs.Fitting.{RowsFit};
 
 use crate::databases::{follow, new_catalog, no_rows, run_all, script_of};
 use crate::outcomes::say_outcomes;

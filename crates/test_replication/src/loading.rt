@@ -1,7 +1,7 @@
 //! A table of many rows.
 
 ghost use Rattle.std.specs.Prelude.{OnOk};
-ghost use Rattle.sr_exec_dml.specs.Inner.Conditions.{RowsFit};
+ghost use Rattle.sr_exec_dml.specs.Fitting.{RowsFit};
 
 use crate::databases::{run_all, script_of};
 use sr_base::NoMemory;

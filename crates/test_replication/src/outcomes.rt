@@ -1,6 +1,6 @@
 //! What ops come to, in letters.
 
-ghost use Rattle.sr_exec_dml.specs.Inner.Conditions.{RowsFit};
+ghost use Rattle.sr_exec_dml.specs.Fitting.{RowsFit};
 
 use sr_base::{NoMemory, Row};
 use sr_base_dates::write_literal;

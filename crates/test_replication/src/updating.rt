@@ -1,6 +1,6 @@
 //! Updates by key, that a partner below sent, judged on a table of many rows.
 
-ghost use Rattle.sr_exec_dml.specs.Inner.Conditions.{RowsFit};
+ghost use Rattle.sr_exec_dml.specs.Fitting.{RowsFit};
 
 use crate::databases::{follow, new_catalog, no_rows, script_of};
 use crate::loading::{TABLE, load};

@@ -3,7 +3,7 @@
 ghost use Rattle.std.specs.Prelude.{OnOk};
 ghost use Rattle.std.specs.List.{AllByRecursion};
 ghost use Rattle.sr_ast.specs.NormalForms.{IsNormal};
-ghost use Rattle.sr_exec_dml.specs.Inner.Conditions.{RowsFit};
+ghost use Rattle.sr_exec_dml.specs.Fitting.{RowsFit};
 
 use crate::database::{accept, change, go_back, keep, new_catalog, no_rows};
 use sr_ast::{Dml, Select, Stmt};

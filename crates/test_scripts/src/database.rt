@@ -3,7 +3,7 @@
 ghost use Rattle.std.specs.Prelude.{◌≡◌, None, Ok, OnOk};
 ghost use Rattle.sr_ast.specs.NormalForms.{IsNormal};
 ghost use Rattle.sr_catalog_change.specs.Changes.{refusal as refusal_of};
-ghost use Rattle.sr_exec_dml.specs.Inner.Conditions.{RowsFit};
+ghost use Rattle.sr_exec_dml.specs.Fitting.{RowsFit};
 ghost use Rattle.sr_exec_dml.specs.Statements.{done};
 ghost use Rattle.sr_database_history.specs.Folds.{rows_left};
 ghost use Rattle.sr_rows.specs.Inner.Steps.{at_mark};

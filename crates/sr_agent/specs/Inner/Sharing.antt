@@ -3,8 +3,8 @@ use Rattle.std.specs.Prelude.{ℕ, ◌≤◌, List, IsSome}
 use Rattle.std.specs.List.{AllByRecursion}
 use Rattle.sr_catalog_schema.specs.Members.{user_name}
 use Rattle.sr_catalog_schema.specs.Names.{named}
-use Rattle.sr_database.specs.Books.{book_in}
 use Rattle.sr_database.specs.Views.{View}
+use Rattle.sr_database_files.specs.Books.{book_in}
 use Rattle.sr_agent.specs.declared.partner.Partner.{Partner}
 
 -- to a partner it was sent up to an offset at least

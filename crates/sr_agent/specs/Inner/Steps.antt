@@ -2,10 +2,10 @@
 use Rattle.std.specs.Prelude.{◌≡◌, ◌⊎◌, ◌≤◌, ◌+◌, ⊤, ℕ, Bool, true, false, List, [], ◌∷◌, ◌++◌, length, map, bytes_eq, IsSome, IsTrue, Result, Ok, Err, if◌then◌else◌}
 use Rattle.std.specs.List.{AllByRecursion}
 use Rattle.sr_book.specs.Entries.{Name}
-use Rattle.sr_database.specs.Books.{book_in}
 use Rattle.sr_database.specs.Databases.{IsDatabase}
 use Rattle.sr_database.specs.InForce.{HasLogInForce}
 use Rattle.sr_database.specs.Views.{View}
+use Rattle.sr_database_files.specs.Books.{book_in}
 use Rattle.sr_database_history.specs.Folds.{state_of, end_of}
 use Rattle.sr_database_history.specs.Recorded.{Recorded}
 use Rattle.sr_receive_gather.specs.Bags.{Has, partner_mail_of}
@@ -27,7 +27,7 @@ use Rattle.sr_site.specs.Seen.{Seen}
 use Rattle.sr_site.specs.Streams.{Output, OutputStays}
 use Rattle.sr_database_meaning.specs.Events.{Event, commit, commits}
 use Rattle.sr_database_meaning.specs.Traces.{Went}
-use Rattle.sr_agent.specs.Deliveries.{Delivery, AreDeliveries, IsDelivery, after_deliveries, deliveries_events, deliveries_lines, delivery_events, delivery_line, sent_to, with_puts}
+use Rattle.sr_agent.specs.Deliveries.{Delivery, AreBased, AreDeliveries, IsDelivery, after_deliveries, deliveries_events, deliveries_lines, delivery_events, delivery_line, sent_to, with_puts}
 use Rattle.sr_agent.specs.Ends.{Ended, HasTold}
 use Rattle.sr_agent.specs.Faults.{fault_of_receive}
 use Rattle.sr_agent.specs.Lines.{Line, alarms, lines_text, received, report_lines}
@@ -308,11 +308,14 @@ pub record ReceivingBroken (old new : View) (before now : Seen) (users : List Na
 
 -- ---- a delivery
 
-pub record TookDelivery (new : View) (before now : Seen) (publisher : Name) (es : List Recorded) (limit : ℕ) (partner : Partner) (lines : List Line) : Type 0 where
+-- from a log that begins at a base, and goes on to
+pub record TookDelivery (base : ℕ) (new : View) (before now : Seen) (publisher : Name) (es : List Recorded) (limit : ℕ) (partner : Partner) (lines : List Line) : Type 0 where
   pub delivery : Delivery
+  pub based : delivery.base ≡ base
   pub whom : delivery.partner ≡ partner
   pub is : IsDelivery publisher es limit delivery
   pub database : IsDatabase new publisher (es ++ commits (delivery_events publisher es delivery)) now
+  pub base_is : new.log.base ≡ base
   pub steady : IsSteady before now
   pub went : Went before now publisher es (delivery_events publisher es delivery)
   pub mail : mail_in now.happened ≡ with_puts (delivery_events publisher es delivery) (mail_in before.happened)
@@ -325,11 +328,11 @@ pub record DeliveryDone (old new : View) (before now : Seen) (limit : ℕ) (part
   pub no_alarm : alarms lines ≡ 0
   pub steady : IsSteady before now
   pub stays : Stays before now
-  pub did : IsTrue before.observable → (publisher : Name) (es : List Recorded) → IsDatabase old publisher es before → TookDelivery new before now publisher es limit partner lines
+  pub did : IsTrue before.observable → (publisher : Name) (es : List Recorded) → IsDatabase old publisher es before → TookDelivery old.log.base new before now publisher es limit partner lines
 
 -- it was sent, and the sink failed as it was told
-pub record UntoldDelivery (new : View) (before now : Seen) (publisher : Name) (es : List Recorded) (limit : ℕ) (partner : Partner) (lines : List Line) (fault : AgentFault) : Type 0 where
-  pub took : TookDelivery new before now publisher es limit partner lines
+pub record UntoldDelivery (base : ℕ) (new : View) (before now : Seen) (publisher : Name) (es : List Recorded) (limit : ℕ) (partner : Partner) (lines : List Line) (fault : AgentFault) : Type 0 where
+  pub took : TookDelivery base new before now publisher es limit partner lines
   pub why : fault ≡ Sink
 
 -- it was sent in part
@@ -343,15 +346,17 @@ pub record DeliveryBroken (old new : View) (before now : Seen) (limit : ℕ) (pa
   pub lines : List Line
   pub ended : Ended new before now written written' lines (Err fault)
   pub did : IsTrue before.observable → (publisher : Name) (es : List Recorded) → IsDatabase old publisher es before
-      → UntoldDelivery new before now publisher es limit partner lines fault ⊎ BrokeInDelivery old new before now publisher es limit partner lines fault
+      → UntoldDelivery old.log.base new before now publisher es limit partner lines fault ⊎ BrokeInDelivery old new before now publisher es limit partner lines fault
 
 -- ---- deliveries to partners in order
 
-pub record TookDeliveries (new : View) (before now : Seen) (publisher : Name) (es : List Recorded) (limit : ℕ) (partners : List Partner) (lines : List Line) : Type 0 where
+pub record TookDeliveries (base : ℕ) (new : View) (before now : Seen) (publisher : Name) (es : List Recorded) (limit : ℕ) (partners : List Partner) (lines : List Line) : Type 0 where
   pub deliveries : List Delivery
+  pub based : AreBased base deliveries
   pub whom : sent_to deliveries ≡ partners
   pub are : AreDeliveries publisher es limit deliveries
   pub database : IsDatabase new publisher (after_deliveries publisher es deliveries) now
+  pub base_is : new.log.base ≡ base
   pub steady : IsSteady before now
   pub went : Went before now publisher es (deliveries_events publisher es deliveries)
   pub mail : mail_in now.happened ≡ with_puts (deliveries_events publisher es deliveries) (mail_in before.happened)
@@ -363,7 +368,7 @@ pub record DeliveriesDone (old new : View) (before now : Seen) (limit : ℕ) (pa
   pub no_alarm : alarms lines ≡ 0
   pub steady : IsSteady before now
   pub stays : Stays before now
-  pub did : IsTrue before.observable → (publisher : Name) (es : List Recorded) → IsDatabase old publisher es before → TookDeliveries new before now publisher es limit partners lines
+  pub did : IsTrue before.observable → (publisher : Name) (es : List Recorded) → IsDatabase old publisher es before → TookDeliveries old.log.base new before now publisher es limit partners lines
 
 -- the sink failed as what was put last was told
 pub record IsUntoldThere (deliveries : List Delivery) (db new : View) (seen now : Seen) (told : List Line) (fault : AgentFault) : Type 0 where
@@ -390,7 +395,7 @@ pub record BrokeInDeliveries (old new : View) (before now : Seen) (publisher : N
   pub db : View
   pub seen : Seen
   pub earlier : List Line
-  pub took : TookDeliveries db before seen publisher es limit done earlier
+  pub took : TookDeliveries old.log.base db before seen publisher es limit done earlier
   pub told : List Line
   pub stop : IsUntoldThere took.deliveries db new seen now told fault ⊎ IsInNextDelivery publisher (after_deliveries publisher es took.deliveries) limit left db new seen now told fault
   pub lines_are : lines ≡ earlier ++ told

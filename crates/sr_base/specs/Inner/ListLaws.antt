@@ -3,9 +3,8 @@ use Rattle.std.proofs.Common.{◌≡◌, ℕ, zero, suc, ◌^◌, ◌≤◌, Lis
 use Rattle.std.specs.Int.{w32, to_be_bytes}
 use Rattle.std.specs.List.{flat_map, AllByRecursion}
 use Rattle.sr_base.specs.Fields.{list_spelling, IsListOf}
-use Rattle.sr_base.specs.Inner.Fields.{number_at, items_at, list_at}
 use Rattle.sr_base.specs.Inner.NumberLaws.{within_ok, within_bind, within_then, format32, bind_ok, ok_is, Takes-then, wide32, number_takes, number_again}
-use Rattle.sr_base.specs.Reading.{Read, ◌>>=◌}
+use Rattle.sr_base.specs.Reading.{Read, ◌>>=◌, number_at, items_at, list_at}
 use Rattle.sr_base.specs.Inner.Reading.{IsBytes, Takes, IsWithin, IsFormat}
 
 module _ {A : Type 0} {item : List ℕ → Read A} {spelling : A → List ℕ} {fits : A → Type 0} (format : IsFormat item spelling fits) where

@@ -3,9 +3,9 @@ use Rattle.std.proofs.Common.{◌≡◌, ℕ, zero, suc, ◌≤◌, List, [], �
 use Rattle.std.specs.Prelude.{IfSome}
 use Rattle.std.proofs.lemmas.Bool.{eqb-true}
 use Rattle.sr_base.specs.Fields.{option_spelling, pair_spelling, triple_spelling}
-use Rattle.sr_base.specs.Inner.Fields.{option_at, pair_at, triple_at, mapped_at, tag_at, just_at, untagged_at}
+use Rattle.sr_base.specs.Inner.Fields.{option_at, pair_at, triple_at}
 use Rattle.sr_base.specs.Inner.NumberLaws.{within_ok, within_err, within_cond, within_then, IsBytes-rest, bind_ok, ok_is, Takes-then}
-use Rattle.sr_base.specs.Reading.{Read, ◌>>=◌}
+use Rattle.sr_base.specs.Reading.{Read, ◌>>=◌, mapped_at, tag_at, just_at, untagged_at}
 use Rattle.sr_base.specs.Inner.Reading.{IsBytes, Takes, IsWithin, IsFormat}
 
 module _ {A : Type 0} {item : List ℕ → Read A} {spelling : A → List ℕ} {fits : A → Type 0} (format : IsFormat item spelling fits) where

@@ -6,7 +6,8 @@ use Rattle.std.proofs.lemmas.Bool.{ltb-false, le-ltb, leb-true, le-leb, and_part
 use Rattle.std.proofs.lemmas.List.{take_at, drop_at, take-append-drop, length-append, length-take}
 use Rattle.std.proofs.lemmas.Str.{IsUtf8-from_is_utf8, is_utf8-from_IsUtf8}
 use Rattle.sr_base.specs.Fields.{byte_at, bytes_spelling, IsText, name_at, name_spelling, is_name_size, IsName}
-use Rattle.sr_base.specs.Inner.Fields.{number_at, bytes_at, text_at}
+use Rattle.sr_base.specs.Inner.Fields.{bytes_at}
+use Rattle.sr_base.specs.Reading.{number_at, text_at}
 use Rattle.sr_base.specs.Names.{is_lower_name}
 use Rattle.sr_base.specs.Inner.NumberLaws.{format32, byte_format, within_ok, within_err, within_cond, within_then, IsBytes-drop, byte_takes, bind_ok, guard_ok, passed_ok, Takes-then, wide32, number_takes, number_again}
 use Rattle.sr_base.specs.Inner.Reading.{IsBytes, Takes, IsWithin, IsFormat}

@@ -7,13 +7,13 @@ use Rattle.sr_base.specs.declared.value.Value.{Value}
 use Rattle.sr_base.specs.declared.value.Value.TheVariants.{Null, Int, Big, Str, Date}
 use Rattle.sr_base.specs.Days.{IsDay}
 use Rattle.sr_base.specs.Fields.{signed_spelling}
-use Rattle.sr_base.specs.Inner.Fields.{signed_at}
+use Rattle.sr_base.specs.Reading.{signed_at, is_day, day_at, value_at}
 use Rattle.sr_base.specs.Inner.NumberLaws.{within_ok, within_err, within_cond, within_then, bind_ok, passed_ok, signed_format32, signed_format64, format64}
 use Rattle.sr_base.specs.Inner.PartLaws.{IsTable, tag_table, no_table, variant, bare_variant, mapped_format}
 use Rattle.sr_base.specs.Inner.Reading.{IsBytes, Takes, IsWithin, IsFormat}
 use Rattle.sr_base.specs.Inner.TextLaws.{text_format}
 use Rattle.sr_base.specs.Values.{offset_from, offset_spelling, IsOffset, value_spelling, IsValue}
-use Rattle.sr_base.specs.Inner.Values.{is_day, day_at, offset_at, value_at}
+use Rattle.sr_base.specs.Inner.Values.{offset_at}
 
 pub is_day-true : (days : ℤ) → is_day days ≡ true → IsDay days
 is_day-true days e = record { first = grind (arith, ints); last = grind (arith, ints) }

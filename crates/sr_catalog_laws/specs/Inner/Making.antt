@@ -1,7 +1,7 @@
 -- The table that a CREATE TABLE makes.
 use Rattle.std.specs.Prelude.{◌≡◌, map}
 use Rattle.sr_ast.specs.declared.create.CreateTable.{CreateTable}
-use Rattle.sr_catalog_script_laws.specs.Inner.Scripts.{column_rule}
+use Rattle.sr_catalog_script_laws.specs.Scripts.{column_rule}
 use Rattle.sr_catalog_schema.specs.Members.{key_names}
 use Rattle.sr_catalog_schema.specs.declared.table.Table.{Table}
 

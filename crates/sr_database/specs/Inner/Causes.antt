@@ -9,7 +9,7 @@ use Rattle.sr_logform.specs.declared.entry.Entry.{Entry}
 use Rattle.sr_site.specs.Causes.{Rose}
 use Rattle.sr_site.specs.Seen.{Seen}
 use Rattle.sr_site.specs.declared.file.File.{File}
-use Rattle.sr_database_meaning.specs.Damage.{IsMissing, IsDamagedAt}
+use Rattle.sr_database_files.specs.Damage.{IsMissing, IsDamagedAt}
 use Rattle.sr_database.specs.Commits.{HasRoom}
 use Rattle.sr_database.specs.Inner.Entries.{IsEnd}
 use Rattle.sr_database_files.specs.Inner.Openings.{IsLogFault}

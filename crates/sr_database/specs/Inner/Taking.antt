@@ -1,25 +1,21 @@
 -- What an entry does to a value.
 use Rattle.std.specs.Prelude.{◌≡◌, ⊤, List}
-use Rattle.sr_book.specs.Entries.{Name, booked}
+use Rattle.sr_database_files.specs.Books.{BookMap}
 use Rattle.sr_database_fold.specs.Inner.Readings.{state_in}
-use Rattle.sr_database_history.specs.Folds.{State, next, sees}
+use Rattle.sr_database_history.specs.Folds.{State, next}
 use Rattle.sr_database_history.specs.Recorded.{Recorded, entry_of}
+use Rattle.sr_database_replay.specs.Inner.Books.{BooksFollow}
 use Rattle.sr_logform.specs.declared.change.Change.{Change}
 use Rattle.sr_logform.specs.declared.entry.Entry.{Entry}
 use Rattle.sr_logform.specs.declared.entry.Entry.TheVariants as entries
 use Rattle.sr_rows.specs.Marks.{Marked}
 use Rattle.sr_rows.specs.Inner.Steps.{at_mark}
 use Rattle.sr_catalog_schema.specs.Catalogs.{Lists}
-use Rattle.sr_database.specs.Books.{BookMap, book_in}
 use Rattle.sr_database.specs.Inner.Commits.{Follows}
 
 -- what the committed entries come to
 abbrev pub at_last_commit : Lists → Marked → State
 at_last_commit catalog rows = record { catalog = catalog; rows = rows.marked }
-
--- each book is the one behind the entry
-abbrev pub BooksFollow : BookMap → BookMap → Recorded → Type 0
-BooksFollow old new r = (user : Name) → book_in new user ≡ booked user (book_in old user) (sees r)
 
 -- an entry of another kind than Own
 abbrev pub IsNoOwn : Entry → Type 0

@@ -4,7 +4,7 @@ use Rattle.std.specs.Prelude.{◌≡◌, ◌⊎◌, ℕ, List, [], ◌∷◌}
 use Rattle.sr_book.specs.Entries.{Name}
 use Rattle.sr_logfile.specs.Inner.Records.{fresh_bytes}
 use Rattle.sr_site.specs.Files.{Files}
-use Rattle.sr_database_meaning.specs.Snapshots.{fresh_snapshot}
+use Rattle.sr_database_meaning.specs.Inner.Snapshots.{fresh_snapshot}
 
 -- both generations are those of a database without entries, with this snapshot
 pub record AreNewOf (snapshot : List ℕ) (files : Files) : Type 0 where

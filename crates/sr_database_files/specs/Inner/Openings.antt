@@ -1,7 +1,5 @@
 -- The steps by which a database is opened.
-use Rattle.std.specs.Prelude.{◌≡◌, ◌⊎◌, ⊤, ℕ, ◌%◌, ◌==◌, List, [], ◌∷◌, ◌++◌, Some, Ok, Err, IsTrue, if◌then◌else◌}
-use Rattle.sr_base.specs.Fields.{IsName}
-use Rattle.sr_book.specs.Entries.{Name}
+use Rattle.std.specs.Prelude.{◌≡◌, ◌⊎◌, ⊤, ℕ, ◌%◌, ◌==◌, List, [], ◌∷◌, ◌++◌, Some, IsTrue, if◌then◌else◌}
 use Rattle.sr_logfile.specs.Damage.{LacksHeader, IsDamaged}
 use Rattle.sr_logfile.specs.Records.{Spells}
 use Rattle.sr_logfile.specs.declared.fault.LogFault.{LogFault}
@@ -11,10 +9,12 @@ use Rattle.sr_site.specs.Files.{Files, bytes_of}
 use Rattle.sr_site.specs.Happenings.{Happening, attached, wrote, cut_to, synced, listed, fetched, sent, removed, handed_over}
 use Rattle.sr_site.specs.Seen.{Seen}
 use Rattle.sr_site.specs.declared.file.File.{File}
-use Rattle.sr_site.specs.declared.file.File.TheVariants.{Root, Snap1}
-use Rattle.sr_database_meaning.specs.Damage.{HasOtherBase, LacksRecordAt, IsDamagedLog}
+use Rattle.sr_snapshot.specs.Beginnings.{Beginning}
+use Rattle.sr_snapshot.specs.declared.fault.SnapFault.{SnapFault}
+use Rattle.sr_snapshot.specs.declared.fault.SnapFault.TheVariants as snaps
+use Rattle.sr_snapshot_read.specs.Damages.{IsDamagedSnapshot as IsDamagedSnapshot}
+use Rattle.sr_database_files.specs.Damage.{HasOtherBase, LacksRecordAt, IsDamagedLog}
 use Rattle.sr_database_meaning.specs.Generations.{Generation, even, odd, generation_in, snapshot_of, log_of}
-use Rattle.sr_database_meaning.specs.Snapshots.{fresh_snapshot, snapshot_at}
 use Rattle.sr_database_files.specs.declared.fault.DatabaseFault.{DatabaseFault}
 use Rattle.sr_database_files.specs.declared.fault.DatabaseFault.TheVariants.{Missing, Exists, Damaged, Disk, Full, Long, Memory}
 
@@ -75,54 +75,32 @@ RootCause before now (Full end need) = ⊥
 RootCause before now (Long size limit) = ⊥
 RootCause before now Memory = ⊥
 
--- where a snapshot in force is damaged: the odd one that has no byte in the root, any other where it breaks
-pub record BlamesRoot (snapshot file : File) (at : ℕ) (bytes : List ℕ) : Type 0 where
-  pub odd_one : snapshot ≡ Snap1
-  pub file_is : file ≡ Root
-  pub at_is : at ≡ 0
-  pub none : bytes ≡ []
-
-pub record BlamesSnapshot (snapshot file : File) (at : ℕ) (bytes : List ℕ) : Type 0 where
-  pub file_is : file ≡ snapshot
-  pub broken : snapshot_at bytes ≡ Err at
-  pub begun : snapshot ≡ Snap1 → ¬ (bytes ≡ [])
-
--- the first bytes of a snapshot are those of the fresh one of this publisher
-pub record IsFreshOf (bytes : List ℕ) (publisher : Name) : Type 0 where
-  pub name : IsName publisher
-  pub read : snapshot_at bytes ≡ Ok publisher
-  pub bytes_are : bytes ≡ fresh_snapshot publisher
-
--- why the first bytes of a snapshot are refused
-abbrev pub PrefixCause : File → List ℕ → DatabaseFault → Type 0
-PrefixCause snapshot bytes Missing = ⊥
-PrefixCause snapshot bytes Exists = ⊥
-PrefixCause snapshot bytes (Damaged file at) = BlamesRoot snapshot file at bytes ⊎ BlamesSnapshot snapshot file at bytes
-PrefixCause snapshot bytes Disk = ⊥
-PrefixCause snapshot bytes (Full end need) = ⊥
-PrefixCause snapshot bytes (Long size limit) = ⊥
-PrefixCause snapshot bytes Memory = ⊤
+-- the fault of a database whose snapshot is not read
+abbrev pub IsSnapFault : File → SnapFault → DatabaseFault → Type 0
+IsSnapFault snapshot snaps.Disk answer = answer ≡ Disk
+IsSnapFault snapshot (snaps.Long size limit) answer = answer ≡ Long size limit
+IsSnapFault snapshot (snaps.Damaged at) answer = answer ≡ Damaged snapshot at
+IsSnapFault snapshot snaps.Memory answer = answer ≡ Memory
 
 -- why the snapshot is refused: at damage and for want of memory no call of the disk failed
 abbrev pub SnapshotCause : File → Seen → Seen → DatabaseFault → Type 0
 SnapshotCause snapshot before now Missing = ⊥
 SnapshotCause snapshot before now Exists = ⊥
-SnapshotCause snapshot before now (Damaged file at) =
-    (IsTrue before.observable → BlamesRoot snapshot file at (bytes_of before.files snapshot) ⊎ BlamesSnapshot snapshot file at (bytes_of before.files snapshot)) × (now.disk_faults ≡ before.disk_faults)
+SnapshotCause snapshot before now (Damaged file at) = (file ≡ snapshot) × (IsTrue before.observable → IsDamagedSnapshot (bytes_of before.files snapshot) at) × (now.disk_faults ≡ before.disk_faults)
 SnapshotCause snapshot before now Disk = Rose before.disk_faults now.disk_faults
 SnapshotCause snapshot before now (Full end need) = ⊥
 SnapshotCause snapshot before now (Long size limit) = ⊥
 SnapshotCause snapshot before now Memory = now.disk_faults ≡ before.disk_faults
 
--- why the log is refused, behind the snapshot of this publisher: at damage and for want of memory no call of the disk failed
-abbrev pub LogCause : File → Name → Seen → Seen → DatabaseFault → Type 0
-LogCause log publisher before now Missing = ⊥
-LogCause log publisher before now Exists = ⊥
-LogCause log publisher before now (Damaged file at) = (file ≡ log) × (IsTrue before.observable → IsDamagedLog publisher [] (bytes_of before.files log) at) × (now.disk_faults ≡ before.disk_faults)
-LogCause log publisher before now Disk = Rose before.disk_faults now.disk_faults
-LogCause log publisher before now (Full end need) = ⊥
-LogCause log publisher before now (Long size limit) = ⊥
-LogCause log publisher before now Memory = now.disk_faults ≡ before.disk_faults
+-- why the log is refused, behind the beginning that its snapshot tells: at damage and for want of memory no call of the disk failed
+abbrev pub LogCause : File → Beginning → Seen → Seen → DatabaseFault → Type 0
+LogCause log b before now Missing = ⊥
+LogCause log b before now Exists = ⊥
+LogCause log b before now (Damaged file at) = (file ≡ log) × (IsTrue before.observable → IsDamagedLog b (bytes_of before.files log) at) × (now.disk_faults ≡ before.disk_faults)
+LogCause log b before now Disk = Rose before.disk_faults now.disk_faults
+LogCause log b before now (Full end need) = ⊥
+LogCause log b before now (Long size limit) = ⊥
+LogCause log b before now Memory = now.disk_faults ≡ before.disk_faults
 
 -- the log's header is not whole, or has another base
 abbrev pub IsDamagedHeader : ℕ → List ℕ → ℕ → Type 0

@@ -6,8 +6,8 @@ use Rattle.sr_catalog_schema.specs.declared.table.Table.{Table}
 use Rattle.sr_exec_dml.specs.Applying.{applied}
 use Rattle.sr_exec_dml.specs.Statements.{table_named}
 use Rattle.sr_exec_where.specs.Keys.{key_of}
-use Rattle.sr_exec_dml.specs.Inner.Conditions.{RowsFit}
-use Rattle.sr_catalog_script_laws.specs.Inner.Scripts.{IsSpelled}
+use Rattle.sr_exec_dml.specs.Fitting.{RowsFit}
+use Rattle.sr_catalog_script_laws.specs.Scripts.{IsSpellable}
 use Rattle.sr_logform.specs.declared.change.Change.{Change}
 use Rattle.sr_rows.specs.Marks.{rows_of_table}
 use Rattle.sr_database_history.specs.Fitting.{IsNamedKey}
@@ -16,7 +16,7 @@ use Rattle.sr_database_history.specs.Folds.{State}
 -- each row fits its table, and accepted statements in normal form have made the catalog
 pub record Holds (s : State) : Type 0 where
   pub rows : RowsFit s.catalog s.rows
-  pub catalog : IsSpelled s.catalog
+  pub catalog : IsSpellable s.catalog
 
 -- a conflict meets a row: once the triggers have inserted theirs, the table holds the row before under the key that columns name, and the row after
 -- stands under the same key

@@ -1,17 +1,15 @@
 -- What a restart makes of the history that the files stand for.
 -- Here is what no contract of the program says by itself.
-use Rattle.std.specs.Prelude.{◌≡◌, ◌⊎◌, ℕ, List, ◌++◌, Some}
+use Rattle.std.specs.Prelude.{◌≡◌, ℕ, List, ◌++◌, Some}
 use Rattle.sr_base.specs.Fields.{IsName}
 use Rattle.sr_book.specs.Entries.{Name}
 use Rattle.sr_database_history.specs.Fitting.{Stored}
 use Rattle.sr_database_history.specs.Folds.{end_of}
 use Rattle.sr_database_history.specs.Recorded.{Recorded}
 use Rattle.sr_database_meaning.specs.Generations.{Generation, generation_in}
-use Rattle.sr_database_meaning.specs.Standing.{IsSnapshotAt, StandsFor, bodies}
-use Rattle.sr_database_restart.specs.Inner.Generations.{named, other_of}
+use Rattle.sr_database_meaning.specs.Standing.{IsSnapshotAt, bodies}
 use Rattle.sr_logfile.specs.Records.{Spells}
-use Rattle.sr_site.specs.Files.{Files, with_bytes}
-use Rattle.sr_site.specs.declared.file.File.TheVariants.{Root}
+use Rattle.sr_site.specs.Files.{Files}
 
 -- the root names a generation
 abbrev pub Names : Generation → Files → Type 0
@@ -27,13 +25,3 @@ pub record HoldsHistory (publisher : Name) (es : List Recorded) (base : ℕ) (sn
   pub base_is : base ≡ end_of done
   pub snapshot_is : IsSnapshotAt publisher done snapshot
   pub log_is : Spells base (bodies left) log
-
--- files stand for a history whose log begins at the one base or at the other
-abbrev pub StandsAtEither : Name → List Recorded → ℕ → ℕ → Files → Type 0
-StandsAtEither publisher es base keep image = StandsFor publisher es base image ⊎ StandsFor publisher es keep image
-
--- files stand for a history whichever generation the root names
-pub record StandsAtBoth (generation : Generation) (publisher : Name) (es : List Recorded) (base keep : ℕ) (image : Files) : Type 0 where
-  pub old : StandsFor publisher es base (with_bytes image Root (named generation image.root))
-  pub new : StandsFor publisher es keep (with_bytes image Root (named (other_of generation) image.root))
-  pub either : StandsAtEither publisher es base keep image

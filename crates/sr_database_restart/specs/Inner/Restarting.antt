@@ -1,19 +1,16 @@
 -- A restart: a database's files are written anew in the generation that is not in force, and then the root names that one.
 -- Here is what no contract of the program says by itself.
 use Rattle.std.specs.Prelude.{◌≡◌, ◌≤◌, ◌<◌, ◌⊎◌, ℕ, List, IsTrue}
-use Rattle.sr_database_meaning.specs.Events.{attaches_in, puts_in}
-use Rattle.sr_database_meaning.specs.Generations.{Generation, snapshot_of, log_of}
-use Rattle.sr_database_restart.specs.Inner.Generations.{named, other_of}
+use Rattle.sr_database_meaning.specs.Generations.{Generation, snapshot_of, log_of, named, other_of}
 use Rattle.sr_database_restart.specs.declared.fault.RestartFault.{RestartFault}
 use Rattle.sr_database_restart.specs.declared.fault.RestartFault.TheVariants.{Disk, Memory, Long, Damaged}
 use Rattle.sr_site.specs.Causes.{Rose}
 use Rattle.sr_site.specs.Files.{Files, bytes_of, with_bytes, IsTorn}
-use Rattle.sr_site.specs.Happenings.{Happening}
 use Rattle.sr_site.specs.Images.{IsImage, IsSettled, RestsThroughout}
 use Rattle.sr_site.specs.Seen.{Seen}
 use Rattle.sr_site.specs.declared.file.File.{File}
 use Rattle.sr_site.specs.declared.file.File.TheVariants.{Root}
-use Rattle.sr_snapshot.specs.Inner.Parts.{longest}
+use Rattle.sr_snapshot.specs.Parts.{longest}
 
 -- ---- what a crash may leave on the way
 
@@ -72,11 +69,6 @@ pub record IsRestarted (generation : Generation) (snapshot log : List ℕ) (befo
   pub files : now.files ≡ renamed (other_of generation) snapshot log before.files
   pub settled : IsSettled (IsWhole (other_of generation) (named (other_of generation) before.files.root) snapshot log) now
   pub went : WentOver generation snapshot log before now
-
--- nothing was attached, and no message was put
-pub record IsQuiet (before now : List Happening) : Type 0 where
-  pub attached : attaches_in now ≡ attaches_in before
-  pub put : puts_in now ≡ puts_in before
 
 -- why a restart gave nothing, of a state whose snapshot has so many bytes: where it is too long no device was called, and the log is damaged only where the site
 -- tells nothing

@@ -1,9 +1,9 @@
 -- The steps of a restart.
 -- Here is what no contract of the program says by itself.
 use Rattle.std.specs.Prelude.{◌≡◌, ◌⊎◌, ℕ, List, ◌∷◌, drop, IsTrue}
-use Rattle.sr_database_meaning.specs.Generations.{Generation, snapshot_of, log_of}
-use Rattle.sr_database_restart.specs.Inner.Generations.{other_of}
-use Rattle.sr_database_restart.specs.Inner.Restarting.{HasParts, IsQuiet, KeepsInForce}
+use Rattle.sr_database_meaning.specs.Generations.{Generation, snapshot_of, log_of, other_of}
+use Rattle.sr_database_meaning.specs.Restarts.{IsQuiet}
+use Rattle.sr_database_restart.specs.Inner.Restarting.{HasParts, KeepsInForce}
 use Rattle.sr_logfile_carry.specs.Inner.Touching.{HappenedOn}
 use Rattle.sr_site.specs.Causes.{DiskStays}
 use Rattle.sr_site.specs.Files.{Files, with_bytes, IsTorn, OthersStay}

@@ -11,7 +11,7 @@ use Rattle.sr_catalog_schema.specs.Catalogs.{Lists}
 use Rattle.sr_catalog_schema.specs.declared.table.Table.{Table}
 use Rattle.sr_exec_dml.specs.declared.changes.Changes.{Changes}
 use Rattle.sr_exec_dml.specs.Applying.{applied}
-use Rattle.sr_exec_dml.specs.Inner.Conditions.{TableFits, RowsFit}
+use Rattle.sr_exec_dml.specs.Fitting.{TableFits, RowsFit}
 use Rattle.sr_exec_dml.specs.FittingChanges.{ChangesFit}
 use Rattle.sr_exec_dml.specs.Holding.{under, are_two, one_of, held}
 use Rattle.sr_logform.specs.Outcomes.{is_same_row}

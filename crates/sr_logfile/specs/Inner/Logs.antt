@@ -24,6 +24,6 @@ pub record IsAt (log : Log) (after : ℕ) (done left : List (List ℕ)) (files :
 abbrev pub longer : Log → ℕ → Log
 longer log count = record log { end = log.end + count }
 
--- the log after a commit that the disk refused
+-- the log after a call that the disk refused
 abbrev pub spent : Log → Log
 spent log = record log { usable = false }

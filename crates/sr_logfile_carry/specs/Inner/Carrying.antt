@@ -1,9 +1,10 @@
 -- The records of a log behind a position, carried over into another file.
 -- Here is what no contract of the program says by itself.
-use Rattle.std.specs.Prelude.{◌≡◌, ◌-◌, ℕ, true, List, [], ◌∷◌, ◌++◌, take, drop, IsTrue}
+use Rattle.std.specs.Prelude.{◌≡◌, ◌-◌, ℕ, List, [], ◌∷◌, ◌++◌, take, drop, IsTrue}
 use Rattle.sr_logfile.specs.Inner.Logs.{IsAt}
 use Rattle.sr_logfile.specs.Log.{Log}
 use Rattle.sr_logfile.specs.Records.{header, open_records, place_in}
+use Rattle.sr_logfile_carry.specs.Carried.{carried}
 use Rattle.sr_logfile_carry.specs.Inner.Touching.{OnlyOn}
 use Rattle.sr_logfile_carry.specs.declared.copying.Part.{Part}
 use Rattle.sr_logfile_carry.specs.declared.fault.CarryFault.{CarryFault}
@@ -23,10 +24,6 @@ pub record IsParted (log : Log) (position : ℕ) (files : Files) : Type 0 where
   pub done : List (List ℕ)
   pub left : List (List ℕ)
   pub parts : IsAt log position done left files
-
--- the log that begins at a position of another one and goes on as that does, in a file of its own
-abbrev pub carried : Log → ℕ → File → Log
-carried log keep into = record { file = into; base = keep; end = log.end; usable = true }
 
 -- a file was written anew: it has these bytes, whatever a crash leaves, and no other file changed
 pub record IsReplaced (file : File) (bytes : List ℕ) (before now : Seen) : Type 0 where

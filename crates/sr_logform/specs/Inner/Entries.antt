@@ -4,8 +4,8 @@ use Rattle.std.specs.Prelude.{◌≡◌, ℕ, ◌<◌, ◌^◌, Bool, true, fals
 use Rattle.sr_base.specs.declared.broken.Bad.{Bad}
 use Rattle.sr_base.specs.declared.broken.Bad.TheVariants as bad
 use Rattle.sr_base.specs.Fields.{name_at, IsListOf}
-use Rattle.sr_base.specs.Inner.Fields.{text_at, list_at, pair_at, triple_at, mapped_at, tag_at, just_at, untagged_at}
-use Rattle.sr_base.specs.Reading.{Read, ◌>>=◌}
+use Rattle.sr_base.specs.Inner.Fields.{pair_at, triple_at}
+use Rattle.sr_base.specs.Reading.{Read, ◌>>=◌, text_at, list_at, mapped_at, tag_at, just_at, untagged_at}
 use Rattle.sr_base.specs.Values.{IsShort}
 use Rattle.sr_base.specs.Inner.Values.{row_at, offset_at}
 use Rattle.sr_logform.specs.declared.entry.Entry.{Entry}

@@ -4,9 +4,9 @@ use Rattle.std.specs.Prelude.{ℕ, List}
 use Rattle.sr_base.specs.declared.offset.Offset.{Offset}
 use Rattle.sr_base.specs.declared.value.Value.{Value}
 use Rattle.sr_base.specs.Fields.{name_at}
-use Rattle.sr_base.specs.Inner.Fields.{text_at, pair_at, triple_at, mapped_at, tag_at, untagged_at}
-use Rattle.sr_base.specs.Reading.{Read}
-use Rattle.sr_base.specs.Inner.Values.{value_at, offset_at}
+use Rattle.sr_base.specs.Inner.Fields.{pair_at, triple_at}
+use Rattle.sr_base.specs.Reading.{Read, text_at, mapped_at, tag_at, untagged_at, value_at}
+use Rattle.sr_base.specs.Inner.Values.{offset_at}
 use Rattle.sr_logform.specs.declared.op.Op.{Op}
 use Rattle.sr_logform.specs.declared.op.Op.TheVariants.{Insert, Remove, Set, Clear, Exec}
 use Rattle.sr_logform.specs.declared.op.Transaction.{Transaction}

@@ -3,8 +3,8 @@
 use Rattle.std.specs.Prelude.{ℕ, Bool, not, List}
 use Rattle.std.specs.Int.{w32, w64}
 use Rattle.sr_base.specs.Fields.{name_at, option_spelling, pair_spelling}
-use Rattle.sr_base.specs.Inner.Fields.{number_at, list_at, option_at, pair_at, triple_at, mapped_at, tag_at, just_at, untagged_at}
-use Rattle.sr_base.specs.Reading.{Read}
+use Rattle.sr_base.specs.Inner.Fields.{option_at, pair_at, triple_at}
+use Rattle.sr_base.specs.Reading.{Read, number_at, list_at, mapped_at, tag_at, just_at, untagged_at}
 use Rattle.sr_base.specs.Values.{row_spelling}
 use Rattle.sr_base.specs.Inner.Values.{row_at, offset_at}
 use Rattle.sr_book.specs.declared.note.Note.{Note}

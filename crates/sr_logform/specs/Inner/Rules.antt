@@ -3,8 +3,7 @@
 use Rattle.std.specs.Prelude.{ℕ, Bool, true, false, not, ◌&&◌, List, [], ◌∷◌, length, map, Ok, Err, if◌then◌else◌}
 use Rattle.std.specs.List.{list_all}
 use Rattle.std.specs.Str.{bytes_eq}
-use Rattle.sr_base.specs.Inner.Fields.{list_at}
-use Rattle.sr_base.specs.Reading.{Read, ◌>>=◌}
+use Rattle.sr_base.specs.Reading.{Read, ◌>>=◌, list_at}
 
 -- a field that breaks at its own first byte where its value fails a test
 unfoldable pub checked_at : {A : Type 0} → (A → Bool) → (List ℕ → Read A) → List ℕ → Read A

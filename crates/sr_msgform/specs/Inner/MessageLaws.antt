@@ -2,7 +2,8 @@
 use Rattle.std.proofs.Common.{◌≡◌, ℕ, ◌<◌, ◌^◌, List, ◌++◌, length, refl, sym, ap, subst, ◌∙◌, append_assoc}
 use Rattle.std.specs.Int.{w32, w64, to_be_bytes}
 use Rattle.sr_base.specs.Fields.{bytes_spelling, name_spelling, triple_spelling}
-use Rattle.sr_base.specs.Inner.Fields.{bytes_at, triple_at, mapped_at}
+use Rattle.sr_base.specs.Inner.Fields.{bytes_at, triple_at}
+use Rattle.sr_base.specs.Reading.{mapped_at}
 use Rattle.sr_base.specs.Inner.NumberLaws.{format32, format64}
 use Rattle.sr_base.specs.Inner.PartLaws.{triple_format, mapped_format}
 use Rattle.sr_base.specs.Inner.Reading.{IsFormat}

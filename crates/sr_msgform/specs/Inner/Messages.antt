@@ -4,8 +4,8 @@ use Rattle.std.specs.Prelude.{ℕ, List}
 use Rattle.std.specs.Int.{w32, w64}
 use Rattle.sr_base.specs.declared.offset.Offset.{Offset}
 use Rattle.sr_base.specs.Fields.{name_at}
-use Rattle.sr_base.specs.Inner.Fields.{number_at, bytes_at, triple_at, mapped_at}
-use Rattle.sr_base.specs.Reading.{Read}
+use Rattle.sr_base.specs.Inner.Fields.{bytes_at, triple_at}
+use Rattle.sr_base.specs.Reading.{Read, number_at, mapped_at}
 use Rattle.sr_base.specs.Inner.Values.{offset_at}
 use Rattle.sr_msgform.specs.declared.message.Message.{Message}
 

@@ -8,7 +8,7 @@ use Rattle.sr_eval.specs.Inner.Bounds.{values_of}
 use Rattle.sr_eval.specs.declared.bound.Bound.{Bound}
 use Rattle.sr_rows.specs.Marks.{RowMap}
 use Rattle.sr_exec_where.specs.Checks.{Scope}
-use Rattle.sr_exec_dml.specs.Inner.Conditions.{TableFits}
+use Rattle.sr_exec_dml.specs.Fitting.{TableFits}
 use Rattle.sr_query.specs.Checks.{is_aggregate}
 use Rattle.sr_query.specs.Sources.{Origin, scope_under, rows_by_key}
 use Rattle.sr_query.specs.declared.joined.Joined.{Joined}

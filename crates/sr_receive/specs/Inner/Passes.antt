@@ -2,9 +2,9 @@
 -- Here is what no contract of the program says by itself.
 use Rattle.std.specs.Prelude.{◌≡◌, List, [], ◌++◌, map, IsTrue, IfErr, Result, Ok, Err}
 use Rattle.sr_book.specs.Entries.{Name}
-use Rattle.sr_database.specs.Books.{book_in}
 use Rattle.sr_database.specs.Views.{View}
 use Rattle.sr_database_did.specs.Inner.Did.{PlaceView}
+use Rattle.sr_database_files.specs.Books.{book_in}
 use Rattle.sr_database_history.specs.Recorded.{Recorded}
 use Rattle.sr_mail.specs.declared.window.Window.{Window}
 use Rattle.sr_site.specs.Causes.{Rose}

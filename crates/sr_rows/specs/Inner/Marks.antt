@@ -1,6 +1,6 @@
 -- Rows by table and key, with a mark to go back to.
 -- Here is what no contract of the program says by itself.
-use Rattle.std.specs.Prelude.{◌≡◌, ◌≢◌, ⊤, ℕ, List, Option, Some, None, refl}
+use Rattle.std.specs.Prelude.{◌≡◌, ◌≢◌, ℕ, List, Option, Some, refl}
 use Rattle.std.specs.declared.cmp.Ordering.TheVariants.{Less}
 use Rattle.std.specs.Cmp.{IsTotalOrder, then_total, on_total}
 use Rattle.std.specs.Coded.{Coded, code_by, coded×, coded_ℕ, coded_list}
@@ -10,6 +10,7 @@ use Rattle.sr_base.specs.Inner.Codes.{coded_value}
 use Rattle.sr_base.specs.Order.{key_cmp}
 use Rattle.sr_base.specs.Inner.Order.{name_cmp_total, key_cmp_total}
 use Rattle.sr_rows.specs.Marks.{place_cmp, RowMap, Marked, OneAtHand}
+use Rattle.sr_rows.specs.Walks.{IsPast}
 
 pub place_cmp_total : IsTotalOrder place_cmp
 place_cmp_total = then_total (on_total (λ p. p.0) name_cmp_total) (on_total (λ p. p.1) key_cmp_total)
@@ -23,11 +24,6 @@ coded_marked = code_by (RowMap × (RowMap × List RowMap)) (coded× coded_rows (
 
 abbrev pub coded_at_hand : Coded OneAtHand
 coded_at_hand = code_by (List ℕ × Marked) (coded× (coded_list coded_ℕ) coded_marked) (λ h. (h.table, h.rows)) (λ p. record { table = p.0; rows = p.1 }) (λ _. refl)
-
--- the key comes after another one; each key does where there is no other
-abbrev pub IsPast : Option (List Value) → List Value → Type 0
-IsPast None key = ⊤
-IsPast (Some after) key = key_cmp after key ≡ Less
 
 -- of the rows past a key, the one with the least key
 pub record IsNext (row_at : List Value → Option (List Value)) (after : Option (List Value)) (key row : List Value) : Type 0 where

@@ -47,9 +47,9 @@ pub record IsToldAt (es : List Recorded) (s : Survey) (user : Name) (place : Pla
 abbrev pub FoundAt : View → Survey → Name → Place → Seen → Option Transaction → Type 0
 FoundAt db s user place before found = IsTrue before.observable → (publisher : Name) (es : List Recorded) → IsDatabase db publisher es before → IsToldAt es s user place found
 
--- a place is one of the database's history
+-- a place is one of the database's history, and does not begin before its log
 abbrev pub IsPlaceOf : View → Place → Seen → Type 0
-IsPlaceOf db place seen = IsTrue seen.observable → (publisher : Name) (es : List Recorded) → IsDatabase db publisher es seen → IsPlace es place
+IsPlaceOf db place seen = IsTrue seen.observable → (publisher : Name) (es : List Recorded) → IsDatabase db publisher es seen → IsPlace es place × (db.log.base ≤ place.start)
 
 -- a user was told what the history gives him up to an offset: what is unsent of its first entries, and none that is lies between these and the offset
 pub record HasReached (publisher : Name) (es : List Recorded) (user : Name) (begin sent at : ℕ) (pushed : List Transaction) : Type 0 where

@@ -1,5 +1,5 @@
 -- Where a log is read on from: at the catalog that it comes to, after what need not be read, if no statement ran from there on.
-use Rattle.std.specs.Prelude.{◌≡◌, ◌⊎◌, ◌≤◌, ℕ, List, [], ◌∷◌, ◌++◌, IsTrue}
+use Rattle.std.specs.Prelude.{◌≡◌, ◌⊎◌, ◌≤◌, ℕ, max, List, [], ◌∷◌, ◌++◌, IsTrue}
 use Rattle.sr_base.specs.declared.offset.Offset.{Offset}
 use Rattle.sr_book.specs.Entries.{Name}
 use Rattle.sr_database.specs.Databases.{IsDatabase}
@@ -24,13 +24,13 @@ pub record IsPartAt (es : List Recorded) (sent : ℕ) (at : Offset) : Type 0 whe
   pub at_is : at.0 ≡ end_of done
   pub before : at.0 ≤ sent
 
--- the ends of a log's entries were read up to an offset, which does not lie past another
+-- the ends of a log's entries were read up to an offset, which does not lie past another, but where that lies before the base
 pub record Walked (db : View) (sent : ℕ) (at : Offset) (before now : Seen) : Type 0 where
   pub posted : Posted before now []
   pub steady : IsSteady before now
   pub from_base : db.log.base ≤ at.0
   pub within : at.0 ≤ db.log.end
-  pub part : IsTrue before.observable → (publisher : Name) (es : List Recorded) → IsDatabase db publisher es before → IsPartAt es sent at
+  pub part : IsTrue before.observable → (publisher : Name) (es : List Recorded) → IsDatabase db publisher es before → IsPartAt es (max db.log.base sent) at
 
 -- the first of the entries that are left ends here, and no statement of it ran
 pub record IsStillEnd (done left : List Recorded) (end : Offset) : Type 0 where
@@ -70,7 +70,7 @@ pub record Begun (db : View) (aim : Aim) (scan : Scan) (after : Offset) (before 
   pub steady : IsSteady before now
   pub from_base : db.log.base ≤ after.0
   pub within : after.0 ≤ db.log.end
-  pub read : IsTrue before.observable → (publisher : Name) (es : List Recorded) → IsDatabase db publisher es before → HasRead publisher es scan.user aim.prev.0 after scan []
+  pub read : IsTrue before.observable → (publisher : Name) (es : List Recorded) → IsDatabase db publisher es before → HasRead db.log.base publisher es scan.user aim.prev.0 after scan []
 
 -- it ended before anything was put
 pub record BeginStop (before now : Seen) (fault : SendFault) : Type 0 where

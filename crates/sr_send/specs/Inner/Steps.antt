@@ -1,5 +1,5 @@
 -- A log read entry by entry, and what it gives put as messages.
-use Rattle.std.specs.Prelude.{◌≡◌, ◌⊎◌, ◌≤◌, ◌<◌, ◌+◌, ℕ, Bool, cond, nat_lt, List, [], ◌∷◌, ◌++◌, length, Option, Some, None, Result, Ok, Err, IsTrue}
+use Rattle.std.specs.Prelude.{◌≡◌, ◌⊎◌, ◌≤◌, ◌<◌, ◌+◌, ℕ, max, Bool, cond, nat_lt, List, [], ◌∷◌, ◌++◌, length, Option, Some, None, Result, Ok, Err, IsTrue}
 use Rattle.std.specs.List.{AllByRecursion}
 use Rattle.sr_base.specs.declared.offset.Offset.{Offset}
 use Rattle.sr_book.specs.Entries.{Name}
@@ -96,15 +96,16 @@ abbrev pub stepped_to : Offset → Result (Unit {0}) SendFault → Result (Optio
 stepped_to end (Ok done) = Ok (Some end)
 stepped_to end (Err fault) = Err fault
 
--- of a history the entries up to an offset were read, and what they give was pushed
-pub record HasRead (publisher : Name) (es : List Recorded) (user : Name) (sent : ℕ) (after : Offset) (scan : Scan) (pushed : List Transaction) : Type 0 where
+-- of a history the entries from a base up to an offset were read, and what they give was pushed
+pub record HasRead (base : ℕ) (publisher : Name) (es : List Recorded) (user : Name) (sent : ℕ) (after : Offset) (scan : Scan) (pushed : List Transaction) : Type 0 where
   pub done : List Recorded
   pub left : List Recorded
   pub parts : es ≡ done ++ left
   pub after_is : after.0 ≡ end_of done
   pub catalog : scan.catalog ≡ (state_of publisher done).catalog
   pub user_is : scan.user ≡ user
-  pub pushed_are : pushed ≡ unsent publisher done user sent
+  pub from_base : base ≤ after.0
+  pub pushed_are : pushed ≡ unsent publisher done user (max base sent)
 
 -- a log is being read
 pub record UnderWay (db : View) (aim : Aim) (user : Name) (scan : Scan) (post : Post) (after : Offset) (before now : Seen) : Type 0 where
@@ -117,7 +118,7 @@ pub record UnderWay (db : View) (aim : Aim) (user : Name) (scan : Scan) (post : 
   pub from_base : db.log.base ≤ after.0
   pub within : after.0 ≤ db.log.end
   pub behind : IsBehind aim.prev.0 after.0 post.end.0
-  pub read : IsTrue before.observable → (publisher : Name) (es : List Recorded) → IsDatabase db publisher es before → HasRead publisher es user aim.prev.0 after scan pushed
+  pub read : IsTrue before.observable → (publisher : Name) (es : List Recorded) → IsDatabase db publisher es before → HasRead db.log.base publisher es user aim.prev.0 after scan pushed
 
 -- all of it was read
 pub record AllRead (db : View) (aim : Aim) (user : Name) (post : Post) (before now : Seen) : Type 0 where
@@ -127,7 +128,7 @@ pub record AllRead (db : View) (aim : Aim) (user : Name) (post : Post) (before n
   pub posted : Posted before now (put_files aim.address aim.count messages)
   pub spelled : AllByRecursion IsMessage messages
   pub steady : IsSteady before now
-  pub whole : IsTrue before.observable → (publisher : Name) (es : List Recorded) → IsDatabase db publisher es before → pushed ≡ unsent publisher es user aim.prev.0
+  pub whole : IsTrue before.observable → (publisher : Name) (es : List Recorded) → IsDatabase db publisher es before → pushed ≡ unsent publisher es user (max db.log.base aim.prev.0)
 
 -- what the cutter held was put
 pub record Emptied (aim : Aim) (old new : Post) (before now : Seen) : Type 0 where
@@ -172,4 +173,4 @@ pub record PutAll (db : View) (aim : Aim) (book : Book) (ask : Bool) (user : Nam
   pub posted : Posted before now (put_files aim.address aim.count messages)
   pub spelled : AllByRecursion IsMessage messages
   pub steady : IsSteady before now
-  pub whole : IsTrue before.observable → (publisher : Name) (es : List Recorded) → IsDatabase db publisher es before → pushed ≡ unsent publisher es user aim.prev.0
+  pub whole : IsTrue before.observable → (publisher : Name) (es : List Recorded) → IsDatabase db publisher es before → pushed ≡ unsent publisher es user (max db.log.base aim.prev.0)

@@ -1,5 +1,5 @@
 -- Where a pass ends before its end.
-use Rattle.std.specs.Prelude.{◌≡◌, ◌⊎◌, ◌+◌, ℕ, Bool, List, [], ◌∷◌, ◌++◌, Some, IsTrue}
+use Rattle.std.specs.Prelude.{◌≡◌, ◌⊎◌, ◌+◌, ℕ, max, Bool, List, [], ◌∷◌, ◌++◌, Some, IsTrue}
 use Rattle.std.specs.List.{AllByRecursion}
 use Rattle.sr_base.specs.declared.offset.Offset.{Offset}
 use Rattle.sr_book.specs.Entries.{Name}
@@ -108,7 +108,7 @@ pub record ReadStop (db : View) (aim : Aim) (user : Name) (before now : Seen) (f
   pub prefix : IsCutPrefix aim pushed messages
   pub posted : Posted before now (put_files aim.address aim.count messages)
   pub spelled : AllByRecursion IsMessage messages
-  pub begins : IsTrue before.observable → (publisher : Name) (es : List Recorded) → IsDatabase db publisher es before → IsPrefixOf pushed (unsent publisher es user aim.prev.0)
+  pub begins : IsTrue before.observable → (publisher : Name) (es : List Recorded) → IsDatabase db publisher es before → IsPrefixOf pushed (unsent publisher es user (max db.log.base aim.prev.0))
   pub cause : StopFault before now pushed fault
   pub ends : EndsAtPut before now
 
@@ -140,7 +140,7 @@ pub record EndStop (db : View) (aim : Aim) (book : Book) (ask : Bool) (user : Na
   pub are : AreMessages aim.head book ask aim.limit pushed (messages ++ left)
   pub posted : Posted before now (put_files aim.address aim.count messages)
   pub spelled : AllByRecursion IsMessage messages
-  pub whole : IsTrue before.observable → (publisher : Name) (es : List Recorded) → IsDatabase db publisher es before → pushed ≡ unsent publisher es user aim.prev.0
+  pub whole : IsTrue before.observable → (publisher : Name) (es : List Recorded) → IsDatabase db publisher es before → pushed ≡ unsent publisher es user (max db.log.base aim.prev.0)
   pub cause : PutFault before now fault
   pub ends : EndsAtPut before now
 

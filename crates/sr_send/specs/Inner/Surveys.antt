@@ -18,8 +18,8 @@ use Rattle.sr_send.specs.declared.way.Way.TheVariants.{Nothing, Places, Log}
 
 -- ---- what is known
 
--- a survey knows the first entries of a history, from the end of one of them on
-pub record KnowsOf (publisher : Name) (es : List Recorded) (s : Survey) : Type 0 where
+-- a survey knows the first entries of a history, from the end of one of them on, which does not lie before a base
+pub record KnowsOf (base : ℕ) (publisher : Name) (es : List Recorded) (s : Survey) : Type 0 where
   pub done : List Recorded
   pub left : List Recorded
   pub parts : es ≡ done ++ left
@@ -28,21 +28,23 @@ pub record KnowsOf (publisher : Name) (es : List Recorded) (s : Survey) : Type 0
   pub behind : List Recorded
   pub begins : done ≡ before ++ behind
   pub begin_is : s.begin ≡ end_of before
+  pub from_base : base ≤ s.begin
 
 -- all of them
-pub record KnowsAllOf (publisher : Name) (es : List Recorded) (s : Survey) : Type 0 where
+pub record KnowsAllOf (base : ℕ) (publisher : Name) (es : List Recorded) (s : Survey) : Type 0 where
   pub has : HasSurveyed publisher es s
   pub before : List Recorded
   pub behind : List Recorded
   pub begins : es ≡ before ++ behind
   pub begin_is : s.begin ≡ end_of before
+  pub from_base : base ≤ s.begin
 
 -- a survey knows so of each history that the database is of
 abbrev pub Knows : View → Survey → Seen → Type 0
-Knows db s seen = (publisher : Name) (es : List Recorded) → IsDatabase db publisher es seen → KnowsOf publisher es s
+Knows db s seen = (publisher : Name) (es : List Recorded) → IsDatabase db publisher es seen → KnowsOf db.log.base publisher es s
 
 abbrev pub KnowsAll : View → Survey → Seen → Type 0
-KnowsAll db s seen = (publisher : Name) (es : List Recorded) → IsDatabase db publisher es seen → KnowsAllOf publisher es s
+KnowsAll db s seen = (publisher : Name) (es : List Recorded) → IsDatabase db publisher es seen → KnowsAllOf db.log.base publisher es s
 
 -- a survey is one of the database, if it was not given up
 abbrev pub IsSurveyOf : View → Survey → Seen → Type 0

@@ -11,8 +11,8 @@ use Rattle.sr_database_history.specs.Recorded.{Recorded}
 use Rattle.sr_logform.specs.declared.entry.Entry.{Entry}
 use Rattle.sr_logform.specs.declared.op.Transaction.{Transaction}
 use Rattle.sr_scan.specs.Inner.Scanners.{Scan, IsFed}
-use Rattle.sr_send_needs.specs.Inner.Needs.{end_before}
 use Rattle.sr_site.specs.Seen.{Seen}
+use Rattle.sr_send_needs.specs.Needs.{end_before}
 
 -- something was found, and its end lies past an offset
 abbrev pub is_past : ℕ → ℕ → Option Transaction → Bool

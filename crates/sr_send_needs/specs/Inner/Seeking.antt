@@ -6,13 +6,13 @@ use Rattle.sr_book.specs.Entries.{Name}
 use Rattle.sr_catalog_schema.specs.Members.{user_name}
 use Rattle.sr_catalog_schema.specs.Names.{named}
 use Rattle.sr_catalog_schema.specs.declared.user.User.{User}
-use Rattle.sr_database.specs.Books.{book_in}
 use Rattle.sr_database.specs.Databases.{IsDatabase}
 use Rattle.sr_database.specs.Views.{View}
+use Rattle.sr_database_files.specs.Books.{book_in}
 use Rattle.sr_database_files.specs.Inner.Openings.{ReadAlone}
 use Rattle.sr_database_history.specs.Recorded.{Recorded}
-use Rattle.sr_send_needs.specs.Inner.Needs.{least_from}
 use Rattle.sr_site.specs.Seen.{Seen}
+use Rattle.sr_send_needs.specs.Needs.{least_from}
 
 -- what a user has confirmed, or the base of the log where that lies past it
 abbrev pub confirmed_by : View → Name → ℕ

@@ -61,7 +61,3 @@ pub record BreaksWithin {A : Type 0} (reading : List ℕ → Read A) (need : ℕ
   pub within : ℕ
   pub broken : reading held ≡ Err within
   pub left_is : left ≡ within + length behind
-
--- a field breaks
-abbrev pub FieldBreaks : {A : Type 0} → (List ℕ → Read A) → List ℕ → ℕ → Type 0
-FieldBreaks reading bytes left = reading bytes ≡ Err left

@@ -7,25 +7,25 @@ use Rattle.sr_base.specs.Fields.{bytes_spelling, list_spelling, IsText}
 use Rattle.sr_book.specs.Entries.{Name}
 use Rattle.sr_catalog_change.specs.Changes.{next}
 use Rattle.sr_catalog_schema.specs.Catalogs.{Lists, nothing_but}
-use Rattle.sr_catalog_script_laws.specs.Inner.Scripts.{statements}
+use Rattle.sr_catalog_script_laws.specs.Scripts.{statements}
 use Rattle.sr_site.specs.Seen.{Seen}
 use Rattle.sr_site.specs.declared.file.File.{File}
 use Rattle.sr_snapshot.specs.declared.fault.SnapFault.{SnapFault}
 use Rattle.sr_snapshot.specs.declared.fault.SnapFault.TheVariants.{Disk, Long, Damaged, Memory}
-use Rattle.sr_snapshot_read.specs.Inner.Damages.{Behind, BreaksHere, IsNext, Make, TextMisfits}
-use Rattle.sr_snapshot_read.specs.Inner.Places.{text_in}
-use Rattle.sr_snapshot_read.specs.Inner.Reading.{FieldBreaks, HasTaken}
+use Rattle.sr_snapshot_read.specs.Damages.{BehindPart, BreaksHere, IsNextStatement, Make, TextMisfits, FieldBreaks}
+use Rattle.sr_snapshot_read.specs.Places.{text_in}
+use Rattle.sr_snapshot_read.specs.Inner.Reading.{HasTaken}
 use Rattle.sr_snapshot_read.specs.Inner.Views.{View}
 
 -- a text made one catalog of another
 abbrev pub Makes : Lists → List ℕ → Lists → Type 0
-Makes c text d = (s : Stmt) × IsNext c text s × (d ≡ next c s)
+Makes c text d = (s : Stmt) × IsNextStatement c text s × (d ≡ next c s)
 
 -- why a text, which stands at this place, made none
 abbrev pub RefusesText : Lists → List ℕ → ℕ → SnapFault → Type 0
 RefusesText c text place Disk = ⊥
 RefusesText c text place (Long size limit) = ⊥
-RefusesText c text place (Damaged at) = (at ≡ place) × ((s : Stmt) → ¬ (IsNext c text s))
+RefusesText c text place (Damaged at) = (at ≡ place) × ((s : Stmt) → ¬ (IsNextStatement c text s))
 RefusesText c text place Memory = ⊤
 
 -- the next text was taken, and made one catalog of another
@@ -52,7 +52,7 @@ pub record TextDiffers (script : List (List ℕ)) (bytes : List ℕ) (left : ℕ
   pub text : List ℕ
   pub is : IsText text
   pub differs : (later : List (List ℕ)) → ¬ (script ≡ text ∷ later)
-  pub there : Behind (bytes_spelling text) (λ rest. ⊤) bytes
+  pub there : BehindPart (bytes_spelling text) (λ rest. ⊤) bytes
   pub here : BreaksHere bytes left
 
 -- of so many texts one breaks, or differs from that of the script
@@ -61,7 +61,7 @@ RepeatBreaks script zero bytes left = ⊥
 RepeatBreaks script (suc count) bytes left =
     FieldBreaks text_in bytes left
     ⊎ (TextDiffers script bytes left
-    ⊎ ((text : List ℕ) × (later : List (List ℕ)) × IsText text × (script ≡ text ∷ later) × Behind (bytes_spelling text) (λ rest. RepeatBreaks later count rest left) bytes))
+    ⊎ ((text : List ℕ) × (later : List (List ℕ)) × IsText text × (script ≡ text ∷ later) × BehindPart (bytes_spelling text) (λ rest. RepeatBreaks later count rest left) bytes))
 
 -- the texts are the script, or they end before it does
 abbrev pub Ends : List (List ℕ) → List (List ℕ) → Bool → Type 0

@@ -4,15 +4,15 @@ use Rattle.sr_site.specs.Causes.{Rose}
 use Rattle.sr_site.specs.Files.{bytes_of}
 use Rattle.sr_site.specs.Seen.{Seen}
 use Rattle.sr_site.specs.declared.file.File.{File}
-use Rattle.sr_snapshot.specs.Inner.Beginnings.{Beginning}
-use Rattle.sr_snapshot.specs.Inner.Snapshots.{IsSnapshot}
+use Rattle.sr_snapshot.specs.Beginnings.{Beginning}
+use Rattle.sr_snapshot.specs.Snapshots.{IsSnapshot}
 use Rattle.sr_snapshot.specs.declared.fault.SnapFault.{SnapFault}
 use Rattle.sr_snapshot.specs.declared.fault.SnapFault.TheVariants.{Disk, Long, Damaged, Memory}
-use Rattle.sr_snapshot_read.specs.Inner.Damages.{IsDamaged}
+use Rattle.sr_snapshot_read.specs.Damages.{IsDamagedSnapshot}
 
 -- the bytes break at this place, and are the snapshot of no beginning
 pub record IsNoSnapshot (bytes : List ℕ) (at : ℕ) : Type 0 where
-  pub damaged : IsDamaged bytes at
+  pub damaged : IsDamagedSnapshot bytes at
   pub none : (b : Beginning) → ¬ (IsSnapshot b bytes)
 
 -- why a state was not read: only at a refusal of the disk a call of it failed

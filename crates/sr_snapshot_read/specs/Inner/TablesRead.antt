@@ -3,7 +3,7 @@ use Rattle.std.specs.Prelude.{◌≡◌, ◌<◌, ◌^◌, ◌⊎◌, ⊤, ℕ, 
 use Rattle.std.specs.FinMap.{insert}
 use Rattle.std.specs.List.{flat_map}
 use Rattle.sr_base.specs.Fields.{IsListOf}
-use Rattle.sr_base.specs.Inner.Fields.{list_at}
+use Rattle.sr_base.specs.Reading.{list_at}
 use Rattle.sr_base.specs.Values.{IsValue, row_spelling}
 use Rattle.sr_base.specs.declared.value.Value.{Value as Cell}
 use Rattle.sr_catalog_schema.specs.declared.table.Table.{Table}
@@ -15,12 +15,12 @@ use Rattle.sr_rows.specs.Marks.{Marked, RowMap, rows_of_table}
 use Rattle.sr_rows.specs.Walks.{table_rows}
 use Rattle.sr_site.specs.Seen.{Seen}
 use Rattle.sr_site.specs.declared.file.File.{File}
-use Rattle.sr_snapshot.specs.Inner.Parts.{rows_of}
+use Rattle.sr_snapshot.specs.Parts.{rows_of}
 use Rattle.sr_snapshot.specs.declared.fault.SnapFault.{SnapFault}
 use Rattle.sr_snapshot.specs.declared.fault.SnapFault.TheVariants.{Disk, Long, Damaged, Memory}
-use Rattle.sr_snapshot_read.specs.Inner.Damages.{AreRead, IsPlaced, RowMisfits}
-use Rattle.sr_snapshot_read.specs.Inner.Places.{value_in}
-use Rattle.sr_snapshot_read.specs.Inner.Reading.{FieldBreaks, HasTaken}
+use Rattle.sr_snapshot_read.specs.Damages.{AreRead, IsPlaced, RowMisfits, FieldBreaks}
+use Rattle.sr_snapshot_read.specs.Places.{value_in}
+use Rattle.sr_snapshot_read.specs.Inner.Reading.{HasTaken}
 use Rattle.sr_snapshot_read.specs.Inner.Views.{View}
 
 -- a row is put under its key

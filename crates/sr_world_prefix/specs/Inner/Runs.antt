@@ -21,9 +21,15 @@ use Rattle.sr_site.specs.Streams.{Output}
 
 -- it is so wherever the agent was at work, to its end or to the fault that ended it
 abbrev pub WhereTheAgentDid : (Name → List Recorded → Seen → Seen → Type 0) → Type 0
-WhereTheAgentDid IsSo = (publisher : Name) (es : List Recorded) (options : Options) (new : View) (before now : Seen) (written written' : Output)
+WhereTheAgentDid IsSo = (publisher : Name) (es : List Recorded) (options : Options) (base : ℕ) (new : View) (before now : Seen) (written written' : Output)
     (lines : List Line) (result : Result ℕ AgentFault)
-    → Did new before now written written' publisher es options lines result → IsSo publisher es before now
+    → Did base new before now written written' publisher es options lines result → IsSo publisher es before now
+
+-- the same, where it is so of the offset, too, at which the log of the database begins
+abbrev pub WhereTheAgentDidAt : (ℕ → Name → List Recorded → Seen → Seen → Type 0) → Type 0
+WhereTheAgentDidAt IsSo = (publisher : Name) (es : List Recorded) (options : Options) (base : ℕ) (new : View) (before now : Seen) (written written' : Output)
+    (lines : List Line) (result : Result ℕ AgentFault)
+    → Did base new before now written written' publisher es options lines result → IsSo base publisher es before now
 
 -- it is so wherever a script ran on a database that told what it holds
 abbrev pub WhereAScriptDid : (Name → List Recorded → Seen → Seen → Type 0) → Type 0

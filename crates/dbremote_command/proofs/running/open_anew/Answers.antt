@@ -6,13 +6,16 @@ use Rattle.dbremote_command.proofs.running.open_anew.Goals as goal
 
 pub returns-in-Ok-opened-clause-opened : goal.returns-in-Ok-opened-clause-opened
 returns-in-Ok-opened-clause-opened g c = opened c.args.name.now c.args.mail.now (g.S.Held.seen c.args.site.now) (g.S.Held.seen c.attach.new.site) (g.S.Held.seen c.open-opened.new.site) c.in-Ok-opened.database
-    c.in-Ok.ensures.attaches c.in-Ok.ensures.steady c.open-opened.ensures.stays c.open-opened.ensures.attached c.in-Ok-opened.ensures.steady c.open-opened.ensures.files c.open-opened.ensures.moments c.in-Ok-opened.ensures.opened
+    c.in-Ok.ensures.attaches c.in-Ok.ensures.steady c.open-opened.ensures.stays c.open-opened.ensures.attached c.in-Ok-opened.ensures.steady c.open-opened.ensures.files c.open-opened.ensures.moments c.in-Ok-opened.ensures.in_force
 
 pub returns-in-Ok-opened-clause-ready : goal.returns-in-Ok-opened-clause-ready
 returns-in-Ok-opened-clause-ready g c = c.in-Ok-opened.ensures.ready
 
 pub returns-in-Ok-opened-clause-stands : goal.returns-in-Ok-opened-clause-stands
-returns-in-Ok-opened-clause-stands g c told = c.in-Ok-opened.ensures.opened (sym c.open-opened.ensures.stays.observable ∙ told)
+returns-in-Ok-opened-clause-stands g c told = c.in-Ok-opened.ensures.in_force (sym c.open-opened.ensures.stays.observable ∙ told)
+
+pub returns-in-Ok-opened-clause-begins : goal.returns-in-Ok-opened-clause-begins
+returns-in-Ok-opened-clause-begins g c told = c.in-Ok-opened.ensures.opened (sym c.open-opened.ensures.stays.observable ∙ told)
 
 pub returns-in-Ok-opened-clause-tried : goal.returns-in-Ok-opened-clause-tried
 returns-in-Ok-opened-clause-tried g c = tried_on c.args.name.now c.args.mail.now (g.S.Held.seen c.args.site.now) (g.S.Held.seen c.attach.new.site) (g.S.Held.seen c.open-opened.new.site) c.in-Ok.ensures.attaches c.open-opened.ensures.stays c.open-opened.ensures.attached

@@ -16,4 +16,6 @@ returns c =
     c.in_ok-command-4.ensures.shape c.flag-2.ensures.own ∙ ap₂ with_rule three c.flag-2.ensures.rule in
     let five : app_of c.in_ok-command-5.command ≡ command_of (codes "agent") (needed (codes "NAME") ∷ folder ∷ flag (codes "r") 114 ∷ flag (codes "s") 115 ∷ flag (codes "p") 112 ∷ []) =
     c.in_ok-command-5.ensures.shape c.flag-3.ensures.own ∙ ap₂ with_rule four c.flag-3.ensures.rule in
-    record { app = c.in_ok-command-6.ensures.shape c.length.ensures.own ∙ ap₂ with_rule five c.length.ensures.rule }
+    let six : app_of c.in_ok-command-6.command ≡ command_of (codes "agent") (needed (codes "NAME") ∷ folder ∷ flag (codes "r") 114 ∷ flag (codes "s") 115 ∷ flag (codes "p") 112 ∷ flag (codes "x") 120 ∷ []) =
+    c.in_ok-command-6.ensures.shape c.flag-4.ensures.own ∙ ap₂ with_rule five c.flag-4.ensures.rule in
+    record { app = c.in_ok-command-7.ensures.shape c.length.ensures.own ∙ ap₂ with_rule six c.length.ensures.rule }

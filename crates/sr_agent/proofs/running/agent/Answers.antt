@@ -1,8 +1,8 @@
-use Rattle.std.proofs.lemmas.Result.{err_from_is_err_and}
-use Rattle.sr_agent.proofs.Ran.{ran_none}
+use Rattle.sr_agent.proofs.Anew.{ran_alone}
 use Rattle.sr_agent.proofs.running.agent.Goals as goal
 
-pub returns-in_err-names : goal.returns-in_err-names
-returns-in_err-names g c =
-    let p = err_from_is_err_and c.from_residual.result c.from_residual.ensures.1 in
-    rw (p.1, p.2) (record { ran = ran_none c.args.db.now (g.S.Held.seen c.args.site.now) (g.O.Sink.seen c.args.sink.now) c.args.options.now c.requires.usable c.requires.pending })
+pub returns : goal.returns
+returns g c = record {
+  ran = ran_alone c.args.db.now c.run.new.db (g.S.Held.seen c.args.site.now) (g.S.Held.seen c.run.new.site) (g.O.Sink.seen c.args.sink.now) (g.O.Sink.seen c.run.new.sink) c.args.options.now c.run.result
+      c.if-options.false c.run.ensures.ran;
+}

@@ -1,5 +1,5 @@
 use Rattle.std.proofs.lemmas.Result.{err_from_is_err_and}
-use Rattle.sr_base.specs.Inner.Fields.{items_at}
+use Rattle.sr_base.specs.Reading.{items_at}
 use Rattle.sr_base.proofs.Loop.{goes_on, ends, is_done}
 use Rattle.sr_base.proofs.field_lists.items_of.Goals as goal
 

@@ -1,7 +1,7 @@
 use Rattle.std.proofs.Common.{◌≡◌, ◌++◌, length, map}
 use Rattle.std.specs.Prelude.{filter}
 use Rattle.sr_ast.specs.Layout.{printed}
-use Rattle.sr_catalog_script_laws.specs.Inner.Scripts.{start_of}
+use Rattle.sr_catalog_script_laws.specs.Scripts.{start_of}
 use Rattle.sr_catalog.proofs.script.add_starts.Given as goal
 
 abbrev pub invariant-subscriptions : goal.invariant-subscriptions

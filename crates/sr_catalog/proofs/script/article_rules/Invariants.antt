@@ -1,5 +1,5 @@
 use Rattle.std.proofs.Common.{◌≡◌, ◌++◌, length, map}
-use Rattle.sr_catalog_script_laws.specs.Inner.Scripts.{article_rule}
+use Rattle.sr_catalog_script_laws.specs.Scripts.{article_rule}
 use Rattle.sr_catalog.proofs.script.article_rules.Given as goal
 
 abbrev pub invariant-articles : goal.invariant-articles

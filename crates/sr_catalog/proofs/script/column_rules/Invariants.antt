@@ -1,5 +1,5 @@
 use Rattle.std.proofs.Common.{◌≡◌, ◌++◌, length, map}
-use Rattle.sr_catalog_script_laws.specs.Inner.Scripts.{column_rule}
+use Rattle.sr_catalog_script_laws.specs.Scripts.{column_rule}
 use Rattle.sr_catalog.proofs.script.column_rules.Given as goal
 
 abbrev pub invariant-columns : goal.invariant-columns

@@ -1,5 +1,7 @@
 use Rattle.sr_database.proofs.Alike.{database_alike, database_by_files, database_by_image, databases_alike}
 use Rattle.sr_database.proofs.InForce.{in_force}
+use Rattle.sr_database.proofs.Opened.{in_force_from}
+use Rattle.sr_database.proofs.Started.{starts}
 use Rattle.sr_database.proofs.alike_laws.a_database_is_of_alike_histories.Goals as goal
 
 pub returns-clause-alike : goal.returns-clause-alike
@@ -16,3 +18,9 @@ returns-clause-one c = databases_alike
 
 pub returns-clause-in_force : goal.returns-clause-in_force
 returns-clause-in_force c = in_force
+
+pub returns-clause-in_force_behind : goal.returns-clause-in_force_behind
+returns-clause-in_force_behind c = in_force_from
+
+pub returns-clause-beginning : goal.returns-clause-beginning
+returns-clause-beginning c = starts

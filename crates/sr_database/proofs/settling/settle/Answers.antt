@@ -2,7 +2,7 @@ use Rattle.std.proofs.Common.{◌∙◌, ap}
 use Rattle.std.specs.FinMap as map
 use Rattle.sr_book.specs.Books.{with_taken, with_note}
 use Rattle.sr_book.specs.declared.book.Book.{Book}
-use Rattle.sr_database.proofs.Booked.{follow_taken, follow_noted}
+use Rattle.sr_database_replay.proofs.Booked.{follow_taken, follow_noted}
 use Rattle.sr_database.proofs.Settled.{own_takes}
 use Rattle.sr_database.proofs.settling.settle.Goals as goal
 

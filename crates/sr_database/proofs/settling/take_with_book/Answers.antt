@@ -1,8 +1,8 @@
 use Rattle.std.proofs.Common.{sym, subst}
 use Rattle.std.specs.Prelude.{IsSome}
 use Rattle.std.specs.FinMap as map
-use Rattle.sr_database.specs.Books.{BookMap}
-use Rattle.sr_database.proofs.Booked.{put_there}
+use Rattle.sr_database_files.specs.Books.{BookMap}
+use Rattle.sr_database_replay.proofs.Booked.{put_there}
 use Rattle.sr_database.proofs.Settled.{stays_book}
 use Rattle.sr_database.proofs.settling.take_with_book.Goals as goal
 

@@ -1,6 +1,6 @@
 use Rattle.std.proofs.Common.{◌≡◌, List, ℕ, true, refl, subst, ◌∙◌}
 use Rattle.sr_site.specs.Images.{IsSettled, RestsThroughout}
-use Rattle.sr_database_meaning.specs.Snapshots.{fresh_snapshot}
+use Rattle.sr_database_meaning.specs.Inner.Snapshots.{fresh_snapshot}
 use Rattle.sr_site.specs.Inner.Growing.{disk_stays_on}
 use Rattle.sr_database_files.specs.Inner.Fresh.{AreNamed, IsNoneOrNewOf}
 use Rattle.sr_database_files.specs.Inner.Making.{HasNoRoot}

@@ -1,7 +1,7 @@
 use Rattle.std.proofs.Common.{◌≡◌, length}
 use Rattle.std.specs.List.{AllByRecursion}
 use Rattle.std.specs.Option.{option_copied}
-use Rattle.sr_exec_dml.specs.Inner.Conditions.{RowsFit}
+use Rattle.sr_exec_dml.specs.Fitting.{RowsFit}
 use Rattle.sr_rows.specs.Inner.Steps.{at_mark}
 use Rattle.sr_database_fold.specs.Inner.Movements.{Differs, IsHeld}
 use Rattle.sr_database_fold.proofs.Changing.{ChangesLeft}

@@ -1,6 +1,6 @@
 use Rattle.std.proofs.Common.{◌≡◌, length}
 use Rattle.std.specs.List.{AllByRecursion}
-use Rattle.sr_exec_dml.specs.Inner.Conditions.{RowsFit}
+use Rattle.sr_exec_dml.specs.Fitting.{RowsFit}
 use Rattle.sr_rows.specs.Inner.Steps.{at_mark}
 use Rattle.sr_database_fold.specs.Inner.Movements.{OutcomeDiffers}
 use Rattle.sr_database_fold.specs.Inner.Readings.{state_in}

@@ -1,5 +1,5 @@
 use Rattle.std.proofs.Common.{◌≡◌, length}
-use Rattle.sr_exec_dml.specs.Inner.Conditions.{RowsFit}
+use Rattle.sr_exec_dml.specs.Fitting.{RowsFit}
 use Rattle.sr_rows.specs.Inner.Steps.{GoesOn}
 use Rattle.sr_database_fold.specs.Inner.Reached.{OpsFit, NoneRuns}
 use Rattle.sr_database_fold.specs.Inner.Readings.{state_in}

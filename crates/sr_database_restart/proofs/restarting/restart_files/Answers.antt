@@ -1,8 +1,7 @@
 use Rattle.std.proofs.Common.{◌≡◌, inr, ◌∙◌, ap, subst, sym}
-use Rattle.sr_database_meaning.specs.Generations.{log_of}
+use Rattle.sr_database_meaning.specs.Generations.{log_of, byte_of, generation_of, other_of}
 use Rattle.sr_database_restart.proofs.Named.{new_log, restarted, went_over}
 use Rattle.sr_database_restart.proofs.Quiet.{quiet, quiet_on}
-use Rattle.sr_database_restart.specs.Inner.Generations.{byte_of, generation_of, other_of}
 use Rattle.sr_database_restart.specs.Inner.Restarting.{IsRestarted}
 use Rattle.sr_database_restart.specs.declared.generations.Other.{Other}
 use Rattle.sr_logfile.specs.Inner.Logs.{IsLog}
@@ -13,7 +12,7 @@ use Rattle.sr_site.specs.Inner.Growing.{disk_stays_on}
 use Rattle.sr_site.specs.declared.file.File.{File}
 use Rattle.sr_site.specs.declared.file.File.TheVariants.{Root}
 use Rattle.sr_snapshot.specs.Inner.Beginnings.{beginning_in}
-use Rattle.sr_snapshot.specs.Inner.Snapshots.{snapshot_spelling}
+use Rattle.sr_snapshot.specs.Snapshots.{snapshot_spelling}
 use Rattle.sr_database_restart.proofs.restarting.restart_files.Goals as goal
 
 pub returns-in_err-name_generation-clause-stays : goal.returns-in_err-name_generation-clause-stays

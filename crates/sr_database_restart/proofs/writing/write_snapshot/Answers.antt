@@ -1,6 +1,6 @@
 use Rattle.std.proofs.Common.{length}
 use Rattle.sr_snapshot.specs.Inner.Beginnings.{beginning_in}
-use Rattle.sr_snapshot.specs.Inner.Snapshots.{snapshot_spelling}
+use Rattle.sr_snapshot.specs.Snapshots.{snapshot_spelling}
 use Rattle.sr_database_restart.proofs.writing.write_snapshot.Goals as goal
 
 pub returns-in-Err-clause-cause : goal.returns-in-Err-clause-cause

@@ -3,7 +3,8 @@ use Rattle.sr_logfile.specs.Inner.Logs.{IsLog}
 use Rattle.sr_logfile.specs.Log.{Log}
 use Rattle.sr_logfile.specs.Records.{header}
 use Rattle.sr_logfile_carry.proofs.Carried.{is_kept, is_replaced}
-use Rattle.sr_logfile_carry.specs.Inner.Carrying.{HasSettled, bytes_in, carried}
+use Rattle.sr_logfile_carry.specs.Carried.{carried}
+use Rattle.sr_logfile_carry.specs.Inner.Carrying.{HasSettled, bytes_in}
 use Rattle.sr_logfile_carry.specs.declared.copying.Part.{Part}
 use Rattle.sr_logfile_carry.proofs.carrying.carry.Goals as goal
 

@@ -1,5 +1,5 @@
 use Rattle.std.proofs.Common.{◌≡◌, ◌-◌}
-use Rattle.sr_base.specs.Inner.Fields.{items_at}
+use Rattle.sr_base.specs.Reading.{items_at}
 use Rattle.sr_base.proofs.Loop.{with_front}
 use Rattle.sr_logform.specs.Inner.Outcomes.{change_at}
 use Rattle.sr_logform.proofs.field_changes.changes_of.Given as goal

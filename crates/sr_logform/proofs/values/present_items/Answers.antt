@@ -2,8 +2,8 @@ use Rattle.std.proofs.lemmas.Result.{err_from_is_err_and}
 use Rattle.std.proofs.Common.{List, ℕ}
 use Rattle.sr_base.specs.declared.value.Value.{Value}
 use Rattle.sr_base.specs.Fields.{name_at}
-use Rattle.sr_base.specs.Inner.Fields.{items_at, pair_at}
-use Rattle.sr_base.specs.Reading.{Read}
+use Rattle.sr_base.specs.Inner.Fields.{pair_at}
+use Rattle.sr_base.specs.Reading.{Read, items_at}
 use Rattle.sr_base.proofs.Loop.{goes_on, ends, is_done}
 use Rattle.sr_logform.specs.Inner.Ops.{present_at}
 use Rattle.sr_logform.proofs.values.present_items.Goals as goal

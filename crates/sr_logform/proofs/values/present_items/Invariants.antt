@@ -1,7 +1,8 @@
 -- What was read so far, and then what is read, is what is read of all.
 use Rattle.std.proofs.Common.{◌≡◌, ◌-◌}
 use Rattle.sr_base.specs.Fields.{name_at}
-use Rattle.sr_base.specs.Inner.Fields.{items_at, pair_at}
+use Rattle.sr_base.specs.Inner.Fields.{pair_at}
+use Rattle.sr_base.specs.Reading.{items_at}
 use Rattle.sr_base.proofs.Loop.{with_front}
 use Rattle.sr_logform.specs.Inner.Ops.{present_at}
 use Rattle.sr_logform.proofs.values.present_items.Given as goal

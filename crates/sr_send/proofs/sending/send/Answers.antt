@@ -1,8 +1,8 @@
 use Rattle.std.proofs.Common.{◌≡◌, ◌≤◌, sym, subst, ◌∙◌}
 use Rattle.sr_book.specs.declared.book.Book.{Book}
-use Rattle.sr_database.specs.Books.{book_in}
 use Rattle.sr_catalog_schema.specs.Members.{user_name}
 use Rattle.sr_catalog_schema.specs.Names.{named}
+use Rattle.sr_database_files.specs.Books.{book_in}
 use Rattle.sr_send.specs.Inner.Aims.{aim_at}
 use Rattle.sr_send.specs.PutFiles.{sent_note}
 use Rattle.sr_send.specs.Passes.{SendCause}

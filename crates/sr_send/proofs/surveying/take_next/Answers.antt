@@ -19,12 +19,12 @@ returns-then-is_given_up-clause-steady g c = same_counts (g.S.Held.seen c.args.s
 pub returns-in-None-clause-whole : goal.returns-in-None-clause-whole
 returns-in-None-clause-whole g c = λ none.
     took_all c.args.db.now c.args.survey.now c.args.at (g.S.Held.seen c.args.site.now) (g.S.Held.seen c.brief_from.new.site) c.requires.surveyed c.brief_from.ensures.posted
-    (λ told publisher done left database at. subst (λ (found : Option (Offset × Entry)). IsBriefAfter done left found) c.in-None.is (c.in_ok-brief_from.ensures.brief told publisher done left database at))
+    (λ told publisher done left database at from_base. subst (λ (found : Option (Offset × Entry)). IsBriefAfter done left found) c.in-None.is (c.in_ok-brief_from.ensures.brief told publisher done left database at from_base))
 
 pub returns-in-Some-clause-surveyed : goal.returns-in-Some-clause-surveyed
 returns-in-Some-clause-surveyed g c =
     took_next c.args.db.now c.args.survey.now c.take.new.self c.args.at c.in-Some.end c.in-Some.entry (g.S.Held.seen c.args.site.now) (g.S.Held.seen c.brief_from.new.site) c.requires.surveyed c.brief_from.ensures.posted
-    (λ told publisher done left database at. subst (λ (found : Option (Offset × Entry)). IsBriefAfter done left found) c.in-Some.is (c.in_ok-brief_from.ensures.brief told publisher done left database at))
+    (λ told publisher done left database at from_base. subst (λ (found : Option (Offset × Entry)). IsBriefAfter done left found) c.in-Some.is (c.in_ok-brief_from.ensures.brief told publisher done left database at from_base))
     c.take.ensures.taken
 
 pub returns-in-Some-clause-within : goal.returns-in-Some-clause-within

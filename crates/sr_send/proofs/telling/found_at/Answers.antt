@@ -9,11 +9,11 @@ pub returns-in-None-clause-told : goal.returns-in-None-clause-told
 returns-in-None-clause-told g c =
     let v = c.args.viewer.now in
     found_there_none c.args.db.now v.survey.now v.user.now c.args.place (g.S.Held.seen c.args.site.now) _ c.requires.there
-    (λ told publisher done left database at. subst (λ (found : Option (Offset × Entry)). IsEntryAfter done left found) c.in-None.is (c.in_ok-entry_from.ensures.entry told publisher done left database at))
+    (λ told publisher done left database at from_base. subst (λ (found : Option (Offset × Entry)). IsEntryAfter done left found) c.in-None.is (c.in_ok-entry_from.ensures.entry told publisher done left database at from_base))
 
 pub returns-in-Ok-clause-told : goal.returns-in-Ok-clause-told
 returns-in-Ok-clause-told g c =
     let v = c.args.viewer.now in
     found_there_some c.args.db.now v.survey.now v.user.now c.args.place (g.S.Held.seen c.args.site.now) _ c.in-Some.entry c.in-Ok.found c.requires.there
-    (λ told publisher done left database at. subst (λ (found : Option (Offset × Entry)). IsEntryAfter done left found) c.in-Some.is (c.in_ok-entry_from.ensures.entry told publisher done left database at))
+    (λ told publisher done left database at from_base. subst (λ (found : Option (Offset × Entry)). IsEntryAfter done left found) c.in-Some.is (c.in_ok-entry_from.ensures.entry told publisher done left database at from_base))
     c.in-Ok.ensures.told

@@ -35,7 +35,7 @@ put_place-outcome-requires-clause-ends g c =
 pub put_place-outcome-requires-clause-there : goal.put_place-outcome-requires-clause-there
 put_place-outcome-requires-clause-there g c =
     let v = c.args.viewer.now in
-    place_known c.args.db.now v.survey.now v.user.now c.args.at.0 c.in-Some.place (g.S.Held.seen c.args.site.now) c.requires.whole
+    place_known c.args.db.now v.survey.now v.user.now c.args.at.0 c.in-Some.place (g.S.Held.seen c.args.site.now) c.requires.whole c.requires.begun
     (subst (λ (o : Option Place). IsNext v.survey.now v.user.now c.args.at.0 o) c.in-Some.is c.in_ok-next.ensures.next)
 
 pub returns-in-Some-clause-went : goal.returns-in-Some-clause-went

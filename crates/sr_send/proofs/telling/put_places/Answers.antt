@@ -1,4 +1,4 @@
-use Rattle.std.proofs.Common.{Option, subst}
+use Rattle.std.proofs.Common.{◌≤◌, Option, subst, arith}
 use Rattle.sr_base.specs.declared.offset.Offset.{Offset}
 use Rattle.sr_send.specs.Inner.Places.{WentOn}
 use Rattle.sr_send.specs.Inner.Stops.{ReadStop}
@@ -15,6 +15,12 @@ pub put_next-requires-clause-made : goal.put_next-requires-clause-made
 put_next-requires-clause-made g c =
     let v = c.args.viewer.now in
     some_told c.args.db.now c.args.aim.now v.survey.now v.user.now (g.S.Held.seen c.args.site.now) c.requires.tells c.requires.whole c.places.post c.places.at (g.S.Held.seen c.places.site) c.places.invariant
+
+pub put_next-requires-clause-begun : goal.put_next-requires-clause-begun
+put_next-requires-clause-begun g c =
+    let begun : c.args.viewer.now.survey.now.begin ≤ c.args.aim.now.prev.0 = c.requires.tells.begun in
+    let past : c.args.aim.now.prev.0 ≤ c.places.at.0 = c.places.invariant.past in
+    omega (arith, begun, past)
 
 pub put_next-requires-clause-ends : goal.put_next-requires-clause-ends
 put_next-requires-clause-ends g c = c.places.invariant.ends

@@ -2,9 +2,9 @@ use Rattle.std.proofs.Common.{◌≡◌, ◌≤◌, ℕ, ap, subst, sym, ◌∙�
 use Rattle.std.specs.Prelude.{IfOk, min}
 use Rattle.sr_book.specs.Entries.{Name}
 use Rattle.sr_database_history.specs.Folds.{fresh}
-use Rattle.sr_send_needs.specs.Inner.Needs.{end_before}
 use Rattle.sr_send_needs.proofs.Seekings.{begun_for, limit_is, need_is}
 use Rattle.sr_send_needs.proofs.needing.lesser_need.Goals as goal
+use Rattle.sr_send_needs.specs.Needs.{end_before}
 
 pub search-outcome-requires-clause-passed : goal.search-outcome-requires-clause-passed
 search-outcome-requires-clause-passed g c =

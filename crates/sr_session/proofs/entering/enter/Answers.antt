@@ -27,6 +27,7 @@ returns-in-Ok g c =
       database = c.in-Ok.ensures.database;
       went = λ told publisher es r database can. c.in-Ok.ensures.went told publisher es r database can tt;
       room = c.in-Ok.ensures.room;
+      attached = c.in-Ok.ensures.attached;
       stays = c.in-Ok.ensures.stays;
       steady = c.in-Ok.ensures.steady;
     } in
@@ -40,7 +41,7 @@ pub returns-in-Err : goal.returns-in-Err
 returns-in-Err g c =
     let before = g.S.Held.seen c.args.site.now in
     let now = g.S.Held.seen c.commit.new.site in
-    let done : NotCommitted c.args.db.now c.commit.new.self before now c.args.entry.now c.in-Err.fault = record { cause = c.in-Err.ensures.cause; went = c.in-Err.ensures.went; stays = c.in-Err.ensures.stays } in
+    let done : NotCommitted c.args.db.now c.commit.new.self before now c.args.entry.now c.in-Err.fault = record { cause = c.in-Err.ensures.cause; went = c.in-Err.ensures.went; attached = c.in-Err.ensures.attached; stays = c.in-Err.ensures.stays } in
     record {
       took = λ r region can.
           took_fault (enters r (work_of c.args.db.now region)) c.args.db.now c.commit.new.self before now c.args.lines.now.items c.reserve.new.self.items region c.from.result (fault_of_store c.in-Err.fault) c.from.ensures

@@ -1,7 +1,7 @@
 use Rattle.std.proofs.Common.{◌≡◌, Some, Ok, sym, subst}
 use Rattle.sr_ast.specs.declared.stmt.Stmt.{Stmt}
 use Rattle.sr_ast.specs.declared.stmt.Stmt.TheVariants as stmt
-use Rattle.sr_exec_dml.specs.Inner.Conditions.{RowsFit}
+use Rattle.sr_exec_dml.specs.Fitting.{RowsFit}
 use Rattle.sr_database_history.specs.Fitting.{IsAcceptedPass, MayHaveChanges}
 use Rattle.sr_database_history.specs.Folds.{State}
 use Rattle.sr_session_script.specs.Inner.Answers.{IsStop}

@@ -1,6 +1,6 @@
 use Rattle.std.proofs.Common.{◌≡◌, ◌+◌, length}
 use Rattle.std.specs.List.{flat_map}
-use Rattle.sr_snapshot.specs.Inner.Parts.{book_line}
+use Rattle.sr_snapshot.specs.Parts.{book_line}
 use Rattle.sr_snapshot.proofs.measuring.books_length.Given as goal
 
 abbrev pub invariant-books : goal.invariant-books

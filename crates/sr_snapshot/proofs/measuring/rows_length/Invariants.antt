@@ -2,7 +2,7 @@ use Rattle.std.proofs.Common.{◌≡◌, ◌+◌, length}
 use Rattle.std.specs.List.{flat_map}
 use Rattle.sr_base.specs.Values.{row_spelling}
 use Rattle.sr_rows.specs.Walks.{table_rows}
-use Rattle.sr_snapshot.specs.Inner.Parts.{rows_of}
+use Rattle.sr_snapshot.specs.Parts.{rows_of}
 use Rattle.sr_snapshot.proofs.measuring.rows_length.Given as goal
 
 abbrev pub invariant-rows : goal.invariant-rows

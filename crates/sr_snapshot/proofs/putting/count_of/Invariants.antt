@@ -1,6 +1,6 @@
 use Rattle.std.proofs.Common.{◌≡◌, ◌+◌, length}
 use Rattle.sr_rows.specs.Walks.{table_rows}
-use Rattle.sr_snapshot.specs.Inner.Parts.{rows_of}
+use Rattle.sr_snapshot.specs.Parts.{rows_of}
 use Rattle.sr_snapshot.proofs.putting.count_of.Given as goal
 
 abbrev pub invariant-rows : goal.invariant-rows

@@ -2,7 +2,7 @@ use Rattle.std.proofs.Common.{List, ℕ, ◌++◌, ◌∙◌, ap, append_assoc}
 use Rattle.std.proofs.lemmas.Result.{err_from_is_err_and}
 use Rattle.sr_base.specs.Fields.{name_spelling}
 use Rattle.sr_snapshot.proofs.Puts.{cause_memory, put_field}
-use Rattle.sr_snapshot.specs.Inner.Parts.{book_spelling}
+use Rattle.sr_snapshot.specs.Parts.{book_spelling}
 use Rattle.sr_snapshot.proofs.putting.put_book.Goals as goal
 
 pub returns-in_err-write_name-clause-cause : goal.returns-in_err-write_name-clause-cause

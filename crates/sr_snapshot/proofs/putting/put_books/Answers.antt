@@ -2,7 +2,7 @@ use Rattle.std.proofs.Common.{◌≡◌, [], ◌++◌, refl, ap}
 use Rattle.std.proofs.lemmas.Result.{err_from_is_err_and}
 use Rattle.std.specs.List.{flat_map}
 use Rattle.sr_snapshot.proofs.Puts.{cause_memory, if_fault, no_length, none_there, putting_at, putting_behind, putting_cause, putting_end, putting_more}
-use Rattle.sr_snapshot.specs.Inner.Parts.{book_line}
+use Rattle.sr_snapshot.specs.Parts.{book_line}
 use Rattle.sr_snapshot.specs.Inner.Writing.{PutCause}
 use Rattle.sr_snapshot.proofs.putting.put_books.Goals as goal
 

@@ -2,7 +2,7 @@ use Rattle.std.proofs.Common.{length}
 use Rattle.std.specs.List.{flat_map}
 use Rattle.sr_base.specs.Fields.{list_spelling}
 use Rattle.sr_snapshot.proofs.Puts.{Putting}
-use Rattle.sr_snapshot.specs.Inner.Parts.{book_line}
+use Rattle.sr_snapshot.specs.Parts.{book_line}
 use Rattle.sr_snapshot.proofs.putting.put_books.Given as goal
 
 abbrev pub invariant-books : goal.invariant-books

@@ -5,7 +5,7 @@ use Rattle.std.specs.List.{flat_map}
 use Rattle.sr_base.specs.Fields.{bytes_spelling, name_spelling}
 use Rattle.sr_snapshot.proofs.Puts.{cause_memory, put_behind}
 use Rattle.sr_snapshot.proofs.Shorts.{later_short}
-use Rattle.sr_snapshot.specs.Inner.Parts.{magic}
+use Rattle.sr_snapshot.specs.Parts.{magic}
 use Rattle.sr_snapshot.specs.Inner.Writing.{HasPut}
 use Rattle.sr_snapshot.proofs.putting.put_catalog.Goals as goal
 

@@ -4,7 +4,7 @@ use Rattle.sr_base.specs.Values.{row_spelling}
 use Rattle.sr_rows.specs.Walks.{Entry, table_rows}
 use Rattle.sr_snapshot.proofs.Puts.{Putting, if_fault, putting_at, putting_begin, putting_cause, putting_end, putting_more}
 use Rattle.sr_snapshot.proofs.Shorts.{first_short, later_short}
-use Rattle.sr_snapshot.specs.Inner.Parts.{longest, rows_of}
+use Rattle.sr_snapshot.specs.Parts.{longest, rows_of}
 use Rattle.sr_snapshot.specs.Inner.Writing.{PutCause}
 use Rattle.sr_snapshot.proofs.putting.put_rows.Goals as goal
 

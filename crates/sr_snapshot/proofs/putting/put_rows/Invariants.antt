@@ -3,7 +3,7 @@ use Rattle.std.specs.List.{flat_map}
 use Rattle.sr_base.specs.Values.{row_spelling}
 use Rattle.sr_rows.specs.Walks.{table_rows}
 use Rattle.sr_snapshot.proofs.Puts.{Putting}
-use Rattle.sr_snapshot.specs.Inner.Parts.{longest, rows_of}
+use Rattle.sr_snapshot.specs.Parts.{longest, rows_of}
 use Rattle.sr_snapshot.proofs.putting.put_rows.Given as goal
 
 abbrev pub invariant-rows : goal.invariant-rows

@@ -8,7 +8,7 @@ use Rattle.sr_base.specs.declared.value.Value.{Value}
 use Rattle.sr_rows.specs.Walks.{table_rows}
 use Rattle.sr_snapshot.proofs.Puts.{cause_memory, put_behind}
 use Rattle.sr_snapshot.proofs.Shorts.{later_short}
-use Rattle.sr_snapshot.specs.Inner.Parts.{rows_of}
+use Rattle.sr_snapshot.specs.Parts.{rows_of}
 use Rattle.sr_snapshot.proofs.putting.put_table.Goals as goal
 
 pub returns-in_err-write_name-clause-cause : goal.returns-in_err-write_name-clause-cause

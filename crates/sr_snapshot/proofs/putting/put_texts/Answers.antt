@@ -3,7 +3,7 @@ use Rattle.std.specs.List.{flat_map}
 use Rattle.sr_base.specs.Fields.{bytes_spelling}
 use Rattle.sr_snapshot.proofs.Puts.{if_fault, no_length, none_there, putting_at, putting_begin, putting_cause, putting_end, putting_more}
 use Rattle.sr_snapshot.proofs.Shorts.{first_short, later_short}
-use Rattle.sr_snapshot.specs.Inner.Parts.{longest}
+use Rattle.sr_snapshot.specs.Parts.{longest}
 use Rattle.sr_snapshot.specs.Inner.Writing.{PutCause}
 use Rattle.sr_snapshot.proofs.putting.put_texts.Goals as goal
 

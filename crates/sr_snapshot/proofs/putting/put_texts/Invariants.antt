@@ -2,7 +2,7 @@ use Rattle.std.proofs.Common.{◌≤◌, length}
 use Rattle.std.specs.List.{flat_map}
 use Rattle.sr_base.specs.Fields.{bytes_spelling}
 use Rattle.sr_snapshot.proofs.Puts.{Putting}
-use Rattle.sr_snapshot.specs.Inner.Parts.{longest}
+use Rattle.sr_snapshot.specs.Parts.{longest}
 use Rattle.sr_snapshot.proofs.putting.put_texts.Given as goal
 
 abbrev pub invariant-texts : goal.invariant-texts

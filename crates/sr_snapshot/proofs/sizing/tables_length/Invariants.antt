@@ -1,7 +1,7 @@
 use Rattle.std.proofs.Common.{◌≡◌, ◌+◌, length, map}
 use Rattle.std.specs.List.{flat_map}
 use Rattle.sr_logform.specs.Entries.{table_spelling}
-use Rattle.sr_snapshot.specs.Inner.Snapshots.{rows_in}
+use Rattle.sr_snapshot.specs.Snapshots.{rows_in}
 use Rattle.sr_snapshot.proofs.sizing.tables_length.Given as goal
 
 abbrev pub invariant-tables : goal.invariant-tables

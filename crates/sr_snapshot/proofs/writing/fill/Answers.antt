@@ -2,7 +2,7 @@ use Rattle.std.proofs.Common.{ℕ, List, length, sym, ap, subst}
 use Rattle.sr_snapshot.proofs.Puts.{at_then, if_fault}
 use Rattle.sr_snapshot.proofs.Written.{cause_then, filled}
 use Rattle.sr_snapshot.specs.Inner.Beginnings.{beginning_in}
-use Rattle.sr_snapshot.specs.Inner.Snapshots.{snapshot_spelling}
+use Rattle.sr_snapshot.specs.Snapshots.{snapshot_spelling}
 use Rattle.sr_snapshot.specs.Inner.Writing.{HasPut, PutCause}
 use Rattle.sr_snapshot.proofs.writing.fill.Goals as goal
 

@@ -4,13 +4,13 @@ use Rattle.sr_ast.specs.Layout.{printed}
 use Rattle.sr_base.specs.Fields.{bytes_spelling, list_spelling, name_spelling}
 use Rattle.sr_book.specs.declared.book.Book.{Book}
 use Rattle.sr_catalog_schema.specs.declared.table.Table.{Table}
-use Rattle.sr_catalog_script_laws.specs.Inner.Scripts.{statements}
+use Rattle.sr_catalog_script_laws.specs.Scripts.{statements}
 use Rattle.sr_logform.specs.Entries.{table_spelling}
 use Rattle.sr_rows.specs.Marks.{RowMap}
 use Rattle.sr_snapshot.proofs.Puts.{at_then, cause_on, if_fault, put_on}
 use Rattle.sr_snapshot.proofs.Shorts.{parts_short}
-use Rattle.sr_snapshot.specs.Inner.Parts.{book_line, longest, magic}
-use Rattle.sr_snapshot.specs.Inner.Snapshots.{rows_in}
+use Rattle.sr_snapshot.specs.Parts.{book_line, longest, magic}
+use Rattle.sr_snapshot.specs.Snapshots.{rows_in}
 use Rattle.sr_snapshot.specs.Inner.Writing.{HasPut, PutCause}
 use Rattle.sr_snapshot.proofs.writing.put_state.Goals as goal
 

@@ -7,8 +7,8 @@ use Rattle.sr_catalog_schema.specs.declared.table.Table.{Table}
 use Rattle.sr_logform.specs.Entries.{table_spelling}
 use Rattle.sr_snapshot.proofs.Puts.{cause_memory, if_fault, no_length, none_there, putting_at, putting_behind, putting_cause, putting_end, putting_more}
 use Rattle.sr_snapshot.proofs.Shorts.{first_short, later_short}
-use Rattle.sr_snapshot.specs.Inner.Parts.{longest}
-use Rattle.sr_snapshot.specs.Inner.Snapshots.{rows_in}
+use Rattle.sr_snapshot.specs.Parts.{longest}
+use Rattle.sr_snapshot.specs.Snapshots.{rows_in}
 use Rattle.sr_snapshot.specs.Inner.Writing.{PutCause}
 use Rattle.sr_snapshot.proofs.writing.put_tables.Goals as goal
 

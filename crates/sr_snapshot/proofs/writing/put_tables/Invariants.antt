@@ -3,8 +3,8 @@ use Rattle.std.specs.List.{flat_map}
 use Rattle.sr_base.specs.Fields.{list_spelling}
 use Rattle.sr_logform.specs.Entries.{table_spelling}
 use Rattle.sr_snapshot.proofs.Puts.{Putting}
-use Rattle.sr_snapshot.specs.Inner.Parts.{longest}
-use Rattle.sr_snapshot.specs.Inner.Snapshots.{rows_in}
+use Rattle.sr_snapshot.specs.Parts.{longest}
+use Rattle.sr_snapshot.specs.Snapshots.{rows_in}
 use Rattle.sr_snapshot.proofs.writing.put_tables.Given as goal
 
 abbrev pub invariant-tables : goal.invariant-tables

@@ -5,7 +5,7 @@ use Rattle.sr_site.specs.Files.{Files, bytes_of}
 use Rattle.sr_snapshot.proofs.Puts.{if_fault, its_bytes, only_cut, only_on, only_synced, told_before}
 use Rattle.sr_snapshot.proofs.Written.{cause_then, written}
 use Rattle.sr_snapshot.specs.Inner.Beginnings.{beginning_in}
-use Rattle.sr_snapshot.specs.Inner.Snapshots.{snapshot_spelling}
+use Rattle.sr_snapshot.specs.Snapshots.{snapshot_spelling}
 use Rattle.sr_snapshot.specs.Inner.Writing.{PutCause}
 use Rattle.sr_snapshot.proofs.writing.replace.Goals as goal
 

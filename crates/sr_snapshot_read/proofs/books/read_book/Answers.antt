@@ -1,7 +1,8 @@
 use Rattle.sr_snapshot.proofs.Puts.{if_fault}
 use Rattle.sr_snapshot_read.proofs.BooksRead.{book_numbers, first_cause, others_cause}
 use Rattle.sr_snapshot_read.proofs.Windows.{taken_on, taken_over}
-use Rattle.sr_snapshot_read.specs.Inner.Damages.{NeverBreaks, NumbersBreak}
+use Rattle.sr_snapshot_read.specs.Inner.Damages.{NeverBreaks}
+use Rattle.sr_snapshot_read.specs.Damages.{NumbersBreak}
 use Rattle.sr_snapshot_read.specs.Inner.Reading.{TakeCause}
 use Rattle.sr_snapshot_read.proofs.books.read_book.Goals as goal
 

@@ -4,12 +4,13 @@ use Rattle.std.specs.List.{flat_map, AllByRecursion}
 use Rattle.std.specs.Prelude.{map}
 use Rattle.sr_book.specs.declared.book.Book.{Book}
 use Rattle.sr_snapshot.proofs.Puts.{if_fault, no_length, none_there}
-use Rattle.sr_snapshot.specs.Inner.Beginnings.{IsBook}
-use Rattle.sr_snapshot.specs.Inner.Parts.{book_line}
+use Rattle.sr_snapshot.specs.Beginnings.{IsBook}
+use Rattle.sr_snapshot.specs.Parts.{book_line}
 use Rattle.sr_snapshot_read.proofs.BooksRead.{book_cause, books_begin, books_more, books_names, name_cause}
 use Rattle.sr_snapshot_read.proofs.RowsRead.{memory_behind}
 use Rattle.sr_snapshot_read.proofs.Windows.{taken_on, taken_over}
-use Rattle.sr_snapshot_read.specs.Inner.Damages.{BooksBreak, NeverBreaks}
+use Rattle.sr_snapshot_read.specs.Inner.Damages.{NeverBreaks}
+use Rattle.sr_snapshot_read.specs.Damages.{BooksBreak}
 use Rattle.sr_snapshot_read.specs.Inner.Reading.{HasTaken, TakeCause}
 use Rattle.sr_snapshot_read.proofs.books.read_books.Goals as goal
 

@@ -3,7 +3,8 @@ use Rattle.sr_snapshot.proofs.Puts.{if_fault}
 use Rattle.sr_snapshot_read.proofs.BooksRead.{four_taken, number_cause, number_on}
 use Rattle.sr_snapshot_read.proofs.RowsRead.{taken_nothing}
 use Rattle.sr_snapshot_read.proofs.Windows.{taken_over}
-use Rattle.sr_snapshot_read.specs.Inner.Damages.{NeverBreaks, NumbersBreak}
+use Rattle.sr_snapshot_read.specs.Inner.Damages.{NeverBreaks}
+use Rattle.sr_snapshot_read.specs.Damages.{NumbersBreak}
 use Rattle.sr_snapshot_read.specs.Inner.Reading.{TakeCause}
 use Rattle.sr_snapshot_read.proofs.books.read_four.Goals as goal
 

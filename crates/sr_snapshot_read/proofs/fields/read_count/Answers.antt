@@ -1,8 +1,9 @@
 use Rattle.sr_snapshot.proofs.Puts.{if_fault}
 use Rattle.std.specs.Int.{w32}
-use Rattle.sr_base.specs.Inner.Fields.{number_at}
+use Rattle.sr_base.specs.Reading.{number_at}
 use Rattle.sr_snapshot_read.proofs.Windows.{cause_as, count_breaks}
-use Rattle.sr_snapshot_read.specs.Inner.Reading.{FieldBreaks, TakeCause}
+use Rattle.sr_snapshot_read.specs.Inner.Reading.{TakeCause}
+use Rattle.sr_snapshot_read.specs.Damages.{FieldBreaks}
 use Rattle.sr_snapshot_read.proofs.fields.read_count.Goals as goal
 
 pub returns-in_err-count-clause-cause : goal.returns-in_err-count-clause-cause

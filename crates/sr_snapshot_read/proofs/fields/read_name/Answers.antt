@@ -3,8 +3,9 @@ use Rattle.sr_base.specs.Fields.{name_at}
 use Rattle.sr_snapshot.specs.declared.fault.SnapFault.{SnapFault}
 use Rattle.sr_snapshot_read.proofs.Places.{cause_by}
 use Rattle.sr_snapshot_read.proofs.Windows.{cause_as, name_breaks}
-use Rattle.sr_snapshot_read.specs.Inner.Places.{name_in}
-use Rattle.sr_snapshot_read.specs.Inner.Reading.{FieldBreaks, TakeCause}
+use Rattle.sr_snapshot_read.specs.Places.{name_in}
+use Rattle.sr_snapshot_read.specs.Inner.Reading.{TakeCause}
+use Rattle.sr_snapshot_read.specs.Damages.{FieldBreaks}
 use Rattle.sr_snapshot_read.proofs.fields.read_name.Goals as goal
 
 pub returns-in-Err-clause-cause : goal.returns-in-Err-clause-cause

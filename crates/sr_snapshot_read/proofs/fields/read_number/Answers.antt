@@ -1,8 +1,9 @@
 use Rattle.sr_snapshot.proofs.Puts.{if_fault}
 use Rattle.std.specs.Int.{w64}
-use Rattle.sr_base.specs.Inner.Fields.{number_at}
+use Rattle.sr_base.specs.Reading.{number_at}
 use Rattle.sr_snapshot_read.proofs.Windows.{cause_as, number_breaks}
-use Rattle.sr_snapshot_read.specs.Inner.Reading.{FieldBreaks, TakeCause}
+use Rattle.sr_snapshot_read.specs.Inner.Reading.{TakeCause}
+use Rattle.sr_snapshot_read.specs.Damages.{FieldBreaks}
 use Rattle.sr_snapshot_read.proofs.fields.read_number.Goals as goal
 
 pub returns-in_err-number-clause-cause : goal.returns-in_err-number-clause-cause

@@ -1,9 +1,9 @@
 use Rattle.std.proofs.Common.{ℕ, List, length, refl, ap, ◌∙◌, arith}
 use Rattle.sr_snapshot.proofs.Puts.{if_fault}
-use Rattle.sr_snapshot.specs.Inner.Parts.{magic}
+use Rattle.sr_snapshot.specs.Parts.{magic}
 use Rattle.sr_snapshot_read.proofs.FieldReads.{ready_cause, took}
 use Rattle.sr_snapshot_read.proofs.Heres.{magic_cause, magic_first, magic_front}
-use Rattle.sr_snapshot_read.specs.Inner.Damages.{LacksMagic}
+use Rattle.sr_snapshot_read.specs.Damages.{LacksMagic}
 use Rattle.sr_snapshot_read.specs.Inner.Reading.{TakeCause}
 use Rattle.sr_snapshot_read.proofs.heads.read_magic.Goals as goal
 

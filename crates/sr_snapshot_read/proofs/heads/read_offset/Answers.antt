@@ -1,11 +1,11 @@
 use Rattle.std.proofs.Common.{ℕ, inl, sym, subst}
 use Rattle.std.specs.Int.{w64, to_be_bytes}
-use Rattle.sr_base.specs.Inner.Fields.{number_at}
+use Rattle.sr_base.specs.Reading.{number_at}
 use Rattle.sr_snapshot.proofs.Puts.{if_fault}
-use Rattle.sr_snapshot_read.specs.Inner.Damages.{OffsetBreaks}
+use Rattle.sr_snapshot_read.specs.Damages.{OffsetBreaks, FieldBreaks}
 use Rattle.sr_snapshot_read.proofs.Heres.{here_cause, far_offset}
 use Rattle.sr_snapshot_read.proofs.Windows.{cause_as}
-use Rattle.sr_snapshot_read.specs.Inner.Reading.{FieldBreaks, HasTaken, TakeCause}
+use Rattle.sr_snapshot_read.specs.Inner.Reading.{HasTaken, TakeCause}
 use Rattle.sr_snapshot_read.proofs.heads.read_offset.Goals as goal
 
 pub returns-in_err-number-clause-cause : goal.returns-in_err-number-clause-cause

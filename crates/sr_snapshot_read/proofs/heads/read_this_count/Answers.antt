@@ -1,11 +1,11 @@
 use Rattle.std.proofs.Common.{ℕ, inl, subst}
 use Rattle.std.specs.Int.{w32, to_be_bytes}
-use Rattle.sr_base.specs.Inner.Fields.{number_at}
+use Rattle.sr_base.specs.Reading.{number_at}
 use Rattle.sr_snapshot.proofs.Puts.{if_fault}
-use Rattle.sr_snapshot_read.specs.Inner.Damages.{CountBreaks}
+use Rattle.sr_snapshot_read.specs.Damages.{CountBreaks, FieldBreaks}
 use Rattle.sr_snapshot_read.proofs.Heres.{here_cause, other_count}
 use Rattle.sr_snapshot_read.proofs.Windows.{cause_as}
-use Rattle.sr_snapshot_read.specs.Inner.Reading.{FieldBreaks, HasTaken, TakeCause}
+use Rattle.sr_snapshot_read.specs.Inner.Reading.{HasTaken, TakeCause}
 use Rattle.sr_snapshot_read.proofs.heads.read_this_count.Goals as goal
 
 pub returns-in_err-count-clause-cause : goal.returns-in_err-count-clause-cause

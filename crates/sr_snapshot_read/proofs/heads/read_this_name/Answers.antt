@@ -1,11 +1,11 @@
 use Rattle.std.proofs.Common.{ℕ, List, inl, subst}
 use Rattle.sr_base.specs.Fields.{name_spelling, IsName}
 use Rattle.sr_snapshot.proofs.Puts.{if_fault}
-use Rattle.sr_snapshot_read.specs.Inner.Damages.{NameBreaks}
+use Rattle.sr_snapshot_read.specs.Damages.{NameBreaks, FieldBreaks}
 use Rattle.sr_snapshot_read.proofs.Heres.{here_cause, other_name}
 use Rattle.sr_snapshot_read.proofs.Windows.{cause_as}
-use Rattle.sr_snapshot_read.specs.Inner.Places.{name_in}
-use Rattle.sr_snapshot_read.specs.Inner.Reading.{FieldBreaks, HasTaken, TakeCause}
+use Rattle.sr_snapshot_read.specs.Places.{name_in}
+use Rattle.sr_snapshot_read.specs.Inner.Reading.{HasTaken, TakeCause}
 use Rattle.sr_snapshot_read.proofs.heads.read_this_name.Goals as goal
 
 pub returns-in_err-found-clause-cause : goal.returns-in_err-found-clause-cause

@@ -6,7 +6,7 @@ use Rattle.sr_snapshot.proofs.Puts.{if_fault}
 use Rattle.sr_snapshot_read.proofs.Standing.{distinct_tables}
 use Rattle.sr_snapshot_read.proofs.StateRead.{all_taken, is_beginning, lists_cause, lists_end, script_cause}
 use Rattle.sr_snapshot_read.proofs.Windows.{taken_over}
-use Rattle.sr_snapshot_read.specs.Inner.Damages.{StateBreaks}
+use Rattle.sr_snapshot_read.specs.Damages.{StateBreaks}
 use Rattle.sr_snapshot_read.specs.Inner.Reading.{TakeCause}
 use Rattle.sr_snapshot_read.proofs.loading.read_all.Goals as goal
 

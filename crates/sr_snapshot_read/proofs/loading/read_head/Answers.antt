@@ -1,7 +1,7 @@
 use Rattle.sr_snapshot.proofs.Puts.{if_fault}
 use Rattle.sr_snapshot_read.proofs.StateRead.{head_magic, head_name, head_offset, head_taken}
 use Rattle.sr_snapshot_read.proofs.Windows.{taken_over}
-use Rattle.sr_snapshot_read.specs.Inner.Damages.{StateBreaks}
+use Rattle.sr_snapshot_read.specs.Damages.{StateBreaks}
 use Rattle.sr_snapshot_read.specs.Inner.Reading.{TakeCause}
 use Rattle.sr_snapshot_read.proofs.loading.read_head.Goals as goal
 

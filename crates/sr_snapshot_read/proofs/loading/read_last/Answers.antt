@@ -1,7 +1,7 @@
 use Rattle.sr_snapshot.proofs.Puts.{if_fault}
 use Rattle.sr_snapshot_read.proofs.StateRead.{at_its_end, books_taken, last_books, last_count, last_more}
 use Rattle.sr_snapshot_read.proofs.Windows.{taken_on, taken_over}
-use Rattle.sr_snapshot_read.specs.Inner.Damages.{LastBreaks}
+use Rattle.sr_snapshot_read.specs.Damages.{LastBreaks}
 use Rattle.sr_snapshot_read.specs.Inner.Reading.{TakeCause}
 use Rattle.sr_snapshot_read.proofs.loading.read_last.Goals as goal
 

@@ -1,7 +1,7 @@
 use Rattle.sr_snapshot.proofs.Puts.{if_fault}
 use Rattle.sr_snapshot_read.proofs.StateRead.{ends_then, lists_count, lists_last, lists_tables, lists_taken}
 use Rattle.sr_snapshot_read.proofs.Windows.{taken_on, taken_over}
-use Rattle.sr_snapshot_read.specs.Inner.Damages.{ListsBreak}
+use Rattle.sr_snapshot_read.specs.Damages.{ListsBreak}
 use Rattle.sr_snapshot_read.specs.Inner.Reading.{TakeCause}
 use Rattle.sr_snapshot_read.proofs.loading.read_lists.Goals as goal
 

@@ -1,11 +1,11 @@
 use Rattle.std.proofs.Common.{length, refl, ◌∙◌, arith}
 use Rattle.sr_snapshot.proofs.Puts.{if_fault}
 use Rattle.sr_snapshot.specs.Inner.Beginnings.{beginning_in}
-use Rattle.sr_snapshot.specs.Inner.Parts.{longest}
+use Rattle.sr_snapshot.specs.Parts.{longest}
 use Rattle.sr_snapshot.specs.declared.fault.SnapFault.TheVariants.{Damaged}
 use Rattle.sr_snapshot_read.proofs.FileRead.{cause_read, first_over, long_cause, state_cause, whole_file}
 use Rattle.sr_snapshot_read.proofs.Windows.{over_then, read_on}
-use Rattle.sr_snapshot_read.specs.Inner.Damages.{StateBreaks}
+use Rattle.sr_snapshot_read.specs.Damages.{StateBreaks}
 use Rattle.sr_snapshot_read.specs.Inner.Reading.{ReadAlone}
 use Rattle.sr_snapshot_read.specs.Inner.StateRead.{ReadCause}
 use Rattle.sr_snapshot_read.proofs.loading.read_state.Goals as goal

@@ -2,7 +2,8 @@ use Rattle.sr_snapshot.proofs.Puts.{if_fault}
 use Rattle.std.proofs.Common.{[], ◌∷◌}
 use Rattle.sr_snapshot_read.proofs.TablesRead.{count_cause, its_cause, name_cause, table_taken}
 use Rattle.sr_snapshot_read.proofs.Windows.{taken_over}
-use Rattle.sr_snapshot_read.specs.Inner.Damages.{NeverBreaks, TablesBreak}
+use Rattle.sr_snapshot_read.specs.Inner.Damages.{NeverBreaks}
+use Rattle.sr_snapshot_read.specs.Damages.{TablesBreak}
 use Rattle.sr_snapshot_read.specs.Inner.Reading.{TakeCause}
 use Rattle.sr_snapshot_read.proofs.rows.read_table.Goals as goal
 

@@ -2,7 +2,8 @@ use Rattle.std.proofs.Common.{◌≡◌, []}
 use Rattle.sr_snapshot.proofs.Puts.{if_fault, no_length, none_there}
 use Rattle.sr_snapshot_read.proofs.TablesRead.{tables_begin, tables_cause, tables_each, tables_held, tables_more, tables_taken}
 use Rattle.sr_snapshot_read.proofs.Windows.{taken_over}
-use Rattle.sr_snapshot_read.specs.Inner.Damages.{NeverBreaks, TablesBreak}
+use Rattle.sr_snapshot_read.specs.Inner.Damages.{NeverBreaks}
+use Rattle.sr_snapshot_read.specs.Damages.{TablesBreak}
 use Rattle.sr_snapshot_read.specs.Inner.Reading.{TakeCause}
 use Rattle.sr_snapshot_read.proofs.rows.read_tables.Goals as goal
 

@@ -1,12 +1,12 @@
 use Rattle.std.proofs.Common.{ℕ, Bool, true, false, sym, subst}
 use Rattle.sr_ast.specs.Layout.{printed}
-use Rattle.sr_catalog_script_laws.specs.Inner.Scripts.{statements}
+use Rattle.sr_catalog_script_laws.specs.Scripts.{statements}
 use Rattle.std.specs.Prelude.{map}
 use Rattle.sr_snapshot.proofs.Puts.{if_fault}
 use Rattle.sr_snapshot.specs.declared.fault.SnapFault.TheVariants.{Damaged}
 use Rattle.sr_snapshot_read.proofs.ScriptRead.{again_cause, again_over, count_cause, made_cause, script_short, script_taken}
 use Rattle.sr_snapshot_read.proofs.Windows.{over_then, taken_over}
-use Rattle.sr_snapshot_read.specs.Inner.Damages.{ScriptBreaks}
+use Rattle.sr_snapshot_read.specs.Damages.{ScriptBreaks}
 use Rattle.sr_snapshot_read.specs.Inner.Reading.{TakeCause}
 use Rattle.sr_snapshot_read.specs.Inner.ScriptRead.{HasRepeated}
 use Rattle.sr_snapshot_read.proofs.script.read_script.Goals as goal

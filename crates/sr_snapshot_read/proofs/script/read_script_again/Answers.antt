@@ -1,7 +1,7 @@
 use Rattle.std.proofs.Common.{◌≡◌, ℕ, List, map, refl, subst, ◌∙◌}
 use Rattle.std.proofs.lemmas.Result.{err_from_is_err_and}
 use Rattle.sr_ast.specs.Layout.{printed}
-use Rattle.sr_catalog_script_laws.specs.Inner.Scripts.{statements}
+use Rattle.sr_catalog_script_laws.specs.Scripts.{statements}
 use Rattle.sr_snapshot.proofs.Puts.{if_fault}
 use Rattle.sr_snapshot_read.proofs.RowsRead.{read_nothing}
 use Rattle.sr_snapshot_read.specs.Inner.Reading.{TakeCause}

@@ -3,7 +3,7 @@ use Rattle.sr_catalog_schema.specs.Catalogs.{nothing_but}
 use Rattle.sr_snapshot.proofs.Puts.{if_fault}
 use Rattle.sr_snapshot_read.proofs.ScriptRead.{texts_begin, texts_cause, texts_end, texts_more}
 use Rattle.sr_snapshot_read.proofs.Windows.{taken_over}
-use Rattle.sr_snapshot_read.specs.Inner.Damages.{TextsBreak}
+use Rattle.sr_snapshot_read.specs.Damages.{TextsBreak}
 use Rattle.sr_snapshot_read.specs.Inner.Reading.{TakeCause}
 use Rattle.sr_snapshot_read.proofs.script.read_texts.Goals as goal
 

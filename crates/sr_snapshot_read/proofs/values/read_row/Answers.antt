@@ -1,12 +1,13 @@
 use Rattle.std.proofs.Common.{ℕ, Some, None, ◌∙◌, arith}
 use Rattle.std.proofs.lemmas.Result.{err_from_is_err_and}
 use Rattle.std.specs.Int.{w32, to_be_bytes}
-use Rattle.sr_base.specs.Inner.Fields.{items_at, list_at, number_at}
+use Rattle.sr_base.specs.Reading.{items_at, list_at, number_at}
 use Rattle.sr_snapshot.proofs.Puts.{if_fault}
 use Rattle.sr_snapshot_read.proofs.RowsRead.{count_in_row, memory_behind, row_taken, values_in_row}
 use Rattle.sr_snapshot_read.proofs.Windows.{cause_as, cause_behind, taken_over}
-use Rattle.sr_snapshot_read.specs.Inner.Places.{value_in}
-use Rattle.sr_snapshot_read.specs.Inner.Reading.{FieldBreaks, TakeCause}
+use Rattle.sr_snapshot_read.specs.Places.{value_in}
+use Rattle.sr_snapshot_read.specs.Inner.Reading.{TakeCause}
+use Rattle.sr_snapshot_read.specs.Damages.{FieldBreaks}
 use Rattle.sr_snapshot_read.proofs.values.read_row.Goals as goal
 
 pub returns-in_err-count-clause-cause : goal.returns-in_err-count-clause-cause

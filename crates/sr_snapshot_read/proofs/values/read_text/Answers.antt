@@ -1,5 +1,5 @@
 use Rattle.std.proofs.Common.{◌≤◌, ◌+◌, ℕ, List, length, drop, sym, subst, ◌∙◌}
-use Rattle.sr_base.specs.Inner.Fields.{text_at}
+use Rattle.sr_base.specs.Reading.{text_at}
 use Rattle.sr_site.specs.Files.{bytes_of}
 use Rattle.sr_snapshot.proofs.Puts.{if_fault}
 use Rattle.sr_snapshot.specs.declared.fault.SnapFault.{SnapFault}
@@ -7,8 +7,9 @@ use Rattle.sr_snapshot_read.proofs.FieldReads.{ready_cause}
 use Rattle.sr_snapshot_read.proofs.Places.{cause_by}
 use Rattle.sr_snapshot_read.proofs.Readied.{cause_readied, spelled_length, taken_readied, text_told}
 use Rattle.sr_snapshot_read.proofs.Windows.{over_then, text_breaks}
-use Rattle.sr_snapshot_read.specs.Inner.Places.{text_in}
-use Rattle.sr_snapshot_read.specs.Inner.Reading.{BreaksWithin, FieldBreaks, TakeCause}
+use Rattle.sr_snapshot_read.specs.Places.{text_in}
+use Rattle.sr_snapshot_read.specs.Inner.Reading.{BreaksWithin, TakeCause}
+use Rattle.sr_snapshot_read.specs.Damages.{FieldBreaks}
 use Rattle.sr_snapshot_read.proofs.values.read_text.Goals as goal
 
 pub returns-in_err-ready-clause-cause : goal.returns-in_err-ready-clause-cause

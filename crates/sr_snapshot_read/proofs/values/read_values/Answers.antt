@@ -1,11 +1,12 @@
 use Rattle.std.proofs.Common.{arith}
 use Rattle.std.proofs.lemmas.Result.{err_from_is_err_and}
-use Rattle.sr_base.specs.Inner.Fields.{items_at}
+use Rattle.sr_base.specs.Reading.{items_at}
 use Rattle.sr_snapshot.proofs.Puts.{if_fault}
 use Rattle.sr_snapshot_read.proofs.RowsRead.{memory_behind, values_begin, values_cause, values_end, values_more}
 use Rattle.sr_snapshot_read.proofs.Windows.{taken_over}
-use Rattle.sr_snapshot_read.specs.Inner.Places.{value_in}
-use Rattle.sr_snapshot_read.specs.Inner.Reading.{FieldBreaks, TakeCause}
+use Rattle.sr_snapshot_read.specs.Places.{value_in}
+use Rattle.sr_snapshot_read.specs.Inner.Reading.{TakeCause}
+use Rattle.sr_snapshot_read.specs.Damages.{FieldBreaks}
 use Rattle.sr_snapshot_read.proofs.values.read_values.Goals as goal
 
 pub values-init : goal.values-init

@@ -3,7 +3,8 @@ use Rattle.sr_world_prefix.proofs.letters.what_a_run_puts_is_true.Goals as goal
 
 pub returns : goal.returns
 returns c = record {
-  whole = λ publisher es options new before now written written' lines result did good.
-      good_run_backs publisher es options new before now written written' lines result good did;
-  in_part = any_run_backs;
+  whole = λ publisher es options base new before now written written' lines result did within unsent good.
+      good_run_backs publisher es options base new before now written written' lines result (record { within = within; keeps = unsent }) good did;
+  in_part = λ publisher es options base new before now written written' lines result did within unsent.
+      any_run_backs publisher es options base new before now written written' lines result (record { within = within; keeps = unsent }) did;
 }

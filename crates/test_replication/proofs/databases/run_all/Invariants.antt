@@ -1,5 +1,5 @@
 use Rattle.std.proofs.Common.{length}
-use Rattle.sr_exec_dml.specs.Inner.Conditions.{RowsFit}
+use Rattle.sr_exec_dml.specs.Fitting.{RowsFit}
 use Rattle.test_replication.proofs.databases.run_all.Given as goal
 
 abbrev pub invariant-statements : goal.invariant-statements

@@ -1,7 +1,7 @@
 use Rattle.std.proofs.Common.{length}
 use Rattle.std.specs.List.{AllByRecursion}
 use Rattle.sr_ast.specs.NormalForms.{IsNormal}
-use Rattle.sr_exec_dml.specs.Inner.Conditions.{RowsFit}
+use Rattle.sr_exec_dml.specs.Fitting.{RowsFit}
 use Rattle.test_scripts.proofs.counting.count_each.Given as goal
 
 abbrev pub invariant-statements : goal.invariant-statements

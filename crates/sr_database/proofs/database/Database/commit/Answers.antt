@@ -8,7 +8,7 @@ use Rattle.sr_database.specs.Inner.Without.{WasWithout}
 use Rattle.sr_database.specs.InForce.{HasLogInForce}
 use Rattle.sr_database.specs.Inner.Taking.{Takes}
 use Rattle.sr_database.specs.Views.{View}
-use Rattle.sr_database.proofs.Added.{Added, advanced_added, sound_added, without_added, in_force_added, database_added, went_longer, went_spent}
+use Rattle.sr_database.proofs.Added.{Added, advanced_added, attaches_added, sound_added, without_added, in_force_added, database_added, went_longer, went_spent}
 use Rattle.sr_database.proofs.InForce.{has_log}
 use Rattle.sr_database.proofs.Pending.{sound_inside}
 use Rattle.sr_database.proofs.database.Database.commit.Goals as goal
@@ -42,6 +42,10 @@ returns-in_err-offset-clause-went g c told publisher es r database can begun =
     } in
     went_spent inside new entry framed added before now publisher es r _ c.in_err-offset.ensures.spent
     (subst (λ (v : View). IsDatabase v publisher es before) (sym view_is) database) (subst (λ (v : View). CanCommit v entry r) (sym view_is) can) (c.in_err-offset.ensures.happened told) (c.in_err-offset.ensures.moments told) c.in_err-offset.ensures.stays
+
+pub returns-in_err-offset-clause-attached : goal.returns-in_err-offset-clause-attached
+returns-in_err-offset-clause-attached g c told =
+    attaches_added c.self.inside.log c.as_slice-2.result.now (g.S.Held.seen c.args.site.now) (g.S.Held.seen c.append.new.site) _ (c.in_err-offset.ensures.happened told)
 
 pub invariant_of-self-2 : goal.invariant_of-self-2
 invariant_of-self-2 g c usable =
@@ -149,3 +153,7 @@ returns-clause-went g c told publisher es r database can begun =
     } in
     went_longer inside new entry framed added before now publisher es r _ c.in_ok-offset.ensures.log
     (subst (λ (v : View). IsDatabase v publisher es before) (sym view_is) database) (subst (λ (v : View). CanCommit v entry r) (sym view_is) can) (c.in_ok-offset.ensures.happened told) (c.in_ok-offset.ensures.moments told) c.in_ok-offset.ensures.stays
+
+pub returns-clause-attached : goal.returns-clause-attached
+returns-clause-attached g c told =
+    attaches_added c.self.inside.log c.as_slice-2.result.now (g.S.Held.seen c.args.site.now) (g.S.Held.seen c.append.new.site) _ (c.in_ok-offset.ensures.happened told)

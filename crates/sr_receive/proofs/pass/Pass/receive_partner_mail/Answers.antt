@@ -1,12 +1,12 @@
 use Rattle.std.proofs.Common.{◌≡◌, refl, sym, ap, subst, ◌∙◌}
 use Rattle.std.specs.Prelude.{map}
 use Rattle.sr_book.specs.declared.book.Book.{Book}
-use Rattle.sr_database.specs.Books.{book_in}
 use Rattle.sr_database_did.specs.Inner.Did.{Did}
 use Rattle.sr_database_did.specs.Inner.Effects.{entered, whole}
 use Rattle.sr_database_did.specs.Inner.Places.{at}
 use Rattle.sr_catalog_schema.specs.Members.{user_name}
 use Rattle.sr_catalog_schema.specs.Names.{named}
+use Rattle.sr_database_files.specs.Books.{book_in}
 use Rattle.sr_receive.specs.Inner.Noting.{NotAll}
 use Rattle.sr_receive.specs.Passes.{first_notes}
 use Rattle.sr_receive.proofs.Committing.{known_did, ready_did}
