@@ -99,7 +99,7 @@ take_flags() {
     while [ -n "$flags" ]; do
         rest=${flags#?}
         case $flags in
-            [rsp]*) take "${flags%"$rest"}" || return 1 ;;
+            [rspx]*) take "${flags%"$rest"}" || return 1 ;;
             l)
                 take l || return 1
                 awaits=1
