@@ -1,5 +1,5 @@
 -- Where the log of a database begins.
-use Rattle.std.proofs.Common.{◌≡◌, ℕ, ◌≤◌, List, ap, arith}
+use Rattle.std.proofs.Common.{ℕ, ◌≤◌, List, ap, arith}
 use Rattle.sr_book.specs.Entries.{Name}
 use Rattle.sr_database_history.specs.Folds.{end_of}
 use Rattle.sr_database_history.specs.Recorded.{Recorded}

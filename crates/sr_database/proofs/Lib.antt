@@ -2,6 +2,7 @@ pub mod Added
 pub mod Advancing
 pub mod Alike
 pub mod Based
+pub mod AtEnd
 pub mod Begun
 pub mod Behind
 pub mod Commits

@@ -1,5 +1,5 @@
 -- How a database is opened.
-use Rattle.std.proofs.Common.{◌≡◌, ℕ, ◌+◌, List, ◌++◌, refl, sym, ◌∙◌, ap, subst, arith}
+use Rattle.std.proofs.Common.{◌≡◌, ℕ, List, ◌++◌, refl, sym, ◌∙◌, ap, subst, arith}
 use Rattle.sr_base.specs.Fields.{IsName}
 use Rattle.sr_book.specs.Books.{new_book}
 use Rattle.sr_book.specs.Entries.{Name}

@@ -1,5 +1,5 @@
 -- Which history a database is of, as a value and on its site.
-use Rattle.std.specs.Prelude.{◌≡◌, ℕ, List, [], ◌∷◌, ◌++◌}
+use Rattle.std.specs.Prelude.{◌≡◌, ℕ, List, [], ◌++◌}
 use Rattle.std.specs.List.{AllByRecursion}
 use Rattle.sr_base.specs.Fields.{IsName}
 use Rattle.sr_book.specs.Entries.{Name}

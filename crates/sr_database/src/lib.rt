@@ -8,6 +8,7 @@
 #![tactic(auto)]
 
 mod alike_laws;
+mod at_end;
 mod committing;
 mod creating;
 mod database;

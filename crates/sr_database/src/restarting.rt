@@ -19,16 +19,18 @@ ghost use Rattle.sr_snapshot.specs.Beginnings.{Beginning, IsBeginning};
 ghost use Rattle.sr_snapshot.specs.Inner.Beginnings.{beginning_in};
 ghost use Rattle.sr_snapshot.specs.Snapshots.{IsSnapshot};
 ghost use Rattle.sr_database.specs.Databases.{HasBeginning, IsDatabase};
-ghost use Rattle.sr_database.specs.Inner.Restarts.{AnewCause, BeginCause, HasBegun, HasLogFrom, IsLogFrom, IsPartedAt, IsRestartFault, IsSpentAt, MayGoAnew, StateCause};
+ghost use Rattle.sr_database.specs.Inner.Restarts.{AnewCause, BeginCause, HasBegun, HasLogFrom, HoldsOwn, IsLogFrom, IsPartedAt, IsRestartFault, IsSpentAt, MayGoAnew, StateCause};
 ghost use Rattle.sr_database.specs.Restarts.{BeginsAnew};
 
+use crate::at_end::{begin_at_end, is_at_rest};
 use crate::database::Database;
 use sr_base::Offset;
 use sr_catalog::Catalog;
 use sr_database_files::{DatabaseFault, snapshot_fault};
-use sr_database_replay::state_at;
+use sr_database_replay::{Books, state_at};
 use sr_database_restart::{RestartFault, restart_files};
 use sr_logfile::LogFile;
+use sr_rows::Rows;
 use sr_site::{Disk, File, Site};
 use sr_snapshot::State;
 use sr_snapshot_read::read_state;
@@ -38,8 +40,9 @@ use std::mem;
 impl Database {
     /// Begins the log anew at `keep`, its base or the end of an entry past it.
     ///
-    /// It reads the snapshot in force and the log up to there again, for the state there; writes that as the snapshot of the other generation, and a log that
-    /// begins there and has the entries behind it; and then has the root name that generation. History, value and end are as they were. At each moment every
+    /// Where `keep` is the end and nothing is pending, the state there is what the value holds; else it reads the snapshot in force and the log up to there
+    /// again. It writes that state as the snapshot of the other generation, and a log that begins there and has the entries behind it; and then it has the
+    /// root name that generation. History, value and end are as they were. At each moment every
     /// crash leaves files that stand for the history, and while the root is not synced both generations do. `Long` comes where the snapshot would be longer
     /// than 1 GiB, before anything is written. After `Long`, `Damaged` and `Memory` nothing in force and nothing of the value has changed; after `Disk` the
     /// value is not used again. Where the disk tells what it holds, it is `Damaged` only where no entry ends at `keep`.
@@ -70,7 +73,17 @@ impl Database {
         ensures steady { OnOk result ((S.seen site.new).disk_faults ≡ (S.seen site.old).disk_faults) }
         ensures cause { IfErr result (AnewCause self.old self.new keep (S.seen site.old) (S.seen site.new)) }
     {
-        match begin_anew(alloc, site, &self.log, keep) {
+        let is_own = is_at_rest(&self.log, &self.pending, keep);
+        match begin_with(
+            alloc,
+            site,
+            &self.log,
+            &self.catalog,
+            &mut self.rows,
+            &self.books,
+            keep,
+            is_own,
+        ) {
             Ok(anew) => {
                 take_over(&mut self.log, &mut self.base_catalog, anew);
                 Ok(())
@@ -85,9 +98,9 @@ impl Database {
 
 /// A log that was begun anew, and the catalog at its base.
 #[derive(Drop)]
-struct Anew {
-    log: LogFile,
-    base_catalog: Catalog,
+pub(crate) struct Anew {
+    pub(crate) log: LogFile,
+    pub(crate) base_catalog: Catalog,
 }
 
 /// Puts them in place of others.
@@ -115,6 +128,42 @@ fn spend_at(log: &mut LogFile, fault: DatabaseFault)
         | DatabaseFault::Full { .. }
         | DatabaseFault::Long { .. }
         | DatabaseFault::Memory => {}
+    }
+}
+
+/// Puts the generation that a log is not of in force: with what the value holds where that stands at the offset, else with the state that is read there.
+fn begin_with<S: Site>(
+    alloc: Global,
+    site: &mut S,
+    log: &LogFile,
+    catalog: &Catalog,
+    rows: &mut Rows,
+    books: &Books,
+    keep: Offset,
+    is_own: bool,
+) -> Result<Anew, DatabaseFault>
+    requires usable { log.now.usable ≡ true }
+    requires order { (log.now.base ≤ keep.0) × (keep.0 ≤ log.now.end) }
+    requires spellable { IsSpellable catalog.now }
+    requires stands { IsTrue (S.seen site.old).observable → HasLogFrom log.now (S.seen site.old) }
+    requires own { is_own ≡ true → HoldsOwn log.now keep.0 catalog.now rows.old.rows books.now (S.seen site.old) }
+    ensures rows { rows.new ≡ rows.old }
+    ensures log { IfOk result (λ anew. anew.log ≡ carried log.now keep.0 (log_of (other_of (generation_of log.now.file)))) }
+    ensures catalog { IfOk result (λ anew. IsSpellable anew.base_catalog) }
+    ensures begun { IsTrue (S.seen site.old).observable → (b : Beginning) (es : List Recorded) → IsLogFrom log.now b es (S.seen site.old)
+        → IfOk result (λ anew. HasBegun log.now keep.0 b es (S.seen site.old) (S.seen site.new) anew.base_catalog) }
+    ensures moments { IsTrue (S.seen site.old).observable → (b : Beginning) (es : List Recorded) → IsLogFrom log.now b es (S.seen site.old)
+        → MayGoAnew log.now keep.0 b es (S.seen site.old) (S.seen site.new) }
+    ensures stopped { IsTrue (S.seen site.old).observable → IfErr result (λ fault. fault ≢ no_disk → RestsThroughout (KeepsInForce (generation_of log.now.file) (S.seen site.old)) (S.seen site.old) (S.seen site.new)) }
+    ensures quiet { IsTrue (S.seen site.old).observable → IsQuiet (S.seen site.old).happened (S.seen site.new).happened }
+    ensures stays { DiskStays (S.seen site.old) (S.seen site.new) }
+    ensures steady { OnOk result ((S.seen site.new).disk_faults ≡ (S.seen site.old).disk_faults) }
+    ensures cause { IfErr result (BeginCause log.now keep.0 (S.seen site.old) (S.seen site.new)) }
+{
+    if is_own {
+        begin_at_end(alloc, site, log, catalog, rows, books, keep)
+    } else {
+        begin_anew(alloc, site, log, keep)
     }
 }
 
@@ -168,7 +217,7 @@ fn anew_of(log: LogFile, state: State) -> Anew
 }
 
 /// The fault of a database whose files are not begun anew.
-fn restart_fault(fault: RestartFault) -> DatabaseFault
+pub(crate) fn restart_fault(fault: RestartFault) -> DatabaseFault
     ensures { IsRestartFault fault result }
 {
     match fault {

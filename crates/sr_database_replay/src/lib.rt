@@ -2,7 +2,8 @@
 //!
 //! It stands on sr_database_fold for what an entry does, on sr_logfile and sr_logform for records, on sr_snapshot for the state that a log begins behind. It calls
 //! the disk to read alone. The contract that matters most is that of `replay_all`: catalog, rows and books are what the entries come to that the log spells, or
-//! the log is damaged at the gate of the first one that may not stand there. `state_at` answers the state at an offset on the way.
+//! the log is damaged at the gate of the first one that may not stand there. `state_at` answers the state at an offset on the way,
+//! and `lines_of` the books of users as a snapshot lists them.
 #![tactic(auto)]
 
 mod bookkeeping;
@@ -11,4 +12,4 @@ mod stopping;
 
 pub use bookkeeping::Books;
 pub use replaying::{Replay, brief_in, entry_in, replay_all};
-pub use stopping::state_at;
+pub use stopping::{lines_of, state_at};

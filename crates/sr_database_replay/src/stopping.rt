@@ -144,7 +144,7 @@ fn replay_state(alloc: Global, replay: Replay, keep: Offset) -> Result<State, Da
 }
 
 /// The books of users, in their order.
-fn lines_of(alloc: Global, books: &Books, users: &[User]) -> Result<Vec<(Name, Book)>, NoMemory>
+pub fn lines_of(alloc: Global, books: &Books, users: &[User]) -> Result<Vec<(Name, Book)>, NoMemory>
     ensures lines { IfOk result (λ lines. lines.items ≡ lines_of books.now users.now) }
 {
     let mut lines = Vec::new(alloc);

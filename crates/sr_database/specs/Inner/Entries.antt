@@ -1,5 +1,5 @@
 -- The entry behind an offset.
-use Rattle.std.specs.Prelude.{◌≡◌, ⊤, ℕ, List, [], ◌∷◌, ◌++◌, Option, Some, None, IsTrue}
+use Rattle.std.specs.Prelude.{◌≡◌, ℕ, List, [], ◌∷◌, ◌++◌, Option, Some, None, IsTrue}
 use Rattle.sr_base.specs.declared.offset.Offset.{Offset}
 use Rattle.sr_database_history.specs.Fitting.{Stored}
 use Rattle.sr_database_history.specs.Folds.{end_of}

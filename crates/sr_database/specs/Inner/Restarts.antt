@@ -2,15 +2,18 @@
 -- Here is what no contract of the program says by itself.
 use Rattle.std.specs.Prelude.{◌≡◌, ◌≤◌, ◌<◌, ◌⊎◌, ℕ, List, ◌++◌, length, IsTrue}
 use Rattle.sr_base.specs.declared.offset.Offset.{Offset}
+use Rattle.sr_book.specs.Entries.{Name}
+use Rattle.sr_book.specs.Histories.{book_from}
 use Rattle.sr_catalog_schema.specs.Catalogs.{Lists}
+use Rattle.sr_database_files.specs.Books.{BookMap, book_in, listed}
 use Rattle.sr_database_files.specs.Inner.Openings.{ReadAlone}
 use Rattle.sr_database_files.specs.declared.fault.DatabaseFault.{DatabaseFault}
 use Rattle.sr_database_files.specs.declared.fault.DatabaseFault.TheVariants.{Missing, Exists, Damaged, Disk, Full, Long, Memory}
-use Rattle.sr_database_history.specs.Folds.{end_from, state_from}
+use Rattle.sr_database_history.specs.Folds.{end_from, sees, state_from}
 use Rattle.sr_database_history.specs.Recorded.{Recorded}
 use Rattle.sr_database_meaning.specs.Generations.{log_of, generation_of}
 use Rattle.sr_database_meaning.specs.Standing.{StandFrom, bodies}
-use Rattle.sr_database_replay.specs.Inner.Stops.{IsEndIn}
+use Rattle.sr_database_replay.specs.Inner.Stops.{IsEndIn, lines_of}
 use Rattle.sr_database_replay.specs.Stops.{beginning_from}
 use Rattle.sr_database_restart.specs.Inner.Restarting.{IsRestarted, KeepsInForce, WentOver}
 use Rattle.sr_database_restart.specs.declared.fault.RestartFault.{RestartFault}
@@ -18,6 +21,7 @@ use Rattle.sr_database_restart.specs.declared.fault.RestartFault.TheVariants as 
 use Rattle.sr_logfile.specs.Inner.Logs.{spent}
 use Rattle.sr_logfile.specs.Log.{Log}
 use Rattle.sr_logfile_carry.specs.Inner.Carrying.{log_of_records}
+use Rattle.sr_rows.specs.Marks.{RowMap}
 use Rattle.sr_site.specs.Causes.{Rose}
 use Rattle.sr_site.specs.Images.{RestsThroughout}
 use Rattle.sr_site.specs.Seen.{Seen}
@@ -72,6 +76,21 @@ pub record HasLogFrom (log : Log) (seen : Seen) : Type 0 where
   pub beginning : Beginning
   pub es : List Recorded
   pub is : IsLogFrom log beginning es seen
+
+-- what a value holds is what these entries behind a beginning come to
+pub record IsOwn (catalog : Lists) (rows : RowMap) (books : BookMap) (b : Beginning) (es : List Recorded) : Type 0 where
+  pub catalog_is : catalog ≡ (state_from b.state es).catalog
+  pub rows_are : rows ≡ (state_from b.state es).rows
+  pub books_are : (user : Name) → book_in books user ≡ book_from sees user (listed b.books user) es
+
+-- what a value holds, as what stands at an offset
+abbrev pub own_beginning : Lists → RowMap → BookMap → ℕ → Beginning
+own_beginning catalog rows books keep = record { place = keep; state = record { catalog = catalog; rows = rows }; books = lines_of books catalog.users }
+
+-- where nothing is pending and the offset is the log's end, a value holds what its entries come to
+pub record HoldsOwn (log : Log) (keep : ℕ) (catalog : Lists) (rows : RowMap) (books : BookMap) (seen : Seen) : Type 0 where
+  pub end : keep ≡ log.end
+  pub own : IsTrue seen.observable → (b : Beginning) (es : List Recorded) → IsLogFrom log b es seen → IsOwn catalog rows books b es
 
 -- entries behind a beginning are parted at an offset, and this is what the first of them come to
 pub record IsPartedAt (b : Beginning) (es : List Recorded) (keep : ℕ) (found : Beginning) : Type 0 where
