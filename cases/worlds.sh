@@ -1,6 +1,6 @@
 #!/bin/sh
 # Draws databases that replicate, and looks that each run of a built program does what an independent reading of the rules in docs/ says: its lines, its status,
-# each byte of the log, each name and byte in the mail folders.
+# each byte of the files in force, each name and byte in the mail folders; and what it says of files that are damaged.
 #
 # Usage: cases/worlds.sh PROGRAM [WORLDS]
 #

@@ -15,11 +15,12 @@ class Options(NamedTuple):
     send: bool = False
     keep: bool = False
     length: int = None
+    restart: bool = False
 
     def words(self):
         """These words."""
         limit = ["-l", str(self.length)] if self.length else []
-        return ["-r"] * self.receive + ["-s"] * self.send + ["-p"] * self.keep + limit
+        return ["-r"] * self.receive + ["-s"] * self.send + ["-p"] * self.keep + ["-x"] * self.restart + limit
 
 
 class Agent:
@@ -35,7 +36,9 @@ class Agent:
         self.has_report = False
 
     def run(self):
-        """Receives and sends as the options say; answers the lines and the status."""
+        """Begins the log anew, receives and sends as the options say; answers the lines and the status."""
+        if self.options.restart:
+            self.lines.append(f"restarted {self.database.restart()}")
         if self.options.receive or not self.options.send:
             self.receive()
         if self.options.send or not self.options.receive:

@@ -2,6 +2,8 @@
 
 import logs
 
+# where counts stop
+MOST = 2**64 - 1
 COLUMNS = ("log_sent", "confirm_sent", "send_count", "resend_count", "log_received", "confirm_received", "receive_count", "rereceive_count")
 
 
@@ -26,7 +28,7 @@ class Book:
         """What an entry about the partner changes."""
         if isinstance(entry, logs.Taken):
             self.log_received = entry.offset
-            self.receive_count += 1
+            self.receive_count = min(self.receive_count + 1, MOST)
         elif isinstance(entry, logs.Confirmed):
             self.log_sent = max(self.log_sent, entry.offset)
             self.confirm_sent = max(self.confirm_sent, entry.offset)
@@ -35,8 +37,8 @@ class Book:
                 self.resend_count = entry.count
                 self.log_sent = max(self.confirm_sent, entry.offset)
         elif isinstance(entry, logs.Raised):
-            self.rereceive_count += 1
+            self.rereceive_count = min(self.rereceive_count + 1, MOST)
         elif isinstance(entry, logs.Sent):
             self.log_sent = entry.offset
-            self.send_count += entry.messages
+            self.send_count = min(self.send_count + entry.messages, MOST)
             self.confirm_received = entry.confirm

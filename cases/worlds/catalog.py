@@ -46,6 +46,16 @@ class Catalog:
         other.verifies = self.verifies
         return other
 
+    def script(self):
+        """The statements that make it of a new one ("The statements of a catalog")."""
+        script = [statements.Grant(is_above, user) for user, is_above in self.users.items()]
+        script += [statements.CreateTable(table.name, table.columns, table.key_names()) for table in self.tables.values()]
+        script += [statements.CreatePublication(name, articles) for name, articles in self.publications.items()]
+        script += self.triggers.values()
+        script += [statements.Subscription("CREATE", *found[:3]) for found in self.subscriptions]
+        script += [statements.Subscription("START", *found[:3]) for found in self.subscriptions if found.started]
+        return script + [statements.SetOption(True)] * self.verifies
+
     def subscription(self, statement):
         """The place of the subscription that a statement names, or None."""
         wanted = (statement.publication, statement.value, statement.user)

@@ -1,25 +1,32 @@
 """A database as the rules have it: what its files are to hold, and what its partners are given."""
 
+import bisect
+
 import logs
 import statements
-from books import Book
-from catalog import Catalog
 from given import given
-from operations import Conflict, Plain
-from rows import Rows
+from states import State
 
 
-class Database:
-    """A catalog, rows, a book of each partner, and the log that has led to them. `known` has the statement of each text that any database has printed."""
+class Database(State):
+    """A state, the log that has led to it from the state at its base, and what each partner is given. `root` has the bytes of the root, of which the first names the
+    generation in force, and `snapshot` those of its snapshot."""
 
     def __init__(self, publisher, known):
-        self.publisher = publisher
-        self.known = known
-        self.catalog = Catalog(publisher)
-        self.rows = Rows()
-        self.books = {}
-        self.log = logs.Log()
+        super().__init__(publisher, known)
+        self.log = logs.Log(0)
         self.given = {}
+        self.root = b"\0"
+        self.at_base = self.kept()
+        self.snapshot = self.at_base.spelled(0)
+
+    def generation(self):
+        """The generation in force: 0 where the root's first byte is even, else 1."""
+        return self.root[0] % 2
+
+    def files(self):
+        """The files in force, by the endings of their names; of the log up to its closed gate."""
+        return {"root": self.root, f"snap{self.generation()}": self.snapshot, f"log{self.generation()}": self.log.data}
 
     def commit(self, entry):
         """Commits an entry; answers its offset."""
@@ -27,38 +34,8 @@ class Database:
         for user, operations in given(self.catalog, entry).items():
             if operations:
                 self.given.setdefault(user, []).append((offset, operations))
-        self.apply(entry)
-        if not isinstance(entry, (logs.Own, logs.OnCatalog, logs.Passed, logs.Synchronized)):
-            self.books[entry.partner].note(entry)
+        self.take_in(entry)
         return offset
-
-    def apply(self, entry):
-        """What an entry changes in the catalog and the rows."""
-        if isinstance(entry, logs.Own):
-            self.rows.apply(self.catalog, entry.changes)
-        elif isinstance(entry, logs.OnCatalog):
-            self.set_catalog(self.catalog.changed(self.known[entry.text]))
-        elif isinstance(entry, logs.Passed) and not entry.only:
-            statement = self.known[entry.text]
-            if statements.is_on_catalog(statement):
-                self.set_catalog(self.catalog.changed(statement))
-            else:
-                self.rows.apply(self.catalog, entry.changes)
-        elif isinstance(entry, logs.Taken):
-            for _, outcome, catalog in entry.judged:
-                if isinstance(outcome, Plain):
-                    self.rows.apply(self.catalog, outcome.changes)
-                elif isinstance(outcome, Conflict):
-                    self.rows.apply(self.catalog, outcome.changes())
-                if catalog is not None:
-                    self.set_catalog(catalog)
-
-    def set_catalog(self, catalog):
-        """Goes on with another catalog: rows of dropped tables go, and who is granted gets a book."""
-        self.rows.keep_tables(catalog)
-        self.catalog = catalog
-        for user in catalog.users:
-            self.books.setdefault(user, Book())
 
     def due(self, user):
         """The transactions that a partner is given past what he was sent."""
@@ -66,8 +43,28 @@ class Database:
 
     def show(self):
         """The lines of `show`."""
-        lines = [f"publisher {self.publisher}", "base 0", f"end {self.log.end}", f"rows {self.rows.count()}"]
-        for user, is_above in self.catalog.users.items():
-            place = "consolidated" if is_above else "remote"
-            lines.append(f"user {user} {place} address {user} " + " ".join(self.books[user].columns()))
-        return lines
+        return self.shown(self.log.base, self.log.end)
+
+    # ---- the log begun anew ("A log begun anew" of docs/REPLICATION.md)
+
+    def need(self, user):
+        """Where begins what a partner needs: the end of the entry before the first that gives him a transaction which he has not confirmed, or the base; the end of
+        the log where there is none."""
+        unconfirmed = [offset for offset, _ in self.given.get(user, []) if offset > self.books[user].confirm_sent]
+        if not unconfirmed:
+            return self.log.end
+        if unconfirmed[0] <= self.log.base:
+            raise AssertionError(f"{user} needs what stands before the base")
+        offsets = self.log.offsets
+        return [self.log.base, *offsets][bisect.bisect_left(offsets, unconfirmed[0])]
+
+    def restart(self):
+        """Begins the log anew at the least need of all partners, in the other generation; answers the new base."""
+        base = min(map(self.need, self.catalog.users), default=self.log.end)
+        for entry in self.log.up_to(base):
+            self.at_base.take_in(entry)
+        self.known.update({statements.print_statement(statement): statement for statement in self.at_base.catalog.script()})
+        self.snapshot = self.at_base.spelled(base)
+        self.log = self.log.behind(base)
+        self.root = bytes([1 - self.generation()]) + self.root[1:]
+        return base

@@ -4,7 +4,8 @@ A draw sets x to x * 6364136223846793005 + 1442695040888963407 modulo 2^64, from
 and c make a statement with its COMMIT, at the database number d = a mod 4 (0 is cons, N is rN). With k = c mod (4i + 4) and u = 1 + c mod 3 it is, by b mod 4:
 0 or 1 a new row (4i + d, R, 0), where R is `ru` at cons and the database's own name below; 2 qty + 1 in the row k; 3 rep = `ru` in the row k at cons, and
 DELETE of the row k below. A block has 100 statements, the last one what is left. In a block each database runs its statements as one script, and then each its
-agent with messages of 10,000 bytes, cons first; for each message that a run put, a draw is made behind it, and it is lost where that is 0 modulo 8.
+agent with messages of 10,000 bytes, cons first, which begins its log anew in each tenth block; that changes no line. For each message that a run put, a draw is
+made behind it, and it is lost where that is 0 modulo 8.
 At the end cons gets a row for each office, and each office one of its own, and the agents run four times more, with no loss.
 """
 
@@ -22,6 +23,8 @@ from views import seen
 OFFICES = ["cons", "r1", "r2", "r3"]
 REMOTE = OFFICES[1:]
 BLOCK = 100
+# in each block with a number that this divides cons begins its log anew
+RESTARTS = 10
 CUST = CreateTable("cust", [Column("id", INTEGER, True), Column("rep", Type("VARCHAR", 8), False), Column("qty", INTEGER, False)], ["id"])
 
 
@@ -100,11 +103,11 @@ class Demonstration:
             above = [Subscription(verb, "p", None, "cons") for verb in ("CREATE", "START")]
             self.script(office, [CUST, Grant(True, "cons"), CreatePublication("p", [Article("cust")]), *above])
 
-    def agents(self, loses):
-        """A run of the agent of each; some of the messages that it put are lost."""
+    def agents(self, loses, restarts):
+        """A run of the agent of each; some of the messages that it put are lost. `restarts` says whether cons begins its log anew."""
         for office in OFFICES:
             before = {(user, name) for user, files in self.mail.items() for name in files}
-            Agent(self.offices[office], self.mail, Options(length=10_000)).run()
+            Agent(self.offices[office], self.mail, Options(length=10_000, restart=restarts and office == "cons")).run()
             for user in self.offices[office].catalog.users:
                 for name in sorted(name for name in self.mail.get(user, {}) if (user, name) not in before):
                     self.put += 1
@@ -113,14 +116,14 @@ class Demonstration:
                         del self.mail[user][name]
 
     def block(self, numbers):
-        """A block of statements."""
+        """A block of statements. Blocks are counted from 1."""
         scripts = {office: [] for office in OFFICES}
         for i in numbers:
             office, statement = drawn(i, self.draw(), self.draw(), self.draw())
             scripts[office] += [statement, COMMIT]
         for office, script in scripts.items():
             self.script(office, script)
-        self.agents(True)
+        self.agents(True, (numbers.start // BLOCK + 1) % RESTARTS == 0)
 
     def close(self):
         """The last rows, and four rounds without loss."""
@@ -128,7 +131,7 @@ class Demonstration:
         for place, office in enumerate(REMOTE, 1):
             self.script(office, [added(-3 - place, office), COMMIT])
         for _ in range(4):
-            self.agents(False)
+            self.agents(False, False)
 
     def differing(self, office):
         """At how many keys that an office did not name itself its row is not what cons shows it."""

@@ -139,7 +139,7 @@ class Differing:
     def options(self, publisher):
         """The options of a run of the agent."""
         chance = self.drawing.chance
-        return Options(chance(0.08), chance(0.08), chance(0.15), self.length(publisher))
+        return Options(chance(0.08), chance(0.08), chance(0.15), self.length(publisher), chance(0.2))
 
     def length(self, _publisher):
         """How many bytes a message may have, or None."""

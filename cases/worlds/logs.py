@@ -1,13 +1,15 @@
 """The log of a database: its entries and their bytes ("Log file" and "Entries" of docs/FORMATS.md)."""
 
+import bisect
 from typing import NamedTuple
 
 import encoding
 
-HEADER = b"SRLOG001" + bytes(8)
+MAGIC = b"SRLOG001"
 OPEN = b"\1"
 CLOSED = b"\0"
-# what a record has beside its body: a gate and a length
+# how many bytes stand before the first gate, and how many a record has beside its body: a gate and a length
+HEADER = 16
 FRAME = 5
 
 
@@ -117,16 +119,36 @@ class Sent(NamedTuple):
         return b"\6" + encoding.name(self.partner) + b"\4" + sent
 
 
-class Log:
-    """The bytes of a log up to its closed gate, and the offset of its last record."""
+# the entries that speak of a partner's book
+NOTED = (Taken, Confirmed, Asked, Raised, Sent)
 
-    def __init__(self):
-        self.data = HEADER + CLOSED
-        self.end = 0
+
+class Log:
+    """The bytes of a log from its base up to its closed gate, its entries, and the offset of each; `end` is that of the last."""
+
+    def __init__(self, base):
+        self.data = MAGIC + encoding.offset(base) + CLOSED
+        self.base = self.end = base
+        self.entries = []
+        self.offsets = []
 
     def commit(self, entry):
         """Adds an entry; answers its offset."""
         body = entry.spelled()
         self.data = self.data[:-1] + OPEN + encoding.number(len(body), 4) + body + CLOSED
         self.end += len(body) + FRAME
+        self.entries.append(entry)
+        self.offsets.append(self.end)
         return self.end
+
+    def up_to(self, offset):
+        """The entries up to an offset."""
+        return self.entries[: bisect.bisect_right(self.offsets, offset)]
+
+    def behind(self, offset):
+        """The log that begins at an offset, and has the entries behind it as they stand."""
+        count = len(self.up_to(offset))
+        other = Log(offset)
+        other.data = other.data[:-1] + self.data[HEADER + offset - self.base :]
+        other.entries, other.offsets, other.end = self.entries[count:], self.offsets[count:], self.end
+        return other

@@ -1,5 +1,5 @@
 """Fixed worlds at sizes that drawn ones never reach, each just past a round number: messages of a pass, partners with a letter each, operations of a
-transaction, bytes of a text that is passed on, and bytes of a value."""
+transaction, bytes of a text that is passed on, bytes of a value, and bytes of a snapshot."""
 
 import values
 from agent import Options
@@ -14,6 +14,7 @@ from world import Difference, World
 
 SHORT = Options(length=10_000)
 WHOLE = Options()
+ANEW = Options(restart=True)
 # the longest text of a VARCHAR
 LONGEST = 32_767
 
@@ -166,10 +167,47 @@ def texts_of_32767_bytes(program, folder):
     return world
 
 
+def snapshots_of_many_pieces(program, folder):
+    """Logs are begun anew behind rows, texts, statements and books that take many pieces of 64 KiB, from one generation to the other and back, with entries behind them
+    and without; copies of them are damaged."""
+    users = [f"office{place}" for place in range(1, 38)]
+    world = World(program, folder, Drawing(3), ["cons", users[0]])
+    world.begin()
+    wide = [CreateTable(f"wide{place}", [Column(f"a_column_with_a_long_name_{at:04}", INTEGER, at == 0) for at in range(251)], ["a_column_with_a_long_name_0000"]) for place in range(11)]
+    publish(world, "cons", [STOCK, DOC], [Grant(False, user) for user in users])
+    publish(world, users[0], [STOCK, DOC], [Grant(True, "cons")])
+    world.script("cons", wide)
+    for place in range(6):
+        rows = [[number(500 * place + at), number(at), number(-at)] for at in range(500)]
+        texts = [[text(f"{place}{letter}"), text(letter * (LONGEST - place))] for letter in "ab"]
+        world.script("cons", [Insert("stock", None, rows), COMMIT, Insert("doc", None, texts), COMMIT])
+    exchange(world, "cons", users[0], options=Options(length=1_048_576))
+    world.show("cons")
+    exchange(world, "cons", users[0], options=ANEW)
+    wanted("bytes before the first entry that is not confirmed", True, len(world.databases["cons"].snapshot) > 65_536)
+    for user in users[1:]:
+        world.script("cons", [Subscription("STOP", "p", None, user)])
+        confirm = Message(user, "cons", 0, 0, 0, 0, 0, b"", world.databases["cons"].books[user].log_sent, 0, 0)
+        world.put("cons", f"{user}.0000000000000001", confirm.spelled())
+    exchange(world, "cons", users[0], "cons", options=ANEW)
+    exchange(world, "cons", options=ANEW)
+    wanted("bytes of the snapshot, more than six pieces", True, len(world.databases["cons"].snapshot) > 6 * 65_536)
+    world.show("cons")
+    world.select("cons")
+    for _ in range(16):
+        world.damage("cons")
+    world.unsettle("cons")
+    world.script("cons", [Update("stock", [("qty", plus(column("qty"), 1))], at("id", number(7))), COMMIT])
+    exchange(world, "cons", users[0], "cons", options=ANEW)
+    world.select(users[0])
+    return world
+
+
 FIXED = [
     a_pass_of_131_messages,
     letters_of_137_partners,
     a_transaction_of_1031_operations,
     long_texts_are_passed_on,
     texts_of_32767_bytes,
+    snapshots_of_many_pieces,
 ]

@@ -6,7 +6,9 @@ import subprocess
 import statements
 import values
 from agent import Agent
+from damages import Damages, verdict
 from database import Database
+from drawing import Drawing
 from messages import read_message
 from sessions import DONE, Session
 
@@ -14,6 +16,10 @@ from sessions import DONE, Session
 TOLD = 800
 BEFORE = 200
 MAIL = "box"
+# the endings of the names of a database's files
+ENDINGS = ("root", "snap0", "log0", "snap1", "log1")
+# where the copies of damaged databases lie
+COPIES = "damaged"
 
 
 class Difference(Exception):
@@ -33,6 +39,12 @@ class World:
         self.held = []
         self.steps = []
         self.runs = 0
+        self.restarts = 0
+        self.damaged = 0
+        self.unsure = 0
+        # what becomes of the files of databases changes nothing of what else is drawn
+        self.damages = Damages(Drawing(drawing.below(2**32)))
+        os.mkdir(os.path.join(folder, COPIES))
 
     # ---- runs
 
@@ -47,7 +59,7 @@ class World:
         for publisher in self.databases:
             self.steps.append(f"init {publisher} {publisher}")
             self.run(["init", publisher, publisher])
-            self.compare_log(publisher)
+            self.compare_files(publisher)
 
     def script(self, publisher, script):
         """A script of statements, of which the last may have its semicolon or not."""
@@ -61,6 +73,7 @@ class World:
         words = ["agent", publisher, "--mail", MAIL, *options.words()]
         self.steps.append(" ".join(words))
         wanted = Agent(self.databases[publisher], self.mail, options).run()
+        self.restarts += options.restart
         self.compare(publisher, wanted, self.run(words))
 
     def show(self, publisher):
@@ -73,7 +86,7 @@ class World:
         database = self.databases[publisher]
         for table in database.catalog.tables:
             self.steps.append(f"sql {publisher} <<< SELECT * FROM {table}")
-            lines = ["|".join(map(values.printed, row)) for _, row in database.rows.items(table)]
+            lines = ["|".join(map(values.printed, row)) for row in database.rows_of(table)]
             found = self.run(["sql", publisher], f"SELECT * FROM {table}")
             self.compare(publisher, ([*lines, f"{len(lines)} rows"], DONE), found)
 
@@ -87,24 +100,52 @@ class World:
         raise Difference("\n".join([*told, wanted[first : first + TOLD], "and is", found[first : first + TOLD]]))
 
     def compare(self, publisher, wanted, found):
-        """Lines and status of a run, and behind that the log and the mail."""
+        """Lines and status of a run, and behind that the files in force and the mail."""
+        self.compare_lines(wanted, found)
+        self.compare_files(publisher)
+        self.compare_mail()
+
+    def compare_lines(self, wanted, found):
+        """Lines and status of a run."""
         lines, status = wanted
         told = "".join(line + "\n" for line in lines)
         if (told, status) != found:
             self.differ("what is printed, with the status behind it,", f"{told}{status}", f"{found[0]}{found[1]}")
-        self.compare_log(publisher)
-        self.compare_mail()
 
-    def compare_log(self, publisher):
-        """Each byte of a log up to its closed gate."""
-        wanted = self.databases[publisher].log.data
-        path = os.path.join(self.folder, publisher + ".log0")
-        found = b""
-        if os.path.exists(path):
-            with open(path, "rb") as file:
-                found = file.read(len(wanted))
-        if found != wanted:
-            self.differ(f"the log of {publisher}, which differs at byte {len(os.path.commonprefix([wanted, found]))},", wanted, found)
+    def compare_files(self, publisher):
+        """Each byte of the root, of the snapshot in force, and of the log in force up to its closed gate; what is behind that gate has no meaning."""
+        for ending, wanted in self.databases[publisher].files().items():
+            found = self.found(publisher, ending) or b""
+            if ending.startswith("log"):
+                found = found[: len(wanted)]
+            if found != wanted:
+                self.differ(f"the file {publisher}.{ending}, which differs at byte {len(os.path.commonprefix([wanted, found]))},", wanted, found)
+
+    def path(self, publisher, ending):
+        """The path of a file of a database."""
+        return os.path.join(self.folder, f"{publisher}.{ending}")
+
+    def found(self, publisher, ending):
+        """The bytes of a file of a database; None where it is not there."""
+        path = self.path(publisher, ending)
+        if not os.path.exists(path):
+            return None
+        with open(path, "rb") as file:
+            return file.read()
+
+    def all_found(self, publisher):
+        """The bytes of each file of a database that is there, by the endings of their names."""
+        found = {ending: self.found(publisher, ending) for ending in ENDINGS}
+        return {ending: data for ending, data in found.items() if data is not None}
+
+    def write(self, publisher, ending, data):
+        """Puts bytes in place of a file of a database; None takes it away."""
+        path = self.path(publisher, ending)
+        if data is not None:
+            with open(path, "wb") as file:
+                file.write(data)
+        elif os.path.exists(path):
+            os.remove(path)
 
     def compare_mail(self):
         """Each name and each byte in the mail folders."""
@@ -121,6 +162,70 @@ class World:
     def told_of_file(self, data):
         """What a difference tells of a file."""
         return "not there" if data is None else read_message(data) or f"no message: {data}"
+
+    # ---- what becomes of the files of databases
+
+    def unsettle(self, publisher):
+        """The files of the generation that is not in force become anything, and the root another one of its generation. Nothing comes of it, now or later."""
+        database = self.databases[publisher]
+        ending, data = self.damages.not_in_force(database, self.all_found(publisher))
+        self.write(publisher, ending, data)
+        self.steps.append(f"change {publisher}.{ending}")
+        if self.damages.drawing.chance(0.3):
+            database.root = self.damages.root(database)
+            self.write(publisher, "root", database.root)
+            self.steps.append(f"change {publisher}.root to {database.root.hex()}")
+        before = self.all_found(publisher)
+        self.show(publisher)
+        self.look_at_files(before, publisher)
+
+    def damage(self, publisher):
+        """A file in force is cut or changed in a bit, in a copy: `show` says where it is damaged; or it shows what the files stand for then, and so do the rows of each
+        table. In both cases the files stay as they are."""
+        database = self.databases[publisher]
+        ending, data = self.damages.in_force(database)
+        files = {**self.all_found(publisher), ending: data}
+        copied = f"{COPIES}/{publisher}"
+        for name in ENDINGS:
+            self.write(copied, name, files.get(name))
+        self.steps.append(f"damage {publisher}.{ending}, and show {copied}")
+        said = verdict(files, database.known)
+        found = self.run(["show", copied])
+        self.damaged += 1
+        if said.unsure:
+            self.unsure += 1
+            if not said.may_be(*found):
+                self.differ("what is printed of files that stand, or are damaged no earlier than", said.unsure, found)
+        else:
+            self.compare_lines(said.show(), found)
+        if said.state:
+            self.compare_rows(copied, said.state)
+        self.look_at_files(files, copied)
+
+    def compare_rows(self, name, state):
+        """The rows of each table of a database."""
+        lines = []
+        for table in state.catalog.tables:
+            rows = ["|".join(map(values.printed, row)) for row in state.rows_of(table)]
+            lines += [*rows, f"{len(rows)} rows"]
+        script = "".join(f"SELECT * FROM {table};" for table in state.catalog.tables)
+        self.compare_lines((lines, DONE), self.run(["sql", name], script))
+
+    def look_at_files(self, wanted, name):
+        """A run that only looked left the files of a database as they were."""
+        found = self.all_found(name)
+        for ending in ENDINGS:
+            if wanted.get(ending) != found.get(ending):
+                self.differ(f"the file {name}.{ending}, behind a run that only looks,", wanted.get(ending), found.get(ending))
+
+    def befall(self):
+        """Now and then something becomes of the files of a database."""
+        drawing = self.damages.drawing
+        publisher = drawing.choice(list(self.databases))
+        if drawing.chance(0.15):
+            self.unsettle(publisher)
+        if drawing.chance(0.4):
+            self.damage(publisher)
 
     # ---- what happens to files
 

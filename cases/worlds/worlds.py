@@ -1,6 +1,6 @@
 """Draws databases that replicate, and compares each run of the program with what the rules of docs/ say. ../worlds.sh says what for.
 
-What each run is to print, and what is to stand in the logs and the mail behind it, comes from the modules beside this one alone. They were written from the
+What each run is to print, and what is to stand in the files and the mail behind it, comes from the modules beside this one alone. They were written from the
 rules, share nothing with the program, and keep no files.
 """
 
@@ -8,6 +8,7 @@ import os
 import subprocess
 import sys
 import tempfile
+from typing import NamedTuple
 
 import demonstration
 from forging import Forging
@@ -25,8 +26,21 @@ ROUNDS = 80
 DEMONSTRATIONS = [(7, 0), (1, 101), (11, 1001), (2**64 - 1, 301)]
 
 
+class Count(NamedTuple):
+    """What was done: runs, those that began a log anew, copies that were damaged, and those of which the rules could not be asked, for a text in them."""
+
+    runs: int = 0
+    restarts: int = 0
+    damaged: int = 0
+    unsure: int = 0
+
+    def plus(self, other):
+        """Both together."""
+        return Count(*map(sum, zip(self, other)))
+
+
 def live(program, number):
-    """One world from its beginning on; answers how many runs it took, and the difference that ended it or None."""
+    """One world from its beginning on; answers what was done, and the difference that ended it or None."""
     kind = KINDS[number // len(TREES) % len(KINDS)]
     with tempfile.TemporaryDirectory() as folder:
         return lived(kind(program, folder, number, TREES[number % len(TREES)]), number)
@@ -38,24 +52,30 @@ def served(program, number):
         return lived(Serving(program, folder, number, TREE, PRESENT), number)
 
 
+def counted(world):
+    """What was done in a world."""
+    return Count(world.runs, world.restarts, world.damaged, world.unsure)
+
+
 def lived(drawn, number):
-    """A world that was drawn with a number, from its beginning on: how many runs it took, and the difference that ended it or None."""
+    """A world that was drawn with a number, from its beginning on: what was done, and the difference that ended it or None."""
     try:
         drawn.begin()
         for _ in range(ROUNDS):
             drawn.round()
+            drawn.world.befall()
     except Difference as difference:
-        return drawn.world.runs, f"world {number}, {type(drawn).__name__.lower()}, {difference}"
-    return drawn.world.runs, None
+        return counted(drawn.world), f"world {number}, {type(drawn).__name__.lower()}, {difference}"
+    return counted(drawn.world), None
 
 
 def fixed(program, build):
-    """A fixed world: how many runs it took, and the difference that ended it or None."""
+    """A fixed world: what was done, and the difference that ended it or None."""
     with tempfile.TemporaryDirectory() as folder:
         try:
-            return build(program, folder).runs, None
+            return counted(build(program, folder)), None
         except Difference as difference:
-            return 0, f"{build.__name__}, {difference}"
+            return Count(), f"{build.__name__}, {difference}"
 
 
 def shown(program, seed, count):
@@ -63,8 +83,8 @@ def shown(program, seed, count):
     wanted = "".join(line + "\n" for line in demonstration.lines_of(seed, count))
     done = subprocess.run([program, "demo", str(seed), str(count)], stdin=subprocess.DEVNULL, capture_output=True, check=False)
     if (done.returncode, done.stdout.decode(errors="replace")) == (0, wanted):
-        return 1, None
-    return 1, f"demo {seed} {count} is to end with 0 and print\n{wanted}and ends with {done.returncode} and prints\n{done.stdout.decode(errors='replace')}"
+        return Count(1), None
+    return Count(1), f"demo {seed} {count} is to end with 0 and print\n{wanted}and ends with {done.returncode} and prints\n{done.stdout.decode(errors='replace')}"
 
 
 def lives(program, count):
@@ -82,13 +102,16 @@ def main(arguments):
         return 2
     program = os.path.abspath(arguments[1])
     count = int(arguments[2]) if len(arguments) == 3 else WORLDS
-    runs = differences = 0
+    done = Count()
+    differences = 0
     for added, difference in lives(program, count):
-        runs += added
+        done = done.plus(added)
         if difference is not None:
             print(f"worlds: {difference}")
             differences += 1
-    print(f"worlds: {count}, {-(-count // SERVED)} of a head office with {len(TREE) - 1} partners, {len(FIXED)} of fixed sizes, {len(DEMONSTRATIONS)} demonstrations, {runs} runs, {len(TREES)} trees, {differences} differences")
+    sizes = f"{count}, {-(-count // SERVED)} of a head office with {len(TREE) - 1} partners, {len(FIXED)} of fixed sizes, {len(DEMONSTRATIONS)} demonstrations"
+    damages = f"{done.restarts} logs begun anew, {done.damaged} copies damaged, {done.unsure} of them in a text"
+    print(f"worlds: {sizes}, {done.runs} runs, {damages}, {len(TREES)} trees, {differences} differences")
     return 1 if differences else 0
 
 
