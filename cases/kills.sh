@@ -1,5 +1,5 @@
 #!/bin/sh
-# Kills runs of a built program at random moments, and looks that nothing which was told as committed is lost.
+# Kills runs of a built program at random moments, and looks that nothing which was told as committed is lost; and such as begin a log anew.
 #
 # Usage: cases/kills.sh PROGRAM [TIMES]
 #
@@ -9,4 +9,8 @@ if ! command -v python3 >/dev/null; then
     echo 'kills: left out, for there is no python3'
     exit 0
 fi
-exec python3 -B "$here/kills.py" "$@"
+status=0
+for part in kills kills_restarts; do
+    python3 -B "$here/$part.py" "$@" || status=$?
+done
+exit $status

@@ -173,7 +173,8 @@ def snapshots_of_many_pieces(program, folder):
     users = [f"office{place}" for place in range(1, 38)]
     world = World(program, folder, Drawing(3), ["cons", users[0]])
     world.begin()
-    wide = [CreateTable(f"wide{place}", [Column(f"a_column_with_a_long_name_{at:04}", INTEGER, at == 0) for at in range(251)], ["a_column_with_a_long_name_0000"]) for place in range(11)]
+    columns = [Column(f"a_column_with_a_long_name_{at:04}", INTEGER, at == 0) for at in range(251)]
+    wide = [CreateTable(f"wide{place}", columns, [columns[0].name]) for place in range(11)]
     publish(world, "cons", [STOCK, DOC], [Grant(False, user) for user in users])
     publish(world, users[0], [STOCK, DOC], [Grant(True, "cons")])
     world.script("cons", wide)
