@@ -2,7 +2,9 @@
 
 A commit is four calls: the record behind the gate, a sync, one byte over the gate, a sync. The first sync of a run is followed by one of the
 folder of the database, and a line is printed only behind the syncs of its commit. A new database has its five files made first, each only
-where it is not there; behind the first sync of one of them their folder is synced, and the root gets its byte last. A put writes a file whose
+where it is not there; behind the first sync of one of them their folder is synced, and the root gets its byte last. A log that is begun anew
+is written into the generation that is not in force: its snapshot is cut, written and synced, then its log, and then one byte over the root's first,
+with a sync; a file that is made meanwhile has its folder synced behind its own sync. The line comes behind all that. A put writes a file whose
 name begins with a dot, syncs it, renames it, and then syncs the folder of the message. Before the first put of a run the folder in which the
 path begins and each on it is synced, and before the first into another folder the mail folder and that folder.
 """
@@ -95,6 +97,74 @@ def commits(program, folder):
     return found, wanted
 
 
+# ---- a log begun anew
+
+# the key has 5 bytes, NULL one, a text of one letter 6, behind a count of 4; a change has the table's name of 2 bytes and two options of a row
+ROW, ROW_WITH_TEXT, CHANGE = 4 + 5 + 1, 4 + 5 + 6, 2 + 1 + 1
+ROWS = 8_000
+STATEMENTS = [
+    "GRANT REMOTE TO r1",
+    "CREATE TABLE t (id INTEGER NOT NULL, rep VARCHAR(8), PRIMARY KEY (id))",
+    "CREATE PUBLICATION p (TABLE t (id, rep) SUBSCRIBE BY rep)",
+    "CREATE SUBSCRIPTION TO p ('A') FOR r1",
+    "START SUBSCRIPTION TO p ('A') FOR r1",
+]
+
+
+def steps_of_restart(program, folder):
+    """What a run that begins the log anew does to the files and the folder. Pieces that are written behind each other are one step, and so are lines."""
+    names = {os.path.join(folder, f"c2.{suffix}"): suffix for suffix in ("root", "log0", "log1", "snap0", "snap1")}
+    steps = []
+    for name, rest in traced([program, "agent", "c2", "--mail", "m", "-r", "-x"], folder):
+        if name == "openat" and "O_CREAT" in rest:
+            path = os.path.join(folder, rest.split('"')[1])
+            steps.append(["make", names.get(path, path)])
+        elif name == "write" and rest.startswith("1<") and steps[-1] != ["print"]:
+            steps.append(["print"])
+        elif name in ("pwrite64", "ftruncate", "fdatasync", "fsync"):
+            path = path_of(rest)
+            what = "folder" if path == folder else names.get(path, path)
+            if name == "ftruncate":
+                steps.append([name, what, int(rest.rsplit(", ", 1)[1])])
+            elif name == "pwrite64":
+                length, place = (int(number) for number in rest.rsplit(", ", 2)[1:])
+                if steps[-1][:2] == [name, what] and sum(steps[-1][2:]) == place:
+                    steps[-1][3] += length
+                else:
+                    steps.append([name, what, place, length])
+            else:
+                steps.append([name, what])
+    return [" ".join(map(str, step)) for step in steps]
+
+
+def wanted_of_restart(old, new, snapshot, log, are_there):
+    """The steps of a run that goes from one generation to another, whose snapshot and log have so many bytes. Where the other generation's files are not there, they are
+    made, and not cut."""
+    steps = ["fdatasync root", "fsync folder", f"fdatasync snap{old}", f"fdatasync log{old}"]
+    for name, length in ((f"snap{new}", snapshot), (f"log{new}", log)):
+        steps += [f"ftruncate {name} 0" if are_there else f"make {name}", f"pwrite64 {name} 0 {length}", f"fdatasync {name}"]
+        steps += [] if are_there else ["fsync folder"]
+    return [*steps, "pwrite64 root 0 1", "fdatasync root", "print"]
+
+
+def restarts(program, folder):
+    """The steps of two runs that begin a log anew, the second where the files of the other generation were taken away; and those that are wanted. The base lies before the
+    row that the partner was not sent: the log keeps that row and the one behind it."""
+    script = "CREATE TABLE t (id INTEGER PRIMARY KEY, rep VARCHAR(8)); CREATE PUBLICATION p (TABLE t SUBSCRIBE BY rep); GRANT REMOTE TO r1;"
+    script += f"{STATEMENTS[3]}; {STATEMENTS[4]}; INSERT INTO t VALUES {', '.join(f'({key}, NULL)' for key in range(ROWS))}; COMMIT;"
+    script += f"INSERT INTO t VALUES ({ROWS}, 'A'); COMMIT; INSERT INTO t VALUES ({ROWS + 1}, NULL); COMMIT;"
+    for words, lines in ((["init", "c2", "cons"], ""), (["sql", "c2"], script)):
+        traced([program, *words], folder, lines.encode())
+    # a book has its user's name and eight numbers, an entry a tag and a count
+    snapshot = 8 + 8 + 5 + 4 + sum(4 + len(text) for text in STATEMENTS) + 4 + 2 + 4 + ROWS * ROW + 4 + 3 + 8 * 8
+    log = 16 + sum(5 + 1 + 4 + CHANGE + row for row in (ROW_WITH_TEXT, ROW)) + 1
+    found = steps_of_restart(program, folder)
+    wanted = wanted_of_restart(0, 1, snapshot, log, True)
+    for suffix in ("log0", "snap0"):
+        os.remove(os.path.join(folder, f"c2.{suffix}"))
+    return found + steps_of_restart(program, folder), wanted + wanted_of_restart(1, 0, snapshot, log, False)
+
+
 def puts(tests, folder):
     """The steps of the puts of a row, one after the other, and those that are wanted of each."""
     drafts, inboxes, found, wanted = [], set(), [], []
@@ -122,7 +192,7 @@ def main():
     with tempfile.TemporaryDirectory() as made:
         folder = os.path.realpath(made)
         program = os.path.abspath(sys.argv[1])
-        checks = [("a new database", *makes(program, folder)), ("commits", *commits(program, folder))]
+        checks = [("a new database", *makes(program, folder)), ("commits", *commits(program, folder)), ("a log begun anew, twice", *restarts(program, folder))]
         if len(sys.argv) > 2 and os.path.exists(sys.argv[2]):
             checks.append(("puts", *puts(os.path.abspath(sys.argv[2]), folder)))
         for name, found, wanted in checks:

@@ -1,5 +1,5 @@
 #!/bin/sh
-# Counts the system calls of a built program: those of commits and, by the built program that tests the devices, those of putting messages.
+# Counts the system calls of a built program: those of commits, those of a log begun anew and, by the built program that tests the devices, those of putting messages.
 #
 # Usage: cases/calls.sh PROGRAM [LAYERTESTS]
 #

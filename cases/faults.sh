@@ -1,6 +1,6 @@
 #!/bin/sh
-# Puts faults into runs of a built program on real files, and looks what is left: syncs that fail, runs that are killed, folders that may not be
-# read, databases that are not there, two that begin at once, names that are too long, and what is said on standard error.
+# Puts faults into runs of a built program on real files, and looks what is left: syncs that fail, runs that are killed, logs that are begun anew
+# meanwhile, folders that may not be read, databases that are not there, two that begin at once, names that are too long, and what is said on standard error.
 #
 # Usage: cases/faults.sh PROGRAM [CHECK..]
 #

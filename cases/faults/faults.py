@@ -9,11 +9,12 @@ import ends
 import mailing
 import making
 import reasons
+import restarting
 from placing import Lost
 
 
 def main():
-    checks = [*making.CHECKS, *mailing.CHECKS, *reasons.CHECKS, *ends.CHECKS]
+    checks = [*making.CHECKS, *mailing.CHECKS, *restarting.CHECKS, *reasons.CHECKS, *ends.CHECKS]
     checks = [check for check in checks if check.__name__ in sys.argv[2:] or len(sys.argv) == 2]
     failed = 0
     with tempfile.TemporaryDirectory() as made:
