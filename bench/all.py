@@ -26,6 +26,7 @@ import exchange
 import hostile
 import offices
 import opening
+import restarts
 import scripts
 import walks
 from beside import Bench
@@ -160,7 +161,7 @@ def main():
     words = words_of()
     with common.room(words.folder) as folder:
         bench = Bench(words.program, folder, words.quick)
-        jobs = [job for part in (opening, scripts, walks, exchange, offices) for job in part.jobs(bench) if words.only in job.name]
+        jobs = [job for part in (opening, restarts, scripts, walks, exchange, offices) for job in part.jobs(bench) if words.only in job.name]
         hard = [row for row in hostile.grows(bench) if words.only in row.name]
         print_machine(words, bench)
         heads = ["job", "unit", "ours", "floor", "ours / floor", "other", "ours / other", "what the other is", "rounds"]

@@ -8,6 +8,8 @@
  *     floors walk LOG WORD TIMES [SCRIPT]   keeps the rows of a log, and goes over them so many times; prints the milliseconds of one time
  *     floors send LOG FOLDER PARTNERS FROM  keeps the rows, and puts what lies from an offset on as message files, by the second column
  *     floors take FOLDER LOG                reads message files in the order of their names, and commits each transaction
+ *     floors copy SNAPSHOT LOG INTO         copies both, and syncs each and a file of one byte behind them
+ *     floors read FILE ..                   reads files, and adds up their bytes
  *     floors peak FILE WORDS                runs a program, and writes the KiB of its peak memory into a file; its status is the program's
  *
  * It takes the logs that bench/all.py writes and no others: one table with an INTEGER as its key, an INTEGER, and at most one text of ASCII. A row takes
@@ -572,6 +574,40 @@ static void measure_syncs(const char *path, int many) {
     printf("%f\n", now() - begun);
 }
 
+/* Copies a file in place of another, or writes one byte where there is none to copy, and syncs it */
+static void copy_file(const char *from, const char *into, const char *suffix) {
+    char path[4096];
+    static byte bytes[PIECE];
+    snprintf(path, sizeof path, "%s.%s", into, suffix);
+    int source = from ? open(from, O_RDONLY) : -1;
+    int file = open(path, O_WRONLY | O_CREAT | O_TRUNC, 0666);
+    check(file >= 0 && (source >= 0 || !from), "no file");
+    ssize_t length = 1;
+    while (!from || (length = read(source, bytes, PIECE)) > 0) {
+        check(write(file, bytes, length) == length, "a write");
+        if (!from) break;
+    }
+    check(length >= 0 && fdatasync(file) == 0, "a copy");
+    close(file);
+    close(source);
+}
+
+static void read_files(char **paths) {
+    static byte bytes[PIECE];
+    uint64_t sum = 0;
+    for (; *paths; paths++) {
+        int file = open(*paths, O_RDONLY);
+        check(file >= 0, "no file");
+        ssize_t length;
+        while ((length = read(file, bytes, PIECE)) > 0) {
+            for (ssize_t at = 0; at < length; at++) sum += bytes[at];
+        }
+        check(length == 0, "a read");
+        close(file);
+    }
+    printf("%llu\n", (unsigned long long)sum);
+}
+
 /* A process begins with the peak of the one that it was in before, so that of what python3 runs is never less than its own: this one is small */
 static int run_and_tell(const char *path, char **words) {
     struct rusage found;
@@ -622,6 +658,12 @@ int main(int length, char **words) {
         send_all(words[2], words[3], atoi(words[4]), strtoull(words[5], NULL, 10));
     } else if (strcmp(word, "take") == 0 && length == 4) {
         take_all(words[2], words[3]);
+    } else if (strcmp(word, "copy") == 0 && length == 5) {
+        copy_file(words[2], words[4], "snap");
+        copy_file(words[3], words[4], "log");
+        copy_file(NULL, words[4], "root");
+    } else if (strcmp(word, "read") == 0 && length > 2) {
+        read_files(words + 2);
     } else if (strcmp(word, "peak") == 0 && length > 3) {
         return run_and_tell(words[2], words + 3);
     } else {
