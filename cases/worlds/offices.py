@@ -4,11 +4,12 @@ import statements
 import values
 from expressions import Binary, Literal, Reference
 from kinds import Conflicting
+from messages import Message
 from statements import COMMIT, Article, CreatePublication, Subscription
 
 OFFICES = [f"office{place}" for place in range(1, 31)]
 TREE = {"cons": None, **{office: "cons" for office in OFFICES}}
-# Of the others nothing ever comes, and what is sent to them stays where it is.
+# Of the others nothing comes but what they confirm, and what is sent to them stays where it is.
 PRESENT = ["cons", *OFFICES[3:7]]
 
 
@@ -45,12 +46,27 @@ class Serving(Conflicting):
             self.pass_on("cons")
         elif share < 0.80:
             self.spoil()
+            self.confirm()
         else:
             for each in [publisher] if self.drawing.chance(0.7) else self.drawing.shuffled(PRESENT):
                 self.world.agent(each, self.options(each))
         if self.drawing.chance(0.03):
             self.world.show(publisher)
             self.world.select(publisher)
+
+    def options(self, publisher):
+        """The options of a run of the agent: at the head office the log is often begun anew."""
+        options = super().options(publisher)
+        return options._replace(restart=options.restart or publisher == "cons" and self.drawing.chance(0.3))
+
+    def confirm(self):
+        """Most of those who are not there confirm what they were sent, or some of it: so the head office's log may be begun anew behind that."""
+        for office in OFFICES:
+            book = self.databases["cons"].books.get(office)
+            if office not in PRESENT and book and self.drawing.chance(0.9):
+                confirm = book.log_sent if self.drawing.chance(0.8) else self.drawing.below(book.log_sent + 1)
+                message = Message(office, "cons", 0, 0, 0, 0, 0, b"", confirm, 0, 0)
+                self.world.put("cons", f"{office}.confirm", message.spelled())
 
     def move(self, publisher):
         """Many rows go from one partition to another, and a column changes that no article has."""
