@@ -16,7 +16,7 @@ import time
 
 TIMES = 100
 # how many rows there are from the beginning on, and in each transaction that makes them
-ROWS = 10_000
+ROWS = 4_000
 TOGETHER = 500
 # the moments are drawn from this
 SEED = 2025
