@@ -43,7 +43,7 @@ read_on before middle now one other = record {
   happened = λ told. other.happened (told_then before middle one told) ∙ one.happened told;
 }
 
-as_posted : (before now : Seen) → ReadAlone before now → Posted before now []
+pub as_posted : (before now : Seen) → ReadAlone before now → Posted before now []
 as_posted before now read = posted_read before now read.stays read.files read.happened
 
 pub database_on : (db : View) (publisher : Name) (es : List Recorded) (before now : Seen) → ReadAlone before now → IsTrue before.observable → IsDatabase db publisher es before → IsDatabase db publisher es now

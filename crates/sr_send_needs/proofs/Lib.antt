@@ -5,3 +5,6 @@ pub mod Seekings
 pub mod Keeping
 pub mod Places
 pub mod Ungranted
+pub mod Takings
+pub mod Listings
+pub mod Looks

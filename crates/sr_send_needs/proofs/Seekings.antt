@@ -1,6 +1,6 @@
 -- The least need sought, one user after the other.
-use Rattle.std.proofs.Common.{◌≡◌, ℕ, ◌≤◌, Bool, true, false, cond, List, [], ◌∷◌, ◌++◌, length, Some, IsSome, bytes_eq, refl, sym, ap, subst, ◌∙◌, arith, append_assoc}
-use Rattle.std.specs.Prelude.{IsTrue, map, max, min}
+use Rattle.std.proofs.Common.{◌≡◌, ℕ, ◌≤◌, Bool, true, false, cond, List, [], ◌∷◌, ◌++◌, length, Some, IsSome, Result, Ok, Err, bytes_eq, refl, sym, ap, subst, ◌∙◌, arith, append_assoc}
+use Rattle.std.specs.Prelude.{IsTrue, IfOk, map, max, min}
 use Rattle.std.specs.List.{AllByRecursion}
 use Rattle.std.proofs.lemmas.Slice.Eq.{bytes_eq-Decides}
 use Rattle.sr_base.specs.declared.offset.Offset.{Offset}
@@ -14,10 +14,12 @@ use Rattle.sr_database.specs.Databases.{IsDatabase, IsOf}
 use Rattle.sr_database.specs.Inner.Sound.{IsSound}
 use Rattle.sr_database.specs.Views.{View}
 use Rattle.sr_database_files.specs.Inner.Openings.{ReadAlone}
+use Rattle.sr_database_files.specs.declared.fault.DatabaseFault.{DatabaseFault}
 use Rattle.sr_database_history.specs.Folds.{fresh, state_of, end_of}
 use Rattle.sr_database_history.specs.Recorded.{Recorded}
 use Rattle.sr_send_needs.proofs.Followed.{database_on, read_none, read_on, told_then}
 use Rattle.sr_send_needs.proofs.Searches.{le-before, passed_over}
+use Rattle.sr_send_needs.specs.Inner.Listing.{IsLesser}
 use Rattle.sr_send_needs.specs.Inner.Searching.{HasPassed}
 use Rattle.sr_scan.specs.Inner.Scanners.{Scan}
 use Rattle.sr_send_needs.specs.Inner.Seeking.{AreGranted, ConfirmedButBy, HasConfirmed, SoughtTo, confirmed_by}
@@ -96,6 +98,20 @@ limit_is db start user limit seen starts before le told publisher es database =
     let later = le-before sent user (state_of publisher h.done) (end_of h.done) h.left in
     let is = need_is db publisher es user sent database.is refl in
     omega (arith, le, later, is, h.same, h.at_is)
+
+-- what a search says of the user of a scanner it says of the user for whom that was made
+pub lesser_by : (db : View) (scanned user : Name) (sent limit : ℕ) (seen : Seen) (result : Result Offset DatabaseFault) → scanned ≡ user
+    → (IsTrue seen.observable → (publisher : Name) (es : List Recorded) → IsDatabase db publisher es seen → IfOk result (λ least. least.0 ≡ min limit (end_before sent (fresh publisher) 0 es scanned))) → IfOk result (IsLesser db user sent limit seen)
+lesser_by db scanned user sent limit seen (Ok least) same is = λ told publisher es database.
+    is told publisher es database ∙ ap (λ (u : Name). min limit (end_before sent (fresh publisher) 0 es u)) same
+lesser_by db scanned user sent limit seen (Err fault) same is = tt
+
+-- it is his need, where the offset is what he has confirmed
+pub lesser_is : (db : View) (user : Name) (sent limit : ℕ) (seen : Seen) (result : Result Offset DatabaseFault) → sent ≡ confirmed_by db user → IfOk result (IsLesser db user sent limit seen) → IsTrue seen.observable
+    → (publisher : Name) (es : List Recorded) → IsDatabase db publisher es seen → IfOk result (λ least. least.0 ≡ min limit (need_of publisher es db.log.base user))
+lesser_is db user sent limit seen (Ok least) sent_is is told publisher es database =
+    is told publisher es database ∙ ap (λ (m : ℕ). min limit m) (need_is db publisher es user sent database.is sent_is)
+lesser_is db user sent limit seen (Err fault) sent_is is told publisher es database = tt
 
 -- ---- all users
 

@@ -4,3 +4,5 @@ pub mod Reading
 pub mod Searching
 pub mod Seeking
 pub mod Starting
+pub mod Surveying
+pub mod Listing

@@ -1,6 +1,6 @@
 //! The least need of all partners.
 
-ghost use Rattle.std.specs.Prelude.{◌≡◌, ◌≤◌, min, true, List, IsTrue, IsSome, IfOk, IfErr, OnOk};
+ghost use Rattle.std.specs.Prelude.{◌≡◌, ◌≤◌, true, List, IsTrue, IsSome, IfOk, IfErr, OnOk};
 ghost use Rattle.std.specs.List.{AllByRecursion};
 ghost use Rattle.sr_book.specs.Entries.{Name as AName};
 ghost use Rattle.sr_catalog_schema.specs.Members.{user_name};
@@ -12,25 +12,29 @@ ghost use Rattle.sr_database.specs.InForce.{HasLogInForce};
 ghost use Rattle.sr_send_needs.specs.Inner.Reading.{NeedCause, SearchCause};
 ghost use Rattle.sr_send_needs.specs.Inner.Seeking.{AreGranted, HasConfirmed, confirmed_by};
 ghost use Rattle.sr_send_needs.specs.Inner.Starting.{IsStart};
-ghost use Rattle.sr_send_needs.specs.Needs.{least_need, need_of};
+ghost use Rattle.sr_send_needs.specs.Inner.Surveying.{SurveysWhole};
+ghost use Rattle.sr_send_needs.specs.Needs.{least_need};
 
 use crate::fault::{NeedFault, need_fault};
-use crate::searching::search;
+use crate::seeking::lesser_need;
 use crate::start::Start;
-use crate::starting::{begin, catalog_at};
+use crate::starting::begin;
+use crate::surveying::survey_for;
 use sr_base::{Name, Offset};
 use sr_catalog_schema::User;
 use sr_database::{Database, DatabaseFault};
-use sr_scan::Scanner;
 use sr_site::Site;
+use sr_survey::Survey;
 use std::alloc::Global;
 
 /// Up to where the log is needed by no partner: the place before the first entry, past the base, that gives one of them something that he has not
 /// confirmed, and the end of the log where none does. What lies past it is needed; up to it the log may be begun anew.
 ///
-/// Nothing happens but reads. The ends of the entries are read up to what all have confirmed, and the kinds of those after it; and then, for one partner
-/// after the other, the entries up to the first that gives him something, or up to the least need so far. Where a statement ran behind what all have
-/// confirmed they are read from the base.
+/// Nothing happens but reads. The ends of the entries are read up to what all have confirmed, and the kinds of those after it. Where there are several
+/// partners, the entries behind that are read once for a survey of them; and then for each partner, up to the least need so far, those that it lists for him
+/// past what he has confirmed, to the first that gives him something. What the survey can not tell of a partner, for there is none, it was given up, or a
+/// statement changed what he is shown behind the first of them that is more than a statement passed on to him, is read for him alone, entry by entry, but only
+/// where it lists something for him before the least need so far. Where a statement ran behind what all have confirmed the entries are read from the base.
 ///
 /// `Disk` comes only where the disk's count of faults rose. `Damaged` comes only on a disk that does not give what was written to it, or where no history
 /// leads to the value.
@@ -67,11 +71,11 @@ fn least_of_all<S: Site>(
     let users = db.catalog().users();
     let mut buffer = Vec::new(alloc);
     let start = begin(alloc, db, site, all_confirmed(db, users), &mut buffer)?;
-    least_of(alloc, db, site, start, users, &mut buffer)
+    least_past(alloc, db, site, start, users, &mut buffer)
 }
 
 /// What a user has confirmed, or the base of the log where that lies past it.
-fn confirmed(db: &Database, user: &Name) -> Offset
+pub(crate) fn confirmed(db: &Database, user: &Name) -> Offset
     requires usable { db.now.log.usable ≡ true }
     requires granted { IsSome (named user_name user.now db.now.catalog.users) }
     ensures { result.0 ≡ confirmed_by db.now user.now }
@@ -118,8 +122,8 @@ fn with_user(db: &Database, least: Offset, user: &User) -> Offset
     }
 }
 
-/// The least need of some users.
-fn least_of<S: Site>(
+/// The least need of all, sought from a beginning on.
+fn least_past<S: Site>(
     alloc: Global,
     db: &Database,
     site: &mut S,
@@ -138,45 +142,41 @@ fn least_of<S: Site>(
     ensures steady { OnOk result ((S.seen site.new).disk_faults ≡ (S.seen site.old).disk_faults) }
     ensures cause { IfErr result (SearchCause db.now (S.seen site.old) (S.seen site.new)) }
 {
+    let survey = survey_for(alloc, db, site, start, users, buffer)?;
+    let outcome = least_of(alloc, db, site, start, &survey, users, buffer);
+    drop(survey);
+    outcome
+}
+
+/// The least need of some users.
+fn least_of<S: Site>(
+    alloc: Global,
+    db: &Database,
+    site: &mut S,
+    start: Start,
+    survey: &Option<Survey>,
+    users: &[User],
+    buffer: &mut Vec<u8>,
+) -> Result<Offset, DatabaseFault>
+    requires usable { db.now.log.usable ≡ true }
+    requires start { IsStart db.now start (S.seen site.old) }
+    requires whole { SurveysWhole db.now survey.now (S.seen site.old) }
+    requires users { users.now ≡ db.now.catalog.users }
+    requires confirmed { AllByRecursion (HasConfirmed db.now start.at.0) users.now }
+    ensures least { IsTrue (S.seen site.old).observable → (publisher : AName) (es : List Recorded) → IsDatabase db.now publisher es (S.seen site.old)
+        → IfOk result (λ least. least.0 ≡ least_need publisher es db.now.log.base) }
+    ensures within { IfOk result (λ least. (db.now.log.base ≤ least.0) × (least.0 ≤ db.now.log.end)) }
+    ensures read { ReadAlone (S.seen site.old) (S.seen site.new) }
+    ensures steady { OnOk result ((S.seen site.new).disk_faults ≡ (S.seen site.old).disk_faults) }
+    ensures cause { IfErr result (SearchCause db.now (S.seen site.old) (S.seen site.new)) }
+{
     let usable_here = db.usable();
     prove!(usable_here);
     let mut least = db.end();
     let mut left = users;
     'users: while let Some((user, rest)) = left.split_first() {
-        least = lesser_need(alloc, db, site, start, &user.name, least, buffer)?;
+        least = lesser_need(alloc, db, site, start, survey, &user.name, least, buffer)?;
         left = rest;
     }
     Ok(least)
-}
-
-/// The lesser of a limit and the need of a user. No scanner is made where the limit does not lie past the beginning.
-fn lesser_need<S: Site>(
-    alloc: Global,
-    db: &Database,
-    site: &mut S,
-    start: Start,
-    user: &Name,
-    limit: Offset,
-    buffer: &mut Vec<u8>,
-) -> Result<Offset, DatabaseFault>
-    requires usable { db.now.log.usable ≡ true }
-    requires start { IsStart db.now start (S.seen site.old) }
-    requires granted { IsSome (named user_name user.now db.now.catalog.users) }
-    requires confirmed { start.at.0 ≤ confirmed_by db.now user.now }
-    requires limit { db.now.log.base ≤ limit.0 }
-    ensures least { IsTrue (S.seen site.old).observable → (publisher : AName) (es : List Recorded) → IsDatabase db.now publisher es (S.seen site.old)
-        → IfOk result (λ least. least.0 ≡ min limit.0 (need_of publisher es db.now.log.base user.now)) }
-    ensures within { IfOk result (λ least. (db.now.log.base ≤ least.0) × (least.0 ≤ limit.0)) }
-    ensures read { ReadAlone (S.seen site.old) (S.seen site.new) }
-    ensures steady { OnOk result ((S.seen site.new).disk_faults ≡ (S.seen site.old).disk_faults) }
-    ensures cause { IfErr result (SearchCause db.now (S.seen site.old) (S.seen site.new)) }
-{
-    if limit.0 <= start.at.0 {
-        return Ok(limit);
-    }
-    let mut scanner = Scanner::new(alloc, catalog_at(db, start), user)?;
-    let sent = confirmed(db, user);
-    let outcome = search(alloc, db, site, &mut scanner, sent, limit, start.at, buffer);
-    drop(scanner);
-    outcome
 }
